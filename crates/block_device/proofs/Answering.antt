@@ -32,27 +32,34 @@ use Rattle.block_device.specs.Progress.{IsServable, IsDone}
 use Rattle.block_device.proofs.Endings.{nothing_found}
 
 -- a chain's bytes are few
-pub writable_few : (m : Memory) (buffers : List Buffer) → Good m buffers → length (writable_of buffers) < 2 ^ 32
-writable_few m buffers good = omega (arith, length-addresses_of true buffers, len_of-le true buffers, good.fits)
+pub writable_few : (m : Memory) (buffers : List Buffer) → Good m buffers
+    → length (writable_of buffers) < 2 ^ 32
+writable_few m buffers good =
+    omega (arith, length-addresses_of true buffers, len_of-le true buffers, good.fits)
 
 readable_few : (m : Memory) (buffers : List Buffer) → Good m buffers → length (readable_of m buffers) < 2 ^ 32
-readable_few m buffers good = omega (arith, length-readable_of m buffers good.inside, len_of-le false buffers, good.fits)
+readable_few m buffers good =
+    omega (arith, length-readable_of m buffers good.inside, len_of-le false buffers, good.fits)
 
-pub write_fits : (m : Memory) (buffers : List Buffer) (capacity : ℕ) (request : Request) (sector count room : ℕ) → Good m buffers → request ≡ Write sector count
+pub write_fits : (m : Memory) (buffers : List Buffer) (capacity : ℕ) (request : Request)
+    (sector count room : ℕ) → Good m buffers → request ≡ Write sector count
     → IsServable capacity request (payload_of (readable_of m buffers)) room → 512 * count + 16 < 2 ^ 64
 write_fits m buffers capacity request sector count room good is servable =
     let P : Request → Type 0 = λ r. IsServable capacity r (payload_of (readable_of m buffers)) room in
     let here : P (Write sector count) = subst P is servable in
     omega (arith, here.1, readable_few m buffers good, length-drop 16 (readable_of m buffers))
 
-pub read_fits : (m : Memory) (buffers : List Buffer) (capacity : ℕ) (request : Request) (sector count room : ℕ) (payload : List ℕ) → Good m buffers → request ≡ Read sector count
-    → IsServable capacity request payload room → length (writable_of buffers) ≡ room + 1 → 512 * count < 2 ^ 64
+pub read_fits : (m : Memory) (buffers : List Buffer) (capacity : ℕ) (request : Request)
+    (sector count room : ℕ) (payload : List ℕ) → Good m buffers → request ≡ Read sector count
+    → IsServable capacity request payload room → length (writable_of buffers) ≡ room + 1
+    → 512 * count < 2 ^ 64
 read_fits m buffers capacity request sector count room payload good is servable all =
     let P : Request → Type 0 = λ r. IsServable capacity r payload room in
     let here : P (Read sector count) = subst P is servable in
     omega (arith, here.1, all, writable_few m buffers good)
 
-pub zeroes_fit : (m : Memory) (buffers : List Buffer) (capacity : ℕ) (request : Request) (segments room : ℕ) → Good m buffers → request ≡ WriteZeroes segments
+pub zeroes_fit : (m : Memory) (buffers : List Buffer) (capacity : ℕ) (request : Request) (segments room : ℕ)
+    → Good m buffers → request ≡ WriteZeroes segments
     → IsServable capacity request (payload_of (readable_of m buffers)) room → 16 * segments < 2 ^ 64
 zeroes_fit m buffers capacity request segments room good is servable =
     let P : Request → Type 0 = λ r. IsServable capacity r (payload_of (readable_of m buffers)) room in
@@ -60,23 +67,30 @@ zeroes_fit m buffers capacity request segments room good is servable =
     omega (arith, here.0, readable_few m buffers good, length-drop 16 (readable_of m buffers))
 
 -- nothing is done
-pub done_rejected : {identity : List ℕ} (request : Request) (buffers : List Buffer) (m : Memory) (disk : Disk) (status : RequestStatus) → request ≡ Rejected status
+pub done_rejected : {identity : List ℕ} (request : Request) (buffers : List Buffer) (m : Memory) (disk : Disk)
+    (status : RequestStatus) → request ≡ Rejected status
     → IsDone identity request buffers m m disk disk 0 status
 done_rejected request buffers m disk status is =
-    rw is (nothing_found (Rejected status) buffers m disk disk status (inl (record { found = []; finds = refl; is = refl })))
+    rw is (nothing_found (Rejected status) buffers m disk disk status
+    (inl (record { found = []; finds = refl; is = refl })))
 
-pub done_flushed : {identity : List ℕ} (extent : Extent) (request : Request) (buffers : List Buffer) (m : Memory) (disk disk' : Disk) → request ≡ Flush → disk' ≡ flushed disk
+pub done_flushed : {identity : List ℕ} (extent : Extent) (request : Request) (buffers : List Buffer)
+    (m : Memory) (disk disk' : Disk) → request ≡ Flush → disk' ≡ flushed disk
     → IsDone identity request buffers m m (extent_disk extent disk) (extent_disk extent disk') 0 Success
 done_flushed extent request buffers m disk disk' is flushes =
-    rw (is, flushes) (nothing_found Flush buffers m (extent_disk extent disk) _ Success (inl (record { found = []; finds = refl; is = refl })))
+    rw (is, flushes) (nothing_found Flush buffers m (extent_disk extent disk) _ Success
+    (inl (record { found = []; finds = refl; is = refl })))
 
-pub done_unflushed : {identity : List ℕ} (extent : Extent) (request : Request) (buffers : List Buffer) (m : Memory) (disk disk' : Disk) → request ≡ Flush → disk' ≡ failed disk
+pub done_unflushed : {identity : List ℕ} (extent : Extent) (request : Request) (buffers : List Buffer)
+    (m : Memory) (disk disk' : Disk) → request ≡ Flush → disk' ≡ failed disk
     → IsDone identity request buffers m m (extent_disk extent disk) (extent_disk extent disk') 0 IoError
 done_unflushed extent request buffers m disk disk' is fails =
     rw (is, fails) (nothing_found Flush buffers m (extent_disk extent disk) _ IoError (inr refl))
 
 -- the identity is written
-pub done_identity : (identity : List ℕ) (request : Request) (buffers : List Buffer) (m new : Memory) (disk : Disk) → length identity ≡ 20 → request ≡ GetId → new ≡ scatter m (drop 0 (writable_of buffers)) identity
+pub done_identity : (identity : List ℕ) (request : Request) (buffers : List Buffer) (m new : Memory)
+    (disk : Disk) → length identity ≡ 20 → request ≡ GetId
+    → new ≡ scatter m (drop 0 (writable_of buffers)) identity
     → IsDone identity request buffers m new disk disk 20 Success
 done_identity identity request buffers m new disk size is put =
     rw is (record {
@@ -96,13 +110,15 @@ status_gap zero x h = absurd (omega (arith, h))
 status_gap (suc n) x h = refl
 
 -- the status counts where all before it was written
-pub used_len-status : (found : List ℕ) (room x : ℕ) → length found ≡ room → used_len ((map Some found ++ replicate (room - length found) None) ++ Some x ∷ []) ≡ room + 1
+pub used_len-status : (found : List ℕ) (room x : ℕ) → length found ≡ room
+    → used_len ((map Some found ++ replicate (room - length found) None) ++ Some x ∷ []) ≡ room + 1
 used_len-status found room x all =
     ap used_len (append_assoc (map Some found) (replicate (room - length found) None) (Some x ∷ []))
     ∙ used_len-run found (replicate (room - length found) None ++ Some x ∷ [])
     ∙ (let e = status_front (room - length found) x (omega (arith, all)) in omega (arith, e, all))
 
-pub used_len-found : (found : List ℕ) (room x : ℕ) → length found < room → used_len ((map Some found ++ replicate (room - length found) None) ++ Some x ∷ []) ≡ length found
+pub used_len-found : (found : List ℕ) (room x : ℕ) → length found < room
+    → used_len ((map Some found ++ replicate (room - length found) None) ++ Some x ∷ []) ≡ length found
 used_len-found found room x some =
     ap used_len (append_assoc (map Some found) (replicate (room - length found) None) (Some x ∷ []))
     ∙ used_len-run found (replicate (room - length found) None ++ Some x ∷ [])
@@ -113,11 +129,13 @@ wrote-status : (front : List (Option ℕ)) (x : ℕ) → true ≡ wrote (front +
 wrote-status front x = sym (or-true (wrote front)) ∙ sym (wrote-append front (Some x ∷ []))
 
 -- A chain without a writable byte is used as it is.
-pub nothing_does : (device : BlockDevice) (m : Memory) (buffers : List Buffer) (disk : Disk) → length (writable_of buffers) ≡ 0
+pub nothing_does : (device : BlockDevice) (m : Memory) (buffers : List Buffer) (disk : Disk)
+    → length (writable_of buffers) ≡ 0
     → Does (block_device device) m m buffers disk disk 0 false
 nothing_does device m buffers disk none = record {
   written = [];
-  gives = subst (λ w. GivesBy (Ends device.identity) device disk (readable_of m buffers) w (record { state = disk; written = [] })) (sym none) refl;
+  gives = subst (λ w. GivesBy (Ends device.identity) device disk (readable_of m buffers) w
+      (record { state = disk; written = [] })) (sym none) refl;
   each = sym none;
   memory = sym (scattered-nil m (writable_of buffers));
   len_is = refl;
@@ -125,7 +143,8 @@ nothing_does device m buffers disk none = record {
 }
 
 -- A request that is done is answered once its status is written in the last place.
-pub answer_does : (device : BlockDevice) (m done new : Memory) (buffers : List Buffer) (disk disk' : Disk) (request : Request) (room len used : ℕ) (status : RequestStatus)
+pub answer_does : (device : BlockDevice) (m done new : Memory) (buffers : List Buffer) (disk disk' : Disk)
+    (request : Request) (room len used : ℕ) (status : RequestStatus)
     → length (writable_of buffers) ≡ room + 1 → request ≡ request_of device (readable_of m buffers) room
     → IsDone device.identity request buffers m done disk disk' len status → len ≤ room
     → new ≡ scatter done (drop room (writable_of buffers)) (code_of status ∷ [])
@@ -136,27 +155,42 @@ answer_does device m done new buffers disk disk' request room len used status al
     let front : List (Option ℕ) = map Some d.found ++ replicate (room - length d.found) None in
     let given : Given Disk = record { state = disk'; written = front ++ Some (code_of status) ∷ [] } in
     let size : length (map Some d.found) ≡ length d.found = length-map d.found Some in
-    let here : Ends device.identity (request_of device (readable_of m buffers) room) (payload_of (readable_of m buffers)) disk (record { disk = disk'; found = d.found; status = status }) =
-    subst (λ r. Ends device.identity r (payload_of (readable_of m buffers)) disk (record { disk = disk'; found = d.found; status = status })) is d.ends in
+    let here : Ends device.identity (request_of device (readable_of m buffers) room)
+    (payload_of (readable_of m buffers)) disk
+    (record { disk = disk'; found = d.found; status = status }) =
+    subst (λ r. Ends device.identity r (payload_of (readable_of m buffers)) disk
+    (record { disk = disk'; found = d.found; status = status })) is d.ends in
     let gives : GivesBy (Ends device.identity) device disk (readable_of m buffers) (suc room) given =
-    record { outcome = record { disk = disk'; found = d.found; status = status }; is = here; given_is = refl } in
-    let front_size : length front ≡ room = length-append (map Some d.found) (replicate (room - length d.found) None) ∙ (let e = length-replicate {A = Option ℕ} (room - length d.found) None in omega (arith, e, size, d.len_is)) in
+    record {
+      outcome = record { disk = disk'; found = d.found; status = status };
+      is = here;
+      given_is = refl;
+    } in
+    let front_size : length front ≡ room =
+    length-append (map Some d.found) (replicate (room - length d.found) None)
+    ∙ (let e = length-replicate {A = Option ℕ} (room - length d.found) None in
+    omega (arith, e, size, d.len_is)) in
     record {
       written = front ++ Some (code_of status) ∷ [];
-      gives = subst (λ w. GivesBy (Ends device.identity) device disk (readable_of m buffers) w given) (let e : suc room ≡ w = omega (arith, all) in e) gives;
+      gives = subst (λ w. GivesBy (Ends device.identity) device disk (readable_of m buffers) w given)
+          (let e : suc room ≡ w = omega (arith, all) in e) gives;
       each = length-append front (Some (code_of status) ∷ []) ∙ (omega (arith, front_size, all));
       memory =
           put ∙ ap (λ m. scatter m (drop room (writable_of buffers)) (code_of status ∷ [])) d.memory
-          ∙ scattered-then_byte m (writable_of buffers) (map Some d.found) (code_of status) (room - length d.found) room (omega (arith, size, d.len_is));
+          ∙ scattered-then_byte m (writable_of buffers) (map Some d.found) (code_of status)
+          (room - length d.found) room (omega (arith, size, d.len_is));
       len_is = used_is d.found d.len_is;
       any_is = wrote-status front (code_of status);
     }
   where
-    used_is : (found : List ℕ) → len ≡ length found → used ≡ used_len ((map Some found ++ replicate (room - length found) None) ++ Some (code_of status) ∷ [])
+    used_is : (found : List ℕ) → len ≡ length found
+        → used ≡ used_len ((map Some found ++ replicate (room - length found) None)
+        ++ Some (code_of status) ∷ [])
     used_is found e =
         elim (cases_lt len room) [
           | inl some ↦ part some ∙ e ∙ sym (used_len-found found room (code_of status) (omega (arith, e)))
-          | inr rest ↦ whole (omega arith) ∙ sym (used_len-status found room (code_of status) (omega (arith, e)))
+          | inr rest ↦ whole (omega arith)
+              ∙ sym (used_len-status found room (code_of status) (omega (arith, e)))
         ]
 
 -- ---- from a request that is done to one whose status is written
@@ -168,20 +202,24 @@ used_part : (len w : ℕ) → len + 1 < w → used_by len w ≡ len
 used_part len w h = grind (arith, nat_tests)
 
 -- The chain of a request that is done is served once its status is written behind all else.
-pub finished_does : (device : BlockDevice) (m done new : Memory) (buffers : List Buffer) (disk disk' : Disk) (request : Request) (room len used : ℕ) (status : RequestStatus) (any : Bool)
+pub finished_does : (device : BlockDevice) (m done new : Memory) (buffers : List Buffer) (disk disk' : Disk)
+    (request : Request) (room len used : ℕ) (status : RequestStatus) (any : Bool)
     → length (writable_of buffers) ≡ room + 1 → request ≡ request_of device (readable_of m buffers) room
     → IsDone device.identity request buffers m done disk disk' len status → len < length (writable_of buffers)
     → new ≡ with_status done buffers status → used ≡ used_by len (length (writable_of buffers)) → any ≡ true
     → Does (block_device device) m new buffers disk disk' used any
-finished_does device m done new buffers disk disk' request room len used status any all is d fits put uses any_is =
+finished_does device m done new buffers disk disk' request room len used status any all is d
+    fits put uses any_is =
     let last : length (writable_of buffers) - 1 ≡ room = omega (arith, all) in
-    rw any_is (answer_does device m done new buffers disk disk' request room len used status all is d (omega (arith, fits, all))
+    rw any_is (answer_does device m done new buffers disk disk' request room len used status all is d
+    (omega (arith, fits, all))
     (put ∙ ap (λ k. scatter done (drop k (writable_of buffers)) (code_of status ∷ [])) last)
     (λ whole. uses ∙ used_whole len (length (writable_of buffers)) (omega (arith, whole, all)) ∙ all)
     (λ part. uses ∙ used_part len (length (writable_of buffers)) (omega (arith, part, all))))
 
 -- a request that is neither refused nor asks for the identity asks the image
-pub asks_by : (request : Request) → ((status : RequestStatus) → request ≢ Rejected status) → request ≢ GetId → asks_image request ≡ true
+pub asks_by : (request : Request) → ((status : RequestStatus) → request ≢ Rejected status) → request ≢ GetId
+    → asks_image request ≡ true
 asks_by (Rejected status) p q = absurd (p status refl)
 asks_by (Read sector count) p q = refl
 asks_by (Write sector count) p q = refl

@@ -1,4 +1,5 @@
--- Chains that ask the image for nothing are served whatever the disk is, and a piece ends at the first that asks.
+-- Chains that ask the image for nothing are served whatever the disk is, and a piece ends at the first that
+-- asks.
 use Rattle.std.proofs.Common.{◌≡◌, ℕ, zero, suc, Bool, false, Option, Some, List, refl, ap, inl}
 use Rattle.guest_memory.specs.Memory.{Memory}
 use Rattle.chain.specs.declared.budget.Budget.{Budget}
@@ -33,39 +34,47 @@ use Rattle.block_device.proofs.Unasked.{any_disk}
 abbrev over : Disk → Outcome → Outcome
 over disk outcome = record { disk = disk; found = outcome.found; status = outcome.status }
 
-completes_over : (identity : List ℕ) (request : Request) (payload : List ℕ) (d e : Disk) (outcome : Outcome) → asks_image request ≡ false
+completes_over : (identity : List ℕ) (request : Request) (payload : List ℕ) (d e : Disk) (outcome : Outcome)
+    → asks_image request ≡ false
     → Completes identity request payload d outcome → Completes identity request payload e (over e outcome)
-completes_over identity (Rejected status) payload d e outcome none h = record { found = h.found; finds = h.finds; is = ap (over e) h.is }
+completes_over identity (Rejected status) payload d e outcome none h =
+    record { found = h.found; finds = h.finds; is = ap (over e) h.is }
 completes_over identity (Read sector count) payload d e outcome none h = absurd (cc)
 completes_over identity (Write sector count) payload d e outcome none h = absurd (cc)
 completes_over identity Flush payload d e outcome none h = absurd (cc)
-completes_over identity GetId payload d e outcome none h = record { found = h.found; finds = h.finds; is = ap (over e) h.is }
+completes_over identity GetId payload d e outcome none h =
+    record { found = h.found; finds = h.finds; is = ap (over e) h.is }
 completes_over identity (WriteZeroes segments) payload d e outcome none h = absurd (cc)
 
 abbrev given_over : Disk → Given Disk → Given Disk
 given_over disk given = record { state = disk; written = given.written }
 
 gives_over : (device : BlockDevice) (readable : List ℕ) (w : ℕ) (d e : Disk) (given : Given Disk)
-    → GivesBy (EndsUnasked device.identity) device d readable w given → GivesBy (EndsUnasked device.identity) device e readable w (given_over e given)
+    → GivesBy (EndsUnasked device.identity) device d readable w given
+    → GivesBy (EndsUnasked device.identity) device e readable w (given_over e given)
 gives_over device readable zero d e given h = ap (given_over e) h
 gives_over device readable (suc room) d e given h = record {
   outcome = over e h.outcome;
   is = record {
     unasked = h.is.unasked;
-    ends = inl (completes_over device.identity (request_of device readable room) (payload_of readable) d e h.outcome h.is.unasked
-        (completes_from device.identity (request_of device readable room) (payload_of readable) d h.outcome h.is.unasked h.is.ends));
+    ends = inl (completes_over device.identity (request_of device readable room) (payload_of readable) d e
+        h.outcome h.is.unasked
+        (completes_from device.identity (request_of device readable room) (payload_of readable) d h.outcome
+        h.is.unasked h.is.ends));
   };
   given_is = ap (given_over e) h.given_is;
 }
 
 -- one chain
 pub hosted_does : (device : BlockDevice) (m new : Memory) (buffers : List Buffer) (len : ℕ) (any : Bool)
-    → ((disk : Disk) → Does (unasked_device device) m new buffers disk disk len any) → Does (hosted_device device) m new buffers tt tt len any
+    → ((disk : Disk) → Does (unasked_device device) m new buffers disk disk len any)
+    → Does (hosted_device device) m new buffers tt tt len any
 hosted_does device m new buffers len any does =
     let one = does any_disk in
     record {
       written = one.written;
-      gives = λ disk. gives_over device (readable_of m buffers) _ any_disk disk (record { state = any_disk; written = one.written }) one.gives;
+      gives = λ disk. gives_over device (readable_of m buffers) _ any_disk disk
+          (record { state = any_disk; written = one.written }) one.gives;
       each = one.each;
       memory = one.memory;
       len_is = one.len_is;
@@ -73,23 +82,29 @@ hosted_does device m new buffers len any does =
     }
 
 -- a service of it, over any disk
-pub hosted_anywhere : (device : BlockDevice) (disk : Disk) → DoesAs (hosted_device device) (unasked_device device) (λ state d. d ≡ disk)
+pub hosted_anywhere : (device : BlockDevice) (disk : Disk)
+    → DoesAs (hosted_device device) (unasked_device device) (λ state d. d ≡ disk)
 hosted_anywhere device disk = record {
   takes = λ state d alike. refl;
-  gives = λ state d readable w given alike h. record { state = disk; alike = refl; gives = rw alike (h disk) };
+  gives = λ state d readable w given alike h.
+      record { state = disk; alike = refl; gives = rw alike (h disk) };
   lacks_memory = λ state d readable w alike h. absurd h;
 }
 
 -- the chain that it leaves asks for the disk
-pub asks_at : (device : BlockDevice) (stage : Stage) (budget : Budget) (m m' : Memory) (queue last : Queue) (buffers : List Buffer) (refused : Refused Request)
-    → RefusesAt (hosted_device device) (λ state memory buffers request. IsAsked device memory buffers request) stage budget (site_at m queue tt) (site_at m' last tt) buffers refused
-    → (disk : Disk) → AsksAt device stage (site_of device m queue disk) (site_of device m' last disk) buffers refused.token refused.why
+pub asks_at : (device : BlockDevice) (stage : Stage) (budget : Budget) (m m' : Memory) (queue last : Queue)
+    (buffers : List Buffer) (refused : Refused Request)
+    → RefusesAt (hosted_device device) (λ state memory buffers request. IsAsked device memory buffers request)
+    stage budget (site_at m queue tt) (site_at m' last tt) buffers refused
+    → (disk : Disk) → AsksAt device stage (site_of device m queue disk) (site_of device m' last disk) buffers
+    refused.token refused.why
 asks_at device stage budget m m' queue last buffers refused h disk =
     let seen = extent_disk device.extent disk in
     record {
       opens = h.opens;
       stops = record {
-        course = course_seen (hosted_device device) (unasked_device device) (λ state. seen) (hosted_anywhere device seen)
+        course = course_seen (hosted_device device) (unasked_device device) (λ state. seen)
+            (hosted_anywhere device seen)
             (site_at m (opened_at stage m queue) tt) (site_at m' last tt) h.left.course;
         offers = h.left.ready;
         offered = h.left.offered;
@@ -100,12 +115,16 @@ asks_at device stage budget m m' queue last buffers refused h disk =
     }
 
 -- and a piece that asks for nothing is one over any disk
-pub hosts_to : (device : BlockDevice) (stage : Stage) (budget : Budget) (found : Option Queue) (queue last : Queue) (left : Left) (progress : Progress)
+pub hosts_to : (device : BlockDevice) (stage : Stage) (budget : Budget) (found : Option Queue)
+    (queue last : Queue) (left : Left) (progress : Progress)
     (m m' : Memory) (w w' : WindowState) (disk : Disk)
     → Some queue ≡ found → progress ≡ progress_of left → w' ≡ shown left (with_ring 0 w last)
     → LeavesQueue (hosted_device device) stage budget (site_at m queue tt) (site_at m' last tt) left
-    → ServesTo stage (unasked_device device) budget 0 found progress m m' w w' (extent_disk device.extent disk) (extent_disk device.extent disk)
+    → ServesTo stage (unasked_device device) budget 0 found progress m m' w w'
+    (extent_disk device.extent disk) (extent_disk device.extent disk)
 hosts_to device stage budget found queue last left progress m m' w w' disk is contents shows h =
     let seen = extent_disk device.extent disk in
-    serves_seen (hosted_device device) (unasked_device device) (λ state. seen) (hosted_anywhere device seen) budget stage 0 found progress m m' w w' tt tt
-    (serves_to (hosted_device device) stage budget 0 found queue last left progress m m' w w' tt tt is contents shows h)
+    serves_seen (hosted_device device) (unasked_device device) (λ state. seen) (hosted_anywhere device seen)
+    budget stage 0 found progress m m' w w' tt tt
+    (serves_to (hosted_device device) stage budget 0 found queue last left progress m m' w w' tt tt
+    is contents shows h)

@@ -16,21 +16,32 @@ use Rattle.block_device.specs.Request.{request_of}
 use Rattle.block_device.proofs.Answering.{nothing_does}
 
 pub served_gives : (device : BlockDevice) (disk : Disk) (readable : List ℕ) (w : ℕ) (given : Given Disk)
-    → GivesBy (EndsUnasked device.identity) device disk readable w given → GivesBy (Ends device.identity) device disk readable w given
+    → GivesBy (EndsUnasked device.identity) device disk readable w given
+    → GivesBy (Ends device.identity) device disk readable w given
 served_gives device disk readable zero given h = h
-served_gives device disk readable (suc room) given h = record { outcome = h.outcome; is = h.is.ends; given_is = h.given_is }
+served_gives device disk readable (suc room) given h =
+    record { outcome = h.outcome; is = h.is.ends; given_is = h.given_is }
 
 -- the request of a chain asks for nothing, where it has room for a status
 abbrev pub AsksNothing : BlockDevice → List ℕ → ℕ → Type 0
-AsksNothing device readable w = (room : ℕ) → w ≡ suc room → asks_image (request_of device readable room) ≡ false
+AsksNothing device readable w = (room : ℕ) → w ≡ suc room
+    → asks_image (request_of device readable room) ≡ false
 
-pub unasked_gives : (device : BlockDevice) (disk : Disk) (readable : List ℕ) (w : ℕ) (given : Given Disk) → AsksNothing device readable w
-    → GivesBy (Ends device.identity) device disk readable w given → GivesBy (EndsUnasked device.identity) device disk readable w given
+pub unasked_gives : (device : BlockDevice) (disk : Disk) (readable : List ℕ) (w : ℕ) (given : Given Disk)
+    → AsksNothing device readable w
+    → GivesBy (Ends device.identity) device disk readable w given
+    → GivesBy (EndsUnasked device.identity) device disk readable w given
 unasked_gives device disk readable zero given none h = h
 unasked_gives device disk readable (suc room) given none h =
-    record { outcome = h.outcome; is = record { unasked = none room refl; ends = h.is }; given_is = h.given_is }
+    record {
+      outcome = h.outcome;
+      is = record { unasked = none room refl; ends = h.is };
+      given_is = h.given_is;
+    }
 
-pub served_does : (device : BlockDevice) (m new : Memory) (buffers : List Buffer) (s t : Disk) (len : ℕ) (any : Bool) → Does (unasked_device device) m new buffers s t len any → Does (block_device device) m new buffers s t len any
+pub served_does : (device : BlockDevice) (m new : Memory) (buffers : List Buffer) (s t : Disk) (len : ℕ)
+    (any : Bool) → Does (unasked_device device) m new buffers s t len any
+    → Does (block_device device) m new buffers s t len any
 served_does device m new buffers s t len any d = record {
   written = d.written;
   gives = served_gives device s (readable_of m buffers) (length (writable_of buffers)) _ d.gives;
@@ -40,8 +51,10 @@ served_does device m new buffers s t len any d = record {
   any_is = d.any_is;
 }
 
-pub unasked_does : (device : BlockDevice) (m new : Memory) (buffers : List Buffer) (s t : Disk) (len : ℕ) (any : Bool) → AsksNothing device (readable_of m buffers) (length (writable_of buffers))
-    → Does (block_device device) m new buffers s t len any → Does (unasked_device device) m new buffers s t len any
+pub unasked_does : (device : BlockDevice) (m new : Memory) (buffers : List Buffer) (s t : Disk) (len : ℕ)
+    (any : Bool) → AsksNothing device (readable_of m buffers) (length (writable_of buffers))
+    → Does (block_device device) m new buffers s t len any
+    → Does (unasked_device device) m new buffers s t len any
 unasked_does device m new buffers s t len any none d = record {
   written = d.written;
   gives = unasked_gives device s (readable_of m buffers) (length (writable_of buffers)) _ none d.gives;
@@ -55,28 +68,38 @@ unasked_does device m new buffers s t len any none d = record {
 pub no_status : (device : BlockDevice) (readable : List ℕ) (w : ℕ) → w ≡ 0 → AsksNothing device readable w
 no_status device readable w none room some = absurd (omega (arith, none, some))
 
-pub asks_nothing : (device : BlockDevice) (readable : List ℕ) (w at : ℕ) (request : Request) → w ≡ at + 1 → request ≡ request_of device readable at → asks_image request ≡ false → AsksNothing device readable w
+pub asks_nothing : (device : BlockDevice) (readable : List ℕ) (w at : ℕ) (request : Request) → w ≡ at + 1
+    → request ≡ request_of device readable at → asks_image request ≡ false → AsksNothing device readable w
 asks_nothing device readable w at request all is none room some =
     let same : room ≡ at = omega (arith, all, some) in
-    subst (λ (k : ℕ). asks_image (request_of device readable k) ≡ false) (sym same) (ap (λ (r : Request). asks_image r) (sym is) ∙ none)
+    subst (λ (k : ℕ). asks_image (request_of device readable k) ≡ false) (sym same)
+    (ap (λ (r : Request). asks_image r) (sym is) ∙ none)
 
 -- a chain without a writable byte is used as it is
-pub nothing_asked : (device : BlockDevice) (m : Memory) (buffers : List Buffer) (disk : Disk) → length (writable_of buffers) ≡ 0
+pub nothing_asked : (device : BlockDevice) (m : Memory) (buffers : List Buffer) (disk : Disk)
+    → length (writable_of buffers) ≡ 0
     → Does (unasked_device device) m m buffers disk disk 0 false
 nothing_asked device m buffers disk none =
-    unasked_does device m m buffers disk disk 0 false (no_status device (readable_of m buffers) (length (writable_of buffers)) none) (nothing_does device m buffers disk none)
+    unasked_does device m m buffers disk disk 0 false
+    (no_status device (readable_of m buffers) (length (writable_of buffers)) none)
+    (nothing_does device m buffers disk none)
 
-served_all : (device : BlockDevice) (start now : Site Queue Disk) (chains : List (Served Disk)) → ServesAll queue_kind (unasked_device device) start chains now → ServesAll queue_kind (block_device device) start chains now
+served_all : (device : BlockDevice) (start now : Site Queue Disk) (chains : List (Served Disk))
+    → ServesAll queue_kind (unasked_device device) start chains now
+    → ServesAll queue_kind (block_device device) start chains now
 served_all device start now [] h = h
 served_all device start now (s ∷ chains) h = (
   record {
     ready = h.0.ready;
     offered = h.0.offered;
-    gives = served_gives device start.state (readable_of start.memory s.buffers) (length (writable_of s.buffers)) s.given h.0.gives;
+    gives = served_gives device start.state (readable_of start.memory s.buffers)
+        (length (writable_of s.buffers)) s.given h.0.gives;
     each = h.0.each;
   },
   served_all device (after queue_kind (unasked_device device) start s) now chains h.1,
 )
 
-pub served_course : (device : BlockDevice) (start now : Site Queue Disk) → Course queue_kind (unasked_device device) start now → Course queue_kind (block_device device) start now
-served_course device start now c = record { chains = c.chains; serves = served_all device start now c.chains c.serves }
+pub served_course : (device : BlockDevice) (start now : Site Queue Disk)
+    → Course queue_kind (unasked_device device) start now → Course queue_kind (block_device device) start now
+served_course device start now c =
+    record { chains = c.chains; serves = served_all device start now c.chains c.serves }

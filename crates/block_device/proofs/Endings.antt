@@ -11,8 +11,10 @@ use Rattle.block_device.specs.Request.{payload_of}
 use Rattle.block_device.specs.Outcome.{Ends}
 use Rattle.block_device.specs.Progress.{IsDone}
 
-pub nothing_found : {identity : List ℕ} (request : Request) (buffers : List Buffer) (m : Memory) (disk disk' : Disk) (status : RequestStatus)
-    → Ends identity request (payload_of (readable_of m buffers)) disk (record { disk = disk'; found = []; status = status })
+pub nothing_found : {identity : List ℕ} (request : Request) (buffers : List Buffer) (m : Memory)
+    (disk disk' : Disk) (status : RequestStatus)
+    → Ends identity request (payload_of (readable_of m buffers)) disk
+    (record { disk = disk'; found = []; status = status })
     → IsDone identity request buffers m m disk disk' 0 status
 nothing_found request buffers m disk disk' status ends = record {
   found = [];

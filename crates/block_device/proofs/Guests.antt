@@ -21,7 +21,9 @@ guest_device device = record device { extent = record { start = 0; count = devic
 
 -- ---- where the extent lies is never seen
 
-gives_anywhere : (Way : Request → List ℕ → Disk → Outcome → Type 0) (device : BlockDevice) (disk : Disk) (readable : List ℕ) (w : ℕ) (given : Given Disk) → GivesBy Way device disk readable w given → GivesBy Way (guest_device device) disk readable w given
+gives_anywhere : (Way : Request → List ℕ → Disk → Outcome → Type 0) (device : BlockDevice) (disk : Disk)
+    (readable : List ℕ) (w : ℕ) (given : Given Disk) → GivesBy Way device disk readable w given
+    → GivesBy Way (guest_device device) disk readable w given
 gives_anywhere Way device disk readable zero given h = h
 gives_anywhere Way device disk readable (suc room) given h = h
 
@@ -29,36 +31,44 @@ gives_anywhere Way device disk readable (suc room) given h = h
 abbrev pub Same : Disk → Disk → Type 0
 Same s t = t ≡ s
 
-pub does_anywhere : (Way : Request → List ℕ → Disk → Outcome → Type 0) (device : BlockDevice) → DoesAs (device_by Way device) (device_by Way (guest_device device)) Same
+pub does_anywhere : (Way : Request → List ℕ → Disk → Outcome → Type 0) (device : BlockDevice)
+    → DoesAs (device_by Way device) (device_by Way (guest_device device)) Same
 does_anywhere Way device = record {
   takes = λ s t same. refl;
   gives = λ s t readable w given same h. record {
     state = given.state;
     alike = refl;
-    gives = subst (λ (d : Disk). GivesBy Way (guest_device device) d readable w given) (sym same) (gives_anywhere Way device s readable w given h);
+    gives = subst (λ (d : Disk). GivesBy Way (guest_device device) d readable w given) (sym same)
+        (gives_anywhere Way device s readable w given h);
   };
   lacks_memory = λ s t readable w same h. h;
 }
 
 -- ---- how the image fares is never seen
 
-pub finds_same : (identity : List ℕ) (request : Request) (s t : Disk) (found : List ℕ) → SameSectors s t → Finds identity request s found → Finds identity request t found
+pub finds_same : (identity : List ℕ) (request : Request) (s t : Disk) (found : List ℕ) → SameSectors s t
+    → Finds identity request s found → Finds identity request t found
 finds_same identity (Rejected status) s t found same h = h
 finds_same identity (Read sector count) s t found same h = record {
   size = h.size;
-  contents = subst (λ (o : Option (List ℕ)). IfSome o (λ bytes. found ≡ extent_of bytes sector count)) (sym same.contents) h.contents;
+  contents = subst (λ (o : Option (List ℕ)). IfSome o (λ bytes. found ≡ extent_of bytes sector count))
+      (sym same.contents) h.contents;
 }
 finds_same identity (Write sector count) s t found same h = h
 finds_same identity Flush s t found same h = h
 finds_same identity GetId s t found same h = h
 finds_same identity (WriteZeroes segments) s t found same h = h
 
-pub zeroed_same : (sectors : List ℕ) (s t : Disk) → SameSectors s t → SameSectors (zeroed_sectors sectors s) (zeroed_sectors sectors t)
+pub zeroed_same : (sectors : List ℕ) (s t : Disk) → SameSectors s t
+    → SameSectors (zeroed_sectors sectors s) (zeroed_sectors sectors t)
 zeroed_same [] s t same = same
 zeroed_same (sector ∷ sectors) s t same =
     let zeros : List ℕ = replicate 512 0 in
     zeroed_same sectors (written sector zeros s) (written sector zeros t)
-    (record { contents = ap (option_map (λ bytes. with_sector bytes sector zeros)) same.contents; sectors = same.sectors })
+    (record {
+      contents = ap (option_map (λ bytes. with_sector bytes sector zeros)) same.contents;
+      sectors = same.sectors;
+    })
 
 -- what is told to the driver is the same, and so are the sectors afterwards
 pub record SameOutcome (one other : Outcome) : Type 0 where
@@ -66,28 +76,41 @@ pub record SameOutcome (one other : Outcome) : Type 0 where
   pub found : other.found ≡ one.found
   pub status : other.status ≡ one.status
 
-completed_same : (request : Request) (payload found : List ℕ) (s t : Disk) → SameSectors s t → SameOutcome (completed request payload found s) (completed request payload found t)
+completed_same : (request : Request) (payload found : List ℕ) (s t : Disk) → SameSectors s t
+    → SameOutcome (completed request payload found s) (completed request payload found t)
 completed_same (Rejected status) payload found s t same = record { disk = same; found = refl; status = refl }
-completed_same (Read sector count) payload found s t same = record { disk = same; found = refl; status = refl }
+completed_same (Read sector count) payload found s t same =
+    record { disk = same; found = refl; status = refl }
 completed_same (Write sector count) payload found s t same = record {
-  disk = record { contents = ap (option_map (λ bytes. with_sectors bytes sector payload)) same.contents; sectors = same.sectors };
+  disk = record {
+    contents = ap (option_map (λ bytes. with_sectors bytes sector payload)) same.contents;
+    sectors = same.sectors;
+  };
   found = refl;
   status = refl;
 }
-completed_same Flush payload found s t same = record { disk = record { contents = same.contents; sectors = same.sectors }; found = refl; status = refl }
+completed_same Flush payload found s t same =
+    record { disk = record { contents = same.contents; sectors = same.sectors }; found = refl; status = refl }
 completed_same GetId payload found s t same = record { disk = same; found = refl; status = refl }
 completed_same (WriteZeroes segments) payload found s t same =
     let after = zeroed_same (all_sectors (segments_in payload)) s t same in
-    record { disk = record { contents = after.contents; sectors = after.sectors }; found = refl; status = refl }
+    record {
+      disk = record { contents = after.contents; sectors = after.sectors };
+      found = refl;
+      status = refl;
+    }
 
-pub same_written : (room : ℕ) (one other : Outcome) → SameOutcome one other → (given_of room one).written ≡ (given_of room other).written
+pub same_written : (room : ℕ) (one other : Outcome) → SameOutcome one other
+    → (given_of room one).written ≡ (given_of room other).written
 same_written room one other same = rw (same.found, same.status) refl
 
 -- what was written, with another state
 abbrev pub given_with : Disk → List (Option ℕ) → Given Disk
 given_with disk written = record { state = disk; written = written }
 
-pub gives_same : (device : BlockDevice) (s t : Disk) (readable : List ℕ) (w : ℕ) (given : Given Disk) → SameSectors s t → GivesBy (Completes device.identity) device s readable w given → Matches (exact_device device) SameSectors t readable w given
+pub gives_same : (device : BlockDevice) (s t : Disk) (readable : List ℕ) (w : ℕ) (given : Given Disk)
+    → SameSectors s t → GivesBy (Completes device.identity) device s readable w given
+    → Matches (exact_device device) SameSectors t readable w given
 gives_same device s t readable zero given same h = record {
   state = t;
   alike = subst (λ (d : Disk). SameSectors d t) (sym (ap (λ (g : Given Disk). g.state) h)) same;
@@ -97,14 +120,22 @@ gives_same device s t readable (suc room) given same h =
     let request = request_of device readable room in
     let payload = payload_of readable in
     let other : Outcome = completed request payload h.is.found t in
-    let outcomes : SameOutcome h.outcome other = subst (λ (o : Outcome). SameOutcome o other) (sym h.is.is) (completed_same request payload h.is.found s t same) in
+    let outcomes : SameOutcome h.outcome other =
+    subst (λ (o : Outcome). SameOutcome o other) (sym h.is.is)
+    (completed_same request payload h.is.found s t same) in
     record {
       state = other.disk;
-      alike = subst (λ (d : Disk). SameSectors d other.disk) (sym (ap (λ (g : Given Disk). g.state) h.given_is)) outcomes.disk;
+      alike = subst (λ (d : Disk). SameSectors d other.disk)
+          (sym (ap (λ (g : Given Disk). g.state) h.given_is)) outcomes.disk;
       gives = record {
         outcome = other;
-        is = record { found = h.is.found; finds = finds_same device.identity request s t h.is.found same h.is.finds; is = refl };
-        given_is = ap (given_with other.disk) (ap (λ (g : Given Disk). g.written) h.given_is ∙ same_written room h.outcome other outcomes);
+        is = record {
+          found = h.is.found;
+          finds = finds_same device.identity request s t h.is.found same h.is.finds;
+          is = refl;
+        };
+        given_is = ap (given_with other.disk) (ap (λ (g : Given Disk). g.written) h.given_is
+            ∙ same_written room h.outcome other outcomes);
       };
     }
 

@@ -15,30 +15,38 @@ use Rattle.block_device.specs.Zeroes.{has_known_flags, has_sectors_within, segme
 use Rattle.block_device.proofs.Zeroing.{first_segments}
 
 -- a whole header that was read, and the request of its type
-pub request_by_type : (device : BlockDevice) (header readable : List ℕ) (room kind sector : ℕ) (request : Request) → header ≡ take 16 readable → 16 ≤ length readable
+pub request_by_type : (device : BlockDevice) (header readable : List ℕ) (room kind sector : ℕ)
+    (request : Request) → header ≡ take 16 readable → 16 ≤ length readable
     → kind ≡ little_number 4 header → sector ≡ little_number 8 (take 8 (drop 8 header))
-    → request ≡ typed_request device kind sector (payload_of readable) room → request ≡ request_of device readable room
+    → request ≡ typed_request device kind sector (payload_of readable) room
+    → request ≡ request_of device readable room
 request_by_type device header readable room kind sector request read enough kind_is sector_is is =
     let payload = payload_of readable in
     let long : length header ≡ 16 = ap length read ∙ simp length-take (omega arith) in
     let short : nat_lt (length readable) 16 ≡ false = grind (arith, nat_tests) in
     let same_kind : kind ≡ type_of readable = kind_is ∙ ap (little_number 4) read in
     let same_sector : sector ≡ sector_in readable =
-    sector_is ∙ ap (little_number 8) (take_all 8 (drop 8 header) (omega (arith, length-drop 8 header))) ∙ ap (λ h. little_number 8 (drop 8 h)) read in
-    is ∙ ap (λ k. typed_request device k sector payload room) same_kind ∙ ap (λ s. typed_request device (type_of readable) s payload room) same_sector
+    sector_is ∙ ap (little_number 8) (take_all 8 (drop 8 header) (omega (arith, length-drop 8 header)))
+    ∙ ap (λ h. little_number 8 (drop 8 h)) read in
+    is ∙ ap (λ k. typed_request device k sector payload room) same_kind
+    ∙ ap (λ s. typed_request device (type_of readable) s payload room) same_sector
     ∙ rw short refl
 
 -- what is behind the header
-pub payload_size : (readable : List ℕ) (len : ℕ) → length readable ≡ len → length (payload_of readable) ≡ len - 16
+pub payload_size : (readable : List ℕ) (len : ℕ) → length readable ≡ len
+    → length (payload_of readable) ≡ len - 16
 payload_size readable len size = length-drop 16 readable ∙ ap (λ n. n - 16) size
 
 -- the bytes of a segment, read behind the header
-pub segment_read : (bytes readable : List ℕ) (index : ℕ) → bytes ≡ take 16 (drop (16 + 16 * index) readable) → segment_of bytes ≡ segment_at (payload_of readable) index
+pub segment_read : (bytes readable : List ℕ) (index : ℕ) → bytes ≡ take 16 (drop (16 + 16 * index) readable)
+    → segment_of bytes ≡ segment_at (payload_of readable) index
 segment_read bytes readable index read =
-    ap segment_of (read ∙ ap (take 16) (ap (λ n. drop n readable) (omega arith) ∙ sym (drop-drop (16 * index) 16 readable)))
+    ap segment_of (read ∙ ap (take 16) (ap (λ n. drop n readable) (omega arith)
+    ∙ sym (drop-drop (16 * index) 16 readable)))
 
 pub same_segment : (a b c d e f : ℕ) → a ≡ d → b ≡ e → c ≡ f
-    → ◌≡◌ {A = WriteZeroesSegment} (record { sector = a; count = b; flags = c }) (record { sector = d; count = e; flags = f })
+    → ◌≡◌ {A = WriteZeroesSegment} (record { sector = a; count = b; flags = c })
+    (record { sector = d; count = e; flags = f })
 same_segment a b c d e f p q r = rw (p, q, r) refl
 
 -- of the segments before an index these flags are known, and these sectors within the disk
@@ -51,20 +59,26 @@ alone true = refl
 alone false = refl
 
 list_all-more : (p : WriteZeroesSegment → Bool) (payload : List ℕ) (index : ℕ)
-    → list_all p (first_segments payload (index + 1)) ≡ (list_all p (first_segments payload index) && p (segment_at payload index))
+    → list_all p (first_segments payload (index + 1))
+    ≡ (list_all p (first_segments payload index) && p (segment_at payload index))
 list_all-more p payload index =
     ap (list_all p) (map-range_with_len_more (segment_at payload) 0 index index (omega arith))
     ∙ list_all-append p (first_segments payload index) (segment_at payload index ∷ [])
     ∙ ap (λ b. list_all p (first_segments payload index) && b) (alone (p (segment_at payload index)))
 
 -- one test more of one segment more
-one_more : (p : WriteZeroesSegment → Bool) (payload : List ℕ) (index : ℕ) (before both : Bool) (segment : WriteZeroesSegment)
-    → before ≡ list_all p (first_segments payload index) → segment ≡ segment_at payload index → both ≡ (before && p segment) → both ≡ list_all p (first_segments payload (index + 1))
+one_more : (p : WriteZeroesSegment → Bool) (payload : List ℕ) (index : ℕ) (before both : Bool)
+    (segment : WriteZeroesSegment)
+    → before ≡ list_all p (first_segments payload index) → segment ≡ segment_at payload index
+    → both ≡ (before && p segment) → both ≡ list_all p (first_segments payload (index + 1))
 one_more p payload index before both segment was is now =
-    now ∙ ap (λ s. before && p s) is ∙ ap (λ b. b && p (segment_at payload index)) was ∙ sym (list_all-more p payload index)
+    now ∙ ap (λ s. before && p s) is ∙ ap (λ b. b && p (segment_at payload index)) was
+    ∙ sym (list_all-more p payload index)
 
-pub judged_more : (capacity : ℕ) (payload : List ℕ) (index : ℕ) (known within known' within' : Bool) (segment : WriteZeroesSegment) → IsJudged capacity payload index known within
-    → segment ≡ segment_at payload index → known' ≡ (known && has_known_flags segment) → within' ≡ (within && has_sectors_within capacity segment)
+pub judged_more : (capacity : ℕ) (payload : List ℕ) (index : ℕ) (known within known' within' : Bool)
+    (segment : WriteZeroesSegment) → IsJudged capacity payload index known within
+    → segment ≡ segment_at payload index → known' ≡ (known && has_known_flags segment)
+    → within' ≡ (within && has_sectors_within capacity segment)
     → IsJudged capacity payload (index + 1) known' within'
 judged_more capacity payload index known within known' within' segment j is flags sectors = record {
   flags = one_more has_known_flags payload index known known' segment j.flags is flags;
@@ -72,25 +86,34 @@ judged_more capacity payload index known within known' within' segment j is flag
 }
 
 -- a segment of a payload, by its index
-at_index : (payload : List ℕ) (index : ℕ) → index < length payload / 16 → get_or (segments_in payload) index (segment_at payload index) ≡ segment_at payload index
+at_index : (payload : List ℕ) (index : ℕ) → index < length payload / 16
+    → get_or (segments_in payload) index (segment_at payload index) ≡ segment_at payload index
 at_index payload index below =
-    get_or-map-range_with_len (segment_at payload) 0 (length payload / 16) index index (segment_at payload index) below (omega arith)
+    get_or-map-range_with_len (segment_at payload) 0 (length payload / 16) index index
+    (segment_at payload index) below (omega arith)
 
 -- where all can be zeroed, each can
-segment_fits : (capacity : ℕ) (payload : List ℕ) (index : ℕ) (segment : WriteZeroesSegment) → list_all (has_sectors_within capacity) (segments_in payload) ≡ true
-    → segment ≡ segment_at payload index → index < length payload / 16 → has_sectors_within capacity segment ≡ true
+segment_fits : (capacity : ℕ) (payload : List ℕ) (index : ℕ) (segment : WriteZeroesSegment)
+    → list_all (has_sectors_within capacity) (segments_in payload) ≡ true
+    → segment ≡ segment_at payload index → index < length payload / 16
+    → has_sectors_within capacity segment ≡ true
 segment_fits capacity payload index segment all is below =
     let d = segment_at payload index in
-    let there : index < length (segments_in payload) = omega (arith, length-map-range_with_len (segment_at payload) 0 (length payload / 16)) in
-    ap (has_sectors_within capacity) (is ∙ sym (at_index payload index below)) ∙ AllPass-from_list_all (has_sectors_within capacity) (segments_in payload) all index d there
+    let there : index < length (segments_in payload) =
+    omega (arith, length-map-range_with_len (segment_at payload) 0 (length payload / 16)) in
+    ap (has_sectors_within capacity) (is ∙ sym (at_index payload index below))
+    ∙ AllPass-from_list_all (has_sectors_within capacity) (segments_in payload) all index d there
 
 -- it lies on the disk, and has few sectors
-pub segment_within : (capacity : ℕ) (payload : List ℕ) (index : ℕ) (segment : WriteZeroesSegment) → list_all (has_sectors_within capacity) (segments_in payload) ≡ true
-    → segment ≡ segment_at payload index → index < length payload / 16 → segment.sector + segment.count ≤ capacity
+pub segment_within : (capacity : ℕ) (payload : List ℕ) (index : ℕ) (segment : WriteZeroesSegment)
+    → list_all (has_sectors_within capacity) (segments_in payload) ≡ true
+    → segment ≡ segment_at payload index → index < length payload / 16
+    → segment.sector + segment.count ≤ capacity
 segment_within capacity payload index segment all is below =
     let own = segment_fits capacity payload index segment all is below in grind (arith, nat_tests, own)
 
-pub segment_few : (capacity : ℕ) (payload : List ℕ) (index : ℕ) (segment : WriteZeroesSegment) → list_all (has_sectors_within capacity) (segments_in payload) ≡ true
+pub segment_few : (capacity : ℕ) (payload : List ℕ) (index : ℕ) (segment : WriteZeroesSegment)
+    → list_all (has_sectors_within capacity) (segments_in payload) ≡ true
     → segment ≡ segment_at payload index → index < length payload / 16 → segment.count ≤ 65536
 segment_few capacity payload index segment all is below =
     let own = segment_fits capacity payload index segment all is below in grind (arith, nat_tests, own)

@@ -39,58 +39,77 @@ both_less true y a b c p q h k = grind (arith, nat_tests)
 both_less false true a b c p q h k = grind (arith, nat_tests)
 both_less false false a b c p q h k = grind (arith, nat_tests)
 
-latched : (failed : Bool) (a b c : ℕ) → a ≤ b → b ≤ c → ((failed || nat_lt a b) || nat_lt b c) ≡ (failed || nat_lt a c)
+latched : (failed : Bool) (a b c : ℕ) → a ≤ b → b ≤ c
+    → ((failed || nat_lt a b) || nat_lt b c) ≡ (failed || nat_lt a c)
 latched true a b c h k = refl
 latched false a b c h k = both_less (nat_lt a b) (nat_lt b c) a b c refl refl h k
 
-module _ {I : Type 0} (disk : I → Disk) (moment : I → ℕ) (may_leave : I → List ℕ → Type 0) (left_since : I → ℕ → List ℕ → Type 0) where
+module _ {I : Type 0} (disk : I → Disk) (moment : I → ℕ) (may_leave : I → List ℕ → Type 0) (left_since : I → ℕ
+    → List ℕ → Type 0) where
   abbrev Keeps : BlockDevice → BlockDevice → Bool → Bool → I → I → Type 0
-  Keeps device device' failed failed' old new = KeepsImage disk moment may_leave left_since device device' failed failed' old new
+  Keeps device device' failed failed' old new =
+      KeepsImage disk moment may_leave left_since device device' failed failed' old new
 
-  keeps_all : (device : BlockDevice) (failed : Bool) (image : I) → Keeps device device failed failed image image
+  keeps_all : (device : BlockDevice) (failed : Bool) (image : I)
+      → Keeps device device failed failed image image
   keeps_all device failed image = record {
     same = refl;
-    stays = record { rises = omega arith; clean = λ same clean. clean; outside = KeepsOutside-same device.extent (disk image) (disk image) refl refl };
+    stays = record {
+      rises = omega arith;
+      clean = λ same clean. clean;
+      outside = KeepsOutside-same device.extent (disk image) (disk image) refl refl;
+    };
     touches = untouched device.extent;
     counted = sym (or-false failed) ∙ ap (λ b. failed || b) (not_less (disk image).failures);
   }
 
-  clean_on : (a b c : Disk) → KeepsClean a b → KeepsClean b c → a.failures ≤ b.failures → b.failures ≤ c.failures → KeepsClean a c
+  clean_on : (a b c : Disk) → KeepsClean a b → KeepsClean b c → a.failures ≤ b.failures
+      → b.failures ≤ c.failures → KeepsClean a c
   clean_on a b c one other h k = λ same clean.
       let before : b.failures ≡ a.failures = omega (arith, h, k, same) in
       let behind : c.failures ≡ b.failures = omega (arith, h, k, same) in
       other behind (one before clean)
 
-  on_same : (device device' device'' : BlockDevice) (failed failed' failed'' : Bool) (a b c : I) → device' ≡ device
-      → Keeps device device' failed failed' a b → Keeps device' device'' failed' failed'' b c → Keeps device device'' failed failed'' a c
+  on_same : (device device' device'' : BlockDevice) (failed failed' failed'' : Bool) (a b c : I)
+      → device' ≡ device
+      → Keeps device device' failed failed' a b → Keeps device' device'' failed' failed'' b c
+      → Keeps device device'' failed failed'' a c
   on_same device device' device'' failed failed' failed'' a b c same h k =
       let k' : Keeps device device'' failed' failed'' b c = rw same at k in
       record {
         same = k'.same;
         stays = record {
           rises = omega (arith, h.stays.rises, k'.stays.rises);
-          clean = clean_on (disk a) (disk b) (disk c) h.stays.clean k'.stays.clean h.stays.rises k'.stays.rises;
+          clean = clean_on (disk a) (disk b) (disk c) h.stays.clean k'.stays.clean
+              h.stays.rises k'.stays.rises;
           outside = outside_trans device.extent (disk a) (disk b) (disk c) h.stays.outside k'.stays.outside;
         };
         touches = touched_more device.extent h.touches k'.touches;
         counted = k'.counted ∙ ap (λ f. f || nat_lt (disk b).failures (disk c).failures) h.counted
-            ∙ latched failed (disk a).failures (disk b).failures (disk c).failures h.stays.rises k'.stays.rises;
+            ∙ latched failed (disk a).failures (disk b).failures (disk c).failures
+            h.stays.rises k'.stays.rises;
       }
 
   keeps_on : (device device' device'' : BlockDevice) (failed failed' failed'' : Bool) (a b c : I)
-      → Keeps device device' failed failed' a b → Keeps device' device'' failed' failed'' b c → Keeps device device'' failed failed'' a c
-  keeps_on device device' device'' failed failed' failed'' a b c h k = on_same device device' device'' failed failed' failed'' a b c h.same h k
+      → Keeps device device' failed failed' a b → Keeps device' device'' failed' failed'' b c
+      → Keeps device device'' failed failed'' a c
+  keeps_on device device' device'' failed failed' failed'' a b c h k =
+      on_same device device' device'' failed failed' failed'' a b c h.same h k
 
   -- one chain
-  pub answer_keeps : (device : BlockDevice) (failed more : Bool) (m m' : Memory) (buffers : List Buffer) (len : ℕ) (any : Bool) (old new : I)
-      → Does (block_device device) m m' buffers (extent_disk device.extent (disk old)) (extent_disk device.extent (disk new)) len any
-      → CallsWithin device.extent more (disk old) (disk new) → TouchesExtent moment may_leave left_since device.extent old new
+  pub answer_keeps : (device : BlockDevice) (failed more : Bool) (m m' : Memory) (buffers : List Buffer)
+      (len : ℕ) (any : Bool) (old new : I)
+      → Does (block_device device) m m' buffers (extent_disk device.extent (disk old))
+      (extent_disk device.extent (disk new)) len any
+      → CallsWithin device.extent more (disk old) (disk new)
+      → TouchesExtent moment may_leave left_since device.extent old new
       → Keeps device device failed (failed || more) old new
   answer_keeps device failed more m m' buffers len any old new does calls touches = record {
     same = refl;
     stays = record {
       rises = rises_by more (disk old).failures (disk new).failures calls.counted;
-      clean = λ same clean. gives_clean device (extent_disk device.extent (disk old)) (readable_of m buffers) _ _ does.gives same clean;
+      clean = λ same clean. gives_clean device (extent_disk device.extent (disk old)) (readable_of m buffers)
+          _ _ does.gives same clean;
       outside = calls.outside;
     };
     touches = touches;
@@ -99,18 +118,22 @@ module _ {I : Type 0} (disk : I → Disk) (moment : I → ℕ) (may_leave : I �
 
   -- the chains of a piece
   pub kept_image : (here there : Cached) (cache later : I)
-      → IsKept (λ (d : Cached) (b : I) (d' : Cached) (b' : I). Keeps d.device d'.device d.failed d'.failed b b') here cache there later
+      → IsKept (λ (d : Cached) (b : I) (d' : Cached) (b' : I). Keeps d.device d'.device d.failed d'.failed b
+      b') here cache there later
       → Keeps here.device there.device here.failed there.failed cache later
   kept_image here there cache later kept =
-      kept_all (λ (d : Cached) (b : I) (d' : Cached) (b' : I). Keeps d.device d'.device d.failed d'.failed b b')
+      kept_all (λ (d : Cached) (b : I) (d' : Cached) (b' : I). Keeps d.device d'.device
+      d.failed d'.failed b b')
       (λ (d : Cached) (b : I) (d' : Cached) (b' : I). Keeps d.device d'.device d.failed d'.failed b b')
       (λ d b. keeps_all d.device d.failed b)
-      (λ d d' d'' b b' b'' one other. keeps_on d.device d'.device d''.device d.failed d'.failed d''.failed b b' b'' one other)
+      (λ d d' d'' b b' b'' one other. keeps_on d.device d'.device d''.device d.failed d'.failed d''.failed
+      b b' b'' one other)
       here there cache later kept
 
   -- and a service of the device over the image is one over its extent as a disk
   pub over_as_disk : (device : BlockDevice)
-      → DoesAs (device_over disk moment may_leave left_since device) (block_device device) (λ image d. d ≡ extent_disk device.extent (disk image))
+      → DoesAs (device_over disk moment may_leave left_since device) (block_device device)
+      (λ image d. d ≡ extent_disk device.extent (disk image))
   over_as_disk device = record {
     takes = λ image d alike. refl;
     gives = λ image d readable w given alike h. record {

@@ -1,4 +1,5 @@
--- A look at a queue of a disk that the host serves comes out in one way, since no chain that it serves asks for the disk;
+-- A look at a queue of a disk that the host serves comes out in one way, since no chain that it serves asks
+-- for the disk;
 -- and so does a completion.
 use Rattle.std.proofs.Common.{◌≡◌, inl, inr, ◌↔◌, ℕ, zero, suc, ◌+◌, Bool, true, false, Option, Some, None, List, [], ◌∷◌, length, refl, sym, ap, subst, ◌∙◌, arith}
 use Rattle.std.specs.Prelude.{IsTrue}
@@ -43,7 +44,8 @@ use Rattle.block_device.specs.Hosting.{site_of}
 
 -- ---- one answer to a chain that asks for nothing
 
-never_fails : (request : Request) (payload : List ℕ) (disk : Disk) (outcome : Outcome) → asks_image request ≡ false → Fails request payload disk outcome → ⊥
+never_fails : (request : Request) (payload : List ℕ) (disk : Disk) (outcome : Outcome)
+    → asks_image request ≡ false → Fails request payload disk outcome → ⊥
 never_fails (Rejected status) payload disk outcome none fails = fails
 never_fails (Read sector count) payload disk outcome none fails = absurd (cc)
 never_fails (Write sector count) payload disk outcome none fails = absurd (cc)
@@ -51,30 +53,42 @@ never_fails Flush payload disk outcome none fails = absurd (cc)
 never_fails GetId payload disk outcome none fails = fails
 never_fails (WriteZeroes segments) payload disk outcome none fails = absurd (cc)
 
-pub completes_from : (identity : List ℕ) (request : Request) (payload : List ℕ) (disk : Disk) (outcome : Outcome) → asks_image request ≡ false → Ends identity request payload disk outcome → Completes identity request payload disk outcome
+pub completes_from : (identity : List ℕ) (request : Request) (payload : List ℕ) (disk : Disk)
+    (outcome : Outcome) → asks_image request ≡ false → Ends identity request payload disk outcome
+    → Completes identity request payload disk outcome
 completes_from identity request payload disk outcome none (inl h) = h
-completes_from identity request payload disk outcome none (inr fails) = absurd (never_fails request payload disk outcome none fails)
+completes_from identity request payload disk outcome none (inr fails) =
+    absurd (never_fails request payload disk outcome none fails)
 
-completes_once : (identity : List ℕ) (request : Request) (payload : List ℕ) (disk : Disk) (one other : Outcome) → asks_image request ≡ false
-    → Completes identity request payload disk one → Completes identity request payload disk other → one ≡ other
-completes_once identity (Rejected status) payload disk one other none x y = x.is ∙ ap (λ (f : List ℕ). completed (Rejected status) payload f disk) (x.finds ∙ sym y.finds) ∙ sym y.is
+completes_once : (identity : List ℕ) (request : Request) (payload : List ℕ) (disk : Disk)
+    (one other : Outcome) → asks_image request ≡ false
+    → Completes identity request payload disk one
+    → Completes identity request payload disk other → one ≡ other
+completes_once identity (Rejected status) payload disk one other none x y = x.is
+    ∙ ap (λ (f : List ℕ). completed (Rejected status) payload f disk) (x.finds ∙ sym y.finds) ∙ sym y.is
 completes_once identity (Read sector count) payload disk one other none x y = absurd (cc)
 completes_once identity (Write sector count) payload disk one other none x y = absurd (cc)
 completes_once identity Flush payload disk one other none x y = absurd (cc)
-completes_once identity GetId payload disk one other none x y = x.is ∙ ap (λ (f : List ℕ). completed GetId payload f disk) (x.finds ∙ sym y.finds) ∙ sym y.is
+completes_once identity GetId payload disk one other none x y = x.is
+    ∙ ap (λ (f : List ℕ). completed GetId payload f disk) (x.finds ∙ sym y.finds) ∙ sym y.is
 completes_once identity (WriteZeroes segments) payload disk one other none x y = absurd (cc)
 
-ends_once : (identity : List ℕ) (request : Request) (payload : List ℕ) (disk : Disk) (one other : Outcome) → EndsUnasked identity request payload disk one → EndsUnasked identity request payload disk other → one ≡ other
+ends_once : (identity : List ℕ) (request : Request) (payload : List ℕ) (disk : Disk) (one other : Outcome)
+    → EndsUnasked identity request payload disk one
+    → EndsUnasked identity request payload disk other → one ≡ other
 ends_once identity request payload disk one other x y =
-    completes_once identity request payload disk one other x.unasked (completes_from identity request payload disk one x.unasked x.ends)
+    completes_once identity request payload disk one other x.unasked
+    (completes_from identity request payload disk one x.unasked x.ends)
     (completes_from identity request payload disk other y.unasked y.ends)
 
 given_once : (device : BlockDevice) (disk : Disk) (readable : List ℕ) (w : ℕ) (one other : Given Disk)
-    → GivesBy (EndsUnasked device.identity) device disk readable w one → GivesBy (EndsUnasked device.identity) device disk readable w other → one ≡ other
+    → GivesBy (EndsUnasked device.identity) device disk readable w one
+    → GivesBy (EndsUnasked device.identity) device disk readable w other → one ≡ other
 given_once device disk readable zero one other x y = x ∙ sym y
 given_once device disk readable (suc room) one other x y =
     x.given_is
-    ∙ ap (given_of room) (ends_once device.identity (request_of device readable room) (payload_of readable) disk x.outcome y.outcome x.is y.is)
+    ∙ ap (given_of room) (ends_once device.identity (request_of device readable room) (payload_of readable)
+    disk x.outcome y.outcome x.is y.is)
     ∙ sym y.given_is
 
 unasked_once : (device : BlockDevice) → HasAtMostOneAnswer (unasked_device device)
@@ -91,82 +105,126 @@ record AsksHere (device : BlockDevice) (site : Site Queue Disk) : Type 0 where
   offered : queue_kind.Offers site.memory site.ring buffers entry
   asked : IsAsked device site.memory buffers request
 
-asks_here : (device : BlockDevice) (start now : Site Queue Disk) (buffers : List Buffer) (token : Token) (request : Request) → StopsAt device start now buffers token request → AsksHere device now
+asks_here : (device : BlockDevice) (start now : Site Queue Disk) (buffers : List Buffer) (token : Token)
+    (request : Request) → StopsAt device start now buffers token request → AsksHere device now
 asks_here device start now buffers token request s =
-    record { buffers = buffers; entry = entry_of token; request = request; offers = s.offers; offered = s.offered; asked = s.asked }
+    record {
+      buffers = buffers;
+      entry = entry_of token;
+      request = request;
+      offers = s.offers;
+      offered = s.offered;
+      asked = s.asked;
+    }
 
-gives_no : (device : BlockDevice) (disk : Disk) (readable : List ℕ) (w : ℕ) (given : Given Disk) (room : ℕ) → w ≡ room + 1 → asks_image (request_of device readable room) ≡ true
+gives_no : (device : BlockDevice) (disk : Disk) (readable : List ℕ) (w : ℕ) (given : Given Disk) (room : ℕ)
+    → w ≡ room + 1 → asks_image (request_of device readable room) ≡ true
     → GivesBy (EndsUnasked device.identity) device disk readable w given → ⊥
 gives_no device disk readable zero given room all asks h = absurd (omega (arith, all))
 gives_no device disk readable (suc r) given room all asks h =
     let same : r ≡ room = omega (arith, all) in
     let none : asks_image (request_of device readable r) ≡ false = h.is.unasked in
-    let some : asks_image (request_of device readable r) ≡ true = ap (λ (k : ℕ). asks_image (request_of device readable k)) same ∙ asks in
+    let some : asks_image (request_of device readable r) ≡ true =
+    ap (λ (k : ℕ). asks_image (request_of device readable k)) same ∙ asks in
     absurd (cc (none, some))
 
 -- a chain that asks isn't served
-asks_serves : (device : BlockDevice) (site : Site Queue Disk) (s : Served Disk) → AsksHere device site → ServesChain queue_kind (unasked_device device) site s → ⊥
+asks_serves : (device : BlockDevice) (site : Site Queue Disk) (s : Served Disk) → AsksHere device site
+    → ServesChain queue_kind (unasked_device device) site s → ⊥
 asks_serves device site s a q =
-    let b : a.buffers ≡ s.buffers = has_at_most_one_chain.buffers site.memory site.ring a.buffers s.buffers a.entry s.entry a.offered q.offered in
-    gives_no device site.state (readable_of site.memory a.buffers) (length (writable_of a.buffers)) s.given a.asked.room a.asked.all
+    let b : a.buffers ≡ s.buffers =
+    has_at_most_one_chain.buffers site.memory site.ring a.buffers s.buffers a.entry s.entry
+    a.offered q.offered in
+    gives_no device site.state (readable_of site.memory a.buffers) (length (writable_of a.buffers)) s.given
+    a.asked.room a.asked.all
     (ap (λ (r : Request). asks_image r) (sym a.asked.is) ∙ a.asked.asks)
-    (subst (λ (l : List Buffer). GivesBy (EndsUnasked device.identity) device site.state (readable_of site.memory l) (length (writable_of l)) s.given) (sym b) q.gives)
+    (subst (λ (l : List Buffer). GivesBy (EndsUnasked device.identity) device site.state
+    (readable_of site.memory l) (length (writable_of l)) s.given) (sym b) q.gives)
 
 -- nor does the service end there
-asks_ends : (device : BlockDevice) (site : Site Queue Disk) (ending : Ending) → AsksHere device site → IsEnding queue_kind (unasked_device device) site ending → ⊥
+asks_ends : (device : BlockDevice) (site : Site Queue Disk) (ending : Ending) → AsksHere device site
+    → IsEnding queue_kind (unasked_device device) site ending → ⊥
 asks_ends device site Spent a e =
     let ready = both true (queue_kind.offers site.memory site.ring) refl a.offers in
     cc (e, ready)
-asks_ends device site (Faulted fault) a e = has_at_most_one_chain.not_both site.memory site.ring a.buffers a.entry fault a.offered e.1
+asks_ends device site (Faulted fault) a e =
+    has_at_most_one_chain.not_both site.memory site.ring a.buffers a.entry fault a.offered e.1
 asks_ends device site Refused a e = e.lacks_memory
 
-ends_serves : (device : BlockDevice) (site : Site Queue Disk) (ending : Ending) (s : Served Disk) → IsEnding queue_kind (unasked_device device) site ending → ServesChain queue_kind (unasked_device device) site s → ⊥
+ends_serves : (device : BlockDevice) (site : Site Queue Disk) (ending : Ending) (s : Served Disk)
+    → IsEnding queue_kind (unasked_device device) site ending
+    → ServesChain queue_kind (unasked_device device) site s → ⊥
 ends_serves device site Spent s e q = let ready = q.ready in cc (e, ready)
-ends_serves device site (Faulted fault) s e q = has_at_most_one_chain.not_both site.memory site.ring s.buffers s.entry fault q.offered e.1
+ends_serves device site (Faulted fault) s e q =
+    has_at_most_one_chain.not_both site.memory site.ring s.buffers s.entry fault q.offered e.1
 ends_serves device site Refused s e q = e.lacks_memory
 
 same_served : (b c : List Buffer) (e f : Entry) (g h : Given Disk) → b ≡ c → e ≡ f → g ≡ h
-    → ◌≡◌ {A = Served Disk} (record { buffers = b; entry = e; given = g }) (record { buffers = c; entry = f; given = h })
+    → ◌≡◌ {A = Served Disk} (record { buffers = b; entry = e; given = g })
+    (record { buffers = c; entry = f; given = h })
 same_served b c e f g h p q r = rw (p, q, r) refl
 
-serves_once : (device : BlockDevice) (site : Site Queue Disk) (s t : Served Disk) → ServesChain queue_kind (unasked_device device) site s → ServesChain queue_kind (unasked_device device) site t → s ≡ t
+serves_once : (device : BlockDevice) (site : Site Queue Disk) (s t : Served Disk)
+    → ServesChain queue_kind (unasked_device device) site s
+    → ServesChain queue_kind (unasked_device device) site t → s ≡ t
 serves_once device site s t p q =
-    let b = has_at_most_one_chain.buffers site.memory site.ring s.buffers t.buffers s.entry t.entry p.offered q.offered in
-    let e = has_at_most_one_chain.entry site.memory site.ring s.buffers t.buffers s.entry t.entry p.offered q.offered in
-    let there : GivesBy (EndsUnasked device.identity) device site.state (readable_of site.memory s.buffers) (length (writable_of s.buffers)) t.given =
-    subst (λ (l : List Buffer). GivesBy (EndsUnasked device.identity) device site.state (readable_of site.memory l) (length (writable_of l)) t.given) (sym b) q.gives in
-    same_served s.buffers t.buffers s.entry t.entry s.given t.given b e (given_once device site.state (readable_of site.memory s.buffers) (length (writable_of s.buffers)) s.given t.given p.gives there)
+    let b = has_at_most_one_chain.buffers site.memory site.ring s.buffers t.buffers s.entry t.entry
+    p.offered q.offered in
+    let e = has_at_most_one_chain.entry site.memory site.ring s.buffers t.buffers s.entry t.entry
+    p.offered q.offered in
+    let there : GivesBy (EndsUnasked device.identity) device site.state (readable_of site.memory s.buffers)
+    (length (writable_of s.buffers)) t.given =
+    subst (λ (l : List Buffer). GivesBy (EndsUnasked device.identity) device site.state
+    (readable_of site.memory l) (length (writable_of l)) t.given) (sym b) q.gives in
+    same_served s.buffers t.buffers s.entry t.entry s.given t.given b e
+    (given_once device site.state (readable_of site.memory s.buffers) (length (writable_of s.buffers))
+    s.given t.given p.gives there)
 
-stop_once : (device : BlockDevice) (start : Site Queue Disk) (cs ds : List (Served Disk)) (a b : Site Queue Disk)
-    → ServesAll queue_kind (unasked_device device) start cs a → ServesAll queue_kind (unasked_device device) start ds b → AsksHere device a → AsksHere device b → a ≡ b
+stop_once : (device : BlockDevice) (start : Site Queue Disk) (cs ds : List (Served Disk))
+    (a b : Site Queue Disk)
+    → ServesAll queue_kind (unasked_device device) start cs a
+    → ServesAll queue_kind (unasked_device device) start ds b → AsksHere device a
+    → AsksHere device b → a ≡ b
 stop_once device start [] [] a b p q x y = sym p ∙ q
-stop_once device start [] (d ∷ ds) a b p q x y = absurd (asks_serves device start d (subst (λ (s : Site Queue Disk). AsksHere device s) (sym p) x) q.0)
-stop_once device start (c ∷ cs) [] a b p q x y = absurd (asks_serves device start c (subst (λ (s : Site Queue Disk). AsksHere device s) (sym q) y) p.0)
+stop_once device start [] (d ∷ ds) a b p q x y =
+    absurd (asks_serves device start d (subst (λ (s : Site Queue Disk). AsksHere device s) (sym p) x) q.0)
+stop_once device start (c ∷ cs) [] a b p q x y =
+    absurd (asks_serves device start c (subst (λ (s : Site Queue Disk). AsksHere device s) (sym q) y) p.0)
 stop_once device start (c ∷ cs) (d ∷ ds) a b p q x y =
     let same = serves_once device start c d p.0 q.0 in
     stop_once device (after queue_kind (unasked_device device) start c) cs ds a b p.1
-    (subst (λ (d : Served Disk). ServesAll queue_kind (unasked_device device) (after queue_kind (unasked_device device) start d) ds b) (sym same) q.1) x y
+    (subst (λ (d : Served Disk). ServesAll queue_kind (unasked_device device)
+    (after queue_kind (unasked_device device) start d) ds b) (sym same) q.1) x y
 
 -- it stops or ends
-stop_or_end : (device : BlockDevice) (start : Site Queue Disk) (cs ds : List (Served Disk)) (a b : Site Queue Disk) (ending : Ending)
-    → ServesAll queue_kind (unasked_device device) start cs a → ServesAll queue_kind (unasked_device device) start ds b → AsksHere device a → IsEnding queue_kind (unasked_device device) b ending → ⊥
+stop_or_end : (device : BlockDevice) (start : Site Queue Disk) (cs ds : List (Served Disk))
+    (a b : Site Queue Disk) (ending : Ending)
+    → ServesAll queue_kind (unasked_device device) start cs a
+    → ServesAll queue_kind (unasked_device device) start ds b → AsksHere device a
+    → IsEnding queue_kind (unasked_device device) b ending → ⊥
 stop_or_end device start [] [] a b ending p q x y =
     asks_ends device start ending (subst (λ (s : Site Queue Disk). AsksHere device s) (sym p) x)
     (subst (λ (s : Site Queue Disk). IsEnding queue_kind (unasked_device device) s ending) (sym q) y)
-stop_or_end device start [] (d ∷ ds) a b ending p q x y = asks_serves device start d (subst (λ (s : Site Queue Disk). AsksHere device s) (sym p) x) q.0
+stop_or_end device start [] (d ∷ ds) a b ending p q x y =
+    asks_serves device start d (subst (λ (s : Site Queue Disk). AsksHere device s) (sym p) x) q.0
 stop_or_end device start (c ∷ cs) [] a b ending p q x y =
-    ends_serves device start ending c (subst (λ (s : Site Queue Disk). IsEnding queue_kind (unasked_device device) s ending) (sym q) y) p.0
+    ends_serves device start ending c
+    (subst (λ (s : Site Queue Disk). IsEnding queue_kind (unasked_device device) s ending) (sym q) y) p.0
 stop_or_end device start (c ∷ cs) (d ∷ ds) a b ending p q x y =
     let same = serves_once device start c d p.0 q.0 in
     stop_or_end device (after queue_kind (unasked_device device) start c) cs ds a b ending p.1
-    (subst (λ (d : Served Disk). ServesAll queue_kind (unasked_device device) (after queue_kind (unasked_device device) start d) ds b) (sym same) q.1) x y
+    (subst (λ (d : Served Disk). ServesAll queue_kind (unasked_device device)
+    (after queue_kind (unasked_device device) start d) ds b) (sym same) q.1) x y
 
 -- ---- what is in flight then
 
-same_split : (p q h k : ℕ) → p ≡ q → h ≡ k → token.Split (record { place = p; head = h }) ≡ token.Split (record { place = q; head = k })
+same_split : (p q h k : ℕ) → p ≡ q → h ≡ k → token.Split (record { place = p; head = h })
+    ≡ token.Split (record { place = q; head = k })
 same_split p q h k e f = rw (e, f) refl
 
-same_packed : (p q i j l k : ℕ) → p ≡ q → i ≡ j → l ≡ k → token.Packed (record { place = p; id = i; length = l }) ≡ token.Packed (record { place = q; id = j; length = k })
+same_packed : (p q i j l k : ℕ) → p ≡ q → i ≡ j → l ≡ k
+    → token.Packed (record { place = p; id = i; length = l })
+    ≡ token.Packed (record { place = q; id = j; length = k })
 same_packed p q i j l k e f g = rw (e, f, g) refl
 
 token_once : (ring : Queue) (s t : Token) → IsTaken ring s → IsTaken ring t → entry_of s ≡ entry_of t → s ≡ t
@@ -175,7 +233,8 @@ token_once (Split ring) (token.Split a) (token.Split b) x y e =
 token_once (Split ring) (token.Split a) (token.Packed b) x y e = absurd y
 token_once (Split ring) (token.Packed a) t x y e = absurd x
 token_once (Packed ring) (token.Packed a) (token.Packed b) x y e =
-    same_packed a.place b.place a.id b.id a.length b.length (x.place ∙ sym y.place) (ap (λ (n : Entry). n.id) e) (ap (λ (n : Entry). n.places) e)
+    same_packed a.place b.place a.id b.id a.length b.length (x.place
+    ∙ sym y.place) (ap (λ (n : Entry). n.id) e) (ap (λ (n : Entry). n.places) e)
 token_once (Packed ring) (token.Packed a) (token.Split b) x y e = absurd y
 token_once (Packed ring) (token.Split a) t x y e = absurd x
 
@@ -184,42 +243,61 @@ record SameAsked (b c : List Buffer) (s t : Token) (q r : Request) : Type 0 wher
   token : s ≡ t
   request : q ≡ r
 
-same_request : (device : BlockDevice) (m : Memory) (b : List Buffer) (q r : Request) → IsAsked device m b q → IsAsked device m b r → q ≡ r
+same_request : (device : BlockDevice) (m : Memory) (b : List Buffer) (q r : Request) → IsAsked device m b q
+    → IsAsked device m b r → q ≡ r
 same_request device m b q r x y =
     let room : x.room ≡ y.room = omega (arith, x.all, y.all) in
     x.is ∙ ap (λ (k : ℕ). request_of device (readable_of m b) k) room ∙ sym y.is
 
-asked_once : (device : BlockDevice) (start one m : Site Queue Disk) (b c : List Buffer) (s t : Token) (q r : Request) → one ≡ m → StopsAt device start one b s q → StopsAt device start m c t r → SameAsked b c s t q r
+asked_once : (device : BlockDevice) (start one m : Site Queue Disk) (b c : List Buffer) (s t : Token)
+    (q r : Request) → one ≡ m → StopsAt device start one b s q → StopsAt device start m c t r
+    → SameAsked b c s t q r
 asked_once device start one m b c s t q r same x y =
-    let here : StopsAt device start m b s q = subst (λ (k : Site Queue Disk). StopsAt device start k b s q) same x in
-    let buffers : b ≡ c = has_at_most_one_chain.buffers m.memory m.ring b c (entry_of s) (entry_of t) here.offered y.offered in
-    let entry : entry_of s ≡ entry_of t = has_at_most_one_chain.entry m.memory m.ring b c (entry_of s) (entry_of t) here.offered y.offered in
+    let here : StopsAt device start m b s q =
+    subst (λ (k : Site Queue Disk). StopsAt device start k b s q) same x in
+    let buffers : b ≡ c = has_at_most_one_chain.buffers m.memory m.ring b c (entry_of s) (entry_of t)
+    here.offered y.offered in
+    let entry : entry_of s ≡ entry_of t =
+    has_at_most_one_chain.entry m.memory m.ring b c (entry_of s) (entry_of t) here.offered y.offered in
     record {
       buffers = buffers;
       token = token_once m.ring s t here.taken y.taken entry;
-      request = same_request device m.memory c q r (subst (λ (l : List Buffer). IsAsked device m.memory l q) buffers here.asked) y.asked;
+      request = same_request device m.memory c q r
+          (subst (λ (l : List Buffer). IsAsked device m.memory l q) buffers here.asked) y.asked;
     }
 
-same_flight : (s t : Token) (o p : Operation) → s ≡ t → o ≡ p → ◌≡◌ {A = Flight} (record { token = s; operation = o }) (record { token = t; operation = p })
+same_flight : (s t : Token) (o p : Operation) → s ≡ t → o ≡ p
+    → ◌≡◌ {A = Flight} (record { token = s; operation = o }) (record { token = t; operation = p })
 same_flight s t o p e f = rw (e, f) refl
 
-asks_once : (device : BlockDevice) (found : Option Queue) (f g : Flight) (old m n : Memory) (before v w : WindowState) (b c : List Buffer) (r s : List Segment) (disk : Disk)
-    → AsksIn device First found old m before v b r f disk → AsksIn device First found old n before w c s g disk → SameLook (hosted.Asks f) (hosted.Asks g) m n v w b c r s
+asks_once : (device : BlockDevice) (found : Option Queue) (f g : Flight) (old m n : Memory)
+    (before v w : WindowState) (b c : List Buffer) (r s : List Segment) (disk : Disk)
+    → AsksIn device First found old m before v b r f disk
+    → AsksIn device First found old n before w c s g disk
+    → SameLook (hosted.Asks f) (hosted.Asks g) m n v w b c r s
 asks_once device found f g old m n before v w b c r s disk x y =
     let queue : y.queue ≡ x.queue = same_Some y.queue x.queue (y.ready ∙ sym x.ready) in
-    let start : Site Queue Disk = record (site_of device old x.queue disk) { ring = opened_at First old x.queue } in
-    let there : AsksAt device First (site_of device old x.queue disk) (site_of device n y.last disk) c g.token y.request =
-    subst (λ (q : Queue). AsksAt device First (site_of device old q disk) (site_of device n y.last disk) c g.token y.request) queue y.asks in
+    let start : Site Queue Disk =
+    record (site_of device old x.queue disk) { ring = opened_at First old x.queue } in
+    let there : AsksAt device First (site_of device old x.queue disk) (site_of device n y.last disk) c
+    g.token y.request =
+    subst (λ (q : Queue). AsksAt device First (site_of device old q disk) (site_of device n y.last disk) c
+    g.token y.request) queue y.asks in
     let one : StopsAt device start (site_of device m x.last disk) b f.token x.request = x.asks.stops in
     let other : StopsAt device start (site_of device n y.last disk) c g.token y.request = there.stops in
     let same : site_of device m x.last disk ≡ site_of device n y.last disk =
-    stop_once device start one.course.chains other.course.chains (site_of device m x.last disk) (site_of device n y.last disk) one.course.serves other.course.serves
-    (asks_here device start (site_of device m x.last disk) b f.token x.request one) (asks_here device start (site_of device n y.last disk) c g.token y.request other) in
-    let asked = asked_once device start (site_of device m x.last disk) (site_of device n y.last disk) b c f.token g.token x.request y.request same one other in
+    stop_once device start one.course.chains other.course.chains (site_of device m x.last disk)
+    (site_of device n y.last disk) one.course.serves other.course.serves
+    (asks_here device start (site_of device m x.last disk) b f.token x.request one)
+    (asks_here device start (site_of device n y.last disk) c g.token y.request other) in
+    let asked = asked_once device start (site_of device m x.last disk) (site_of device n y.last disk) b c
+    f.token g.token x.request y.request same one other in
     let memory : m ≡ n = ap (λ (k : Site Queue Disk). k.memory) same in
-    let operation : f.operation ≡ g.operation = x.operation ∙ ap (λ (q : Request). operation_of (wants_stable before) q) asked.request ∙ sym y.operation in
+    let operation : f.operation ≡ g.operation = x.operation
+    ∙ ap (λ (q : Request). operation_of (wants_stable before) q) asked.request ∙ sym y.operation in
     record {
-      outcome = ap (λ (k : Flight). hosted.Asks k) (same_flight f.token g.token f.operation g.operation asked.token operation);
+      outcome = ap (λ (k : Flight). hosted.Asks k)
+          (same_flight f.token g.token f.operation g.operation asked.token operation);
       memory = memory;
       window = x.window ∙ ap (λ (k : Site Queue Disk). with_ring 0 before k.ring) same ∙ sym y.window;
       buffers = asked.buffers;
@@ -232,11 +310,15 @@ record SameEnd (m n : Memory) (v w : WindowState) : Type 0 where
   memory : m ≡ n
   window : v ≡ w
 
-not_refused : (device : BlockDevice) (old new : Site Queue Disk) (ending : Ending) (wanted : Bool) → IsService queue_kind (unasked_device device) old new ending wanted → ending ≡ Refused → ⊥
-not_refused device old new ending wanted s = never_refused queue_kind (unasked_device device) old new ending wanted (λ disk readable w lacks. lacks) s
+not_refused : (device : BlockDevice) (old new : Site Queue Disk) (ending : Ending) (wanted : Bool)
+    → IsService queue_kind (unasked_device device) old new ending wanted → ending ≡ Refused → ⊥
+not_refused device old new ending wanted s =
+    never_refused queue_kind (unasked_device device) old new ending wanted (λ disk readable w lacks. lacks) s
 
-end_once : (device : BlockDevice) (found : Option Queue) (old m n : Memory) (before v w : WindowState) (disk : Disk)
-    → IsNotified (unasked_device device) 0 found old m before v disk disk → IsNotified (unasked_device device) 0 found old n before w disk disk → SameEnd m n v w
+end_once : (device : BlockDevice) (found : Option Queue) (old m n : Memory)
+    (before v w : WindowState) (disk : Disk)
+    → IsNotified (unasked_device device) 0 found old m before v disk disk
+    → IsNotified (unasked_device device) 0 found old n before w disk disk → SameEnd m n v w
 end_once device None old m n before v w disk x y = record {
   memory = x.notified.1.memory ∙ sym y.notified.1.memory;
   window = x.notified.1.window ∙ sym y.notified.1.window;
@@ -247,59 +329,90 @@ end_once device (Some queue) old m n before v w disk x y =
     let start : Site Queue Disk = record { memory = old; ring = queue; state = disk } in
     let one : Site Queue Disk = record { memory = m; ring = p.last; state = disk } in
     let other : Site Queue Disk = record { memory = n; ring = q.last; state = disk } in
-    let same = at_most_one_service queue_kind (unasked_device device) has_at_most_one_chain (unasked_once device) start one other x.ending y.ending p.wanted q.wanted
-    (not_refused device start one x.ending p.wanted p.service) (not_refused device start other y.ending q.wanted q.service) p.service q.service in
+    let same = at_most_one_service queue_kind (unasked_device device) has_at_most_one_chain
+    (unasked_once device) start one other x.ending y.ending p.wanted q.wanted
+    (not_refused device start one x.ending p.wanted p.service)
+    (not_refused device start other y.ending q.wanted q.service) p.service q.service in
     record {
       memory = ap (λ (k : Site Queue Disk). k.memory) same.site;
-      window = p.window ∙ (ap (λ (k : Site Queue Disk). after_service x.ending p.wanted (with_ring 0 before k.ring)) same.site
+      window = p.window ∙ (ap (λ (k : Site Queue Disk). after_service x.ending p.wanted
+          (with_ring 0 before k.ring)) same.site
           ∙ (ap (λ (e : Ending). after_service e p.wanted (with_ring 0 before q.last)) same.ending
-          ∙ (ap (λ (b : Bool). after_service y.ending b (with_ring 0 before q.last)) same.wanted ∙ sym q.window)));
+          ∙ (ap (λ (b : Bool). after_service y.ending b (with_ring 0 before q.last)) same.wanted
+          ∙ sym q.window)));
     }
 
-runs_or_faults : (device : BlockDevice) (start last at : Site Queue Disk) (fault : Option Fault) (ending : Ending) (chains : List (Served Disk)) → fault ≡ None → Works queue_kind (unasked_device device) fault start ending last
+runs_or_faults : (device : BlockDevice) (start last at : Site Queue Disk) (fault : Option Fault)
+    (ending : Ending) (chains : List (Served Disk)) → fault ≡ None
+    → Works queue_kind (unasked_device device) fault start ending last
     → ServesAll queue_kind (unasked_device device) start chains at → AsksHere device at → ⊥
 runs_or_faults device start last at (Some fault) ending chains none works serves asks = absurd (cc)
-runs_or_faults device start last at None ending chains none works serves asks = stop_or_end device start chains works.chains at works.at ending serves works.serves asks works.ends
+runs_or_faults device start last at None ending chains none works serves asks =
+    stop_or_end device start chains works.chains at works.at ending serves works.serves asks works.ends
 
-asks_or_ends : (device : BlockDevice) (found : Option Queue) (f : Flight) (old m n : Memory) (before v w : WindowState) (b : List Buffer) (r : List Segment) (disk : Disk)
-    → AsksIn device First found old m before v b r f disk → IsNotified (unasked_device device) 0 found old n before w (extent_disk device.extent disk) (extent_disk device.extent disk) → ⊥
+asks_or_ends : (device : BlockDevice) (found : Option Queue) (f : Flight) (old m n : Memory)
+    (before v w : WindowState) (b : List Buffer) (r : List Segment) (disk : Disk)
+    → AsksIn device First found old m before v b r f disk
+    → IsNotified (unasked_device device) 0 found old n before w (extent_disk device.extent disk)
+    (extent_disk device.extent disk) → ⊥
 asks_or_ends device None f old m n before v w b r disk x y = let none = x.ready in absurd (cc)
 asks_or_ends device (Some queue) f old m n before v w b r disk x y =
     let same : x.queue ≡ queue = same_Some x.queue queue x.ready in
-    let asks : AsksAt device First (site_of device old queue disk) (site_of device m x.last disk) b f.token x.request =
-    subst (λ (q : Queue). AsksAt device First (site_of device old q disk) (site_of device m x.last disk) b f.token x.request) same x.asks in
-    let start : Site Queue Disk = open_site queue_kind (unasked_device device) (site_of device old queue disk) in
+    let asks : AsksAt device First (site_of device old queue disk) (site_of device m x.last disk) b
+    f.token x.request =
+    subst (λ (q : Queue). AsksAt device First (site_of device old q disk) (site_of device m x.last disk) b
+    f.token x.request) same x.asks in
+    let start : Site Queue Disk =
+    open_site queue_kind (unasked_device device) (site_of device old queue disk) in
     let s = y.notified.service in
-    runs_or_faults device start s.last (site_of device m x.last disk) (queue_kind.opening_fault old queue) y.ending asks.stops.course.chains asks.opens s.works asks.stops.course.serves
+    runs_or_faults device start s.last (site_of device m x.last disk) (queue_kind.opening_fault old queue)
+    y.ending asks.stops.course.chains asks.opens s.works asks.stops.course.serves
     (asks_here device start (site_of device m x.last disk) b f.token x.request asks.stops)
 
 -- ---- a look
 
-never_more : (device : BlockDevice) (budget : Budget) (found : Option Queue) (old new : Memory) (before after : WindowState) (s t : Disk) → budget.chains ≡ None → budget.bytes ≡ None
+never_more : (device : BlockDevice) (budget : Budget) (found : Option Queue) (old new : Memory)
+    (before after : WindowState) (s t : Disk) → budget.chains ≡ None → budget.bytes ≡ None
     → BeginsTo (unasked_device device) budget 0 found progress.More old new before after s t → ⊥
 never_more device budget None old new before after s t chains bytes h = h
-never_more device budget (Some queue) old new before after s t chains bytes h = elim h.begins.pauses.spent [ inl e ↦ cc | inr e ↦ cc ]
+never_more device budget (Some queue) old new before after s t chains bytes h =
+    elim h.begins.pauses.spent [ inl e ↦ cc | inr e ↦ cc ]
 
-whole : (device : BlockDevice) (budget : Budget) (found : Option Queue) (old new : Memory) (before after : WindowState) (s t : Disk) → budget.chains ≡ None → budget.bytes ≡ None
-    → BeginsTo (unasked_device device) budget 0 found progress.Done old new before after s t → IsNotified (unasked_device device) 0 found old new before after s t
+whole : (device : BlockDevice) (budget : Budget) (found : Option Queue) (old new : Memory)
+    (before after : WindowState) (s t : Disk) → budget.chains ≡ None → budget.bytes ≡ None
+    → BeginsTo (unasked_device device) budget 0 found progress.Done old new before after s t
+    → IsNotified (unasked_device device) 0 found old new before after s t
 whole device budget found old new before after s t chains bytes h =
-    let once = never_pauses (unasked_device device) budget 0 found progress.Done old new before after s t chains bytes h in
-    record { ending = once.ending; notified = notified_once (unasked_device device) budget 0 found once.ending old new before after s t once.notified }
+    let once = never_pauses (unasked_device device) budget 0 found progress.Done old new before after s
+    t chains bytes h in
+    record {
+      ending = once.ending;
+      notified = notified_once (unasked_device device) budget 0 found once.ending old new before after
+          s t once.notified;
+    }
 
-pub one_look : (device : BlockDevice) (budget : Budget) (found : Option Queue) (one other : Hosted) (old m n : Memory) (before v w : WindowState) (b c : List Buffer) (r s : List Segment) (disk : Disk)
-    → budget.chains ≡ None → budget.bytes ≡ None → HostsTo device First budget found one old m before v b r disk → HostsTo device First budget found other old n before w c s disk
+pub one_look : (device : BlockDevice) (budget : Budget) (found : Option Queue) (one other : Hosted)
+    (old m n : Memory) (before v w : WindowState) (b c : List Buffer) (r s : List Segment) (disk : Disk)
+    → budget.chains ≡ None → budget.bytes ≡ None
+    → HostsTo device First budget found one old m before v b r disk
+    → HostsTo device First budget found other old n before w c s disk
     → SameLook one other m n v w b c r s
-one_look device budget found (hosted.Asks f) (hosted.Asks g) old m n before v w b c r s disk chains bytes x y = asks_once device found f g old m n before v w b c r s disk x y
+one_look device budget found (hosted.Asks f) (hosted.Asks g) old m n before v w b c r s disk chains bytes x
+    y = asks_once device found f g old m n before v w b c r s disk x y
 one_look device budget found hosted.Done hosted.Done old m n before v w b c r s disk chains bytes x y =
     let d = extent_disk device.extent disk in
-    let same = end_once device found old m n before v w d (whole device budget found old m before v d d chains bytes x) (whole device budget found old n before w d d chains bytes y) in
+    let same = end_once device found old m n before v w d
+    (whole device budget found old m before v d d chains bytes x)
+    (whole device budget found old n before w d d chains bytes y) in
     record { outcome = refl; memory = same.memory; window = same.window; buffers = tt; runs = tt }
 one_look device budget found (hosted.Asks f) hosted.Done old m n before v w b c r s disk chains bytes x y =
     let d = extent_disk device.extent disk in
-    absurd (asks_or_ends device found f old m n before v w b r disk x (whole device budget found old n before w d d chains bytes y))
+    absurd (asks_or_ends device found f old m n before v w b r disk x
+    (whole device budget found old n before w d d chains bytes y))
 one_look device budget found hosted.Done (hosted.Asks g) old m n before v w b c r s disk chains bytes x y =
     let d = extent_disk device.extent disk in
-    absurd (asks_or_ends device found g old n m before w v c s disk y (whole device budget found old m before v d d chains bytes x))
+    absurd (asks_or_ends device found g old n m before w v c s disk y
+    (whole device budget found old m before v d d chains bytes x))
 one_look device budget found hosted.More other old m n before v w b c r s disk chains bytes x y =
     let d = extent_disk device.extent disk in
     absurd (never_more device budget found old m before v d d chains bytes x)
@@ -318,15 +431,19 @@ same_answer true false P x y = sym (y.1 (x.0 refl))
 same_answer false true P x y = x.1 (y.0 refl)
 same_answer false false P x y = refl
 
-pub one_completion : (flight : Flight) (answer : Verdict) (old m n : Memory) (before v w : WindowState) (buffers : List Buffer)
-    → CompletesIn flight answer old m before v buffers → CompletesIn flight answer old n before w buffers → (m ≡ n) × (v ≡ w)
+pub one_completion : (flight : Flight) (answer : Verdict) (old m n : Memory) (before v w : WindowState)
+    (buffers : List Buffer)
+    → CompletesIn flight answer old m before v buffers → CompletesIn flight answer old n before w buffers
+    → (m ≡ n) × (v ≡ w)
 one_completion flight answer old m n before v w buffers x y =
     let queue : x.queue ≡ y.queue = same_Some x.queue y.queue (sym x.ready ∙ y.ready) in
-    let behind : x.behind ≡ y.behind = x.gives.past ∙ ap (λ (q : Queue). queue_kind.past q (entry_of flight.token)) queue ∙ sym y.gives.past in
+    let behind : x.behind ≡ y.behind = x.gives.past
+    ∙ ap (λ (q : Queue). queue_kind.past q (entry_of flight.token)) queue ∙ sym y.gives.past in
     let done : x.gives.done ≡ y.gives.done = x.gives.completed.memory ∙ sym y.gives.completed.memory in
     let len : x.gives.len ≡ y.gives.len = x.gives.completed.len_is ∙ sym y.gives.completed.len_is in
     let given : x.given ≡ y.given = x.gives.used ∙ rw (done, queue, len) refl ∙ sym y.gives.used in
     let memory : m ≡ n = x.closed ∙ rw (given, behind) refl ∙ sym y.closed in
     let wanted : x.wanted ≡ y.wanted =
-    same_answer x.wanted y.wanted (queue_kind.Wants n y.behind) (rw (memory, behind) at x.wanted_is) y.wanted_is in
+    same_answer x.wanted y.wanted (queue_kind.Wants n y.behind)
+    (rw (memory, behind) at x.wanted_is) y.wanted_is in
     (memory, x.window ∙ rw (wanted, behind) refl ∙ sym y.window)

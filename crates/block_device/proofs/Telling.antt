@@ -1,4 +1,5 @@
--- What the host is told of a request: that it fits, that the runs of a WRITE_ZEROES are those of its segments, and that
+-- What the host is told of a request: that it fits, that the runs of a WRITE_ZEROES are those of its
+-- segments, and that
 -- nothing of it lies outside.
 use Rattle.std.proofs.Common.{◌≡◌, ℕ, ◌+◌, ◌*◌, ◌/◌, ◌<◌, ◌≤◌, ◌&&◌, ◌==◌, Bool, true, false, not, cond, List, [], ◌∷◌, ◌++◌, length, map, refl, sym, ap, subst, ◌∙◌, arith, append-nil, length-drop}
 use Rattle.std.specs.Prelude.{All, nat_lt}
@@ -41,7 +42,8 @@ in_few : (sector count : ℕ) (fit : Bool) → HasFew (cond fit (Read sector cou
 in_few sector count true = tt
 in_few sector count false = tt
 
-out_few : (sector count : ℕ) (read_only fit : Bool) → HasFew (cond read_only (Rejected IoError) (cond fit (Write sector count) (Rejected IoError)))
+out_few : (sector count : ℕ) (read_only fit : Bool)
+    → HasFew (cond read_only (Rejected IoError) (cond fit (Write sector count) (Rejected IoError)))
 out_few sector count true fit = tt
 out_few sector count false true = tt
 out_few sector count false false = tt
@@ -51,7 +53,10 @@ id_few true = tt
 id_few false = tt
 
 zeroes_few : (len : ℕ) (read_only fit known within : Bool) → are_segments len ≡ fit
-    → HasFew (cond read_only (Rejected IoError) (cond (not fit) (Rejected IoError) (cond (not known) (Rejected Unsupported) (cond (not within) (Rejected IoError) (WriteZeroes (len / 16))))))
+    → HasFew (cond read_only (Rejected IoError)
+    (cond (not fit) (Rejected IoError)
+    (cond (not known) (Rejected Unsupported)
+    (cond (not within) (Rejected IoError) (WriteZeroes (len / 16))))))
 zeroes_few len true fit known within e = tt
 zeroes_few len false false known within e = tt
 zeroes_few len false true false within e = tt
@@ -59,29 +64,41 @@ zeroes_few len false true true false e = tt
 zeroes_few len false true true true e = grind (arith, nat_tests, common_steps)
 
 typed_few : (device : BlockDevice) (payload : List ℕ) (sector room : ℕ) (reads writes flush id zeroes : Bool)
-    → HasFew (cond reads (in_request_of device sector room) (cond writes (out_request_of device sector (length payload)) (cond flush Flush (cond id (get_id_request_of room) (cond zeroes (write_zeroes_request_of device payload) (Rejected Unsupported))))))
-typed_few device payload sector room true writes flush id zeroes = in_few sector (room / 512) (are_sectors device.extent.count sector room)
-typed_few device payload sector room false true flush id zeroes = out_few sector (length payload / 512) device.read_only (are_sectors device.extent.count sector (length payload))
+    → HasFew (cond reads (in_request_of device sector room)
+    (cond writes (out_request_of device sector (length payload))
+    (cond flush Flush (cond id (get_id_request_of room)
+    (cond zeroes (write_zeroes_request_of device payload) (Rejected Unsupported))))))
+typed_few device payload sector room true writes flush id zeroes =
+    in_few sector (room / 512) (are_sectors device.extent.count sector room)
+typed_few device payload sector room false true flush id zeroes =
+    out_few sector (length payload / 512) device.read_only
+    (are_sectors device.extent.count sector (length payload))
 typed_few device payload sector room false false true id zeroes = tt
 typed_few device payload sector room false false false true zeroes = id_few (nat_lt room 20)
 typed_few device payload sector room false false false false true =
-    zeroes_few (length payload) device.read_only (are_segments (length payload)) (list_all has_known_flags (segments_in payload))
+    zeroes_few (length payload) device.read_only (are_segments (length payload))
+    (list_all has_known_flags (segments_in payload))
     (list_all (has_sectors_within device.extent.count) (segments_in payload)) refl
 typed_few device payload sector room false false false false false = tt
 
 few_by_test : (device : BlockDevice) (readable : List ℕ) (room : ℕ) (short : Bool)
-    → HasFew (cond short (Rejected IoError) (typed_request device (type_of readable) (sector_in readable) (payload_of readable) room))
+    → HasFew (cond short (Rejected IoError) (typed_request device (type_of readable) (sector_in readable)
+    (payload_of readable) room))
 few_by_test device readable room true = tt
 few_by_test device readable room false =
     let kind = type_of readable in
-    typed_few device (payload_of readable) (sector_in readable) room (kind == 0) (kind == 1) (kind == 4) (kind == 8) (kind == 13)
+    typed_few device (payload_of readable) (sector_in readable) room (kind == 0) (kind == 1) (kind == 4)
+    (kind == 8) (kind == 13)
 
-pub few_segments : (device : BlockDevice) (readable : List ℕ) (room : ℕ) (request : Request) → request ≡ request_of device readable room → HasFew request
-few_segments device readable room request is = subst HasFew (sym is) (few_by_test device readable room (nat_lt (length readable) 16))
+pub few_segments : (device : BlockDevice) (readable : List ℕ) (room : ℕ) (request : Request)
+    → request ≡ request_of device readable room → HasFew request
+few_segments device readable room request is =
+    subst HasFew (sym is) (few_by_test device readable room (nat_lt (length readable) 16))
 
 -- ---- its places are there
 
-pub read_places : (device : BlockDevice) (m : Memory) (buffers : List Buffer) (request : Request) (sector count : ℕ) → IsAsked device m buffers request → request ≡ Read sector count
+pub read_places : (device : BlockDevice) (m : Memory) (buffers : List Buffer) (request : Request)
+    (sector count : ℕ) → IsAsked device m buffers request → request ≡ Read sector count
     → 512 * count ≤ len_of true buffers
 read_places device m buffers request sector count a is =
     let s : IsServable device.extent.count (Read sector count) (payload_of (readable_of m buffers)) a.room =
@@ -89,65 +106,96 @@ read_places device m buffers request sector count a is =
     omega (arith, s.1, a.all, length-addresses_of true buffers)
 
 -- what is written was behind a whole header
-header_whole : (device : BlockDevice) (readable : List ℕ) (room sector count : ℕ) (short : Bool) → nat_lt (length readable) 16 ≡ short
-    → Write sector count ≡ cond short (Rejected IoError) (typed_request device (type_of readable) (sector_in readable) (payload_of readable) room) → 16 ≤ length readable
+header_whole : (device : BlockDevice) (readable : List ℕ) (room sector count : ℕ) (short : Bool)
+    → nat_lt (length readable) 16 ≡ short
+    → Write sector count ≡ cond short (Rejected IoError)
+    (typed_request device (type_of readable) (sector_in readable) (payload_of readable) room)
+    → 16 ≤ length readable
 header_whole device readable room sector count true e is = cc
 header_whole device readable room sector count false e is = grind (arith, nat_tests, e)
 
-pub write_places : (device : BlockDevice) (m : Memory) (buffers : List Buffer) (request : Request) (sector count : ℕ) → Good m buffers → IsAsked device m buffers request → request ≡ Write sector count
+pub write_places : (device : BlockDevice) (m : Memory) (buffers : List Buffer) (request : Request)
+    (sector count : ℕ) → Good m buffers → IsAsked device m buffers request → request ≡ Write sector count
     → 16 + 512 * count ≤ len_of false buffers
 write_places device m buffers request sector count good a is =
     let readable = readable_of m buffers in
     let s : IsServable device.extent.count (Write sector count) (payload_of readable) a.room =
     subst (λ r. IsServable device.extent.count r (payload_of readable) a.room) is a.servable in
-    let whole = header_whole device readable a.room sector count (nat_lt (length readable) 16) refl (sym is ∙ a.is) in
+    let whole = header_whole device readable a.room sector count (nat_lt (length readable) 16)
+    refl (sym is ∙ a.is) in
     omega (arith, s.1, whole, length-drop 16 readable, length-readable_of m buffers good.inside)
 
-pub asked_few : (device : BlockDevice) (m : Memory) (buffers : List Buffer) (request : Request) (segments : ℕ) → IsAsked device m buffers request → request ≡ WriteZeroes segments → segments ≤ 32
-asked_few device m buffers request segments a is = subst HasFew is (few_segments device (readable_of m buffers) a.room request a.is)
+pub asked_few : (device : BlockDevice) (m : Memory) (buffers : List Buffer) (request : Request) (segments : ℕ)
+    → IsAsked device m buffers request → request ≡ WriteZeroes segments → segments ≤ 32
+asked_few device m buffers request segments a is =
+    subst HasFew is (few_segments device (readable_of m buffers) a.room request a.is)
 
 -- ---- the runs of a WRITE_ZEROES
 
 abbrev pub zeroes_before : List ℕ → ℕ → List Segment
 zeroes_before payload index = filter has_bytes (map disk_run (first_segments payload index))
 
-before_more : (payload : List ℕ) (index : ℕ) → zeroes_before payload (index + 1) ≡ zeroes_before payload index ++ filter has_bytes (disk_run (segment_at payload index) ∷ [])
+before_more : (payload : List ℕ) (index : ℕ) → zeroes_before payload (index + 1) ≡ zeroes_before payload index
+    ++ filter has_bytes (disk_run (segment_at payload index) ∷ [])
 before_more payload index =
-    ap (λ l. filter has_bytes (map disk_run l)) (map-range_with_len_more (segment_at payload) 0 index index (omega arith))
-    ∙ ap (filter has_bytes) (map-append disk_run (first_segments payload index) (segment_at payload index ∷ []))
-    ∙ filter-append has_bytes (map disk_run (first_segments payload index)) (disk_run (segment_at payload index) ∷ [])
+    ap (λ l. filter has_bytes (map disk_run l))
+    (map-range_with_len_more (segment_at payload) 0 index index (omega arith))
+    ∙ ap (filter has_bytes) (map-append disk_run (first_segments payload index)
+    (segment_at payload index ∷ []))
+    ∙ filter-append has_bytes (map disk_run (first_segments payload index))
+    (disk_run (segment_at payload index) ∷ [])
 
 -- these are the runs of the segments before an index
 pub record AreZeroes (payload : List ℕ) (index : ℕ) (runs : List Segment) : Type 0 where
   pub are : runs ≡ zeroes_before payload index
 
-pub zeroes_put : (payload : List ℕ) (index : ℕ) (segment : WriteZeroesSegment) (runs new : List Segment) → AreZeroes payload index runs
-    → segment ≡ segment_at payload index → 0 < segment.count → new ≡ runs ++ disk_run segment ∷ [] → AreZeroes payload (index + 1) new
+pub zeroes_put : (payload : List ℕ) (index : ℕ) (segment : WriteZeroesSegment) (runs new : List Segment)
+    → AreZeroes payload index runs
+    → segment ≡ segment_at payload index → 0 < segment.count → new ≡ runs ++ disk_run segment ∷ []
+    → AreZeroes payload (index + 1) new
 zeroes_put payload index segment runs new h is some put =
-    let one : filter has_bytes (disk_run segment ∷ []) ≡ disk_run segment ∷ [] = rw (lt-ltb 0 (512 * segment.count) (omega (arith, some))) refl in
+    let one : filter has_bytes (disk_run segment ∷ []) ≡ disk_run segment ∷ [] =
+    rw (lt-ltb 0 (512 * segment.count) (omega (arith, some))) refl in
     record {
       are =
           put ∙ ap (λ l. runs ++ l) (sym one ∙ ap (λ s. filter has_bytes (disk_run s ∷ [])) is)
-          ∙ ap (λ l. l ++ filter has_bytes (disk_run (segment_at payload index) ∷ [])) h.are ∙ sym (before_more payload index);
+          ∙ ap (λ l. l ++ filter has_bytes (disk_run (segment_at payload index) ∷ [])) h.are
+          ∙ sym (before_more payload index);
     }
 
-pub zeroes_passed : (payload : List ℕ) (index : ℕ) (segment : WriteZeroesSegment) (runs : List Segment) → AreZeroes payload index runs
+pub zeroes_passed : (payload : List ℕ) (index : ℕ) (segment : WriteZeroesSegment) (runs : List Segment)
+    → AreZeroes payload index runs
     → segment ≡ segment_at payload index → segment.count ≤ 0 → AreZeroes payload (index + 1) runs
 zeroes_passed payload index segment runs h is none =
-    let one : filter has_bytes (disk_run segment ∷ []) ≡ [] = rw (le-ltb 0 (512 * segment.count) (omega (arith, none))) refl in
+    let one : filter has_bytes (disk_run segment ∷ []) ≡ [] =
+    rw (le-ltb 0 (512 * segment.count) (omega (arith, none))) refl in
     record {
       are =
-          sym (append-nil runs) ∙ ap (λ l. runs ++ l) (sym one ∙ ap (λ s. filter has_bytes (disk_run s ∷ [])) is)
-          ∙ ap (λ l. l ++ filter has_bytes (disk_run (segment_at payload index) ∷ [])) h.are ∙ sym (before_more payload index);
+          sym (append-nil runs) ∙ ap (λ l. runs ++ l) (sym one
+          ∙ ap (λ s. filter has_bytes (disk_run s ∷ [])) is)
+          ∙ ap (λ l. l ++ filter has_bytes (disk_run (segment_at payload index) ∷ [])) h.are
+          ∙ sym (before_more payload index);
     }
 
-few_of : (segments : List WriteZeroesSegment) → length (filter has_bytes (map disk_run segments)) ≤ length segments
+few_of : (segments : List WriteZeroesSegment)
+    → length (filter has_bytes (map disk_run segments)) ≤ length segments
 few_of segments =
-    omega (arith, length-filter has_bytes (map disk_run segments), count_by-le-length has_bytes (map disk_run segments), length-map segments disk_run)
+    omega (
+      arith,
+      length-filter has_bytes (map disk_run segments),
+      count_by-le-length has_bytes (map disk_run segments),
+      length-map segments disk_run,
+    )
 
-pub zeroes_few_before : (payload : List ℕ) (index : ℕ) (runs : List Segment) → AreZeroes payload index runs → length runs ≤ index
+pub zeroes_few_before : (payload : List ℕ) (index : ℕ) (runs : List Segment) → AreZeroes payload index runs
+    → length runs ≤ index
 zeroes_few_before payload index runs h =
-    omega (arith, ap length h.are, few_of (first_segments payload index), length-map-range_with_len (segment_at payload) 0 index)
+    omega (
+      arith,
+      ap length h.are,
+      few_of (first_segments payload index),
+      length-map-range_with_len (segment_at payload) 0 index,
+    )
 
 -- ---- nothing lies outside
 
@@ -156,17 +204,24 @@ both true true e = (refl, refl)
 both true false e = cc
 both false b e = cc
 
-on_disk : (capacity : ℕ) (segment : WriteZeroesSegment) → has_sectors_within capacity segment ≡ true → OnDisk capacity (disk_run segment)
-on_disk capacity segment fits = let h : segment.sector + segment.count ≤ capacity = grind (arith, nat_tests, fits) in omega (arith, h)
+on_disk : (capacity : ℕ) (segment : WriteZeroesSegment) → has_sectors_within capacity segment ≡ true
+    → OnDisk capacity (disk_run segment)
+on_disk capacity segment fits = let h : segment.sector + segment.count ≤ capacity =
+    grind (arith, nat_tests, fits) in omega (arith, h)
 
-all_on_disk : (capacity : ℕ) (segments : List WriteZeroesSegment) → list_all (has_sectors_within capacity) segments ≡ true → All (OnDisk capacity) (map disk_run segments)
+all_on_disk : (capacity : ℕ) (segments : List WriteZeroesSegment)
+    → list_all (has_sectors_within capacity) segments ≡ true → All (OnDisk capacity) (map disk_run segments)
 all_on_disk capacity [] fit = All-nil (OnDisk capacity)
 all_on_disk capacity (segment ∷ segments) fit =
-    let parts = both (has_sectors_within capacity segment) (list_all (has_sectors_within capacity) segments) fit in
-    All-cons (OnDisk capacity) (disk_run segment) (map disk_run segments) (on_disk capacity segment parts.0) (all_on_disk capacity segments parts.1)
+    let parts = both (has_sectors_within capacity segment)
+    (list_all (has_sectors_within capacity) segments) fit in
+    All-cons (OnDisk capacity) (disk_run segment) (map disk_run segments) (on_disk capacity segment parts.0)
+    (all_on_disk capacity segments parts.1)
 
-inside_by : (capacity : ℕ) (m : Memory) (buffers : List Buffer) (request : Request) (stable : Bool) (room : ℕ) → Good m buffers
-    → IsServable capacity request (payload_of (readable_of m buffers)) room → HasFew request → asks_image request ≡ true
+inside_by : (capacity : ℕ) (m : Memory) (buffers : List Buffer) (request : Request) (stable : Bool) (room : ℕ)
+    → Good m buffers
+    → IsServable capacity request (payload_of (readable_of m buffers)) room → HasFew request
+    → asks_image request ≡ true
     → LiesInside capacity m (operation_of stable request) (runs_for request m buffers)
 inside_by capacity m buffers (Rejected status) stable room good s few asks = cc
 inside_by capacity m buffers (Read sector count) stable room good s few asks = record {
@@ -176,21 +231,34 @@ inside_by capacity m buffers (Read sector count) stable room good s few asks = r
 }
 inside_by capacity m buffers (Write sector count) stable room good s few asks = record {
   disk = omega (arith, s.0);
-  lie = runs_inside m (segments_of false buffers) 16 (16 + 512 * count) (All-segments_of m false buffers good.inside);
+  lie = runs_inside m (segments_of false buffers) 16 (16 + 512 * count)
+      (All-segments_of m false buffers good.inside);
   few = omega (arith, runs_few false buffers 16 (16 + 512 * count), good.few);
 }
-inside_by capacity m buffers Flush stable room good s few asks = record { disk = omega arith; lie = refl; few = omega arith }
+inside_by capacity m buffers Flush stable room good s few asks =
+    record { disk = omega arith; lie = refl; few = omega arith }
 inside_by capacity m buffers GetId stable room good s few asks = cc
 inside_by capacity m buffers (WriteZeroes segments) stable room good s few asks =
     let payload = payload_of (readable_of m buffers) in
     record {
       disk = omega arith;
-      lie = All-filter has_bytes (OnDisk capacity) (map disk_run (segments_in payload)) (all_on_disk capacity (segments_in payload) s.1);
-      few = omega (arith, few_of (segments_in payload), length-map-range_with_len (segment_at payload) 0 (length payload / 16), s.0, few);
+      lie = All-filter has_bytes (OnDisk capacity) (map disk_run (segments_in payload))
+          (all_on_disk capacity (segments_in payload) s.1);
+      few = omega (
+        arith,
+        few_of (segments_in payload),
+        length-map-range_with_len (segment_at payload) 0
+            (length payload / 16),
+        s.0,
+        few,
+      );
     }
 
 -- what is told of a chain that asks
-pub told_inside : (device : BlockDevice) (m : Memory) (buffers : List Buffer) (request : Request) (stable : Bool) (operation : Operation) (runs : List Segment) → Good m buffers
-    → IsAsked device m buffers request → operation ≡ operation_of stable request → runs ≡ runs_for request m buffers → LiesInside device.extent.count m operation runs
+pub told_inside : (device : BlockDevice) (m : Memory) (buffers : List Buffer) (request : Request)
+    (stable : Bool) (operation : Operation) (runs : List Segment) → Good m buffers
+    → IsAsked device m buffers request → operation ≡ operation_of stable request
+    → runs ≡ runs_for request m buffers → LiesInside device.extent.count m operation runs
 told_inside device m buffers request stable operation runs good a told are =
-    rw (told, are) (inside_by device.extent.count m buffers request stable a.room good a.servable (few_segments device (readable_of m buffers) a.room request a.is) a.asks)
+    rw (told, are) (inside_by device.extent.count m buffers request stable a.room good a.servable
+    (few_segments device (readable_of m buffers) a.room request a.is) a.asks)

@@ -32,24 +32,33 @@ use Rattle.block_device.proofs.Zeroing.{all-below, run-below}
 
 -- ---- an extent
 
-abbrev TouchesIn : Extent → ℕ → ℕ → (List ℕ → Type 0) → (List ℕ → Type 0) → (ℕ → List ℕ → Type 0) → (ℕ → List ℕ → Type 0) → Type 0
+abbrev TouchesIn : Extent → ℕ → ℕ → (List ℕ → Type 0) → (List ℕ → Type 0) → (ℕ → List ℕ → Type 0)
+    → (ℕ → List ℕ → Type 0) → Type 0
 TouchesIn extent t u a b p q = Touches (512 * extent.start) (512 * (extent.start + extent.count)) t u a b p q
 
 -- no call
-pub untouched : (extent : Extent) {t : ℕ} {a : List ℕ → Type 0} {p : ℕ → List ℕ → Type 0} → TouchesIn extent t t a a p p
+pub untouched : (extent : Extent) {t : ℕ} {a : List ℕ → Type 0} {p : ℕ → List ℕ → Type 0}
+    → TouchesIn extent t t a a p p
 untouched extent = touches_none (512 * extent.start) (512 * (extent.start + extent.count))
 
 -- calls within the extent
-pub touched_more : (extent : Extent) {t u v : ℕ} {a b c : List ℕ → Type 0} {p q r : ℕ → List ℕ → Type 0} → TouchesIn extent t u a b p q → TouchesIn extent u v b c q r → TouchesIn extent t v a c p r
-touched_more extent so_far calls = touches_more (512 * extent.start) (512 * (extent.start + extent.count)) so_far calls
+pub touched_more : (extent : Extent) {t u v : ℕ} {a b c : List ℕ → Type 0} {p q r : ℕ → List ℕ → Type 0}
+    → TouchesIn extent t u a b p q → TouchesIn extent u v b c q r → TouchesIn extent t v a c p r
+touched_more extent so_far calls =
+    touches_more (512 * extent.start) (512 * (extent.start + extent.count)) so_far calls
 
 -- ---- sectors of an extent
 
 pub range_has : (a n k : ℕ) → k < n → Contains (range_with_len a n) (a + k)
-range_has a n k below = (k, omega (arith, below, length-range_with_len a n), get_or-range_with_len a n k (a + k) below)
+range_has a n k below = (
+  k,
+  omega (arith, below, length-range_with_len a n),
+  get_or-range_with_len a n k (a + k) below,
+)
 
 -- and from one of them on
-pub range_has_run : (a n from size : ℕ) → from + size ≤ n → (k : ℕ) → k < size → Contains (range_with_len a n) (a + from + k)
+pub range_has_run : (a n from size : ℕ) → from + size ≤ n → (k : ℕ) → k < size
+    → Contains (range_with_len a n) (a + from + k)
 range_has_run a n from size within k below =
     let at : a + (from + k) ≡ a + from + k = omega arith in
     subst (λ s. Contains (range_with_len a n) s) at (range_has a n (from + k) (omega (arith, within, below)))
@@ -114,7 +123,8 @@ written_none sectors call = touches_nothing_by (DiffersInSectors sectors) (diffe
 pub written_more : (sectors : List ℕ) {t u v : ℕ} {a b c : List ℕ → Type 0} {p q r : ℕ → List ℕ → Type 0}
     → TouchesBy (DiffersInSectors sectors) t u a b p q → TouchesBy (DiffersInSectors sectors) u v b c q r
     → TouchesBy (DiffersInSectors sectors) t v a c p r
-written_more sectors so_far call = touches_more_by (DiffersInSectors sectors) (differs_in_more sectors) so_far call
+written_more sectors so_far call =
+    touches_more_by (DiffersInSectors sectors) (differs_in_more sectors) so_far call
 
 pub written_nothing : (sectors : List ℕ) {t u v : ℕ} {a b c : List ℕ → Type 0} {p q r : ℕ → List ℕ → Type 0}
     → TouchesBy (DiffersInSectors sectors) t u a b p q → Touches 0 0 u v b c q r
@@ -130,21 +140,25 @@ pub written_sector : (extent : Extent) (own : List ℕ) (sector place : ℕ) {t 
 written_sector extent own sector place so_far listed at call =
     let here : Contains (on_image extent own) place = subst (λ p. Contains (on_image extent own) p) (sym at)
     (onto_image extent own sector listed) in
-    written_more (on_image extent own) so_far (touches_as (differs_in_one (on_image extent own) place here) call)
+    written_more (on_image extent own) so_far
+    (touches_as (differs_in_one (on_image extent own) place here) call)
 
 -- a write in place of some that follow one another
-pub written_run : (extent : Extent) (own : List ℕ) (sector place n size : ℕ) {t u v : ℕ} {a b c : List ℕ → Type 0}
+pub written_run : (extent : Extent) (own : List ℕ) (sector place n size : ℕ) {t u v : ℕ}
+    {a b c : List ℕ → Type 0}
     {p q r : ℕ → List ℕ → Type 0} → TouchesBy (DiffersInSectors (on_image extent own)) t u a b p q
     → ((k : ℕ) → k < n → Contains own (sector + k)) → place ≡ extent.start + sector → size ≡ 512 * n
     → Touches (512 * place) (512 * place + size) u v b c q r
     → TouchesBy (DiffersInSectors (on_image extent own)) t v a c p r
 written_run extent own sector place n size so_far listed at whole call =
-    written_more (on_image extent own) so_far (touches_as (differs_in_run (on_image extent own) place n size whole here) call)
+    written_more (on_image extent own) so_far
+    (touches_as (differs_in_run (on_image extent own) place n size whole here) call)
   where
     here : (k : ℕ) → k < n → Contains (on_image extent own) (place + k)
     here k below =
         let same : extent.start + (sector + k) ≡ place + k = omega (arith, at) in
-        subst (λ p. Contains (on_image extent own) p) same (onto_image extent own (sector + k) (listed k below))
+        subst (λ p. Contains (on_image extent own) p) same
+        (onto_image extent own (sector + k) (listed k below))
 
 -- calls that touch some of them
 pub written_part : (extent : Extent) (own part : List ℕ) {t u v : ℕ} {a b c : List ℕ → Type 0}
@@ -154,7 +168,8 @@ pub written_part : (extent : Extent) (own part : List ℕ) {t u v : ℕ} {a b c 
     → TouchesBy (DiffersInSectors (on_image extent own)) t v a c p r
 written_part extent own part so_far all calls =
     written_more (on_image extent own) so_far
-    (touches_as (differs_in_wider (on_image extent part) (on_image extent own) (wider_image extent own part all)) calls)
+    (touches_as (differs_in_wider (on_image extent part) (on_image extent own)
+    (wider_image extent own part all)) calls)
 
 -- ---- a request
 
@@ -162,16 +177,22 @@ written_part extent own part so_far all calls =
 written_below : (capacity : ℕ) (request : Request) (payload : List ℕ) (room : ℕ)
     → IsServable capacity request payload room → (sector : ℕ)
     → Contains (written_sectors request payload) sector → sector < capacity
-written_below capacity (Rejected status) payload room servable sector here = let none = here.1 in absurd (omega (arith, none))
-written_below capacity (Read first count) payload room servable sector here = let none = here.1 in absurd (omega (arith, none))
+written_below capacity (Rejected status) payload room servable sector here = let none = here.1 in
+    absurd (omega (arith, none))
+written_below capacity (Read first count) payload room servable sector here = let none = here.1 in
+    absurd (omega (arith, none))
 written_below capacity (Write first count) payload room servable sector here =
     All-contains (λ s. s < capacity) (range_with_len first count) sector
-    (All-from_recursion (λ s. s < capacity) (range_with_len first count) (run-below first count capacity servable.0)) here
-written_below capacity Flush payload room servable sector here = let none = here.1 in absurd (omega (arith, none))
-written_below capacity GetId payload room servable sector here = let none = here.1 in absurd (omega (arith, none))
+    (All-from_recursion (λ s. s < capacity) (range_with_len first count)
+    (run-below first count capacity servable.0)) here
+written_below capacity Flush payload room servable sector here = let none = here.1 in
+    absurd (omega (arith, none))
+written_below capacity GetId payload room servable sector here = let none = here.1 in
+    absurd (omega (arith, none))
 written_below capacity (WriteZeroes segments) payload room servable sector here =
     All-contains (λ s. s < capacity) (all_sectors (segments_in payload)) sector
-    (All-from_recursion (λ s. s < capacity) (all_sectors (segments_in payload)) (all-below capacity (segments_in payload) servable.1)) here
+    (All-from_recursion (λ s. s < capacity) (all_sectors (segments_in payload))
+    (all-below capacity (segments_in payload) servable.1)) here
 
 abbrev TouchesOf : List ℕ → ℕ → ℕ → (List ℕ → Type 0) → (List ℕ → Type 0) → (ℕ → List ℕ → Type 0)
     → (ℕ → List ℕ → Type 0) → Type 0
@@ -189,7 +210,8 @@ pub own_zeroes : (extent : Extent) (request : Request) (payload : List ℕ) (seg
     → TouchesOf (on_image extent (written_sectors request payload)) t u a b p q
 own_zeroes extent request payload segments is h = rw is h
 
-module _ (device : BlockDevice) (m : Memory) (buffers : List Buffer) (request : Request) (asked : IsAsked device m buffers request) where
+module _ (device : BlockDevice) (m : Memory) (buffers : List Buffer) (request : Request)
+    (asked : IsAsked device m buffers request) where
   abbrev payload : List ℕ
   payload = payload_of (readable_of m buffers)
 
@@ -200,7 +222,8 @@ module _ (device : BlockDevice) (m : Memory) (buffers : List Buffer) (request : 
   own_chain {t} {u} {a} {b} {p} {q} h =
       let all : length (writable_of buffers) ≡ suc asked.room = omega (arith, asked.all) in
       let here : TouchesOf (sectors_of_chain device (readable_of m buffers) (suc asked.room)) t u a b p q =
-      subst (λ (r : Request). TouchesOf (on_image device.extent (written_sectors r payload)) t u a b p q) asked.is h in
+      subst (λ (r : Request). TouchesOf (on_image device.extent (written_sectors r payload)) t u a
+      b p q) asked.is h in
       subst (λ w. TouchesOf (sectors_of_chain device (readable_of m buffers) w) t u a b p q) (sym all) here
 
   -- and within the extent
@@ -225,8 +248,10 @@ module _ {I : Type 0} (disk : I → Disk) (moment : I → ℕ) (may_leave : I �
 
   -- one chain
   pub does_over : (m answered : Memory) (buffers : List Buffer) (image image' : I) (len : ℕ) (any : Bool)
-      → Does (block_device device) m answered buffers (extent_disk device.extent (disk image)) (extent_disk device.extent (disk image')) len any
-      → TouchesSectors moment may_leave left_since (sectors_of_chain device (readable_of m buffers) (length (writable_of buffers))) image image'
+      → Does (block_device device) m answered buffers (extent_disk device.extent (disk image))
+      (extent_disk device.extent (disk image')) len any
+      → TouchesSectors moment may_leave left_since
+      (sectors_of_chain device (readable_of m buffers) (length (writable_of buffers))) image image'
       → Does over m answered buffers image image' len any
   does_over m answered buffers image image' len any d touches = record {
     written = d.written;
@@ -245,19 +270,22 @@ module _ {I : Type 0} (disk : I → Disk) (moment : I → ℕ) (may_leave : I �
       start.state s.state) p (unwritten [])
   chains_touch start at (s ∷ chains) p =
       let mid = after queue_kind over start s in
-      let own = sectors_of_chain device (readable_of start.memory s.buffers) (length (writable_of s.buffers)) in
+      let own = sectors_of_chain device (readable_of start.memory s.buffers)
+      (length (writable_of s.buffers)) in
       let rest = sectors_in mid chains in
       let gives : GivesOver disk moment may_leave left_since device start.state
       (readable_of start.memory s.buffers) (length (writable_of s.buffers)) s.given = p.0.gives in
       written_more (own ++ rest)
-      (touches_as (differs_in_wider own (own ++ rest) (λ sector here. Contains-append_left own rest sector here)) gives.touches)
+      (touches_as (differs_in_wider own (own
+      ++ rest) (λ sector here. Contains-append_left own rest sector here)) gives.touches)
       (touches_as (differs_in_wider rest (own ++ rest)
       (λ sector here. Contains-append_right own rest sector here)) (chains_touch mid at chains p.1))
 
   -- and are served over the extent as a disk
   pub chains_seen : (start at : Site Queue I) (chains : List (Served I))
       → ServesAll queue_kind over start chains at
-      → ServesAll queue_kind (block_device device) (seen_site disk device start) (map (seen_chain disk device) chains) (seen_site disk device at)
+      → ServesAll queue_kind (block_device device) (seen_site disk device start)
+      (map (seen_chain disk device) chains) (seen_site disk device at)
   chains_seen start at [] p = ap (seen_site disk device) p
   chains_seen start at (s ∷ chains) p =
       let gives : GivesOver disk moment may_leave left_since device start.state
@@ -279,7 +307,8 @@ module _ {I : Type 0} (disk : I → Disk) (moment : I → ℕ) (may_leave : I �
         since bytes left (chains_touch start at chains serves) begins only past in
         d.others sector other
 
-    pub chains_leave_contents : ((whole : List ℕ) → may_leave start.state whole → LeavesContents (disk start.state) whole)
+    pub chains_leave_contents : ((whole : List ℕ) → may_leave start.state whole
+        → LeavesContents (disk start.state) whole)
         → (disk start.state).dirty ≡ false
         → IfSome (disk start.state).contents (λ bytes. sector_of left sector ≡ sector_of bytes sector)
     chains_leave_contents durable clean =
@@ -294,12 +323,14 @@ module _ {I : Type 0} (disk : I → Disk) (moment : I → ℕ) (may_leave : I �
         of_one (Some bytes) d = d.others sector other
 
   -- what was answered OK stands until a request writes it again
-  pub chains_last : (start at : Site Queue I) (answered : Served I) (later : List (Served I)) (since sector : ℕ) (left : List ℕ) → ServesAll queue_kind over start (answered ∷ later) at
+  pub chains_last : (start at : Site Queue I) (answered : Served I) (later : List (Served I))
+      (since sector : ℕ) (left : List ℕ) → ServesAll queue_kind over start (answered ∷ later) at
       → IsCommitted device start.memory (seen_chain disk device answered)
       → BeginsAt (may_leave answered.given.state) (left_since answered.given.state) since
       → left_since at.state since left
       → ¬ Contains (sectors_in (after queue_kind over start answered) later) sector
-      → ((whole : List ℕ) → may_leave answered.given.state whole → LeavesContents (disk answered.given.state) whole)
+      → ((whole : List ℕ) → may_leave answered.given.state whole
+      → LeavesContents (disk answered.given.state) whole)
       → IfSome (disk answered.given.state).contents (λ bytes. sector_of left sector ≡ sector_of bytes sector)
   chains_last start at answered later since sector left p committed begins past other durable =
       let mid = after queue_kind over start answered in

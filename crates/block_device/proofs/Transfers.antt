@@ -23,23 +23,27 @@ use Rattle.block_device.proofs.Endings.{nothing_found}
 use Rattle.block_device.proofs.Extents.{filled-nil, written-filled, extent_disk-filled, KeepsOutside-filled, AreSectorContents-none, AreSectorContents-more, AreSectorContents-extent, take-sector, take-sectors, written_from-filled}
 
 -- the disk after a sector was lent, and after a read that failed
-pub after_lent : {X E : Type 0} (result : Result X E) (x : X) (old new : Disk) → result ≡ Ok x → IsReadThrough result old new → new ≡ old
+pub after_lent : {X E : Type 0} (result : Result X E) (x : X) (old new : Disk) → result ≡ Ok x
+    → IsReadThrough result old new → new ≡ old
 after_lent (Ok _) x old new is rests = rests.0
 after_lent (Err _) x old new is rests = cc
 
-pub after_refused : {X E : Type 0} (result : Result X E) (e : E) (old new : Disk) → result ≡ Err e → IsReadThrough result old new → new ≡ failed old
+pub after_refused : {X E : Type 0} (result : Result X E) (e : E) (old new : Disk) → result ≡ Err e
+    → IsReadThrough result old new → new ≡ failed old
 after_refused (Ok _) e old new is rests = cc
 after_refused (Err _) e old new is rests = rests.1
 
 -- these sectors were read from a sector of the disk on, and put in the first writable places
-pub record IsReading (buffers : List Buffer) (old new : Memory) (disk disk' : Disk) (sector done : ℕ) : Type 0 where
+pub record IsReading (buffers : List Buffer) (old new : Memory) (disk disk' : Disk)
+    (sector done : ℕ) : Type 0 where
   pub found : List ℕ
   pub finds : AreSectorContents disk sector done found
   pub memory : new ≡ scattered old (writable_of buffers) (map Some found)
   pub same : disk' ≡ disk
   pub range : SameRange old new
 
-pub reading_start : (buffers : List Buffer) (m : Memory) (disk : Disk) (sector : ℕ) → IsReading buffers m m disk disk sector 0
+pub reading_start : (buffers : List Buffer) (m : Memory) (disk : Disk) (sector : ℕ)
+    → IsReading buffers m m disk disk sector 0
 reading_start buffers m disk sector = record {
   found = [];
   finds = AreSectorContents-none disk sector;
@@ -48,11 +52,14 @@ reading_start buffers m disk sector = record {
   range = record { base = refl; size = refl; gaps = refl };
 }
 
-pub reading_more : (buffers : List Buffer) (old m new : Memory) (disk d d' : Disk) (sector done place : ℕ) (chunk : List ℕ) → IsReading buffers old m disk d sector done
+pub reading_more : (buffers : List Buffer) (old m new : Memory) (disk d d' : Disk) (sector done place : ℕ)
+    (chunk : List ℕ) → IsReading buffers old m disk d sector done
     → length chunk ≡ 512 → IfSome d.contents (λ bytes. chunk ≡ sector_of bytes (sector + done)) → d' ≡ d
-    → new ≡ scatter m (drop place (writable_of buffers)) chunk → place ≡ 512 * done → SameRange m new → IsReading buffers old new disk d' sector (done + 1)
+    → new ≡ scatter m (drop place (writable_of buffers)) chunk → place ≡ 512 * done → SameRange m new
+    → IsReading buffers old new disk d' sector (done + 1)
 reading_more buffers old m new disk d d' sector done place chunk r whole contents same put at range =
-    let here : IfSome disk.contents (λ bytes. chunk ≡ sector_of bytes (sector + done)) = rw r.same at contents in
+    let here : IfSome disk.contents (λ bytes. chunk ≡ sector_of bytes (sector + done)) =
+    rw r.same at contents in
     let size : length (map Some r.found) ≡ place = length-map r.found Some ∙ r.finds.size ∙ sym at in
     record {
       found = r.found ++ chunk;
@@ -62,11 +69,16 @@ reading_more buffers old m new disk d d' sector done place chunk r whole content
           ∙ scattered-then_run old (writable_of buffers) (map Some r.found) chunk place size
           ∙ ap (scattered old (writable_of buffers)) (sym (map-append Some r.found chunk));
       same = same ∙ r.same;
-      range = record { base = range.base ∙ r.range.base; size = range.size ∙ r.range.size; gaps = range.gaps ∙ r.range.gaps };
+      range = record {
+        base = range.base ∙ r.range.base;
+        size = range.size ∙ r.range.size;
+        gaps = range.gaps ∙ r.range.gaps;
+      };
     }
 
 -- all of them at once
-pub reading_run : (buffers : List Buffer) (old new : Memory) (disk : Disk) (sector count : ℕ) (bytes : List ℕ) → length bytes ≡ 512 * count
+pub reading_run : (buffers : List Buffer) (old new : Memory) (disk : Disk) (sector count : ℕ) (bytes : List ℕ)
+    → length bytes ≡ 512 * count
     → Tells disk sector count bytes → new ≡ scatter old (writable_of buffers) bytes → SameRange old new
     → IsReading buffers old new disk disk sector count
 reading_run buffers old new disk sector count bytes long contents put range = record {
@@ -77,16 +89,21 @@ reading_run buffers old new disk sector count bytes long contents put range = re
   range = range;
 }
   where
-    are_contents : (t : Option (List ℕ)) → IsSomeAnd t (λ b. bytes ≡ extent_of b sector count) → IfSome t (λ b. bytes ≡ extent_of b sector count)
+    are_contents : (t : Option (List ℕ)) → IsSomeAnd t (λ b. bytes ≡ extent_of b sector count)
+        → IfSome t (λ b. bytes ≡ extent_of b sector count)
     are_contents None never = absurd never
     are_contents (Some b) is = is
 
 -- all are read
-pub reading_done : {identity : List ℕ} (extent : Extent) (buffers : List Buffer) (old new : Memory) (disk disk' : Disk) (sector count done len : ℕ)
-    → IsReading buffers old new disk disk' (extent.start + sector) done → done ≡ count → len ≡ 512 * count → sector + count ≤ extent.count
-    → IsDone identity (Read sector count) buffers old new (extent_disk extent disk) (extent_disk extent disk') len Success
+pub reading_done : {identity : List ℕ} (extent : Extent) (buffers : List Buffer) (old new : Memory)
+    (disk disk' : Disk) (sector count done len : ℕ)
+    → IsReading buffers old new disk disk' (extent.start + sector) done → done ≡ count → len ≡ 512 * count
+    → sector + count ≤ extent.count
+    → IsDone identity (Read sector count) buffers old new (extent_disk extent disk)
+    (extent_disk extent disk') len Success
 reading_done extent buffers old new disk disk' sector count done len r all size within =
-    let finds : AreSectorContents (extent_disk extent disk) sector count r.found = AreSectorContents-extent extent disk sector count r.found within (rw all at r.finds) in
+    let finds : AreSectorContents (extent_disk extent disk) sector count r.found =
+    AreSectorContents-extent extent disk sector count r.found within (rw all at r.finds) in
     record {
       found = r.found;
       ends = inl (record { found = r.found; finds = finds; is = rw r.same refl });
@@ -95,20 +112,31 @@ reading_done extent buffers old new disk disk' sector count done len r all size 
     }
 
 -- the image fails
-pub reading_fails : {identity : List ℕ} (extent : Extent) (buffers : List Buffer) (old new : Memory) (disk d disk' : Disk) (sector count done len : ℕ)
-    → IsReading buffers old new disk d (extent.start + sector) done → done < count → len ≡ 512 * done → sector + count ≤ extent.count → disk' ≡ failed d
-    → IsDone identity (Read sector count) buffers old new (extent_disk extent disk) (extent_disk extent disk') len IoError
+pub reading_fails : {identity : List ℕ} (extent : Extent) (buffers : List Buffer) (old new : Memory)
+    (disk d disk' : Disk) (sector count done len : ℕ)
+    → IsReading buffers old new disk d (extent.start + sector) done → done < count → len ≡ 512 * done
+    → sector + count ≤ extent.count → disk' ≡ failed d
+    → IsDone identity (Read sector count) buffers old new (extent_disk extent disk)
+    (extent_disk extent disk') len IoError
 reading_fails extent buffers old new disk d disk' sector count done len r sooner size within fails =
-    let finds : AreSectorContents (extent_disk extent disk) sector done r.found = AreSectorContents-extent extent disk sector done r.found (omega arith) r.finds in
+    let finds : AreSectorContents (extent_disk extent disk) sector done r.found =
+    AreSectorContents-extent extent disk sector done r.found (omega arith) r.finds in
     record {
       found = r.found;
-      ends = inr (record { done = done; sooner = sooner; found = r.found; finds = finds; is = rw (fails, r.same) refl });
+      ends = inr (record {
+        done = done;
+        sooner = sooner;
+        found = r.found;
+        finds = finds;
+        is = rw (fails, r.same) refl;
+      });
       len_is = size ∙ sym finds.size;
       memory = r.memory;
     }
 
 -- the first sector of a part of the readable list is the sector there
-pub first_sector : (part chunk readable : List ℕ) (place : ℕ) → part ≡ take (length part) (drop place readable)
+pub first_sector : (part chunk readable : List ℕ) (place : ℕ)
+    → part ≡ take (length part) (drop place readable)
     → 512 ≤ length part → chunk ≡ take 512 part → chunk ≡ take 512 (drop place readable)
 first_sector part chunk readable place listed enough first =
     first ∙ ap (take 512) listed ∙ take-take 512 (length part) (drop place readable) enough
@@ -120,13 +148,15 @@ front_listed part readable place k listed within =
     ap (take k) listed ∙ take-take k (length part) (drop place readable) within
 
 -- and so is a shorter part with the bytes behind it
-pub gathered_sector : (part front rest readable : List ℕ) (place size : ℕ) → part ≡ take (length part) (drop place readable)
+pub gathered_sector : (part front rest readable : List ℕ) (place size : ℕ)
+    → part ≡ take (length part) (drop place readable)
     → front ≡ part → rest ≡ take size (drop (place + length part) readable) → length part + size ≡ 512
     → front ++ rest ≡ take 512 (drop place readable)
 gathered_sector part front rest readable place size listed copied read whole =
     let from = drop place readable in
     ap (λ bytes. bytes ++ rest) (copied ∙ listed)
-    ∙ ap (λ bytes. take (length part) from ++ bytes) (read ∙ ap (take size) (sym (drop-drop (length part) place readable)))
+    ∙ ap (λ bytes. take (length part) from ++ bytes) (read
+    ∙ ap (take size) (sym (drop-drop (length part) place readable)))
     ∙ sym (take-add (length part) size from) ∙ ap (λ n. take n from) whole
 
 -- these sectors were written from a sector of the disk on
@@ -136,100 +166,140 @@ pub record IsWriting (disk disk' : Disk) (sector : ℕ) (payload : List ℕ) (do
 pub writing_start : (disk : Disk) (sector : ℕ) (payload : List ℕ) → IsWriting disk disk sector payload 0
 writing_start disk sector payload = record { is = filled-nil sector disk }
 
-pub writing_more : (disk d d' : Disk) (sector count done : ℕ) (readable chunk : List ℕ) → IsWhole disk → IsWriting disk d sector (payload_of readable) done
+pub writing_more : (disk d d' : Disk) (sector count done : ℕ) (readable chunk : List ℕ) → IsWhole disk
+    → IsWriting disk d sector (payload_of readable) done
     → done < count → length (payload_of readable) ≡ 512 * count → sector + done < disk.sector_count
-    → chunk ≡ take 512 (drop (16 + 512 * done) readable) → d' ≡ written (sector + done) chunk d → IsWriting disk d' sector (payload_of readable) (done + 1)
+    → chunk ≡ take 512 (drop (16 + 512 * done) readable) → d' ≡ written (sector + done) chunk d
+    → IsWriting disk d' sector (payload_of readable) (done + 1)
 writing_more disk d d' sector count done readable chunk is_whole w sooner size inside read put =
     let payload = payload_of readable in
-    let same : chunk ≡ take 512 (drop (512 * done) payload) = read ∙ ap (take 512) (ap (λ n. drop n readable) (omega arith) ∙ sym (drop-drop (512 * done) 16 readable)) in
+    let same : chunk ≡ take 512 (drop (512 * done) payload) = read
+    ∙ ap (take 512) (ap (λ n. drop n readable) (omega arith)
+    ∙ sym (drop-drop (512 * done) 16 readable)) in
     let long : length (take (512 * done) payload) ≡ 512 * done = simp length-take (omega arith) in
-    let whole : length chunk ≡ 512 = ap length same ∙ simp (length-take, length-drop) (omega (arith, sooner, size, length-drop 16 readable)) in
+    let whole : length chunk ≡ 512 = ap length same
+    ∙ simp (length-take, length-drop) (omega (arith, sooner, size, length-drop 16 readable)) in
     record {
       is =
           put ∙ ap (written (sector + done) chunk) w.is
           ∙ written-filled disk sector done (take (512 * done) payload) chunk is_whole long whole inside
-          ∙ ap (λ bytes. filled sector bytes disk) (ap (λ c. take (512 * done) payload ++ c) same ∙ take-sector payload done);
+          ∙ ap (λ bytes. filled sector bytes disk) (ap (λ c. take (512 * done) payload ++ c) same
+          ∙ take-sector payload done);
     }
 
 -- some sectors more are written in place
-pub writing_run : (disk d d' : Disk) (sector count done n : ℕ) (readable : List ℕ) → IsWhole disk → IsWriting disk d sector (payload_of readable) done
-    → 0 < n → done + n ≤ count → length (payload_of readable) ≡ 512 * count → sector + done + n ≤ disk.sector_count
+pub writing_run : (disk d d' : Disk) (sector count done n : ℕ) (readable : List ℕ) → IsWhole disk
+    → IsWriting disk d sector (payload_of readable) done
+    → 0 < n → done + n ≤ count → length (payload_of readable) ≡ 512 * count
+    → sector + done + n ≤ disk.sector_count
     → d' ≡ written_from (sector + done) (take (512 * n) (drop (16 + 512 * done) readable)) d
     → IsWriting disk d' sector (payload_of readable) (done + n)
 writing_run disk d d' sector count done n readable is_whole w some within size inside put =
     let payload = payload_of readable in
     let chunk = take (512 * n) (drop (16 + 512 * done) readable) in
     let same : chunk ≡ take (512 * n) (drop (512 * done) payload) =
-    ap (take (512 * n)) (ap (λ k. drop k readable) (omega arith) ∙ sym (drop-drop (512 * done) 16 readable)) in
+    ap (take (512 * n)) (ap (λ k. drop k readable) (omega arith)
+    ∙ sym (drop-drop (512 * done) 16 readable)) in
     let whole : length chunk ≡ 512 * n =
-    ap length same ∙ length-take-le (512 * n) (drop (512 * done) payload) (omega (arith, size, within, length-drop (512 * done) payload)) in
-    let long : length (take (512 * done) payload) ≡ 512 * done = simp length-take (omega (arith, size, within)) in
+    ap length same ∙ length-take-le (512 * n) (drop (512 * done) payload)
+    (omega (arith, size, within, length-drop (512 * done) payload)) in
+    let long : length (take (512 * done) payload) ≡ 512 * done =
+    simp length-take (omega (arith, size, within)) in
     record {
       is =
           put ∙ ap (written_from (sector + done) chunk) w.is
-          ∙ written_from-filled disk sector done n (take (512 * done) payload) chunk is_whole long whole some inside
-          ∙ ap (λ bytes. filled sector bytes disk) (ap (λ c. take (512 * done) payload ++ c) same ∙ take-sectors payload done n);
+          ∙ written_from-filled disk sector done n (take (512 * done) payload) chunk is_whole
+          long whole some inside
+          ∙ ap (λ bytes. filled sector bytes disk) (ap (λ c. take (512 * done) payload ++ c) same
+          ∙ take-sectors payload done n);
     }
 
 -- the image fails at a sector
-pub writing_fails : (identity : List ℕ) (extent : Extent) (buffers : List Buffer) (m : Memory) (disk d disk' : Disk) (sector count done : ℕ) → IsWhole disk → IsWithin disk.sector_count extent
-    → IsWriting disk d (extent.start + sector) (payload_of (readable_of m buffers)) done → done < count → sector + count ≤ extent.count
-    → length (payload_of (readable_of m buffers)) ≡ 512 * count → IsTorn (extent.start + sector + done) d disk'
-    → IsDone identity (Write sector count) buffers m m (extent_disk extent disk) (extent_disk extent disk') 0 IoError × CallsWithin extent true disk disk'
+pub writing_fails : (identity : List ℕ) (extent : Extent) (buffers : List Buffer) (m : Memory)
+    (disk d disk' : Disk) (sector count done : ℕ) → IsWhole disk → IsWithin disk.sector_count extent
+    → IsWriting disk d (extent.start + sector) (payload_of (readable_of m buffers)) done → done < count
+    → sector + count ≤ extent.count
+    → length (payload_of (readable_of m buffers)) ≡ 512 * count
+    → IsTorn (extent.start + sector + done) d disk'
+    → IsDone identity (Write sector count) buffers m m (extent_disk extent disk) (extent_disk extent disk') 0
+    IoError × CallsWithin extent true disk disk'
 writing_fails identity extent buffers m disk d disk' sector count done is_whole lies w sooner within size t =
     let payload = payload_of (readable_of m buffers) in
     let front = take (512 * done) payload in
     let long : length front ≡ 512 * done = simp length-take (omega arith) in
     let all : disk' ≡ failed (filled (extent.start + sector) (front ++ t.left) disk) =
     t.torn ∙ ap (λ d. failed (written (extent.start + sector + done) t.left d)) w.is
-    ∙ ap failed (written-filled disk (extent.start + sector) done front t.left is_whole long t.whole (omega arith)) in
-    let fits : 512 * sector + length (front ++ t.left) ≤ 512 * extent.count = omega (arith, length-append front t.left, long, t.whole) in
+    ∙ ap failed (written-filled disk (extent.start + sector) done front t.left is_whole long
+    t.whole (omega arith)) in
+    let fits : 512 * sector + length (front ++ t.left) ≤ 512 * extent.count =
+    omega (arith, length-append front t.left, long, t.whole) in
     let seen : extent_disk extent disk' ≡ failed (filled sector (front ++ t.left) (extent_disk extent disk)) =
-    ap (extent_disk extent) all ∙ ap failed (extent_disk-filled extent disk sector (front ++ t.left) is_whole lies fits) in (
-      nothing_found (Write sector count) buffers m (extent_disk extent disk) (extent_disk extent disk') IoError (inr (inl (record { done = done; sooner = sooner; torn = t.left; whole = t.whole; is = rw seen refl }))),
+    ap (extent_disk extent) all
+    ∙ ap failed (extent_disk-filled extent disk sector (front ++ t.left) is_whole lies fits) in (
+      nothing_found (Write sector count) buffers m (extent_disk extent disk) (extent_disk extent disk')
+          IoError (inr (inl (record {
+            done = done;
+            sooner = sooner;
+            torn = t.left;
+            whole = t.whole;
+            is = rw seen refl;
+          }))),
       record {
         counted = ap (λ (d : Disk). d.failures) all;
-        outside = KeepsOutside-filled extent disk disk' sector (front ++ t.left) is_whole lies fits (ap (λ (d : Disk). d.contents) all) (ap (λ (d : Disk). d.sector_count) all);
+        outside = KeepsOutside-filled extent disk disk' sector (front
+            ++ t.left) is_whole lies fits (ap (λ (d : Disk). d.contents) all)
+            (ap (λ (d : Disk). d.sector_count) all);
       },
     )
 
 -- all are written
-module _ (identity : List ℕ) (extent : Extent) (buffers : List Buffer) (m : Memory) (disk d disk' : Disk) (sector count done : ℕ) (is_whole : IsWhole disk) (lies : IsWithin disk.sector_count extent)
-    (w : IsWriting disk d (extent.start + sector) (payload_of (readable_of m buffers)) done) (all : done ≡ count) (within : sector + count ≤ extent.count)
+module _ (identity : List ℕ) (extent : Extent) (buffers : List Buffer) (m : Memory) (disk d disk' : Disk)
+    (sector count done : ℕ) (is_whole : IsWhole disk) (lies : IsWithin disk.sector_count extent)
+    (w : IsWriting disk d (extent.start + sector) (payload_of (readable_of m buffers)) done)
+    (all : done ≡ count) (within : sector + count ≤ extent.count)
     (size : length (payload_of (readable_of m buffers)) ≡ 512 * count) where
   abbrev payload : List ℕ
   payload = payload_of (readable_of m buffers)
 
   so_far : d ≡ filled (extent.start + sector) payload disk
-  so_far = w.is ∙ ap (λ bytes. filled (extent.start + sector) bytes disk) (take_all (512 * done) payload (omega (arith, size, all)))
+  so_far = w.is ∙ ap (λ bytes. filled (extent.start + sector) bytes disk)
+      (take_all (512 * done) payload (omega (arith, size, all)))
 
   fits : 512 * sector + length payload ≤ 512 * extent.count
   fits = omega (arith, size)
 
   -- and flushed
   pub writing_done : disk' ≡ flushed d
-      → IsDone identity (Write sector count) buffers m m (extent_disk extent disk) (extent_disk extent disk') 0 Success × CallsWithin extent false disk disk'
+      → IsDone identity (Write sector count) buffers m m (extent_disk extent disk) (extent_disk extent disk')
+      0 Success × CallsWithin extent false disk disk'
   writing_done flushes =
       let is : disk' ≡ flushed (filled (extent.start + sector) payload disk) = flushes ∙ ap flushed so_far in
       let seen : extent_disk extent disk' ≡ flushed (filled sector payload (extent_disk extent disk)) =
-      ap (extent_disk extent) is ∙ ap flushed (extent_disk-filled extent disk sector payload is_whole lies fits) in (
-        nothing_found (Write sector count) buffers m (extent_disk extent disk) (extent_disk extent disk') Success (inl (record { found = []; finds = refl; is = rw seen refl })),
+      ap (extent_disk extent) is
+      ∙ ap flushed (extent_disk-filled extent disk sector payload is_whole lies fits) in (
+        nothing_found (Write sector count) buffers m (extent_disk extent disk) (extent_disk extent disk')
+            Success (inl (record { found = []; finds = refl; is = rw seen refl })),
         record {
           counted = ap (λ (d : Disk). d.failures) is ∙ omega arith;
-          outside = KeepsOutside-filled extent disk disk' sector payload is_whole lies fits (ap (λ (d : Disk). d.contents) is) (ap (λ (d : Disk). d.sector_count) is);
+          outside = KeepsOutside-filled extent disk disk' sector payload is_whole lies fits
+              (ap (λ (d : Disk). d.contents) is) (ap (λ (d : Disk). d.sector_count) is);
         },
       )
 
   -- or the flush fails
   pub writing_unflushed : disk' ≡ failed d
-      → IsDone identity (Write sector count) buffers m m (extent_disk extent disk) (extent_disk extent disk') 0 IoError × CallsWithin extent true disk disk'
+      → IsDone identity (Write sector count) buffers m m (extent_disk extent disk) (extent_disk extent disk')
+      0 IoError × CallsWithin extent true disk disk'
   writing_unflushed fails =
       let is : disk' ≡ failed (filled (extent.start + sector) payload disk) = fails ∙ ap failed so_far in
       let seen : extent_disk extent disk' ≡ failed (filled sector payload (extent_disk extent disk)) =
-      ap (extent_disk extent) is ∙ ap failed (extent_disk-filled extent disk sector payload is_whole lies fits) in (
-        nothing_found (Write sector count) buffers m (extent_disk extent disk) (extent_disk extent disk') IoError (inr (inr (rw seen refl))),
+      ap (extent_disk extent) is
+      ∙ ap failed (extent_disk-filled extent disk sector payload is_whole lies fits) in (
+        nothing_found (Write sector count) buffers m (extent_disk extent disk) (extent_disk extent disk')
+            IoError (inr (inr (rw seen refl))),
         record {
           counted = ap (λ (d : Disk). d.failures) is;
-          outside = KeepsOutside-filled extent disk disk' sector payload is_whole lies fits (ap (λ (d : Disk). d.contents) is) (ap (λ (d : Disk). d.sector_count) is);
+          outside = KeepsOutside-filled extent disk disk' sector payload is_whole lies fits
+              (ap (λ (d : Disk). d.contents) is) (ap (λ (d : Disk). d.sector_count) is);
         },
       )

@@ -18,7 +18,8 @@ use Rattle.block_device.specs.Hosting.{FlightOutlasts, HonestHostServes, at_disk
 
 module _ {Ring State : Type 0} (kind : Kind Ring) (device : Device State) where
   -- one more chain was served and given back
-  pub course_push : (start : Site Ring State) (m served m' : Memory) (ring ring' : Ring) (s s' : State) (buffers : List Buffer) (entry : Entry) (len : ℕ) (any : Bool)
+  pub course_push : (start : Site Ring State) (m served m' : Memory) (ring ring' : Ring) (s s' : State)
+      (buffers : List Buffer) (entry : Entry) (len : ℕ) (any : Bool)
       → Course kind device start (record { memory = m; ring = ring; state = s })
       → device.takes s ≡ true → kind.offers m ring ≡ true → kind.Offers m ring buffers entry
       → Does device m served buffers s s' len any
@@ -26,8 +27,15 @@ module _ {Ring State : Type 0} (kind : Kind Ring) (device : Device State) where
       → Course kind device start (record { memory = m'; ring = ring'; state = s' })
   course_push start m served m' ring ring' s s' buffers entry len any c takes offers offered d used past =
       let now : Site Ring State = record { memory = m; ring = ring; state = s } in
-      let chain : Served State = record { buffers = buffers; entry = entry; given = record { state = s'; written = d.written } } in
-      let serves : ServesChain kind device now chain = record { ready = both (device.takes s) (kind.offers m ring) takes offers; offered = offered; gives = d.gives; each = d.each } in
+      let chain : Served State =
+      record { buffers = buffers; entry = entry; given = record { state = s'; written = d.written } } in
+      let serves : ServesChain kind device now chain =
+      record {
+        ready = both (device.takes s) (kind.offers m ring) takes offers;
+        offered = offered;
+        gives = d.gives;
+        each = d.each;
+      } in
       let more : Course kind device start (after kind device now chain) = record {
         chains = c.chains ++ chain ∷ [];
         serves = ServesAll-push kind device start now c.chains chain c.serves serves;
@@ -45,17 +53,25 @@ flight_outlasts old new before after buffers flight f same keeps = record {
   queue = f.queue;
   ready = keeps.served 0 f.queue f.ready;
   taken = f.taken;
-  good = record { inside = within_same old new buffers same f.good.inside; few = f.good.few; fits = f.good.fits };
+  good = record {
+    inside = within_same old new buffers same f.good.inside;
+    few = f.good.few;
+    fits = f.good.fits;
+  };
   status = f.status;
 }
 
 pub honest_host_serves : HonestHostServes
-honest_host_serves device start asked old new before after disk disk' buffers flight answer request stable is stops done back =
+honest_host_serves device start asked old new before after disk disk' buffers flight answer request stable
+    is stops done back =
     let w = length (writable_of buffers) in
     let a = stops.asked in
     let what = flight.operation.kind in
-    course_push queue_kind (block_device device) start asked back.done new before after disk disk' buffers (entry_of flight.token) back.len true
+    course_push queue_kind (block_device device) start asked back.done new before after disk disk' buffers
+    (entry_of flight.token) back.len true
     (served_course device start (at_disk asked before disk) stops.course) refl stops.offers stops.offered
-    (finished_does device asked old back.done buffers disk disk' request a.room (found_by what answer (w - 1)) back.len (status_by answer) true
-    a.all a.is done (found_less what answer w (omega (arith, a.all))) back.completed.memory back.completed.len_is refl)
+    (finished_does device asked old back.done buffers disk disk' request a.room (found_by what answer (w - 1))
+    back.len (status_by answer) true
+    a.all a.is done (found_less what answer w (omega (arith, a.all))) back.completed.memory
+    back.completed.len_is refl)
     back.used back.past

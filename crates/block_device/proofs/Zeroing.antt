@@ -39,7 +39,9 @@ range-split a zero k =
 range-split a (suc n) k =
     let more : suc n + k ≡ suc (n + k) = omega arith in
     let on : a + 1 + n ≡ a + suc n = omega arith in
-    ap (range_with_len a) more ∙ ap (λ l. a ∷ l) (range-split (a + 1) n k ∙ ap (λ b. range_with_len (a + 1) n ++ range_with_len b k) on)
+    ap (range_with_len a) more
+    ∙ ap (λ l. a ∷ l) (range-split (a + 1) n k
+    ∙ ap (λ b. range_with_len (a + 1) n ++ range_with_len b k) on)
 
 -- those of a run
 pub run-below : (a n capacity : ℕ) → a + n ≤ capacity
@@ -47,12 +49,16 @@ pub run-below : (a n capacity : ℕ) → a + n ≤ capacity
 run-below a zero capacity le = tt
 run-below a (suc n) capacity le = (omega arith, run-below (a + 1) n capacity (omega arith))
 
-below-append : (capacity : ℕ) (xs ys : List ℕ) → AllByRecursion (λ sector. sector < capacity) xs → AllByRecursion (λ sector. sector < capacity) ys → AllByRecursion (λ sector. sector < capacity) (xs ++ ys)
+below-append : (capacity : ℕ) (xs ys : List ℕ) → AllByRecursion (λ sector. sector < capacity) xs
+    → AllByRecursion (λ sector. sector < capacity) ys
+    → AllByRecursion (λ sector. sector < capacity) (xs ++ ys)
 below-append capacity [] ys p q = q
 below-append capacity (x ∷ xs) ys p q = (p.0, below-append capacity xs ys p.1 q)
 
-one-below : (capacity : ℕ) (segment : WriteZeroesSegment) → has_sectors_within capacity segment ≡ true → AllByRecursion (λ sector. sector < capacity) (sectors_of segment)
-one-below capacity segment fits = run-below segment.sector segment.count capacity (grind (arith, nat_tests, fits))
+one-below : (capacity : ℕ) (segment : WriteZeroesSegment) → has_sectors_within capacity segment ≡ true
+    → AllByRecursion (λ sector. sector < capacity) (sectors_of segment)
+one-below capacity segment fits =
+    run-below segment.sector segment.count capacity (grind (arith, nat_tests, fits))
 
 both : (a b : Bool) → (a && b) ≡ true → (a ≡ true) × (b ≡ true)
 both true true e = (refl, refl)
@@ -60,47 +66,60 @@ both true false e = cc
 both false b e = cc
 
 -- the sectors of segments that lie on a disk do
-pub all-below : (capacity : ℕ) (segments : List WriteZeroesSegment) → list_all (has_sectors_within capacity) segments ≡ true
+pub all-below : (capacity : ℕ) (segments : List WriteZeroesSegment)
+    → list_all (has_sectors_within capacity) segments ≡ true
     → AllByRecursion (λ sector. sector < capacity) (all_sectors segments)
 all-below capacity [] fit = tt
 all-below capacity (segment ∷ segments) fit =
-    let parts = both (has_sectors_within capacity segment) (list_all (has_sectors_within capacity) segments) fit in
-    below-append capacity (sectors_of segment) (all_sectors segments) (one-below capacity segment parts.0) (all-below capacity segments parts.1)
+    let parts = both (has_sectors_within capacity segment)
+    (list_all (has_sectors_within capacity) segments) fit in
+    below-append capacity (sectors_of segment) (all_sectors segments) (one-below capacity segment parts.0)
+    (all-below capacity segments parts.1)
 
 -- and so does each front of them, and the next one
-pub front-below : (capacity : ℕ) (before : List ℕ) (sector : ℕ) (later : List ℕ) → AllByRecursion (λ s. s < capacity) (before ++ sector ∷ later)
+pub front-below : (capacity : ℕ) (before : List ℕ) (sector : ℕ) (later : List ℕ)
+    → AllByRecursion (λ s. s < capacity) (before ++ sector ∷ later)
     → AllByRecursion (λ s. s < capacity) before × (sector < capacity)
 front-below capacity [] sector later p = (tt, p.0)
-front-below capacity (x ∷ before) sector later p = let rest = front-below capacity before sector later p.1 in ((p.0, rest.0), rest.1)
+front-below capacity (x ∷ before) sector later p = let rest = front-below capacity before sector later p.1 in
+    ((p.0, rest.0), rest.1)
 
 -- ---- zeroing, one sector after another
 
-zeroed-append : (xs ys : List ℕ) (disk : Disk) → zeroed_sectors (xs ++ ys) disk ≡ zeroed_sectors ys (zeroed_sectors xs disk)
+zeroed-append : (xs ys : List ℕ) (disk : Disk)
+    → zeroed_sectors (xs ++ ys) disk ≡ zeroed_sectors ys (zeroed_sectors xs disk)
 zeroed-append [] ys disk = refl
 zeroed-append (x ∷ xs) ys disk = zeroed-append xs ys (written x zeros disk)
 
-pub zeroed-failures : (sectors : List ℕ) (disk : Disk) → (zeroed_sectors sectors disk).failures ≡ disk.failures
+pub zeroed-failures : (sectors : List ℕ) (disk : Disk)
+    → (zeroed_sectors sectors disk).failures ≡ disk.failures
 zeroed-failures [] disk = refl
 zeroed-failures (sector ∷ sectors) disk = zeroed-failures sectors (written sector zeros disk)
 
-pub stopped-failures : (sectors : List ℕ) (old new : Disk) → IsStopped sectors old new → new.failures ≡ old.failures + 1
+pub stopped-failures : (sectors : List ℕ) (old new : Disk) → IsStopped sectors old new
+    → new.failures ≡ old.failures + 1
 stopped-failures sectors old new s =
     ap (λ (d : Disk). d.failures) s.torn.torn ∙ ap (λ n. n + 1) (zeroed-failures s.before old)
 
 -- a sector written is a run of one sector
-written-filled_once : (disk : Disk) (sector : ℕ) (new : List ℕ) → length new ≡ 512 → written sector new disk ≡ filled sector new disk
+written-filled_once : (disk : Disk) (sector : ℕ) (new : List ℕ) → length new ≡ 512
+    → written sector new disk ≡ filled sector new disk
 written-filled_once disk sector new whole =
-    same_disk disk.sector_count disk.failures _ _ true _ (same_contents disk.contents) (dirty_after-chunk [] new disk.dirty (omega (arith, whole)))
+    same_disk disk.sector_count disk.failures _ _ true _ (same_contents disk.contents)
+    (dirty_after-chunk [] new disk.dirty (omega (arith, whole)))
   where
-    same_contents : (contents : Option (List ℕ)) → option_map (λ bytes. with_sector bytes sector new) contents ≡ option_map (λ bytes. with_sectors bytes sector new) contents
+    same_contents : (contents : Option (List ℕ)) → option_map (λ bytes. with_sector bytes sector new) contents
+        ≡ option_map (λ bytes. with_sectors bytes sector new) contents
     same_contents None = refl
     same_contents (Some bytes) =
         let behind : 512 * (sector + 1) ≡ 512 * sector + length new = omega arith in
         ap (λ n. Some (take (512 * sector) bytes ++ (new ++ drop n bytes))) behind
 
 -- the extent of a disk of which a sector within it was written
-extent_disk-written : (extent : Extent) (disk : Disk) (sector : ℕ) (new : List ℕ) → IsWhole disk → IsWithin disk.sector_count extent → sector < extent.count → length new ≡ 512
-    → extent_disk extent (written (extent.start + sector) new disk) ≡ written sector new (extent_disk extent disk)
+extent_disk-written : (extent : Extent) (disk : Disk) (sector : ℕ) (new : List ℕ) → IsWhole disk
+    → IsWithin disk.sector_count extent → sector < extent.count → length new ≡ 512
+    → extent_disk extent (written (extent.start + sector) new disk)
+    ≡ written sector new (extent_disk extent disk)
 extent_disk-written extent disk sector new is_whole lies below whole =
     ap (extent_disk extent) (written-filled_once disk (extent.start + sector) new whole)
     ∙ extent_disk-filled extent disk sector new is_whole lies (omega arith)
@@ -115,29 +134,38 @@ pub zeroing_start : (extent : Extent) (disk : Disk) → IsZeroing extent disk di
 zeroing_start extent disk = record { seen = refl; outside = KeepsOutside-same extent disk disk refl refl }
 
 -- one sector more
-pub zeroing_more : (extent : Extent) (old d d' : Disk) (sectors : List ℕ) (sector place : ℕ) → IsZeroing extent old d sectors → IsWhole d → IsWithin old.sector_count extent
-    → sector < extent.count → place ≡ extent.start + sector → d' ≡ written place zeros d → IsZeroing extent old d' (sectors ++ sector ∷ [])
+pub zeroing_more : (extent : Extent) (old d d' : Disk) (sectors : List ℕ) (sector place : ℕ)
+    → IsZeroing extent old d sectors → IsWhole d → IsWithin old.sector_count extent
+    → sector < extent.count → place ≡ extent.start + sector → d' ≡ written place zeros d
+    → IsZeroing extent old d' (sectors ++ sector ∷ [])
 zeroing_more extent old d d' sectors sector place z whole lies below at put =
     let long : length zeros ≡ 512 = length-replicate {A = ℕ} 512 0 in
     let lies_d : IsWithin d.sector_count extent = lies_still extent old d z.outside lies in
     let is : d' ≡ written (extent.start + sector) zeros d = put ∙ ap (λ n. written n zeros d) at in
-    let run : d' ≡ filled (extent.start + sector) zeros d = is ∙ written-filled_once d (extent.start + sector) zeros long in
+    let run : d' ≡ filled (extent.start + sector) zeros d = is
+    ∙ written-filled_once d (extent.start + sector) zeros long in
     record {
       seen =
           ap (extent_disk extent) is ∙ extent_disk-written extent d sector zeros whole lies_d below long
-          ∙ ap (written sector zeros) z.seen ∙ sym (zeroed-append sectors (sector ∷ []) (extent_disk extent old));
+          ∙ ap (written sector zeros) z.seen
+          ∙ sym (zeroed-append sectors (sector ∷ []) (extent_disk extent old));
       outside = outside_trans extent old d d' z.outside
-          (KeepsOutside-filled extent d d' sector zeros whole lies_d (omega (arith, long)) (ap (λ (d : Disk). d.contents) run) (ap (λ (d : Disk). d.sector_count) run));
+          (KeepsOutside-filled extent d d' sector zeros whole lies_d (omega (arith, long))
+          (ap (λ (d : Disk). d.contents) run) (ap (λ (d : Disk). d.sector_count) run));
     }
 
 -- the image fails at a sector
-pub zeroing_stops : (extent : Extent) (old d d' : Disk) (all sectors later : List ℕ) (sector place : ℕ) → IsZeroing extent old d sectors → IsWhole d → IsWithin old.sector_count extent
-    → sector < extent.count → place ≡ extent.start + sector → all ≡ sectors ++ sector ∷ later → IsTorn place d d'
+pub zeroing_stops : (extent : Extent) (old d d' : Disk) (all sectors later : List ℕ) (sector place : ℕ)
+    → IsZeroing extent old d sectors → IsWhole d → IsWithin old.sector_count extent
+    → sector < extent.count → place ≡ extent.start + sector → all ≡ sectors ++ sector ∷ later
+    → IsTorn place d d'
     → IsStopped all (extent_disk extent old) (extent_disk extent d') × KeepsOutside extent old d'
 zeroing_stops extent old d d' all sectors later sector place z whole lies below at listed t =
     let lies_d : IsWithin d.sector_count extent = lies_still extent old d z.outside lies in
-    let is : d' ≡ failed (written (extent.start + sector) t.left d) = t.torn ∙ ap (λ n. failed (written n t.left d)) at in
-    let run : d' ≡ failed (filled (extent.start + sector) t.left d) = is ∙ ap failed (written-filled_once d (extent.start + sector) t.left t.whole) in (
+    let is : d' ≡ failed (written (extent.start + sector) t.left d) = t.torn
+    ∙ ap (λ n. failed (written n t.left d)) at in
+    let run : d' ≡ failed (filled (extent.start + sector) t.left d) = is
+    ∙ ap failed (written-filled_once d (extent.start + sector) t.left t.whole) in (
       record {
         before = sectors;
         sector = sector;
@@ -147,12 +175,14 @@ zeroing_stops extent old d d' all sectors later sector place z whole lies below 
           left = t.left;
           whole = t.whole;
           torn =
-              ap (extent_disk extent) is ∙ ap failed (extent_disk-written extent d sector t.left whole lies_d below t.whole)
+              ap (extent_disk extent) is
+              ∙ ap failed (extent_disk-written extent d sector t.left whole lies_d below t.whole)
               ∙ ap (λ d. failed (written sector t.left d)) z.seen;
         };
       },
       outside_trans extent old d d' z.outside
-          (KeepsOutside-filled extent d d' sector t.left whole lies_d (omega (arith, t.whole)) (ap (λ (d : Disk). d.contents) run) (ap (λ (d : Disk). d.sector_count) run)),
+          (KeepsOutside-filled extent d d' sector t.left whole lies_d (omega (arith, t.whole))
+          (ap (λ (d : Disk). d.contents) run) (ap (λ (d : Disk). d.sector_count) run)),
     )
 
 -- ---- the sectors of one segment
@@ -162,7 +192,8 @@ pub run-more : (a n : ℕ) → range_with_len a (n + 1) ≡ range_with_len a n +
 run-more a n = range-split a n 1
 
 -- and those behind it
-pub run-at : (a n count : ℕ) → n < count → range_with_len a count ≡ range_with_len a n ++ (a + n) ∷ range_with_len (a + n + 1) (count - n - 1)
+pub run-at : (a n count : ℕ) → n < count → range_with_len a count ≡ range_with_len a n
+    ++ (a + n) ∷ range_with_len (a + n + 1) (count - n - 1)
 run-at a n count below =
     let whole : count ≡ n + suc (count - n - 1) = omega arith in
     ap (range_with_len a) whole ∙ range-split a n (suc (count - n - 1))
@@ -175,16 +206,20 @@ first_segments payload n = map (segment_at payload) (range_with_len 0 n)
 
 flat-append : (xs ys : List WriteZeroesSegment) → all_sectors (xs ++ ys) ≡ all_sectors xs ++ all_sectors ys
 flat-append [] ys = refl
-flat-append (x ∷ xs) ys = ap (λ l. sectors_of x ++ l) (flat-append xs ys) ∙ sym (append_assoc (sectors_of x) (all_sectors xs) (all_sectors ys))
+flat-append (x ∷ xs) ys = ap (λ l. sectors_of x ++ l) (flat-append xs ys)
+    ∙ sym (append_assoc (sectors_of x) (all_sectors xs) (all_sectors ys))
 
 segments-at : (payload : List ℕ) (n count : ℕ) → n < count
-    → first_segments payload count ≡ first_segments payload n ++ segment_at payload n ∷ map (segment_at payload) (range_with_len (n + 1) (count - n - 1))
+    → first_segments payload count ≡ first_segments payload n
+    ++ segment_at payload n ∷ map (segment_at payload) (range_with_len (n + 1) (count - n - 1))
 segments-at payload n count below =
     let zero_on : 0 + n ≡ n = omega arith in
-    ap (map (segment_at payload)) (run-at 0 n count below ∙ ap (λ k. range_with_len 0 n ++ k ∷ range_with_len (k + 1) (count - n - 1)) zero_on)
+    ap (map (segment_at payload)) (run-at 0 n count below
+    ∙ ap (λ k. range_with_len 0 n ++ k ∷ range_with_len (k + 1) (count - n - 1)) zero_on)
     ∙ map-append (segment_at payload) (range_with_len 0 n) (n ∷ range_with_len (n + 1) (count - n - 1))
 
-sectors-more : (payload : List ℕ) (n : ℕ) → all_sectors (first_segments payload (n + 1)) ≡ all_sectors (first_segments payload n) ++ sectors_of (segment_at payload n)
+sectors-more : (payload : List ℕ) (n : ℕ) → all_sectors (first_segments payload (n + 1))
+    ≡ all_sectors (first_segments payload n) ++ sectors_of (segment_at payload n)
 sectors-more payload n =
     ap all_sectors (map-range_with_len_more (segment_at payload) 0 n n (omega arith))
     ∙ flat-append (first_segments payload n) (segment_at payload n ∷ [])
@@ -201,39 +236,50 @@ segment-listed payload n segment is below sector here =
     let rest : List WriteZeroesSegment = map (segment_at payload) (range_with_len (n + 1) (count - n - 1)) in
     let own : List ℕ = sectors_of (segment_at payload n) in
     let all : all_sectors (segments_in payload) ≡ done ++ (own ++ all_sectors rest) =
-    ap all_sectors (segments-at payload n count below) ∙ flat-append (first_segments payload n) (segment_at payload n ∷ rest) in
+    ap all_sectors (segments-at payload n count below)
+    ∙ flat-append (first_segments payload n) (segment_at payload n ∷ rest) in
     subst (λ (sectors : List ℕ). Contains sectors sector) (sym all)
     (Contains-append_right done (own ++ all_sectors rest) sector
-    (Contains-append_left own (all_sectors rest) sector (subst (λ (s : WriteZeroesSegment). Contains (sectors_of s) sector) is here)))
+    (Contains-append_left own (all_sectors rest) sector
+    (subst (λ (s : WriteZeroesSegment). Contains (sectors_of s) sector) is here)))
 
 -- one segment more
-pub zeroing_joins : (extent : Extent) (old d d' : Disk) (payload : List ℕ) (n : ℕ) (segment : WriteZeroesSegment) → IsZeroing extent old d (all_sectors (first_segments payload n))
-    → segment ≡ segment_at payload n → extent_disk extent d' ≡ zeroed_sectors (sectors_of segment) (extent_disk extent d) → KeepsOutside extent d d'
+pub zeroing_joins : (extent : Extent) (old d d' : Disk) (payload : List ℕ) (n : ℕ)
+    (segment : WriteZeroesSegment) → IsZeroing extent old d (all_sectors (first_segments payload n))
+    → segment ≡ segment_at payload n
+    → extent_disk extent d' ≡ zeroed_sectors (sectors_of segment) (extent_disk extent d)
+    → KeepsOutside extent d d'
     → IsZeroing extent old d' (all_sectors (first_segments payload (n + 1)))
 zeroing_joins extent old d d' payload n segment z is seen outside = record {
   seen =
-      seen ∙ ap (λ s. zeroed_sectors (sectors_of s) (extent_disk extent d)) is ∙ ap (zeroed_sectors (sectors_of (segment_at payload n))) z.seen
-      ∙ sym (zeroed-append (all_sectors (first_segments payload n)) (sectors_of (segment_at payload n)) (extent_disk extent old))
+      seen ∙ ap (λ s. zeroed_sectors (sectors_of s) (extent_disk extent d)) is
+      ∙ ap (zeroed_sectors (sectors_of (segment_at payload n))) z.seen
+      ∙ sym (zeroed-append (all_sectors (first_segments payload n)) (sectors_of (segment_at payload n))
+      (extent_disk extent old))
       ∙ ap (λ l. zeroed_sectors l (extent_disk extent old)) (sym (sectors-more payload n));
   outside = outside_trans extent old d d' z.outside outside;
 }
 
 -- the image fails in a segment
-pub segment_stops : (extent : Extent) (old d d' : Disk) (payload : List ℕ) (n : ℕ) (segment : WriteZeroesSegment) → IsZeroing extent old d (all_sectors (first_segments payload n))
-    → segment ≡ segment_at payload n → n < length payload / 16 → IsStopped (sectors_of segment) (extent_disk extent d) (extent_disk extent d')
+pub segment_stops : (extent : Extent) (old d d' : Disk) (payload : List ℕ) (n : ℕ)
+    (segment : WriteZeroesSegment) → IsZeroing extent old d (all_sectors (first_segments payload n))
+    → segment ≡ segment_at payload n → n < length payload / 16
+    → IsStopped (sectors_of segment) (extent_disk extent d) (extent_disk extent d')
     → IsStopped (all_sectors (segments_in payload)) (extent_disk extent old) (extent_disk extent d')
 segment_stops extent old d d' payload n segment z is below s =
     let count = length payload / 16 in
     let done : List ℕ = all_sectors (first_segments payload n) in
     let rest : List ℕ = all_sectors (map (segment_at payload) (range_with_len (n + 1) (count - n - 1))) in
-    let within : sectors_of (segment_at payload n) ≡ s.before ++ s.sector ∷ s.later = sym (ap sectors_of is) ∙ s.listed in
+    let within : sectors_of (segment_at payload n) ≡ s.before ++ s.sector ∷ s.later =
+    sym (ap sectors_of is) ∙ s.listed in
     record {
       before = done ++ s.before;
       sector = s.sector;
       later = s.later ++ rest;
       listed =
           ap all_sectors (segments-at payload n count below)
-          ∙ flat-append (first_segments payload n) (segment_at payload n ∷ map (segment_at payload) (range_with_len (n + 1) (count - n - 1)))
+          ∙ flat-append (first_segments payload n) (segment_at payload n
+          ∷ map (segment_at payload) (range_with_len (n + 1) (count - n - 1)))
           ∙ ap (λ l. done ++ (l ++ rest)) within
           ∙ ap (λ l. done ++ l) (append_assoc s.before (s.sector ∷ s.later) rest)
           ∙ sym (append_assoc done s.before (s.sector ∷ (s.later ++ rest)));
@@ -242,66 +288,84 @@ segment_stops extent old d d' payload n segment z is below s =
         whole = s.torn.whole;
         torn =
             s.torn.torn
-            ∙ ap (λ d. failed (written s.sector s.torn.left d)) (ap (zeroed_sectors s.before) z.seen ∙ sym (zeroed-append done s.before (extent_disk extent old)));
+            ∙ ap (λ d. failed (written s.sector s.torn.left d)) (ap (zeroed_sectors s.before) z.seen
+            ∙ sym (zeroed-append done s.before (extent_disk extent old)));
       };
     }
 
 -- ---- the request
 
 -- these segments were zeroed so far
-module _ (identity : List ℕ) (extent : Extent) (buffers : List Buffer) (m : Memory) (disk d disk' : Disk) (segments n : ℕ)
+module _ (identity : List ℕ) (extent : Extent) (buffers : List Buffer) (m : Memory)
+    (disk d disk' : Disk) (segments n : ℕ)
     (z : IsZeroing extent disk d (all_sectors (first_segments (payload_of (readable_of m buffers)) n))) where
   abbrev payload : List ℕ
   payload = payload_of (readable_of m buffers)
 
   abbrev IsEnd : RequestStatus → Bool → Type 0
   IsEnd status failed =
-      IsDone identity (WriteZeroes segments) buffers m m (extent_disk extent disk) (extent_disk extent disk') 0 status × CallsWithin extent failed disk disk'
+      IsDone identity (WriteZeroes segments) buffers m m (extent_disk extent disk) (extent_disk extent disk')
+      0 status × CallsWithin extent failed disk disk'
 
   no_failure : d.failures ≡ disk.failures
-  no_failure = ap (λ (d : Disk). d.failures) z.seen ∙ zeroed-failures (all_sectors (first_segments payload n)) (extent_disk extent disk)
+  no_failure = ap (λ (d : Disk). d.failures) z.seen
+      ∙ zeroed-failures (all_sectors (first_segments payload n)) (extent_disk extent disk)
 
   -- the image fails in the next one
-  pub zeroes_stopped : (segment : WriteZeroesSegment) → segment ≡ segment_at payload n → n < length payload / 16
-      → IsStopped (sectors_of segment) (extent_disk extent d) (extent_disk extent disk') → KeepsOutside extent d disk' → IsEnd IoError true
+  pub zeroes_stopped : (segment : WriteZeroesSegment) → segment ≡ segment_at payload n
+      → n < length payload / 16
+      → IsStopped (sectors_of segment) (extent_disk extent d) (extent_disk extent disk')
+      → KeepsOutside extent d disk' → IsEnd IoError true
   zeroes_stopped segment is below stops outside =
       let s = segment_stops extent disk d disk' payload n segment z is below stops in (
-        nothing_found (WriteZeroes segments) buffers m (extent_disk extent disk) (extent_disk extent disk') IoError (inr (inl (record { left = extent_disk extent disk'; stopped = s; is = refl }))),
+        nothing_found (WriteZeroes segments) buffers m (extent_disk extent disk) (extent_disk extent disk')
+            IoError (inr (inl (record { left = extent_disk extent disk'; stopped = s; is = refl }))),
         record {
-          counted = stopped-failures (all_sectors (segments_in payload)) (extent_disk extent disk) (extent_disk extent disk') s;
+          counted = stopped-failures (all_sectors (segments_in payload)) (extent_disk extent disk)
+              (extent_disk extent disk') s;
           outside = outside_trans extent disk d disk' z.outside outside;
         },
       )
 
   -- all of them are zeroed
-  all_zeroed : length payload ≡ 16 * segments → n ≡ segments → extent_disk extent d ≡ zeroed_sectors (all_sectors (segments_in payload)) (extent_disk extent disk)
+  all_zeroed : length payload ≡ 16 * segments → n ≡ segments
+      → extent_disk extent d ≡ zeroed_sectors (all_sectors (segments_in payload)) (extent_disk extent disk)
   all_zeroed size all =
       let whole : n ≡ length payload / 16 = omega (arith, size, all) in
-      z.seen ∙ ap (λ k. zeroed_sectors (all_sectors (first_segments payload k)) (extent_disk extent disk)) whole
+      z.seen ∙ ap (λ k. zeroed_sectors (all_sectors (first_segments payload k))
+      (extent_disk extent disk)) whole
 
-  flush_outside : disk'.contents ≡ d.contents → disk'.sector_count ≡ d.sector_count → KeepsOutside extent disk disk'
-  flush_outside contents sectors = outside_trans extent disk d disk' z.outside (KeepsOutside-same extent d disk' contents sectors)
+  flush_outside : disk'.contents ≡ d.contents → disk'.sector_count ≡ d.sector_count
+      → KeepsOutside extent disk disk'
+  flush_outside contents sectors =
+      outside_trans extent disk d disk' z.outside (KeepsOutside-same extent d disk' contents sectors)
 
   -- and flushed
   pub zeroes_done : length payload ≡ 16 * segments → n ≡ segments → disk' ≡ flushed d → IsEnd Success false
   zeroes_done size all flushes =
-      let seen : extent_disk extent disk' ≡ flushed (zeroed_sectors (all_sectors (segments_in payload)) (extent_disk extent disk)) =
+      let seen : extent_disk extent disk'
+      ≡ flushed (zeroed_sectors (all_sectors (segments_in payload)) (extent_disk extent disk)) =
       ap (extent_disk extent) flushes ∙ ap flushed (all_zeroed size all) in (
-        nothing_found (WriteZeroes segments) buffers m (extent_disk extent disk) (extent_disk extent disk') Success (inl (record { found = []; finds = refl; is = rw seen refl })),
+        nothing_found (WriteZeroes segments) buffers m (extent_disk extent disk) (extent_disk extent disk')
+            Success (inl (record { found = []; finds = refl; is = rw seen refl })),
         record {
           counted = ap (λ (d : Disk). d.failures) flushes ∙ no_failure ∙ omega arith;
-          outside = flush_outside (ap (λ (d : Disk). d.contents) flushes) (ap (λ (d : Disk). d.sector_count) flushes);
+          outside = flush_outside (ap (λ (d : Disk). d.contents) flushes)
+              (ap (λ (d : Disk). d.sector_count) flushes);
         },
       )
 
   -- or the flush fails
   pub zeroes_unflushed : length payload ≡ 16 * segments → n ≡ segments → disk' ≡ failed d → IsEnd IoError true
   zeroes_unflushed size all fails =
-      let seen : extent_disk extent disk' ≡ failed (zeroed_sectors (all_sectors (segments_in payload)) (extent_disk extent disk)) =
+      let seen : extent_disk extent disk'
+      ≡ failed (zeroed_sectors (all_sectors (segments_in payload)) (extent_disk extent disk)) =
       ap (extent_disk extent) fails ∙ ap failed (all_zeroed size all) in (
-        nothing_found (WriteZeroes segments) buffers m (extent_disk extent disk) (extent_disk extent disk') IoError (inr (inr (rw seen refl))),
+        nothing_found (WriteZeroes segments) buffers m (extent_disk extent disk) (extent_disk extent disk')
+            IoError (inr (inr (rw seen refl))),
         record {
           counted = ap (λ (d : Disk). d.failures) fails ∙ ap (λ n. n + 1) no_failure;
-          outside = flush_outside (ap (λ (d : Disk). d.contents) fails) (ap (λ (d : Disk). d.sector_count) fails);
+          outside = flush_outside (ap (λ (d : Disk). d.contents) fails)
+              (ap (λ (d : Disk). d.sector_count) fails);
         },
       )

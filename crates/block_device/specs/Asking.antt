@@ -1,4 +1,5 @@
--- A request in two parts: what is answered without the image, and, where the image is asked, what its answer leads to.
+-- A request in two parts: what is answered without the image, and, where the image is asked, what its answer
+-- leads to.
 use Rattle.std.specs.Prelude.{◌≡◌, ℕ, ◌+◌, ◌-◌, ◌==◌, Bool, true, false, if◌then◌else◌, List, [], ◌∷◌, length, drop}
 use Rattle.guest_memory.specs.Memory.{Memory}
 use Rattle.chain.specs.declared.segment.Buffer.{Buffer}
@@ -31,7 +32,8 @@ asks_image GetId = false
 asks_image (WriteZeroes segments) = true
 
 -- A request that asks the image for nothing ends without it.
-pub record EndsUnasked (identity : List ℕ) (request : Request) (payload : List ℕ) (disk : Disk) (outcome : Outcome) : Type 0 where
+pub record EndsUnasked (identity : List ℕ) (request : Request) (payload : List ℕ) (disk : Disk)
+    (outcome : Outcome) : Type 0 where
   pub unasked : asks_image request ≡ false
   pub ends : Ends identity request payload disk outcome
 
@@ -40,7 +42,8 @@ abbrev pub unasked_device : BlockDevice → Device Disk
 unasked_device device = device_by (EndsUnasked device.identity) device
 
 -- The chain of these buffers holds this request, which passed its checks and asks the image for something.
-pub record IsAsked (device : BlockDevice) (m : Memory) (buffers : List Buffer) (request : Request) : Type 0 where
+pub record IsAsked (device : BlockDevice) (m : Memory) (buffers : List Buffer)
+    (request : Request) : Type 0 where
   pub room : ℕ
   pub all : length (writable_of buffers) ≡ room + 1
   pub is : request ≡ request_of device (readable_of m buffers) room
@@ -53,7 +56,8 @@ Begins device old new buffers (Answered used) =
     (disk : Disk) → Does (unasked_device device) old new buffers disk disk used.len used.wrote
 Begins device old new buffers (Asks request) = IsAsked device old buffers request × (new ≡ old)
 
--- the used len of a chain of so many writable places, of which these many first ones and the last one are written
+-- the used len of a chain of so many writable places, of which these many first ones and the last one are
+-- written
 abbrev pub used_by : ℕ → ℕ → ℕ
 used_by len writable = if len + 1 == writable then writable else len
 
@@ -68,12 +72,15 @@ abbrev pub status_by : Verdict → RequestStatus
 status_by verdict.Done = Success
 status_by verdict.Failed = IoError
 
--- how many of the first places hold what was asked for: of an IN that was done all that come before the status
+-- how many of the first places hold what was asked for: of an IN that was done all that come before the
+-- status
 abbrev pub found_by : OperationKind → Verdict → ℕ → ℕ
 found_by kind.In verdict.Done room = room
 found_by what answer room = 0
 
 -- The request is completed as the host says, on the memory as the host left it.
-pub record IsCompleted (what : OperationKind) (answer : Verdict) (buffers : List Buffer) (old new : Memory) (len : ℕ) : Type 0 where
+pub record IsCompleted (what : OperationKind) (answer : Verdict) (buffers : List Buffer) (old new : Memory)
+    (len : ℕ) : Type 0 where
   pub memory : new ≡ with_status old buffers (status_by answer)
-  pub len_is : len ≡ used_by (found_by what answer (length (writable_of buffers) - 1)) (length (writable_of buffers))
+  pub len_is : len ≡ used_by (found_by what answer (length (writable_of buffers) - 1))
+      (length (writable_of buffers))

@@ -8,5 +8,6 @@ use Rattle.block_device.specs.Zeroes.{max_write_zeroes_sectors, max_write_zeroes
 -- max_write_zeroes_sectors in 4 from 48 on, max_write_zeroes_seg in 4 from 52 on, and zeros
 abbrev pub config_of : ℕ → List ℕ
 config_of capacity =
-    little_bytes 8 capacity ++ replicate 4 0 ++ little_bytes 4 126 ++ replicate 4 0 ++ little_bytes 4 sector_len ++ replicate 24 0
+    little_bytes 8 capacity ++ replicate 4 0 ++ little_bytes 4 126 ++ replicate 4 0
+    ++ little_bytes 4 sector_len ++ replicate 24 0
     ++ little_bytes 4 max_write_zeroes_sectors ++ little_bytes 4 max_write_zeroes_seg ++ replicate 8 0

@@ -12,7 +12,8 @@ use Rattle.block_device.specs.Outcome.{Outcome, Completes, Ends}
 abbrev pub given_of : ℕ → Outcome → Given Disk
 given_of room outcome = record {
   state = outcome.disk;
-  written = (map Some outcome.found ++ replicate (room - length outcome.found) None) ++ Some (code_of outcome.status) ∷ [];
+  written = (map Some outcome.found ++ replicate (room - length outcome.found) None)
+      ++ Some (code_of outcome.status) ∷ [];
 }
 
 -- one of these outcomes, as it is given
@@ -23,7 +24,8 @@ pub record Answers (Is : Outcome → Type 0) (room : ℕ) (given : Given Disk) :
 
 -- A chain without a writable byte has no place for a status: it is used, and nothing is done. Any other
 -- is a request, which ends in one of these ways.
-abbrev pub GivesBy : (Request → List ℕ → Disk → Outcome → Type 0) → BlockDevice → Disk → List ℕ → ℕ → Given Disk → Type 0
+abbrev pub GivesBy : (Request → List ℕ → Disk → Outcome → Type 0) → BlockDevice → Disk → List ℕ → ℕ
+    → Given Disk → Type 0
 GivesBy Way device disk readable zero given = given ≡ record { state = disk; written = [] }
 GivesBy Way device disk readable (suc room) given =
     Answers (λ outcome. Way (request_of device readable room) (payload_of readable) disk outcome) room given

@@ -54,14 +54,16 @@ has_byte place run = nat_le run.addr place && nat_lt place (run.addr + run.len)
 -- whether this byte of the disk is one that the operation writes
 abbrev pub writes_by : OperationKind → Operation → List Segment → ℕ → Bool
 writes_by kind.In operation runs place = false
-writes_by kind.Out operation runs place = has_byte place (record { addr = operation.start; len = operation.len })
+writes_by kind.Out operation runs place =
+    has_byte place (record { addr = operation.start; len = operation.len })
 writes_by kind.Flush operation runs place = false
 writes_by kind.Zeroes operation runs place = list_any (has_byte place) runs
 
 abbrev pub writes_at : Completion → ℕ → Bool
 writes_at done place = writes_by done.operation.kind done.operation done.runs place
 
--- Whether the host says by this completion that a byte is on the medium: by a FLUSH that was done of each, by a stable
+-- Whether the host says by this completion that a byte is on the medium: by a FLUSH that was done of each, by
+-- a stable
 -- write that was done of each that it writes.
 abbrev pub lasts_by : Verdict → OperationKind → Bool → Bool → Bool
 lasts_by verdict.Failed what stable writes = false
@@ -73,13 +75,15 @@ lasts_by verdict.Done kind.Zeroes stable writes = stable && writes
 abbrev pub must_last : Completion → ℕ → Bool
 must_last done place = lasts_by done.verdict done.operation.kind done.operation.stable (writes_at done place)
 
--- The host keeps its word: what it says is on the medium is there. A byte that isn't written is read as before, and a
+-- The host keeps its word: what it says is on the medium is there. A byte that isn't written is read as
+-- before, and a
 -- stop leaves what it would have left, or what is read.
 pub record KeepsWord (done : Completion) (old new : Medium) : Type 0 where
   pub held : (place : ℕ) → writes_at done place ≡ false → slice_get new.held place ≡ slice_get old.held place
   pub left :
       (place : ℕ) → writes_at done place ≡ false
-      → (slice_get new.left place ≡ slice_get old.left place) ⊎ (slice_get new.left place ≡ slice_get new.held place)
+      → (slice_get new.left place ≡ slice_get old.left place)
+      ⊎ (slice_get new.left place ≡ slice_get new.held place)
   pub lasts : (place : ℕ) → must_last done place ≡ true → slice_get new.left place ≡ slice_get new.held place
 
 -- with each of these completions

@@ -25,7 +25,8 @@ extent_disk extent disk = record disk {
 -- bytes that differ within the extent alone: those before it and those behind it are the same
 pub record SameOutside (extent : Extent) (old new : List ℕ) : Type 0 where
   pub before : take (sector_len * extent.start) new ≡ take (sector_len * extent.start) old
-  pub behind : drop (sector_len * (extent.start + extent.count)) new ≡ drop (sector_len * (extent.start + extent.count)) old
+  pub behind : drop (sector_len * (extent.start + extent.count)) new
+      ≡ drop (sector_len * (extent.start + extent.count)) old
   pub size : length new ≡ length old
 
 -- the same of what is known of the contents
@@ -40,17 +41,21 @@ pub record KeepsOutside (extent : Extent) (old new : Disk) : Type 0 where
   pub sectors : new.sector_count ≡ old.sector_count
   pub contents : SameContentsOutside extent old.contents new.contents
 
--- Calls of the image are made for one extent: the failures never fall, while they stay a clean disk stays clean, and the
+-- Calls of the image are made for one extent: the failures never fall, while they stay a clean disk stays
+-- clean, and the
 -- image stays outside of it.
 pub record StaysInExtent (extent : Extent) (old new : Disk) : Type 0 where
   pub rises : old.failures ≤ new.failures
   pub clean : KeepsClean old new
   pub outside : KeepsOutside extent old new
 
--- Nor does a stop at any moment, within a call too, leave anything else outside of the extent: whatever is cut short.
-abbrev pub TouchesExtent : {I : Type 0} → (moment : I → ℕ) → (may_leave : I → List ℕ → Type 0) → (left_since : I → ℕ → List ℕ → Type 0) → (extent : Extent) → (old new : I) → Type 0
+-- Nor does a stop at any moment, within a call too, leave anything else outside of the extent: whatever is
+-- cut short.
+abbrev pub TouchesExtent : {I : Type 0} → (moment : I → ℕ) → (may_leave : I → List ℕ → Type 0)
+    → (left_since : I → ℕ → List ℕ → Type 0) → (extent : Extent) → (old new : I) → Type 0
 TouchesExtent moment may_leave left_since extent old new =
-    TouchesOnly moment may_leave left_since (sector_len * extent.start) (sector_len * (extent.start + extent.count)) old new
+    TouchesOnly moment may_leave left_since (sector_len * extent.start)
+    (sector_len * (extent.start + extent.count)) old new
 
 -- the same for one request, of which at most one call fails
 pub record CallsWithin (extent : Extent) (failed : Bool) (old new : Disk) : Type 0 where

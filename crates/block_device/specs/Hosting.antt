@@ -1,4 +1,5 @@
--- A service of a disk that the host serves itself: it stops at each chain that asks for the disk, which is in flight until
+-- A service of a disk that the host serves itself: it stops at each chain that asks for the disk, which is in
+-- flight until
 -- the host has completed its operation.
 use Rattle.std.specs.Prelude.{◌≡◌, ◌↔◌, ℕ, ◌-◌, ◌<◌, Bool, true, not, IsTrue, List, length, Option, Some, None}
 use Rattle.guest_memory.specs.Memory.{Memory, SameRange}
@@ -46,12 +47,15 @@ abbrev pub hosted_device : BlockDevice → Device (Unit {0})
 hosted_device device = record {
   takes = λ state. true;
   Gives = λ state readable w given.
-      (disk : Disk) → (unasked_device device).Gives disk readable w (record { state = disk; written = given.written });
+      (disk : Disk) → (unasked_device device).Gives disk readable w
+      (record { state = disk; written = given.written });
   LacksMemory = λ state readable w. ⊥;
 }
 
--- Chains were served that ask for nothing, and the one on offer asks for the disk by this request; it isn't touched.
-pub record StopsAt (device : BlockDevice) (start now : Site Queue Disk) (buffers : List Buffer) (token : Token) (request : Request) : Type 0 where
+-- Chains were served that ask for nothing, and the one on offer asks for the disk by this request; it isn't
+-- touched.
+pub record StopsAt (device : BlockDevice) (start now : Site Queue Disk) (buffers : List Buffer)
+    (token : Token) (request : Request) : Type 0 where
   pub course : Course queue_kind (unasked_device device) start now
   pub offers : queue_kind.offers now.memory now.ring ≡ true
   pub offered : queue_kind.Offers now.memory now.ring buffers (entry_of token)
@@ -61,34 +65,45 @@ pub record StopsAt (device : BlockDevice) (start now : Site Queue Disk) (buffers
 -- ---- the whole piece, from its opening
 
 -- The piece comes to a chain that asks, behind an opening without a fault; the queue stands open.
-pub record AsksAt (device : BlockDevice) (stage : Stage) (old new : Site Queue Disk) (buffers : List Buffer) (token : Token) (request : Request) : Type 0 where
+pub record AsksAt (device : BlockDevice) (stage : Stage) (old new : Site Queue Disk) (buffers : List Buffer)
+    (token : Token) (request : Request) : Type 0 where
   pub opens : fault_at stage old.memory old.ring ≡ None
-  pub stops : StopsAt device (record old { ring = opened_at stage old.memory old.ring }) new buffers token request
+  pub stops : StopsAt device (record old { ring = opened_at stage old.memory old.ring }) new
+      buffers token request
   pub good : Good new.memory buffers
 
 -- whether the driver can't flush (5.2.6.2): its writes are stable once they are completed
 abbrev pub wants_stable : WindowState → Bool
 wants_stable w = not (has (negotiated_of w.negotiation) block_flush)
 
--- The same as the window shows it, which shows nothing yet of a queue that stands open; and what the host is told.
-pub record AsksIn (device : BlockDevice) (stage : Stage) (found : Option Queue) (old new : Memory) (before after : WindowState) (buffers : List Buffer) (runs : List Segment) (flight : Flight) (disk : Disk) : Type 0 where
+-- The same as the window shows it, which shows nothing yet of a queue that stands open; and what the host is
+-- told.
+pub record AsksIn (device : BlockDevice) (stage : Stage) (found : Option Queue) (old new : Memory)
+    (before after : WindowState) (buffers : List Buffer) (runs : List Segment) (flight : Flight)
+    (disk : Disk) : Type 0 where
   pub queue : Queue
   pub ready : Some queue ≡ found
   pub last : Queue
   pub request : Request
-  pub asks : AsksAt device stage (site_of device old queue disk) (site_of device new last disk) buffers flight.token request
+  pub asks : AsksAt device stage (site_of device old queue disk) (site_of device new last disk) buffers
+      flight.token request
   pub window : after ≡ with_ring 0 before last
   pub operation : flight.operation ≡ operation_of (wants_stable before) request
   pub runs_are : runs ≡ runs_for request new buffers
 
--- A piece of a service of a disk that the host serves, whatever that has: it asks, or it is a piece of the device's
+-- A piece of a service of a disk that the host serves, whatever that has: it asks, or it is a piece of the
+-- device's
 -- service whose chains all ask for nothing.
-abbrev pub HostsTo : BlockDevice → Stage → Budget → Option Queue → Hosted → Memory → Memory → WindowState → WindowState → List Buffer → List Segment → Disk → Type 0
-HostsTo device stage budget found (hosted.Asks flight) old new before after buffers runs disk = AsksIn device stage found old new before after buffers runs flight disk
+abbrev pub HostsTo : BlockDevice → Stage → Budget → Option Queue → Hosted → Memory → Memory → WindowState
+    → WindowState → List Buffer → List Segment → Disk → Type 0
+HostsTo device stage budget found (hosted.Asks flight) old new before after buffers runs disk =
+    AsksIn device stage found old new before after buffers runs flight disk
 HostsTo device stage budget found hosted.More old new before after buffers runs disk =
-    ServesTo stage (unasked_device device) budget 0 found progress.More old new before after (extent_disk device.extent disk) (extent_disk device.extent disk)
+    ServesTo stage (unasked_device device) budget 0 found progress.More old new before after
+    (extent_disk device.extent disk) (extent_disk device.extent disk)
 HostsTo device stage budget found hosted.Done old new before after buffers runs disk =
-    ServesTo stage (unasked_device device) budget 0 found progress.Done old new before after (extent_disk device.extent disk) (extent_disk device.extent disk)
+    ServesTo stage (unasked_device device) budget 0 found progress.Done old new before after
+    (extent_disk device.extent disk) (extent_disk device.extent disk)
 
 -- of a piece that asks, this holds of the chain in flight
 abbrev pub IfAsks : (Flight → Type 0) → Hosted → Type 0
@@ -97,7 +112,8 @@ IfAsks P hosted.More = Unit {0}
 IfAsks P hosted.Done = Unit {0}
 
 -- what two looks leave is the same: the memory, the window, and what is in flight with its buffers and runs
-pub record SameLook (one other : Hosted) (m n : Memory) (v w : WindowState) (b c : List Buffer) (r s : List Segment) : Type 0 where
+pub record SameLook (one other : Hosted) (m n : Memory) (v w : WindowState) (b c : List Buffer)
+    (r s : List Segment) : Type 0 where
   pub outcome : one ≡ other
   pub memory : m ≡ n
   pub window : v ≡ w
@@ -106,7 +122,8 @@ pub record SameLook (one other : Hosted) (m n : Memory) (v w : WindowState) (b c
 
 -- ---- a chain in flight
 
--- The chain of these buffers is in flight: its token is of the queue that the device may serve, its buffers lie in the
+-- The chain of these buffers is in flight: its token is of the queue that the device may serve, its buffers
+-- lie in the
 -- memory, and it has a place for its status.
 pub record IsInFlight (m : Memory) (w : WindowState) (buffers : List Buffer) (flight : Flight) : Type 0 where
   pub queue : Queue
@@ -118,20 +135,24 @@ pub record IsInFlight (m : Memory) (w : WindowState) (buffers : List Buffer) (fl
 -- It outlasts all that leaves the memory's range and the window's queues.
 abbrev pub FlightOutlasts : Type 0
 FlightOutlasts =
-    (old new : Memory) (before after : WindowState) (buffers : List Buffer) (flight : Flight) → IsInFlight old before buffers flight
+    (old new : Memory) (before after : WindowState) (buffers : List Buffer) (flight : Flight)
+    → IsInFlight old before buffers flight
     → SameRange old new → KeepsQueues before after → IsInFlight new after buffers flight
 
 -- It is completed as the host says, on the memory as the host left it, and given back.
-pub record IsGivenBack (flight : Flight) (answer : Verdict) (buffers : List Buffer) (old new : Memory) (before after : Queue) : Type 0 where
+pub record IsGivenBack (flight : Flight) (answer : Verdict) (buffers : List Buffer) (old new : Memory)
+    (before after : Queue) : Type 0 where
   pub done : Memory
   pub len : ℕ
   pub completed : IsCompleted flight.operation.kind answer buffers old done len
   pub used : new ≡ queue_kind.used done before (entry_of flight.token) len true
   pub past : after ≡ queue_kind.past before (entry_of flight.token)
 
--- The same in its window, as an event of its own: the service ends behind it, and its driver is notified where it wants
+-- The same in its window, as an event of its own: the service ends behind it, and its driver is notified
+-- where it wants
 -- to be.
-pub record CompletesIn (flight : Flight) (answer : Verdict) (old new : Memory) (before after : WindowState) (buffers : List Buffer) : Type 0 where
+pub record CompletesIn (flight : Flight) (answer : Verdict) (old new : Memory) (before after : WindowState)
+    (buffers : List Buffer) : Type 0 where
   pub queue : Queue
   pub ready : queue_at 0 before ≡ Some queue
   pub given : Memory
@@ -142,12 +163,16 @@ pub record CompletesIn (flight : Flight) (answer : Verdict) (old new : Memory) (
   pub wanted_is : IsTrue wanted ↔ queue_kind.Wants new behind
   pub window : after ≡ after_service Spent wanted (with_ring 0 before (queue_kind.shut behind))
 
--- Where the host did with the disk what may become of such a request, the chain is served by the device over that disk.
+-- Where the host did with the disk what may become of such a request, the chain is served by the device over
+-- that disk.
 abbrev pub HonestHostServes : Type 0
 HonestHostServes =
-    (device : BlockDevice) (start : Site Queue Disk) (asked old new : Memory) (before after : Queue) (disk disk' : Disk) (buffers : List Buffer)
-    (flight : Flight) (answer : Verdict) (request : Request) (stable : Bool) → flight.operation ≡ operation_of stable request
+    (device : BlockDevice) (start : Site Queue Disk) (asked old new : Memory) (before after : Queue)
+    (disk disk' : Disk) (buffers : List Buffer)
+    (flight : Flight) (answer : Verdict) (request : Request) (stable : Bool)
+    → flight.operation ≡ operation_of stable request
     → StopsAt device start (at_disk asked before disk) buffers flight.token request
-    → IsDone device.identity request buffers asked old disk disk' (found_by flight.operation.kind answer (length (writable_of buffers) - 1)) (status_by answer)
+    → IsDone device.identity request buffers asked old disk disk'
+    (found_by flight.operation.kind answer (length (writable_of buffers) - 1)) (status_by answer)
     → IsGivenBack flight answer buffers old new before after
     → Course queue_kind (block_device device) start (at_disk new after disk')

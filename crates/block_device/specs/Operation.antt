@@ -1,4 +1,5 @@
--- What the host of a disk is told of a request that asks for the disk (5.2.6): an operation, and the runs of its bytes.
+-- What the host of a disk is told of a request that asks for the disk (5.2.6): an operation, and the runs of
+-- its bytes.
 use Rattle.std.specs.Prelude.{◌≡◌, ℕ, ◌+◌, ◌*◌, ◌≤◌, Bool, true, false, List, [], length, map, All}
 use Rattle.std.specs.List.{filter}
 use Rattle.guest_memory.specs.Memory.{Memory, Inside}
@@ -16,12 +17,16 @@ use Rattle.block_device.specs.Extent.{sector_len}
 use Rattle.block_device.specs.Request.{payload_of}
 use Rattle.block_device.specs.Zeroes.{segments_in}
 
--- The operation of a request. Where its driver didn't negotiate FLUSH, what is written has to be stable (5.2.6.2).
+-- The operation of a request. Where its driver didn't negotiate FLUSH, what is written has to be stable
+-- (5.2.6.2).
 -- Refused requests and GET_ID have none.
 abbrev pub operation_of : Bool → Request → Operation
-operation_of stable (Read sector count) = record { kind = kind.In; start = sector_len * sector; len = sector_len * count; stable = false }
-operation_of stable (Write sector count) = record { kind = kind.Out; start = sector_len * sector; len = sector_len * count; stable = stable }
-operation_of stable (WriteZeroes segments) = record { kind = kind.Zeroes; start = 0; len = 0; stable = stable }
+operation_of stable (Read sector count) =
+    record { kind = kind.In; start = sector_len * sector; len = sector_len * count; stable = false }
+operation_of stable (Write sector count) =
+    record { kind = kind.Out; start = sector_len * sector; len = sector_len * count; stable = stable }
+operation_of stable (WriteZeroes segments) =
+    record { kind = kind.Zeroes; start = 0; len = 0; stable = stable }
 operation_of stable request = record { kind = kind.Flush; start = 0; len = 0; stable = false }
 
 -- the bytes of the disk that a segment of a WRITE_ZEROES names
@@ -32,7 +37,8 @@ disk_run segment = record { addr = sector_len * segment.sector; len = sector_len
 abbrev pub zeroes_in : List ℕ → List Segment
 zeroes_in payload = filter has_bytes (map disk_run (segments_in payload))
 
--- Where the bytes of an operation lie: of IN all that come before the status, of OUT all behind the header (5.2.6).
+-- Where the bytes of an operation lie: of IN all that come before the status, of OUT all behind the header
+-- (5.2.6).
 abbrev pub runs_for : Request → Memory → List Buffer → List Segment
 runs_for (Read sector count) m buffers = runs_of 0 (sector_len * count) (segments_of true buffers)
 runs_for (Write sector count) m buffers = runs_of 16 (16 + sector_len * count) (segments_of false buffers)

@@ -49,13 +49,20 @@ Finds identity (WriteZeroes segments) disk found = found ≡ []
 abbrev pub completed : Request → List ℕ → List ℕ → Disk → Outcome
 completed (Rejected status) payload found disk = record { disk = disk; found = found; status = status }
 completed (Read sector count) payload found disk = record { disk = disk; found = found; status = Success }
-completed (Write sector count) payload found disk = record { disk = flushed (filled sector payload disk); found = found; status = Success }
+completed (Write sector count) payload found disk =
+    record { disk = flushed (filled sector payload disk); found = found; status = Success }
 completed Flush payload found disk = record { disk = flushed disk; found = found; status = Success }
 completed GetId payload found disk = record { disk = disk; found = found; status = Success }
-completed (WriteZeroes segments) payload found disk = record { disk = flushed (zeroed_sectors (all_sectors (segments_in payload)) disk); found = found; status = Success }
+completed (WriteZeroes segments) payload found disk =
+    record {
+      disk = flushed (zeroed_sectors (all_sectors (segments_in payload)) disk);
+      found = found;
+      status = Success;
+    }
 
 -- A device of this identity ends the request so, and no image call fails.
-pub record Completes (identity : List ℕ) (request : Request) (payload : List ℕ) (disk : Disk) (outcome : Outcome) : Type 0 where
+pub record Completes (identity : List ℕ) (request : Request) (payload : List ℕ) (disk : Disk)
+    (outcome : Outcome) : Type 0 where
   pub found : List ℕ
   pub finds : Finds identity request disk found
   pub is : outcome ≡ completed request payload found disk
@@ -75,7 +82,11 @@ pub record WriteFails (sector count : ℕ) (payload : List ℕ) (disk : Disk) (o
   pub sooner : done < count
   pub torn : List ℕ
   pub whole : length torn ≡ sector_len
-  pub is : outcome ≡ record { disk = failed (filled sector (take (sector_len * done) payload ++ torn) disk); found = []; status = IoError }
+  pub is : outcome ≡ record {
+    disk = failed (filled sector (take (sector_len * done) payload ++ torn) disk);
+    found = [];
+    status = IoError;
+  }
 
 -- OUT fails at its flush: all sectors were written
 abbrev pub FlushFails : ℕ → List ℕ → Disk → Outcome → Type 0
@@ -97,11 +108,14 @@ ZeroedUnflushed sectors disk outcome =
 abbrev pub Fails : Request → List ℕ → Disk → Outcome → Type 0
 Fails (Rejected status) payload disk outcome = ⊥
 Fails (Read sector count) payload disk outcome = ReadFails sector count disk outcome
-Fails (Write sector count) payload disk outcome = WriteFails sector count payload disk outcome ⊎ FlushFails sector payload disk outcome
+Fails (Write sector count) payload disk outcome = WriteFails sector count payload disk outcome
+    ⊎ FlushFails sector payload disk outcome
 Fails Flush payload disk outcome = outcome ≡ record { disk = failed disk; found = []; status = IoError }
 Fails GetId payload disk outcome = ⊥
 Fails (WriteZeroes segments) payload disk outcome =
-    ZeroingFails (all_sectors (segments_in payload)) disk outcome ⊎ ZeroedUnflushed (all_sectors (segments_in payload)) disk outcome
+    ZeroingFails (all_sectors (segments_in payload)) disk outcome
+    ⊎ ZeroedUnflushed (all_sectors (segments_in payload)) disk outcome
 
 abbrev pub Ends : List ℕ → Request → List ℕ → Disk → Outcome → Type 0
-Ends identity request payload disk outcome = Completes identity request payload disk outcome ⊎ Fails request payload disk outcome
+Ends identity request payload disk outcome = Completes identity request payload disk outcome
+    ⊎ Fails request payload disk outcome

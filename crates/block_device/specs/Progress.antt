@@ -17,17 +17,22 @@ use Rattle.block_device.specs.Zeroes.{has_sectors_within, segment_len, segments_
 -- what the checks have shown of a request, with these bytes handed over and this much room
 abbrev pub IsServable : ℕ → Request → List ℕ → ℕ → Type 0
 IsServable capacity (Rejected status) payload room = Unit {0}
-IsServable capacity (Read sector count) payload room = (sector + count ≤ capacity) × (room ≡ sector_len * count)
-IsServable capacity (Write sector count) payload room = (sector + count ≤ capacity) × (length payload ≡ sector_len * count)
+IsServable capacity (Read sector count) payload room = (sector + count ≤ capacity)
+    × (room ≡ sector_len * count)
+IsServable capacity (Write sector count) payload room = (sector + count ≤ capacity)
+    × (length payload ≡ sector_len * count)
 IsServable capacity Flush payload room = Unit {0}
 IsServable capacity GetId payload room = 20 ≤ room
 IsServable capacity (WriteZeroes segments) payload room =
-    (length payload ≡ segment_len * segments) × (list_all (has_sectors_within capacity) (segments_in payload) ≡ true)
+    (length payload ≡ segment_len * segments)
+    × (list_all (has_sectors_within capacity) (segments_in payload) ≡ true)
 
 -- The request has ended but for its status, which is known and not yet written: the first len places of
 -- the writable list are.
-pub record IsDone (identity : List ℕ) (request : Request) (buffers : List Buffer) (old new : Memory) (disk disk' : Disk) (len : ℕ) (status : RequestStatus) : Type 0 where
+pub record IsDone (identity : List ℕ) (request : Request) (buffers : List Buffer) (old new : Memory)
+    (disk disk' : Disk) (len : ℕ) (status : RequestStatus) : Type 0 where
   pub found : List ℕ
-  pub ends : Ends identity request (payload_of (readable_of old buffers)) disk (record { disk = disk'; found = found; status = status })
+  pub ends : Ends identity request (payload_of (readable_of old buffers)) disk
+      (record { disk = disk'; found = found; status = status })
   pub len_is : len ≡ length found
   pub memory : new ≡ scattered old (writable_of buffers) (map Some found)

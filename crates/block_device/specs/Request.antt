@@ -51,7 +51,8 @@ write_zeroes_request_of device payload =
     if device.read_only then Rejected IoError
     else if not (are_segments (length payload)) then Rejected IoError
     else if not (list_all has_known_flags (segments_in payload)) then Rejected Unsupported
-    else if not (list_all (has_sectors_within device.extent.count) (segments_in payload)) then Rejected IoError
+    else if not (list_all (has_sectors_within device.extent.count) (segments_in payload))
+    then Rejected IoError
     else WriteZeroes (length payload / segment_len)
 
 -- a request of this type

@@ -1,4 +1,5 @@
--- What a stop within a request, as a loss of power, may leave of the disk: any bytes in the sectors that the request
+-- What a stop within a request, as a loss of power, may leave of the disk: any bytes in the sectors that the
+-- request
 -- writes, be they old, new or torn. It touches no others.
 use Rattle.std.specs.Prelude.{ℕ, zero, suc, ◌+◌, true, List, [], ◌∷◌, ◌++◌, length, map}
 use Rattle.std.specs.List.{range_with_len}
@@ -37,13 +38,17 @@ sectors_of_chain device readable zero = []
 sectors_of_chain device readable (suc room) =
     on_image device.extent (written_sectors (request_of device readable room) (payload_of readable))
 
-module _ {I : Type 0} (disk : I → Disk) (moment : I → ℕ) (may_leave : I → List ℕ → Type 0) (left_since : I → ℕ → List ℕ → Type 0) where
-  -- A chain is served over an image: as over its extent as a disk, whether or not the image fails, and at each moment
+module _ {I : Type 0} (disk : I → Disk) (moment : I → ℕ) (may_leave : I → List ℕ → Type 0) (left_since : I → ℕ
+    → List ℕ → Type 0) where
+  -- A chain is served over an image: as over its extent as a disk, whether or not the image fails, and at
+  -- each moment
   -- only the sectors of its request are touched.
-  pub record GivesOver (device : BlockDevice) (image : I) (readable : List ℕ) (w : ℕ) (given : Given I) : Type 0 where
+  pub record GivesOver (device : BlockDevice) (image : I) (readable : List ℕ) (w : ℕ)
+      (given : Given I) : Type 0 where
     pub gives : GivesBy (Ends device.identity) device (extent_disk device.extent (disk image)) readable w
         (record { state = extent_disk device.extent (disk given.state); written = given.written })
-    pub touches : TouchesSectors moment may_leave left_since (sectors_of_chain device readable w) image given.state
+    pub touches : TouchesSectors moment may_leave left_since
+        (sectors_of_chain device readable w) image given.state
 
   -- the device over the image itself
   abbrev pub device_over : BlockDevice → Device I
@@ -73,5 +78,8 @@ abbrev pub seen_chain : {I : Type 0} → (disk : I → Disk) → BlockDevice →
 seen_chain disk device served = record {
   buffers = served.buffers;
   entry = served.entry;
-  given = record { state = extent_disk device.extent (disk served.given.state); written = served.given.written };
+  given = record {
+    state = extent_disk device.extent (disk served.given.state);
+    written = served.given.written;
+  };
 }

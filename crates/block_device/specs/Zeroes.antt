@@ -33,7 +33,8 @@ segments_in payload = map (segment_at payload) (range_with_len 0 (length payload
 
 -- these many bytes are whole segments, at least one of them and not too many
 abbrev pub are_segments : ℕ → Bool
-are_segments len = (len % segment_len == 0) && (nat_lt 0 len && nat_le (len / segment_len) max_write_zeroes_seg)
+are_segments len = (len % segment_len == 0) &&
+    (nat_lt 0 len && nat_le (len / segment_len) max_write_zeroes_seg)
 
 -- no flag is set but unmap, which is bit 0; the others are reserved
 abbrev pub has_known_flags : WriteZeroesSegment → Bool
@@ -41,7 +42,8 @@ has_known_flags segment = nat_lt segment.flags 2
 
 -- the sectors are not too many, and none of them is behind the last one of the disk
 abbrev pub has_sectors_within : ℕ → WriteZeroesSegment → Bool
-has_sectors_within capacity segment = nat_le segment.count max_write_zeroes_sectors && nat_le (segment.sector + segment.count) capacity
+has_sectors_within capacity segment =
+    nat_le segment.count max_write_zeroes_sectors && nat_le (segment.sector + segment.count) capacity
 
 -- the sectors of a segment, and those of all segments in order; a sector may be there more than once
 abbrev pub sectors_of : WriteZeroesSegment → List ℕ

@@ -31,9 +31,11 @@ use Rattle.board.proofs.Runs.{answered}
 use Rattle.board.proofs.Seats.{handles, slot_within}
 
 -- where a slot keeps its note of refusals, all do
-pub disturbed_kept : (slots : List BoardSlot) (h : ℕ) (slot new : BoardSlot) → slice_get slots h ≡ Some slot → new.disturbed ≡ slot.disturbed → disturbed_of (slice_set slots h new) ≡ disturbed_of slots
+pub disturbed_kept : (slots : List BoardSlot) (h : ℕ) (slot new : BoardSlot) → slice_get slots h ≡ Some slot
+    → new.disturbed ≡ slot.disturbed → disturbed_of (slice_set slots h new) ≡ disturbed_of slots
 disturbed_kept slots h slot new here same =
-    map-set_same (λ (s : BoardSlot). s.disturbed) slots h new slot (same ∙ ap (λ (s : BoardSlot). s.disturbed) (sym (get_or_from_slice_get slots h slot slot here)))
+    map-set_same (λ (s : BoardSlot). s.disturbed) slots h new slot (same
+    ∙ ap (λ (s : BoardSlot). s.disturbed) (sym (get_or_from_slice_get slots h slot slot here)))
 
 -- where the image failed no more often, nothing is noted
 unmet : (b : Bool) (n : ℕ) → b ≡ (b || (false || nat_lt n n))
@@ -41,58 +43,85 @@ unmet true n = refl
 unmet false n = grind (arith, nat_tests)
 
 -- what is typed meets no refusal, whether its service pauses or not
-pub unmet_turn : {A : Type 0} (slot new : BoardSlot) (turn : Turn A) (failures : ℕ) {pause : Pause} {taken : ℕ} → new.disturbed ≡ slot.disturbed →
-    (turn ≡ More pause) ⊎ (turn ≡ Answered (Took taken)) → new.disturbed ≡ (slot.disturbed || met_in turn failures failures)
+pub unmet_turn : {A : Type 0} (slot new : BoardSlot) (turn : Turn A) (failures : ℕ) {pause : Pause}
+    {taken : ℕ} → new.disturbed ≡ slot.disturbed →
+    (turn ≡ More pause) ⊎ (turn ≡ Answered (Took taken))
+    → new.disturbed ≡ (slot.disturbed || met_in turn failures failures)
 unmet_turn slot new turn failures note (inl is) = rw is (note ∙ unmet slot.disturbed failures)
 unmet_turn slot new turn failures note (inr is) = rw is (note ∙ unmet slot.disturbed failures)
 
 -- bytes that fit a slot's memory were put there: the event of that write is answered
-pub bytes_put : (A : Type 0) (slots : List BoardSlot) (disk : Disk) (h : ℕ) (slot new : BoardSlot) (addr : ℕ) (bytes : List ℕ) (done : Bool) →
-    AllPairs IsApart (extents_of slots) → slice_get slots h ≡ Some slot → done ≡ is_inside slot.memory addr (length bytes) →
+pub bytes_put : (A : Type 0) (slots : List BoardSlot) (disk : Disk) (h : ℕ) (slot new : BoardSlot) (addr : ℕ)
+    (bytes : List ℕ) (done : Bool) →
+    AllPairs IsApart (extents_of slots) → slice_get slots h ≡ Some slot
+    → done ≡ is_inside slot.memory addr (length bytes) →
     OnTrue done (new ≡ record slot { memory = put slot.memory addr bytes }) →
     OnTrue done
-    (Answers {A = A} (seen slots disk) (record { slot = h; what = MemWrite addr bytes }) Done [] [] (seen (slice_set slots h new) disk))
+    (Answers {A = A} (seen slots disk) (record { slot = h; what = MemWrite addr bytes }) Done [] []
+    (seen (slice_set slots h new) disk))
 bytes_put A slots disk h slot new addr bytes false apart here test is = _
 bytes_put A slots disk h slot new addr bytes true apart here test is =
     let shown = state_of (bytes_of disk) new in
     answered
-    (handles slots disk disk (record { slot = h; what = MemWrite addr bytes }) slot new Done (block_irq shown) (console_irq shown) [] []
-    apart here (ap (λ (s : BoardSlot). s.extent) is) (ap (λ (s : BoardSlot). s.disturbed) is ∙ unmet slot.disturbed disk.failures) refl
+    (handles slots disk disk (record { slot = h; what = MemWrite addr bytes }) slot new Done (block_irq shown)
+    (console_irq shown) [] []
+    apart here (ap (λ (s : BoardSlot). s.extent) is) (ap (λ (s : BoardSlot). s.disturbed) is
+    ∙ unmet slot.disturbed disk.failures) refl
     (record {
       output = [];
-      given = inl (record { alike = record { alike = rw (← test, is) refl; image = refl }; answered = λ no. absurd (cc); failures = refl });
+      given = inl (record {
+        alike = record { alike = rw (← test, is) refl; image = refl };
+        answered = λ no. absurd (cc);
+        failures = refl;
+      });
       appended = refl;
     }) refl refl)
 
 -- and they stand in that slot's memory, and every other slot stays
-pub bytes_stand : (slots : List BoardSlot) (h : ℕ) (slot new : BoardSlot) (addr : ℕ) (bytes : List ℕ) (done : Bool) →
+pub bytes_stand : (slots : List BoardSlot) (h : ℕ) (slot new : BoardSlot) (addr : ℕ)
+    (bytes : List ℕ) (done : Bool) →
     slice_get slots h ≡ Some slot → OnTrue done (new ≡ record slot { memory = put slot.memory addr bytes }) →
-    OnTrue done (IsSomeAnd (slice_get slots h) (λ found. slice_set slots h new ≡ slice_set slots h (record found { memory = put found.memory addr bytes })))
+    OnTrue done (IsSomeAnd (slice_get slots h) (λ found. slice_set slots h new
+    ≡ slice_set slots h (record found { memory = put found.memory addr bytes })))
 bytes_stand slots h slot new addr bytes false here is = _
-bytes_stand slots h slot new addr bytes true here is = rw here (ap (λ (s : BoardSlot). slice_set slots h s) is)
+bytes_stand slots h slot new addr bytes true here is =
+    rw here (ap (λ (s : BoardSlot). slice_set slots h s) is)
 
 -- an event of a slot in which the image had no part, and which put nothing out
-pub quiet_answers : (A : Type 0) (slots : List BoardSlot) (disk : Disk) (h : ℕ) (slot new : BoardSlot) (what : EventKind A) (reply : Reply A) →
-    AllPairs IsApart (extents_of slots) → slice_get slots h ≡ Some slot → new.extent ≡ slot.extent → new.disturbed ≡ slot.disturbed → lacks_memory reply ≡ false →
-    MayGive (state_of (bytes_of disk) slot) what (health_of disk) (health_of disk) (replies (state_of (bytes_of disk) new) reply) →
-    Answers {A = A} (seen slots disk) (record { slot = h; what = what }) reply [] [] (seen (slice_set slots h new) disk)
+pub quiet_answers : (A : Type 0) (slots : List BoardSlot) (disk : Disk) (h : ℕ) (slot new : BoardSlot)
+    (what : EventKind A) (reply : Reply A) →
+    AllPairs IsApart (extents_of slots) → slice_get slots h ≡ Some slot → new.extent ≡ slot.extent
+    → new.disturbed ≡ slot.disturbed → lacks_memory reply ≡ false →
+    MayGive (state_of (bytes_of disk) slot) what (health_of disk) (health_of disk)
+    (replies (state_of (bytes_of disk) new) reply) →
+    Answers {A = A} (seen slots disk) (record { slot = h; what = what }) reply [] []
+    (seen (slice_set slots h new) disk)
 quiet_answers A slots disk h slot new what reply apart here extent note lacks given =
     let shown = state_of (bytes_of disk) new in
     answered
-    (handles slots disk disk (record { slot = h; what = what }) slot new reply (block_irq shown) (console_irq shown) [] []
-    apart here extent (note ∙ (unmet slot.disturbed disk.failures ∙ ap (λ (b : Bool). slot.disturbed || (b || nat_lt disk.failures disk.failures)) (sym lacks))) refl
+    (handles slots disk disk (record { slot = h; what = what }) slot new reply (block_irq shown)
+    (console_irq shown) [] []
+    apart here extent (note ∙ (unmet slot.disturbed disk.failures
+    ∙ ap (λ (b : Bool). slot.disturbed || (b || nat_lt disk.failures disk.failures)) (sym lacks))) refl
     (record { output = []; given = given; appended = refl }) refl refl)
 
-restore_lacks : (A : Type 0) (result : Result (Unit {0}) RestoreFault) → lacks_memory {A = A} (restore_reply result) ≡ false
+restore_lacks : (A : Type 0) (result : Result (Unit {0}) RestoreFault)
+    → lacks_memory {A = A} (restore_reply result) ≡ false
 restore_lacks A (Ok done) = refl
 restore_lacks A (Err why) = refl
 
 -- a slot that took up a snapshot, or didn't
-pub restore_answers : (A : Type 0) (slots : List BoardSlot) (disk : Disk) (h : ℕ) (slot new : BoardSlot) (bytes : List ℕ) (result : Result (Unit {0}) RestoreFault) →
-    Tells disk → IsWhole disk → AreSound disk.sector_count (extents_of slots) → slice_get slots h ≡ Some slot → new.extent ≡ slot.extent → new.disturbed ≡ slot.disturbed →
-    OnOk result (IsRestored slot bytes new) → IfErr result (IsCauseOf slot bytes) → OnErr result (new ≡ slot) →
-    Answers {A = A} (seen slots disk) (record { slot = h; what = Restore bytes }) (restore_reply result) [] [] (seen (slice_set slots h new) disk)
+pub restore_answers : (A : Type 0) (slots : List BoardSlot) (disk : Disk) (h : ℕ) (slot new : BoardSlot)
+    (bytes : List ℕ) (result : Result (Unit {0}) RestoreFault) →
+    Tells disk → IsWhole disk → AreSound disk.sector_count (extents_of slots) → slice_get slots h ≡ Some slot
+    → new.extent ≡ slot.extent → new.disturbed ≡ slot.disturbed →
+    OnOk result (IsRestored slot bytes new) → IfErr result (IsCauseOf slot bytes)
+    → OnErr result (new ≡ slot) →
+    Answers {A = A} (seen slots disk) (record { slot = h; what = Restore bytes }) (restore_reply result) [] []
+    (seen (slice_set slots h new) disk)
 restore_answers A slots disk h slot new bytes result tells whole sound here extent note ok fault kept =
-    quiet_answers A slots disk h slot new (Restore bytes) (restore_reply result) sound.apart here extent note (restore_lacks A result)
+    quiet_answers A slots disk h slot new (Restore bytes) (restore_reply result) sound.apart here extent note
+    (restore_lacks A result)
     (restore_given A (bytes_of disk) slot new bytes result (health_of disk)
-    (count_of slot.extent disk tells whole (slot_within disk.sector_count slots h slot sound.within here)) ok fault kept)
+    (count_of slot.extent disk tells whole (slot_within disk.sector_count slots h slot sound.within here)) ok
+    fault kept)

@@ -28,13 +28,16 @@ use Rattle.board.proofs.Seats.{step_there}
 use Rattle.board.proofs.Whole.{came, whole}
 
 -- a turn that answered an event is the event's step
-pub handled : {A : Type 0} (event : Event A) (budget : Budget) (old new : World) (reply : Reply A) (block console : ℕ) (out out' : List ℕ)
-    → TakesTurn (Begins event.what budget) old event.slot (Answered reply) block console out out' new → Handles old event reply block console out out' new
+pub handled : {A : Type 0} (event : Event A) (budget : Budget) (old new : World) (reply : Reply A)
+    (block console : ℕ) (out out' : List ℕ)
+    → TakesTurn (Begins event.what budget) old event.slot (Answered reply) block console out out' new
+    → Handles old event reply block console out out' new
 handled event budget old new reply block console out out' t = record {
   output = t.output;
   step = step_there old new event _ t.taken.state t.taken.there (record {
     outcome = came t.taken.after reply t.output;
-    given = whole event.what budget t.taken.state old.health new.health t.taken.after t.output reply t.taken.comes;
+    given = whole event.what budget t.taken.state old.health new.health t.taken.after t.output
+        reply t.taken.comes;
     recorded = rw (t.taken.block_is, t.taken.console_is) refl;
     slots = t.taken.slots;
     disturbed = t.taken.disturbed;
@@ -50,46 +53,65 @@ unrefused_reply A Ending.Spent n = refl
 unrefused_reply A (Ending.Faulted fault) n = refl
 unrefused_reply A Refused n = absurd (n refl)
 
-sent_whole : {A : Type 0} (limit : ℕ) (budget : Budget) (mid new : SlotState) (waiting left : List ℕ) (reply : Reply A) → reply ≡ Done
-    → IsSentPiece limit First budget progress.Done mid new waiting left → TransmitsWithin limit mid new waiting left reply
+sent_whole : {A : Type 0} (limit : ℕ) (budget : Budget) (mid new : SlotState) (waiting left : List ℕ)
+    (reply : Reply A) → reply ≡ Done
+    → IsSentPiece limit First budget progress.Done mid new waiting left
+    → TransmitsWithin limit mid new waiting left reply
 sent_whole {A} limit budget mid new waiting left reply done h =
     let queue = queue_at 1 mid.console in
-    let once : Notified (transmit_fitting (Some limit)) 1 queue h.served.ending mid.memory new.memory mid.console new.console waiting left =
-    notified_once (transmit_fitting (Some limit)) budget 1 queue h.served.ending mid.memory new.memory mid.console new.console waiting left h.served.notified in
-    let own = notified_as (transmit_fitting (Some limit)) (transmit_within (Some limit)) (λ out sent. sent ≡ out) (fitting_within (Some limit)) 1 queue h.served.ending mid.memory new.memory mid.console new.console waiting left waiting refl once in
+    let once : Notified (transmit_fitting (Some limit)) 1 queue h.served.ending mid.memory new.memory
+    mid.console new.console waiting left =
+    notified_once (transmit_fitting (Some limit)) budget 1 queue h.served.ending mid.memory new.memory
+    mid.console new.console waiting left h.served.notified in
+    let own = notified_as (transmit_fitting (Some limit)) (transmit_within (Some limit)) (λ out sent. sent
+    ≡ out) (fitting_within (Some limit)) 1 queue h.served.ending mid.memory new.memory mid.console
+    new.console waiting left waiting refl once in
     record {
       ending = h.served.ending;
       notified = rw own.alike at own.notified;
       is = h.is;
-      replied = done ∙ sym (unrefused_reply A h.served.ending (notified_not_refused (transmit_fitting (Some limit)) (λ out readable w lacks. lacks) 1 queue h.served.ending mid.memory new.memory mid.console new.console waiting left once));
+      replied = done ∙ sym (unrefused_reply A h.served.ending
+          (notified_not_refused (transmit_fitting (Some limit)) (λ out readable w lacks. lacks) 1 queue
+          h.served.ending mid.memory new.memory mid.console new.console waiting left once));
     }
 
-transmit_ended : {A : Type 0} (limit : ℕ) (budget : Budget) (mid new : SlotState) (waiting left : List ℕ) (reply : Reply A)
-    → SendsWithin limit (record { service = Transmit; taken = None }) First budget mid new waiting left (Answered reply) → TransmitsWithin limit mid new waiting left reply
-transmit_ended limit budget mid new waiting left reply (inl (done, h)) = sent_whole limit budget mid new waiting left reply done h
+transmit_ended : {A : Type 0} (limit : ℕ) (budget : Budget) (mid new : SlotState)
+    (waiting left : List ℕ) (reply : Reply A)
+    → SendsWithin limit (record { service = Transmit; taken = None }) First budget mid new waiting left
+    (Answered reply) → TransmitsWithin limit mid new waiting left reply
+transmit_ended limit budget mid new waiting left reply (inl (done, h)) =
+    sent_whole limit budget mid new waiting left reply done h
 transmit_ended limit budget mid new waiting left reply (inr (lacks, h)) = record {
   ending = Refused;
-  notified = notified_once (transmit_within (Some limit)) budget 1 (queue_at 1 mid.console) Refused mid.memory new.memory mid.console new.console waiting left h.refused;
+  notified = notified_once (transmit_within (Some limit)) budget 1 (queue_at 1 mid.console) Refused mid.memory
+      new.memory mid.console new.console waiting left h.refused;
   is = h.is;
   replied = lacks;
 }
 
-write_ended : {A : Type 0} (limit : ℕ) (state : SlotState) (window : DeviceKind) (offset width value : ℕ) (budget : Budget) (new : SlotState) (waiting left : List ℕ) (reply : Reply A) (task : Task) → task_at window offset width value state ≡ task
-    → TurnWithin limit (asked_by task) (Write window offset width value) budget state new waiting left (Answered reply)
+write_ended : {A : Type 0} (limit : ℕ) (state : SlotState) (window : DeviceKind) (offset width value : ℕ)
+    (budget : Budget) (new : SlotState) (waiting left : List ℕ) (reply : Reply A) (task : Task)
+    → task_at window offset width value state ≡ task
+    → TurnWithin limit (asked_by task) (Write window offset width value) budget state new waiting
+    left (Answered reply)
     → TakesWithin limit state (Write window offset width value) new waiting left reply
 write_ended limit state window offset width value budget new waiting left reply Nothing is h = h
 write_ended limit state window offset width value budget new waiting left reply ServeBlock is h = rw is tt
 write_ended limit state window offset width value budget new waiting left reply ServeReceive is h = rw is tt
 write_ended limit state window offset width value budget new waiting left reply ServeTransmit is h =
-    subst (λ (t : Task). PutsOutWithin limit t (with_write window offset width value state) new waiting left reply) (sym is)
+    subst (λ (t : Task). PutsOutWithin limit t (with_write window offset width value state) new waiting
+    left reply) (sym is)
     (transmit_ended limit budget (with_write window offset width value state) new waiting left reply h)
 write_ended limit state window offset width value budget new waiting left reply (PutOut byte) is h = h
 
-pub ended_within : {A : Type 0} (limit : ℕ) (what : EventKind A) (budget : Budget) (state new : SlotState) (waiting left : List ℕ) (reply : Reply A)
-    → BeginsWithin limit what budget state new waiting left (Answered reply) → TakesWithin limit state what new waiting left reply
+pub ended_within : {A : Type 0} (limit : ℕ) (what : EventKind A) (budget : Budget) (state new : SlotState)
+    (waiting left : List ℕ) (reply : Reply A)
+    → BeginsWithin limit what budget state new waiting left (Answered reply)
+    → TakesWithin limit state what new waiting left reply
 ended_within limit (Read window offset width) budget state new waiting left reply h = tt
 ended_within limit (Write window offset width value) budget state new waiting left reply h =
-    write_ended limit state window offset width value budget new waiting left reply (task_at window offset width value state) refl h
+    write_ended limit state window offset width value budget new waiting left reply
+    (task_at window offset width value state) refl h
 ended_within limit (MemRead addr len) budget state new waiting left reply h = tt
 ended_within limit (MemWrite addr bytes) budget state new waiting left reply h = tt
 ended_within limit (Input bytes) budget state new waiting left reply h = tt

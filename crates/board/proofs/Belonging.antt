@@ -15,7 +15,8 @@ use Rattle.mmio_window.proofs.Soundness.{IsSound-same_range}
 use Rattle.board.specs.Slot.{IsSoundSlot}
 
 -- a piece of the transmit queue's service, however it ends
-pub transmit_keeps : {E : Type 0} (stage : Stage) (served refused : Device (List ℕ)) (budget : Budget) (queue : Option Queue) (m m' : Memory) (w w' : WindowState) (s s' : List ℕ) (result : Result Progress E)
+pub transmit_keeps : {E : Type 0} (stage : Stage) (served refused : Device (List ℕ)) (budget : Budget)
+    (queue : Option Queue) (m m' : Memory) (w w' : WindowState) (s s' : List ℕ) (result : Result Progress E)
     → IfOk result (λ progress. ServesTo stage served budget 1 queue progress m m' w w' s s')
     → OnErr result (IsRefusedAt stage refused budget 1 queue m m' w w' s s') → KeepsDevice w w'
 transmit_keeps stage served refused budget queue m m' w w' s s' (Ok progress) ok no_memory =
@@ -27,7 +28,8 @@ transmit_keeps stage served refused budget queue m m' w w' s s' (Err why) ok no_
 
 -- where its memory changed
 pub memory_changed : (m m' : Memory) (read_only : Bool) (block console : WindowState) (pending : List ℕ)
-    → IsSoundSlot m read_only block console pending → SameRange m m' → IsSoundSlot m' read_only block console pending
+    → IsSoundSlot m read_only block console pending → SameRange m m'
+    → IsSoundSlot m' read_only block console pending
 memory_changed m m' read_only block console pending sound range = record {
   block_kind = sound.block_kind;
   block_offers = sound.block_offers;
@@ -40,7 +42,8 @@ memory_changed m m' read_only block console pending sound range = record {
 
 -- where its block device was at work
 pub block_changed : (m m' : Memory) (read_only : Bool) (block block' console : WindowState) (pending : List ℕ)
-    → IsSoundSlot m read_only block console pending → KeepsDevice block block' → IsSound m' block' → SameRange m m'
+    → IsSoundSlot m read_only block console pending → KeepsDevice block block'
+    → IsSound m' block' → SameRange m m'
     → IsSoundSlot m' read_only block' console pending
 block_changed m m' read_only block block' console pending sound keeps here range = record {
   block_kind = keeps.kind ∙ sound.block_kind;
@@ -53,8 +56,10 @@ block_changed m m' read_only block block' console pending sound keeps here range
 }
 
 -- and where its console was
-pub console_changed : (m m' : Memory) (read_only : Bool) (block console console' : WindowState) (pending pending' : List ℕ)
-    → IsSoundSlot m read_only block console pending → KeepsDevice console console' → IsSound m' console' → SameRange m m'
+pub console_changed : (m m' : Memory) (read_only : Bool) (block console console' : WindowState)
+    (pending pending' : List ℕ)
+    → IsSoundSlot m read_only block console pending → KeepsDevice console console'
+    → IsSound m' console' → SameRange m m'
     → length pending' ≤ 4096 → IsSoundSlot m' read_only block console' pending'
 console_changed m m' read_only block console console' pending pending' sound keeps here range fits = record {
   block_kind = sound.block_kind;

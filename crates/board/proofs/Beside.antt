@@ -17,7 +17,8 @@ use Rattle.board.specs.Pausing.{asked, asked_by, duty_of}
 use Rattle.board.specs.Slot.{BoardSlot, IsUnnoted, SlotState, state_of}
 use Rattle.board.specs.Task.{Task, Nothing, ServeBlock, ServeReceive, ServeTransmit, PutOut}
 
-same_device : (s t : BoardSlot) → s.extent ≡ t.extent → s.read_only ≡ t.read_only → s.identity ≡ t.identity → device_at s ≡ device_at t
+same_device : (s t : BoardSlot) → s.extent ≡ t.extent → s.read_only ≡ t.read_only → s.identity ≡ t.identity
+    → device_at s ≡ device_at t
 same_device s t e r i = rw (e, r, i) refl
 
 -- what a write to a window keeps
@@ -26,20 +27,26 @@ record Kept (old new : SlotState) : Type 0 where
   read_only : new.read_only ≡ old.read_only
   identity : new.identity ≡ old.identity
 
-kept_by_write : (window : DeviceKind) (offset width value : ℕ) (state : SlotState) → Kept state (with_write window offset width value state)
+kept_by_write : (window : DeviceKind) (offset width value : ℕ) (state : SlotState)
+    → Kept state (with_write window offset width value state)
 kept_by_write Block offset width value state = record { memory = refl; read_only = refl; identity = refl }
 kept_by_write Console offset width value state = record { memory = refl; read_only = refl; identity = refl }
 
 -- the slot's window was written
 abbrev pub IsWritten : DeviceKind → ℕ → ℕ → ℕ → BoardSlot → BoardSlot → Type 0
-IsWritten window offset width value old new = (image : List ℕ) → state_of image new ≡ with_write window offset width value (state_of image old)
+IsWritten window offset width value old new = (image : List ℕ)
+    → state_of image new ≡ with_write window offset width value (state_of image old)
 
-pub written_device : (window : DeviceKind) (offset width value : ℕ) (old new : BoardSlot) → IsWritten window offset width value old new → new.extent ≡ old.extent → device_at new ≡ device_at old
+pub written_device : (window : DeviceKind) (offset width value : ℕ) (old new : BoardSlot)
+    → IsWritten window offset width value old new → new.extent ≡ old.extent → device_at new ≡ device_at old
 written_device window offset width value old new is extent =
     let kept = kept_by_write window offset width value (state_of [] old) in
-    same_device new old extent (ap (λ (s : SlotState). s.read_only) (is []) ∙ kept.read_only) (ap (λ (s : SlotState). s.identity) (is []) ∙ kept.identity)
+    same_device new old extent (ap (λ (s : SlotState). s.read_only) (is [])
+    ∙ kept.read_only) (ap (λ (s : SlotState). s.identity) (is []) ∙ kept.identity)
 
-pub written_block : (A : Type 0) (window : DeviceKind) (offset width value : ℕ) (old new : BoardSlot) → IsWritten window offset width value old new → new.block ≡ block_beside {A = A} (Write window offset width value) old
+pub written_block : (A : Type 0) (window : DeviceKind) (offset width value : ℕ) (old new : BoardSlot)
+    → IsWritten window offset width value old new
+    → new.block ≡ block_beside {A = A} (Write window offset width value) old
 written_block A Block offset width value old new is = ap (λ (s : SlotState). s.block) (is [])
 written_block A Console offset width value old new is = ap (λ (s : SlotState). s.block) (is [])
 
@@ -49,12 +56,15 @@ same_range m = record { base = refl; size = refl; gaps = refl }
 pub range_of : (m n : Memory) → n ≡ m → SameRange m n
 range_of m n is = subst (λ (k : Memory). SameRange m k) (sym is) (same_range m)
 
-pub written_range : (window : DeviceKind) (offset width value : ℕ) (old new : BoardSlot) → IsWritten window offset width value old new → SameRange old.memory new.memory
+pub written_range : (window : DeviceKind) (offset width value : ℕ) (old new : BoardSlot)
+    → IsWritten window offset width value old new → SameRange old.memory new.memory
 written_range window offset width value old new is =
-    range_of old.memory new.memory (ap (λ (s : SlotState). s.memory) (is []) ∙ (kept_by_write window offset width value (state_of [] old)).memory)
+    range_of old.memory new.memory (ap (λ (s : SlotState). s.memory) (is [])
+    ∙ (kept_by_write window offset width value (state_of [] old)).memory)
 
 -- a duty of the console is none of the block device
-pub not_block : (task : Task) (which : Service) → duty.Serve which ≡ duty_of task → which ≢ service.Block → false ≡ is_block_task task
+pub not_block : (task : Task) (which : Service) → duty.Serve which ≡ duty_of task → which ≢ service.Block
+    → false ≡ is_block_task task
 not_block Nothing which is other = refl
 not_block ServeBlock which is other = absurd (other (cc))
 not_block ServeReceive which is other = refl
@@ -74,7 +84,8 @@ rung (PutOut byte) rings = absurd (cc (rings))
 pub block_asked : {A : Type 0} (what : EventKind A) (state : SlotState) → true ≡ notifies_block what state
     → asked what state ≡ Some (record { service = service.Block; taken = None })
 block_asked (Read window offset width) state rings = absurd (cc (rings))
-block_asked (Write window offset width value) state rings = ap asked_by (rung (task_at window offset width value state) rings)
+block_asked (Write window offset width value) state rings =
+    ap asked_by (rung (task_at window offset width value state) rings)
 block_asked (MemRead addr len) state rings = absurd (cc (rings))
 block_asked (MemWrite addr bytes) state rings = absurd (cc (rings))
 block_asked (Input bytes) state rings = absurd (cc (rings))
@@ -83,7 +94,8 @@ block_asked (Restore bytes) state rings = absurd (cc (rings))
 block_asked (Complete verdict) state rings = absurd (cc (rings))
 
 -- what its service leaves to be noted is that of the event
-pub unnoted_behind : (old mid new : BoardSlot) (before after : Disk) (failed : Bool) → mid.extent ≡ old.extent → mid.disturbed ≡ old.disturbed
+pub unnoted_behind : (old mid new : BoardSlot) (before after : Disk) (failed : Bool) → mid.extent ≡ old.extent
+    → mid.disturbed ≡ old.disturbed
     → IsUnnoted mid new before after failed → IsUnnoted old new before after failed
 unnoted_behind old mid new before after failed extent disturbed h = record {
   stays = record {

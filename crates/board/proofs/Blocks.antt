@@ -23,24 +23,34 @@ use Rattle.board.proofs.Guests.{disk_of_parts}
 
 -- ---- the extent as its guest sees it
 
-count_at : (extent : Extent) (contents : Option (List ℕ)) (sectors : ℕ) → IsSome contents → IfSome contents (λ bytes. length bytes ≡ 512 * sectors) → extent.start + extent.count ≤ sectors → sectors_of (extent_of (unwrap_or contents []) extent.start extent.count) ≡ extent.count
+count_at : (extent : Extent) (contents : Option (List ℕ)) (sectors : ℕ) → IsSome contents
+    → IfSome contents (λ bytes. length bytes ≡ 512 * sectors) → extent.start + extent.count ≤ sectors
+    → sectors_of (extent_of (unwrap_or contents []) extent.start extent.count) ≡ extent.count
 count_at extent None sectors tells whole lies = absurd (cc)
 count_at extent (Some bytes) sectors tells whole lies =
-    let long : length (extent_of bytes extent.start extent.count) ≡ 512 * extent.count = simp (length-take, length-drop) (omega (arith, whole, lies)) in
+    let long : length (extent_of bytes extent.start extent.count) ≡ 512 * extent.count =
+    simp (length-take, length-drop) (omega (arith, whole, lies)) in
     omega (arith, long)
 
 -- the extent's bytes fill its sectors
-pub count_of : (extent : Extent) (disk : Disk) → Tells disk → IsWhole disk → IsWithin disk.sector_count extent → sectors_of (extent_of (bytes_of disk) extent.start extent.count) ≡ extent.count
+pub count_of : (extent : Extent) (disk : Disk) → Tells disk → IsWhole disk → IsWithin disk.sector_count extent
+    → sectors_of (extent_of (bytes_of disk) extent.start extent.count) ≡ extent.count
 count_of extent disk tells whole lies = count_at extent disk.contents disk.sector_count tells whole lies
 
-contents_at : (extent : Extent) (contents : Option (List ℕ)) → IsSome contents → option_map (λ bytes. extent_of bytes extent.start extent.count) contents ≡ Some (extent_of (unwrap_or contents []) extent.start extent.count)
+contents_at : (extent : Extent) (contents : Option (List ℕ)) → IsSome contents
+    → option_map (λ bytes. extent_of bytes extent.start extent.count) contents
+    ≡ Some (extent_of (unwrap_or contents []) extent.start extent.count)
 contents_at extent None tells = absurd (cc)
 contents_at extent (Some bytes) tells = refl
 
 -- and are the disk that the device shows
-pub seen_disk : (extent : Extent) (disk : Disk) → Tells disk → IsWhole disk → IsWithin disk.sector_count extent → extent_disk extent disk ≡ disk_with (extent_of (bytes_of disk) extent.start extent.count) (health_of disk)
+pub seen_disk : (extent : Extent) (disk : Disk) → Tells disk → IsWhole disk
+    → IsWithin disk.sector_count extent
+    → extent_disk extent disk
+    ≡ disk_with (extent_of (bytes_of disk) extent.start extent.count) (health_of disk)
 seen_disk extent disk tells whole lies =
-    disk_of_parts disk.failures disk.dirty _ _ extent.count (sectors_of (extent_of (bytes_of disk) extent.start extent.count))
+    disk_of_parts disk.failures disk.dirty _ _ extent.count
+    (sectors_of (extent_of (bytes_of disk) extent.start extent.count))
     (contents_at extent disk.contents tells) (sym (count_of extent disk tells whole lies))
 
 -- the slot's device, as its guest knows it
@@ -63,7 +73,9 @@ mid offset width value slot = written offset width value slot.memory slot.block
 -- ---- events
 
 -- a read of a window
-pub read_given : {A : Type 0} (state : SlotState) (window : DeviceKind) (offset width value : ℕ) (health : Health) → value ≡ register state window offset width → MayGive {A = A} state (Read window offset width) health health (replies state (Value value))
+pub read_given : {A : Type 0} (state : SlotState) (window : DeviceKind) (offset width value : ℕ)
+    (health : Health) → value ≡ register state window offset width
+    → MayGive {A = A} state (Read window offset width) health health (replies state (Value value))
 read_given state window offset width value health is = inl (record {
   alike = record { alike = ap (λ v. replies state (Value v)) is; image = refl };
   answered = λ none. cc;
@@ -71,5 +83,7 @@ read_given state window offset width value health is = inl (record {
 })
 
 -- and a completion: nothing is in flight
-pub completion_given : {A : Type 0} (state : SlotState) (verdict : Verdict) (health : Health) → MayGive {A = A} state (Complete verdict) health health (replies state Idle)
-completion_given state verdict health = inl (record { alike = record { alike = refl; image = refl }; answered = λ none. cc; failures = refl })
+pub completion_given : {A : Type 0} (state : SlotState) (verdict : Verdict) (health : Health)
+    → MayGive {A = A} state (Complete verdict) health health (replies state Idle)
+completion_given state verdict health =
+    inl (record { alike = record { alike = refl; image = refl }; answered = λ none. cc; failures = refl })

@@ -31,49 +31,68 @@ use Rattle.board.proofs.Failures.{given_failures}
 
 -- ---- a service of the disk in which no call fails
 
-passes_clean : (device : BlockDevice) (start at : Site Queue Disk) (chains : List (Served Disk)) → start.state.dirty ≡ false → ServesAll queue_kind (exact_device device) start chains at → at.state.dirty ≡ false
+passes_clean : (device : BlockDevice) (start at : Site Queue Disk) (chains : List (Served Disk))
+    → start.state.dirty ≡ false → ServesAll queue_kind (exact_device device) start chains at
+    → at.state.dirty ≡ false
 passes_clean device start at [] clean p = ap (λ (s : Site Queue Disk). s.state.dirty) (sym p) ∙ clean
 passes_clean device start at (s ∷ chains) clean p =
     passes_clean device (after queue_kind (exact_device device) start s) at chains
-    (exact_clean device start.state (readable_of start.memory s.buffers) (length (writable_of s.buffers)) s.given clean p.0.gives) p.1
+    (exact_clean device start.state (readable_of start.memory s.buffers) (length (writable_of s.buffers))
+    s.given clean p.0.gives) p.1
 
-stop_clean : (device : BlockDevice) (at last : Site Queue Disk) (ending : Ending) → at.state.dirty ≡ false → last ≡ stop queue_kind (exact_device device) at ending → last.state.dirty ≡ false
+stop_clean : (device : BlockDevice) (at last : Site Queue Disk) (ending : Ending) → at.state.dirty ≡ false
+    → last ≡ stop queue_kind (exact_device device) at ending → last.state.dirty ≡ false
 stop_clean device at last Spent clean is = ap (λ (s : Site Queue Disk). s.state.dirty) is ∙ clean
 stop_clean device at last (Faulted fault) clean is = ap (λ (s : Site Queue Disk). s.state.dirty) is ∙ clean
 stop_clean device at last Refused clean is = ap (λ (s : Site Queue Disk). s.state.dirty) is ∙ clean
 
-works_clean : (device : BlockDevice) (fault : Option Fault) (start last : Site Queue Disk) (ending : Ending) → start.state.dirty ≡ false → Works queue_kind (exact_device device) fault start ending last → last.state.dirty ≡ false
-works_clean device (Some fault) start last ending clean h = ap (λ (s : Site Queue Disk). s.state.dirty) h.1 ∙ clean
-works_clean device None start last ending clean h = stop_clean device h.at last ending (passes_clean device start h.at h.chains clean h.serves) h.stands
+works_clean : (device : BlockDevice) (fault : Option Fault) (start last : Site Queue Disk) (ending : Ending)
+    → start.state.dirty ≡ false → Works queue_kind (exact_device device) fault start ending last
+    → last.state.dirty ≡ false
+works_clean device (Some fault) start last ending clean h =
+    ap (λ (s : Site Queue Disk). s.state.dirty) h.1 ∙ clean
+works_clean device None start last ending clean h =
+    stop_clean device h.at last ending (passes_clean device start h.at h.chains clean h.serves) h.stands
 
-service_clean : (device : BlockDevice) (old new : Site Queue Disk) (ending : Ending) (wanted : Bool) → old.state.dirty ≡ false → IsService queue_kind (exact_device device) old new ending wanted → new.state.dirty ≡ false
+service_clean : (device : BlockDevice) (old new : Site Queue Disk) (ending : Ending) (wanted : Bool)
+    → old.state.dirty ≡ false → IsService queue_kind (exact_device device) old new ending wanted
+    → new.state.dirty ≡ false
 service_clean device old new ending wanted clean h =
     ap (λ (s : Site Queue Disk). s.state.dirty) h.closed
     ∙ works_clean device _ (open_site queue_kind (exact_device device) old) h.last ending clean h.works
 
-notified_clean : (device : BlockDevice) (queue : Option Queue) (old new : Memory) (before after : WindowState) (s t : Disk) → s.dirty ≡ false → IsNotified (exact_device device) 0 queue old new before after s t → t.dirty ≡ false
-notified_clean device None old new before after s t clean h = ap (λ (d : Disk). d.dirty) h.notified.1.state ∙ clean
+notified_clean : (device : BlockDevice) (queue : Option Queue) (old new : Memory) (before after : WindowState)
+    (s t : Disk) → s.dirty ≡ false
+    → IsNotified (exact_device device) 0 queue old new before after s t → t.dirty ≡ false
+notified_clean device None old new before after s t clean h =
+    ap (λ (d : Disk). d.dirty) h.notified.1.state ∙ clean
 notified_clean device (Some queue) old new before after s t clean h =
-    service_clean device (record { memory = old; ring = queue; state = s }) (record { memory = new; ring = h.notified.last; state = t }) h.ending h.notified.wanted clean h.notified.service
+    service_clean device (record { memory = old; ring = queue; state = s })
+    (record { memory = new; ring = h.notified.last; state = t }) h.ending h.notified.wanted
+    clean h.notified.service
 
 -- ---- an event
 
 same_dirty : (old new : Health) → new ≡ old → old.dirty ≡ false → new.dirty ≡ false
 same_dirty old new same clean = ap (λ (h : Health). h.dirty) same ∙ clean
 
-finished_clean : {A : Type 0} (task : Task) (state : SlotState) (old new : Health) (outcome : Outcome A) → old.dirty ≡ false → Finishes task state old new outcome → new.dirty ≡ false
+finished_clean : {A : Type 0} (task : Task) (state : SlotState) (old new : Health) (outcome : Outcome A)
+    → old.dirty ≡ false → Finishes task state old new outcome → new.dirty ≡ false
 finished_clean Nothing state old new outcome clean h = same_dirty old new h.image clean
 finished_clean ServeBlock state old new outcome clean h =
-    notified_clean (device_of state) (queue_at 0 state.block) state.memory outcome.state.memory state.block outcome.state.block
+    notified_clean (device_of state) (queue_at 0 state.block) state.memory outcome.state.memory state.block
+    outcome.state.block
     (disk_with state.extent old) (disk_with outcome.state.extent new) clean h.notified
 finished_clean ServeReceive state old new outcome clean h = same_dirty old new h.image clean
 finished_clean ServeTransmit state old new outcome clean h = same_dirty old new h.image clean
 finished_clean (PutOut byte) state old new outcome clean h = same_dirty old new h.image clean
 
-served_clean : {A : Type 0} (state : SlotState) (what : EventKind A) (old new : Health) (outcome : Outcome A) → old.dirty ≡ false → Gives state what old new outcome → new.dirty ≡ false
+served_clean : {A : Type 0} (state : SlotState) (what : EventKind A) (old new : Health) (outcome : Outcome A)
+    → old.dirty ≡ false → Gives state what old new outcome → new.dirty ≡ false
 served_clean state (event.Read window offset width) old new outcome clean h = same_dirty old new h.image clean
 served_clean state (event.Write window offset width value) old new outcome clean h =
-    finished_clean (task_at window offset width value state) (with_write window offset width value state) old new outcome clean h
+    finished_clean (task_at window offset width value state) (with_write window offset width value state) old
+    new outcome clean h
 served_clean state (event.MemRead addr len) old new outcome clean h = same_dirty old new h.image clean
 served_clean state (event.MemWrite addr bytes) old new outcome clean h = same_dirty old new h.image clean
 served_clean state (event.Input bytes) old new outcome clean h = same_dirty old new h.image clean
@@ -81,17 +100,22 @@ served_clean state (event.Resize cols rows) old new outcome clean h = same_dirty
 served_clean state (event.Restore bytes) old new outcome clean h = same_dirty old new h.image clean
 served_clean state (event.Complete verdict) old new outcome clean h = same_dirty old new h.image clean
 
-cut_short_clean : {A : Type 0} (task : Task) (state : SlotState) (old new : Health) (outcome : Outcome A) → new.failures ≡ old.failures → old.dirty ≡ false → IsCutShort task state old new outcome → new.dirty ≡ false
+cut_short_clean : {A : Type 0} (task : Task) (state : SlotState) (old new : Health) (outcome : Outcome A)
+    → new.failures ≡ old.failures → old.dirty ≡ false → IsCutShort task state old new outcome
+    → new.dirty ≡ false
 cut_short_clean Nothing state old new outcome same clean h = absurd h
 cut_short_clean ServeBlock state old new outcome same clean h = absurd (omega (arith, h.failures, same))
 cut_short_clean ServeReceive state old new outcome same clean h = absurd h
 cut_short_clean ServeTransmit state old new outcome same clean h = same_dirty old new h.image clean
 cut_short_clean (PutOut byte) state old new outcome same clean h = same_dirty old new h.image clean
 
-refused_clean : {A : Type 0} (state : SlotState) (what : EventKind A) (old new : Health) (outcome : Outcome A) → new.failures ≡ old.failures → old.dirty ≡ false → IsRefused state what old new outcome → new.dirty ≡ false
+refused_clean : {A : Type 0} (state : SlotState) (what : EventKind A) (old new : Health) (outcome : Outcome A)
+    → new.failures ≡ old.failures → old.dirty ≡ false → IsRefused state what old new outcome
+    → new.dirty ≡ false
 refused_clean state (event.Read window offset width) old new outcome same clean h = absurd h
 refused_clean state (event.Write window offset width value) old new outcome same clean h =
-    cut_short_clean (task_at window offset width value state) (with_write window offset width value state) old new outcome same clean h
+    cut_short_clean (task_at window offset width value state) (with_write window offset width value state) old
+    new outcome same clean h
 refused_clean state (event.MemRead addr len) old new outcome same clean h = same_dirty old new h.image clean
 refused_clean state (event.MemWrite addr bytes) old new outcome same clean h = absurd h
 refused_clean state (event.Input bytes) old new outcome same clean h = absurd h
@@ -99,49 +123,71 @@ refused_clean state (event.Resize cols rows) old new outcome same clean h = absu
 refused_clean state (event.Restore bytes) old new outcome same clean h = absurd h
 refused_clean state (event.Complete verdict) old new outcome same clean h = absurd h
 
-given_clean : {A : Type 0} (state : SlotState) (what : EventKind A) (old new : Health) (outcome : Outcome A) → new.failures ≡ old.failures → old.dirty ≡ false → MayGive state what old new outcome → new.dirty ≡ false
-given_clean state what old new outcome same clean (inl h) = served_clean state what old new outcome clean h.alike
-given_clean state what old new outcome same clean (inr h) = refused_clean state what old new outcome same clean h
+given_clean : {A : Type 0} (state : SlotState) (what : EventKind A) (old new : Health) (outcome : Outcome A)
+    → new.failures ≡ old.failures → old.dirty ≡ false → MayGive state what old new outcome → new.dirty ≡ false
+given_clean state what old new outcome same clean (inl h) =
+    served_clean state what old new outcome clean h.alike
+given_clean state what old new outcome same clean (inr h) =
+    refused_clean state what old new outcome same clean h
 
 -- ---- a line
 
-step_at_clean : {A : Type 0} (old : World) (event : Event A) (written : Record A) (new : World) (o : Option SlotState) → new.health.failures ≡ old.health.failures → old.health.dirty ≡ false
-    → MatchOption o (MissingStep old event.slot written new) (λ s. SlotStep old event.slot s event.what written new) → new.health.dirty ≡ false
-step_at_clean old event written new None same clean step = ap (λ (w : World). w.health.dirty) step.same ∙ clean
-step_at_clean old event written new (Some state) same clean step = given_clean state event.what old.health new.health step.outcome same clean step.given
+step_at_clean : {A : Type 0} (old : World) (event : Event A) (written : Record A) (new : World)
+    (o : Option SlotState) → new.health.failures ≡ old.health.failures → old.health.dirty ≡ false
+    → MatchOption o (MissingStep old event.slot written new)
+    (λ s. SlotStep old event.slot s event.what written new) → new.health.dirty ≡ false
+step_at_clean old event written new None same clean step =
+    ap (λ (w : World). w.health.dirty) step.same ∙ clean
+step_at_clean old event written new (Some state) same clean step =
+    given_clean state event.what old.health new.health step.outcome same clean step.given
 
-step_at_rises : {A : Type 0} (old : World) (event : Event A) (written : Record A) (new : World) (o : Option SlotState)
-    → MatchOption o (MissingStep old event.slot written new) (λ s. SlotStep old event.slot s event.what written new) → old.health.failures ≤ new.health.failures
-step_at_rises old event written new None step = let same : new.health.failures ≡ old.health.failures = ap (λ (w : World). w.health.failures) step.same in omega arith
-step_at_rises old event written new (Some state) step = given_failures state event.what old.health new.health step.outcome step.given
+step_at_rises : {A : Type 0} (old : World) (event : Event A) (written : Record A) (new : World)
+    (o : Option SlotState)
+    → MatchOption o (MissingStep old event.slot written new)
+    (λ s. SlotStep old event.slot s event.what written new) → old.health.failures ≤ new.health.failures
+step_at_rises old event written new None step = let same : new.health.failures ≡ old.health.failures =
+    ap (λ (w : World). w.health.failures) step.same in omega arith
+step_at_rises old event written new (Some state) step =
+    given_failures state event.what old.health new.health step.outcome step.given
 
-line_rises : {A : Type 0} (old new : World) (moves : List (Move A)) → IsLine old moves new → old.health.failures ≤ new.health.failures
-line_rises old new [] is = let same : new.health.failures ≡ old.health.failures = ap (λ (w : World). w.health.failures) is in omega arith
+line_rises : {A : Type 0} (old new : World) (moves : List (Move A)) → IsLine old moves new
+    → old.health.failures ≤ new.health.failures
+line_rises old new [] is = let same : new.health.failures ≡ old.health.failures =
+    ap (λ (w : World). w.health.failures) is in omega arith
 line_rises old new (move ∷ moves) line =
-    let here = step_at_rises old move.event move.written move.after (slice_get old.slots move.event.slot) line.0 in
+    let here = step_at_rises old move.event move.written move.after
+    (slice_get old.slots move.event.slot) line.0 in
     let rest = line_rises move.after new moves line.1 in
     omega (arith, here, rest)
 
-pub line_clean : {A : Type 0} (old new : World) (moves : List (Move A)) → IsLine old moves new → new.health.failures ≡ old.health.failures → old.health.dirty ≡ false → new.health.dirty ≡ false
+pub line_clean : {A : Type 0} (old new : World) (moves : List (Move A)) → IsLine old moves new
+    → new.health.failures ≡ old.health.failures → old.health.dirty ≡ false → new.health.dirty ≡ false
 line_clean old new [] is same clean = ap (λ (w : World). w.health.dirty) is ∙ clean
 line_clean old new (move ∷ moves) line same clean =
-    let here = step_at_rises old move.event move.written move.after (slice_get old.slots move.event.slot) line.0 in
+    let here = step_at_rises old move.event move.written move.after
+    (slice_get old.slots move.event.slot) line.0 in
     let rest = line_rises move.after new moves line.1 in
     let first : move.after.health.failures ≡ old.health.failures = omega (arith, here, rest, same) in
     line_clean move.after new moves line.1 (same ∙ sym first)
-    (step_at_clean old move.event move.written move.after (slice_get old.slots move.event.slot) first clean line.0)
+    (step_at_clean old move.event move.written move.after (slice_get old.slots move.event.slot)
+    first clean line.0)
 
 -- ---- a stop
 
-extents_seen : (slots : List BoardSlot) (bytes : List ℕ) → map (λ slot. extent_of bytes slot.extent.start slot.extent.count) slots ≡ map (λ state. state.extent) (map (state_of bytes) slots)
+extents_seen : (slots : List BoardSlot) (bytes : List ℕ)
+    → map (λ slot. extent_of bytes slot.extent.start slot.extent.count) slots
+    ≡ map (λ state. state.extent) (map (state_of bytes) slots)
 extents_seen [] bytes = refl
-extents_seen (slot ∷ slots) bytes = ap (λ rest. extent_of bytes slot.extent.start slot.extent.count ∷ rest) (extents_seen slots bytes)
+extents_seen (slot ∷ slots) bytes =
+    ap (λ rest. extent_of bytes slot.extent.start slot.extent.count ∷ rest) (extents_seen slots bytes)
 
-pub contents_left : (contents : Option (List ℕ)) (left : List ℕ) → IsSome contents → IfSome contents (λ bytes. left ≡ bytes) → left ≡ unwrap_or contents []
+pub contents_left : (contents : Option (List ℕ)) (left : List ℕ) → IsSome contents
+    → IfSome contents (λ bytes. left ≡ bytes) → left ≡ unwrap_or contents []
 contents_left None left tells same = absurd (cc)
 contents_left (Some bytes) left tells same = same
 
-pub left_as_seen : (slots : List BoardSlot) (disk : Disk) (left : List ℕ) → Tells disk → disk.dirty ≡ false → LeavesContents disk left → IsLeftAsSeen slots (seen slots disk) left
+pub left_as_seen : (slots : List BoardSlot) (disk : Disk) (left : List ℕ) → Tells disk → disk.dirty ≡ false
+    → LeavesContents disk left → IsLeftAsSeen slots (seen slots disk) left
 left_as_seen slots disk left tells clean leaves =
     let same : left ≡ bytes_of disk = contents_left disk.contents left tells (leaves clean) in
     rw same (record { extents = extents_seen slots (bytes_of disk); outside = refl })

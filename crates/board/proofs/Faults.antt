@@ -18,17 +18,22 @@ use Rattle.board.specs.Fault.{IsGoodSlot, AreGood, HasFaultAt, IsFaultOf, Refuse
 
 -- extents with a sector in common aren't apart
 shared_not_apart : (one other : Extent) → Overlaps one other → IsApart one other → ⊥
-shared_not_apart one other shared apart = let never = apart shared.sector in grind (arith, shared.in_one, shared.in_other, never)
+shared_not_apart one other shared apart = let never = apart shared.sector in
+    grind (arith, shared.in_one, shared.in_other, never)
 
 -- nor are those of a slot and an earlier one
-shared_not_all : (earlier : List SlotSpec) (spec : SlotSpec) → Any (λ other. Overlaps other.extent spec.extent) earlier → All (λ other. IsApart other.extent spec.extent) earlier → ⊥
+shared_not_all : (earlier : List SlotSpec) (spec : SlotSpec)
+    → Any (λ other. Overlaps other.extent spec.extent) earlier
+    → All (λ other. IsApart other.extent spec.extent) earlier → ⊥
 shared_not_all earlier spec some all =
-    shared_not_apart some.1.extent spec.extent some.4 (subst (λ (s : SlotSpec). IsApart s.extent spec.extent) some.3 (all some.0 some.1 some.2))
+    shared_not_apart some.1.extent spec.extent some.4
+    (subst (λ (s : SlotSpec). IsApart s.extent spec.extent) some.3 (all some.0 some.1 some.2))
 
 -- a good slot has no fault
 pub faulty_not_good : (sectors : ℕ) (earlier : List SlotSpec) (spec : SlotSpec) (fault : SlotFault)
     → IsFaultOf sectors earlier spec fault → IsGoodSlot sectors earlier spec → ⊥
-faulty_not_good sectors earlier spec (Memory region fault) is good = refused_not_good spec.regions region fault is good.memory
+faulty_not_good sectors earlier spec (Memory region fault) is good =
+    refused_not_good spec.regions region fault is good.memory
 faulty_not_good sectors earlier spec ExtentOutside is good = absurd (omega (arith, is.outside, good.within))
 faulty_not_good sectors earlier spec ExtentsOverlap is good = shared_not_all earlier spec is.shared good.apart
 
@@ -38,18 +43,25 @@ pub one_of_slot : (sectors : ℕ) (earlier : List SlotSpec) (spec : SlotSpec) (f
 one_of_slot sectors earlier spec (Memory i f) (Memory j g) is also =
     let same = one_refusal spec.regions i j f g is also in
     ap (λ (k : ℕ). Memory k f) same.0 ∙ ap (Memory j) same.1
-one_of_slot sectors earlier spec (Memory i f) ExtentOutside is also = absurd (refused_not_good spec.regions i f is also.memory)
-one_of_slot sectors earlier spec (Memory i f) ExtentsOverlap is also = absurd (refused_not_good spec.regions i f is also.memory)
-one_of_slot sectors earlier spec ExtentOutside (Memory j g) is also = absurd (refused_not_good spec.regions j g also is.memory)
+one_of_slot sectors earlier spec (Memory i f) ExtentOutside is also =
+    absurd (refused_not_good spec.regions i f is also.memory)
+one_of_slot sectors earlier spec (Memory i f) ExtentsOverlap is also =
+    absurd (refused_not_good spec.regions i f is also.memory)
+one_of_slot sectors earlier spec ExtentOutside (Memory j g) is also =
+    absurd (refused_not_good spec.regions j g also is.memory)
 one_of_slot sectors earlier spec ExtentOutside ExtentOutside is also = refl
-one_of_slot sectors earlier spec ExtentOutside ExtentsOverlap is also = absurd (omega (arith, is.outside, also.within))
-one_of_slot sectors earlier spec ExtentsOverlap (Memory j g) is also = absurd (refused_not_good spec.regions j g also is.memory)
-one_of_slot sectors earlier spec ExtentsOverlap ExtentOutside is also = absurd (omega (arith, also.outside, is.within))
+one_of_slot sectors earlier spec ExtentOutside ExtentsOverlap is also =
+    absurd (omega (arith, is.outside, also.within))
+one_of_slot sectors earlier spec ExtentsOverlap (Memory j g) is also =
+    absurd (refused_not_good spec.regions j g also is.memory)
+one_of_slot sectors earlier spec ExtentsOverlap ExtentOutside is also =
+    absurd (omega (arith, also.outside, is.within))
 one_of_slot sectors earlier spec ExtentsOverlap ExtentsOverlap is also = refl
 
 -- and the first slot with one is the same
 same_first : (sectors : ℕ) (slots : List SlotSpec) (i j : ℕ) (f g : SlotFault)
-    → HasFaultAt sectors slots i f → HasFaultAt sectors slots j g → (i ≡ j) ⊎ ((i < j) ⊎ (j < i)) → Slot i f ≡ Slot j g
+    → HasFaultAt sectors slots i f → HasFaultAt sectors slots j g → (i ≡ j) ⊎ ((i < j) ⊎ (j < i))
+    → Slot i f ≡ Slot j g
 same_first sectors slots i j f g one other (inl same) =
     let spec_is : one.spec ≡ other.spec = cc (ap (λ k. slice_get slots k) same, one.there, other.there) in
     let fault_is : f ≡ g =
@@ -59,12 +71,15 @@ same_first sectors slots i j f g one other (inl same) =
     other.fault_is in
     ap (λ (k : ℕ). Slot k f) same ∙ ap (Slot j) fault_is
 same_first sectors slots i j f g one other (inr (inl before)) =
-    absurd (faulty_not_good sectors (take i slots) one.spec f one.fault_is (other.before i one.spec before one.there))
+    absurd (faulty_not_good sectors (take i slots) one.spec f one.fault_is
+    (other.before i one.spec before one.there))
 same_first sectors slots i j f g one other (inr (inr before)) =
-    absurd (faulty_not_good sectors (take j slots) other.spec g other.fault_is (one.before j other.spec before other.there))
+    absurd (faulty_not_good sectors (take j slots) other.spec g other.fault_is
+    (one.before j other.spec before other.there))
 
 -- there are slots where one has a fault
-some_slot : (sectors : ℕ) (slots : List SlotSpec) (i : ℕ) (f : SlotFault) → HasFaultAt sectors slots i f → i < length slots
+some_slot : (sectors : ℕ) (slots : List SlotSpec) (i : ℕ) (f : SlotFault)
+    → HasFaultAt sectors slots i f → i < length slots
 some_slot sectors slots i f first = slice_get_within slots i first.spec first.there
 
 -- slots with a fault aren't good
@@ -78,44 +93,67 @@ first_not_good sectors slots i f first good =
 data Why (sectors : ℕ) (slots : List SlotSpec) (cache : ℕ) (fault : BoardFault) : Type 0 where
   none : fault ≡ NoSlots → length slots ≡ 0 → Why sectors slots cache fault
   many : fault ≡ TooManySlots → 64 < length slots → Why sectors slots cache fault
-  first : (i : ℕ) (f : SlotFault) → fault ≡ Slot i f → HasFaultAt sectors slots i f → Why sectors slots cache fault
-  capacity : fault ≡ Cache BadCapacity → AreGood sectors slots → ¬ IsCapacity cache → Why sectors slots cache fault
+  first : (i : ℕ) (f : SlotFault) → fault ≡ Slot i f → HasFaultAt sectors slots i f
+      → Why sectors slots cache fault
+  capacity : fault ≡ Cache BadCapacity → AreGood sectors slots → ¬ IsCapacity cache
+      → Why sectors slots cache fault
   memory : fault ≡ NoMemory → AreGood sectors slots → IsCapacity cache → Why sectors slots cache fault
 
-why : (sectors : ℕ) (slots : List SlotSpec) (cache : ℕ) (fault : BoardFault) → Refuses sectors slots cache fault → Why sectors slots cache fault
+why : (sectors : ℕ) (slots : List SlotSpec) (cache : ℕ) (fault : BoardFault)
+    → Refuses sectors slots cache fault → Why sectors slots cache fault
 why sectors slots cache NoSlots refuses = none refl (ap (λ (s : List SlotSpec). length s) refuses)
 why sectors slots cache TooManySlots refuses = many refl refuses
 why sectors slots cache (Slot i f) refuses = first i f refl refuses
 why sectors slots cache (Cache fault) refuses = capacity (ap (λ f. Cache f) refuses.1.1) refuses.0 refuses.1.0
 why sectors slots cache BoardFault.NoMemory refuses = memory refl refuses.0 refuses.1
 
-same_why : (sectors : ℕ) (slots : List SlotSpec) (cache : ℕ) (f g : BoardFault) → Why sectors slots cache f → Why sectors slots cache g → f ≡ g
+same_why : (sectors : ℕ) (slots : List SlotSpec) (cache : ℕ) (f g : BoardFault) → Why sectors slots cache f
+    → Why sectors slots cache g → f ≡ g
 same_why sectors slots cache f g (none is empty) (none is2 empty2) = is ∙ sym is2
 same_why sectors slots cache f g (none is empty) (many is2 more2) = absurd (omega arith)
-same_why sectors slots cache f g (none is empty) (first j h is2 one2) = absurd (omega (arith, some_slot sectors slots j h one2, one2.few))
-same_why sectors slots cache f g (none is empty) (capacity is2 good2 small2) = absurd (omega (arith, good2.some, good2.few))
-same_why sectors slots cache f g (none is empty) (memory is2 good2 fits2) = absurd (omega (arith, good2.some, good2.few))
+same_why sectors slots cache f g (none is empty) (first j h is2 one2) =
+    absurd (omega (arith, some_slot sectors slots j h one2, one2.few))
+same_why sectors slots cache f g (none is empty) (capacity is2 good2 small2) =
+    absurd (omega (arith, good2.some, good2.few))
+same_why sectors slots cache f g (none is empty) (memory is2 good2 fits2) =
+    absurd (omega (arith, good2.some, good2.few))
 same_why sectors slots cache f g (many is more) (none is2 empty2) = absurd (omega arith)
 same_why sectors slots cache f g (many is more) (many is2 more2) = is ∙ sym is2
-same_why sectors slots cache f g (many is more) (first j h is2 one2) = absurd (omega (arith, some_slot sectors slots j h one2, one2.few))
-same_why sectors slots cache f g (many is more) (capacity is2 good2 small2) = absurd (omega (arith, good2.some, good2.few))
-same_why sectors slots cache f g (many is more) (memory is2 good2 fits2) = absurd (omega (arith, good2.some, good2.few))
-same_why sectors slots cache f g (first i h is one) (none is2 empty2) = absurd (omega (arith, some_slot sectors slots i h one, one.few))
-same_why sectors slots cache f g (first i h is one) (many is2 more2) = absurd (omega (arith, some_slot sectors slots i h one, one.few))
-same_why sectors slots cache f g (first i h is one) (first j k is2 one2) = is ∙ same_first sectors slots i j h k one one2 (cases_order i j) ∙ sym is2
-same_why sectors slots cache f g (first i h is one) (capacity is2 good2 small2) = absurd (first_not_good sectors slots i h one good2)
-same_why sectors slots cache f g (first i h is one) (memory is2 good2 fits2) = absurd (first_not_good sectors slots i h one good2)
-same_why sectors slots cache f g (capacity is good small) (none is2 empty2) = absurd (omega (arith, good.some, good.few))
-same_why sectors slots cache f g (capacity is good small) (many is2 more2) = absurd (omega (arith, good.some, good.few))
-same_why sectors slots cache f g (capacity is good small) (first j h is2 one2) = absurd (first_not_good sectors slots j h one2 good)
+same_why sectors slots cache f g (many is more) (first j h is2 one2) =
+    absurd (omega (arith, some_slot sectors slots j h one2, one2.few))
+same_why sectors slots cache f g (many is more) (capacity is2 good2 small2) =
+    absurd (omega (arith, good2.some, good2.few))
+same_why sectors slots cache f g (many is more) (memory is2 good2 fits2) =
+    absurd (omega (arith, good2.some, good2.few))
+same_why sectors slots cache f g (first i h is one) (none is2 empty2) =
+    absurd (omega (arith, some_slot sectors slots i h one, one.few))
+same_why sectors slots cache f g (first i h is one) (many is2 more2) =
+    absurd (omega (arith, some_slot sectors slots i h one, one.few))
+same_why sectors slots cache f g (first i h is one) (first j k is2 one2) = is
+    ∙ same_first sectors slots i j h k one one2 (cases_order i j) ∙ sym is2
+same_why sectors slots cache f g (first i h is one) (capacity is2 good2 small2) =
+    absurd (first_not_good sectors slots i h one good2)
+same_why sectors slots cache f g (first i h is one) (memory is2 good2 fits2) =
+    absurd (first_not_good sectors slots i h one good2)
+same_why sectors slots cache f g (capacity is good small) (none is2 empty2) =
+    absurd (omega (arith, good.some, good.few))
+same_why sectors slots cache f g (capacity is good small) (many is2 more2) =
+    absurd (omega (arith, good.some, good.few))
+same_why sectors slots cache f g (capacity is good small) (first j h is2 one2) =
+    absurd (first_not_good sectors slots j h one2 good)
 same_why sectors slots cache f g (capacity is good small) (capacity is2 good2 small2) = is ∙ sym is2
 same_why sectors slots cache f g (capacity is good small) (memory is2 good2 fits2) = absurd (small fits2)
-same_why sectors slots cache f g (memory is good fits) (none is2 empty2) = absurd (omega (arith, good.some, good.few))
-same_why sectors slots cache f g (memory is good fits) (many is2 more2) = absurd (omega (arith, good.some, good.few))
-same_why sectors slots cache f g (memory is good fits) (first j h is2 one2) = absurd (first_not_good sectors slots j h one2 good)
+same_why sectors slots cache f g (memory is good fits) (none is2 empty2) =
+    absurd (omega (arith, good.some, good.few))
+same_why sectors slots cache f g (memory is good fits) (many is2 more2) =
+    absurd (omega (arith, good.some, good.few))
+same_why sectors slots cache f g (memory is good fits) (first j h is2 one2) =
+    absurd (first_not_good sectors slots j h one2 good)
 same_why sectors slots cache f g (memory is good fits) (capacity is2 good2 small2) = absurd (small2 fits)
 same_why sectors slots cache f g (memory is good fits) (memory is2 good2 fits2) = is ∙ sym is2
 
 -- one fault counts
-pub one_fault : (sectors : ℕ) (slots : List SlotSpec) (cache : ℕ) (f g : BoardFault) → Refuses sectors slots cache f → Refuses sectors slots cache g → f ≡ g
-one_fault sectors slots cache f g one other = same_why sectors slots cache f g (why sectors slots cache f one) (why sectors slots cache g other)
+pub one_fault : (sectors : ℕ) (slots : List SlotSpec) (cache : ℕ) (f g : BoardFault)
+    → Refuses sectors slots cache f → Refuses sectors slots cache g → f ≡ g
+one_fault sectors slots cache f g one other =
+    same_why sectors slots cache f g (why sectors slots cache f one) (why sectors slots cache g other)

@@ -39,8 +39,10 @@ pub keeps_all : (w : WindowState) → KeepsQueues w w
 keeps_all w = record { ready = λ q registers is some. is; served = λ q queue is. is }
 
 -- it keeps the queues of the block window
-keeps_queues : {A : Type 0} (what : EventKind A) (slot : BoardSlot) → must_wait what ≡ false → KeepsQueues slot.block (block_beside what slot)
-keeps_queues (Write Block offset width value) slot free = ready_queue_outlasts offset width value slot.memory slot.block free
+keeps_queues : {A : Type 0} (what : EventKind A) (slot : BoardSlot) → must_wait what ≡ false
+    → KeepsQueues slot.block (block_beside what slot)
+keeps_queues (Write Block offset width value) slot free =
+    ready_queue_outlasts offset width value slot.memory slot.block free
 keeps_queues (Write Console offset width value) slot free = keeps_all slot.block
 keeps_queues (Read window offset width) slot free = keeps_all slot.block
 keeps_queues (MemRead addr len) slot free = keeps_all slot.block
@@ -51,29 +53,41 @@ keeps_queues (Restore bytes) slot free = absurd (cc)
 keeps_queues (Complete verdict) slot free = keeps_all slot.block
 
 -- what lies in a memory lies in every one of its range
-lie_still : (what : OperationKind) (capacity : ℕ) (m m' : Memory) (runs : List Segment) → SameRange m m' → LieBy what capacity m runs → LieBy what capacity m' runs
+lie_still : (what : OperationKind) (capacity : ℕ) (m m' : Memory) (runs : List Segment) → SameRange m m'
+    → LieBy what capacity m runs → LieBy what capacity m' runs
 lie_still kind.In capacity m m' runs same lie = λ k d below. inside_same m m' _ _ same (lie k d below)
 lie_still kind.Out capacity m m' runs same lie = λ k d below. inside_same m m' _ _ same (lie k d below)
 lie_still kind.Flush capacity m m' runs same lie = lie
 lie_still kind.Zeroes capacity m m' runs same lie = lie
 
-held_still : (slot new : BoardSlot) (here : InFlight) → new.extent ≡ slot.extent → SameRange slot.memory new.memory → KeepsQueues slot.block new.block → IsHeld slot here → IsHeld new here
+held_still : (slot new : BoardSlot) (here : InFlight) → new.extent ≡ slot.extent
+    → SameRange slot.memory new.memory → KeepsQueues slot.block new.block → IsHeld slot here → IsHeld new here
 held_still slot new here extent same keeps held = record {
-  flying = flight_outlasts slot.memory new.memory slot.block new.block here.buffers here.flight held.flying same keeps;
+  flying = flight_outlasts slot.memory new.memory slot.block new.block here.buffers here.flight
+      held.flying same keeps;
   inside = rw extent (record {
     disk = held.inside.disk;
-    lie = lie_still here.flight.operation.kind slot.extent.count slot.memory new.memory here.runs same held.inside.lie;
+    lie = lie_still here.flight.operation.kind slot.extent.count slot.memory new.memory here.runs
+        same held.inside.lie;
     few = held.inside.few;
   });
 }
 
-held_by : {A : Type 0} (what : EventKind A) (slot new : BoardSlot) (flight : Option InFlight) → (is_some flight && must_wait what) ≡ false → (must_wait what ≡ false → new.block ≡ block_beside what slot) → new.extent ≡ slot.extent → SameRange slot.memory new.memory → IsHeldBy slot flight → IsHeldBy new flight
+held_by : {A : Type 0} (what : EventKind A) (slot new : BoardSlot) (flight : Option InFlight)
+    → (is_some flight && must_wait what) ≡ false
+    → (must_wait what ≡ false → new.block ≡ block_beside what slot) → new.extent ≡ slot.extent
+    → SameRange slot.memory new.memory → IsHeldBy slot flight → IsHeldBy new flight
 held_by what slot new None free block extent same held = tt
 held_by what slot new (Some here) free block extent same held =
-    held_still slot new here extent same (subst (λ (w : WindowState). KeepsQueues slot.block w) (sym (block free)) (keeps_queues what slot free)) held
+    held_still slot new here extent same
+    (subst (λ (w : WindowState). KeepsQueues slot.block w) (sym (block free))
+    (keeps_queues what slot free)) held
 
 -- An event that doesn't wait leaves the slot sound, and what is in flight as it is.
-pub sound_beside : {A : Type 0} (what : EventKind A) (slot new : BoardSlot) (flight : Option InFlight) → (is_some flight && must_wait what) ≡ false → (must_wait what ≡ false → new.block ≡ block_beside what slot) → device_at new ≡ device_at slot → SameRange slot.memory new.memory → IsSoundHosted slot flight → IsSoundHosted new flight
+pub sound_beside : {A : Type 0} (what : EventKind A) (slot new : BoardSlot) (flight : Option InFlight)
+    → (is_some flight && must_wait what) ≡ false
+    → (must_wait what ≡ false → new.block ≡ block_beside what slot) → device_at new ≡ device_at slot
+    → SameRange slot.memory new.memory → IsSoundHosted slot flight → IsSoundHosted new flight
 sound_beside what slot new flight free block device same sound =
     let extent : new.extent ≡ slot.extent = ap (λ (d : BlockDevice). d.extent) device in
     record {
@@ -85,70 +99,105 @@ sound_beside what slot new flight free block device same sound =
 -- ---- a look
 
 -- a slot of its own disk has as many sectors as it counts
-pub own_count : (slot : BoardSlot) → slot.extent.start ≡ 0 → sectors_of (hosted_slot slot).extent ≡ slot.extent.count
+pub own_count : (slot : BoardSlot) → slot.extent.start ≡ 0
+    → sectors_of (hosted_slot slot).extent ≡ slot.extent.count
 own_count slot own =
-    count_of slot.extent (record { contents = Some (unseen slot.extent.count); sector_count = slot.extent.count; failures = 0; dirty = false }) refl
+    count_of slot.extent (record {
+      contents = Some (unseen slot.extent.count);
+      sector_count = slot.extent.count;
+      failures = 0;
+      dirty = false;
+    }) refl
     (length-replicate {A = ℕ} (512 * slot.extent.count) 0) (omega (arith, own))
 
-device_same : (e : Extent) (start count : ℕ) (read_only : Bool) (identity : List ℕ) → e.start ≡ start → count ≡ e.count
-    → ◌≡◌ {A = BlockDevice} (record { extent = record { start = start; count = count }; read_only = read_only; identity = identity }) (record { extent = e; read_only = read_only; identity = identity })
+device_same : (e : Extent) (start count : ℕ) (read_only : Bool) (identity : List ℕ)
+    → e.start ≡ start → count ≡ e.count
+    → ◌≡◌ {A = BlockDevice} (record {
+      extent = record { start = start; count = count };
+      read_only = read_only;
+      identity = identity;
+    }) (record { extent = e; read_only = read_only; identity = identity })
 device_same e start count read_only identity own is = rw (← own, is) refl
 
 -- its guest knows it as it is
 pub own_device : (slot : BoardSlot) → slot.extent.start ≡ 0 → device_of (hosted_slot slot) ≡ device_at slot
-own_device slot own = device_same slot.extent 0 (sectors_of (hosted_slot slot).extent) slot.read_only slot.identity own (own_count slot own)
+own_device slot own = device_same slot.extent 0 (sectors_of (hosted_slot slot).extent) slot.read_only
+    slot.identity own (own_count slot own)
 
 -- a slot after its block device served it
 abbrev pub with_served : BoardSlot → Memory → WindowState → BoardSlot
 with_served slot memory block = record slot { memory = memory; block = block }
 
-pub looks : (slot : BoardSlot) (memory : Memory) (block : WindowState) (hosted : Hosted) (flight : Option Flight) (buffers : List Buffer) (runs : List Segment) → slot.extent.start ≡ 0
-    → ((disk : Disk) → HostsTo (device_at slot) First unlimited (queue_at 0 slot.block) hosted slot.memory memory slot.block block buffers runs disk) → flight ≡ flight_by hosted
-    → LooksAtQueue (hosted_slot slot) (record { slot = hosted_slot (with_served slot memory block); flight = in_rooms flight buffers runs })
+pub looks : (slot : BoardSlot) (memory : Memory) (block : WindowState) (hosted : Hosted)
+    (flight : Option Flight) (buffers : List Buffer) (runs : List Segment) → slot.extent.start ≡ 0
+    → ((disk : Disk) → HostsTo (device_at slot) First unlimited (queue_at 0 slot.block) hosted slot.memory
+    memory slot.block block buffers runs disk) → flight ≡ flight_by hosted
+    → LooksAtQueue (hosted_slot slot)
+    (record { slot = hosted_slot (with_served slot memory block); flight = in_rooms flight buffers runs })
 looks slot memory block hosted flight buffers runs own hosts is = record {
   hosted = hosted;
   buffers = buffers;
   runs = runs;
-  hosts = λ disk. subst (λ (d : BlockDevice). HostsTo d First unlimited (queue_at 0 slot.block) hosted slot.memory memory slot.block block buffers runs disk) (sym (own_device slot own)) (hosts disk);
+  hosts = λ disk. subst (λ (d : BlockDevice). HostsTo d First unlimited (queue_at 0 slot.block) hosted
+      slot.memory memory slot.block block buffers runs disk) (sym (own_device slot own)) (hosts disk);
   rest = refl;
   flight = ap (λ (f : Option Flight). in_rooms f buffers runs) is;
 }
 
-look_held : (slot : BoardSlot) (memory : Memory) (block : WindowState) (hosted : Hosted) (buffers : List Buffer) (runs : List Segment)
-    → IfAsks (IsInFlight memory block buffers) hosted → IfAsks (λ flight. LiesInside slot.extent.count memory flight.operation runs) hosted
+look_held : (slot : BoardSlot) (memory : Memory) (block : WindowState) (hosted : Hosted)
+    (buffers : List Buffer) (runs : List Segment)
+    → IfAsks (IsInFlight memory block buffers) hosted
+    → IfAsks (λ flight. LiesInside slot.extent.count memory flight.operation runs) hosted
     → IsHeldBy (with_served slot memory block) (in_rooms (flight_by hosted) buffers runs)
-look_held slot memory block (Asks flight) buffers runs flying inside = record { flying = flying; inside = inside }
+look_held slot memory block (Asks flight) buffers runs flying inside =
+    record { flying = flying; inside = inside }
 look_held slot memory block More buffers runs flying inside = tt
 look_held slot memory block Done buffers runs flying inside = tt
 
 -- A look leaves the slot sound.
-pub look_sound : (slot : BoardSlot) (memory : Memory) (block : WindowState) (hosted : Hosted) (flight : Option Flight) (buffers : List Buffer) (runs : List Segment) → slot.extent.start ≡ 0 → sector_len * slot.extent.count < 2 ^ 64
-    → IfAsks (IsInFlight memory block buffers) hosted → IfAsks (λ flight. LiesInside slot.extent.count memory flight.operation runs) hosted → flight ≡ flight_by hosted
+pub look_sound : (slot : BoardSlot) (memory : Memory) (block : WindowState) (hosted : Hosted)
+    (flight : Option Flight) (buffers : List Buffer) (runs : List Segment) → slot.extent.start ≡ 0
+    → sector_len * slot.extent.count < 2 ^ 64
+    → IfAsks (IsInFlight memory block buffers) hosted
+    → IfAsks (λ flight. LiesInside slot.extent.count memory flight.operation runs) hosted
+    → flight ≡ flight_by hosted
     → IsSoundHosted (with_served slot memory block) (in_rooms flight buffers runs)
 look_sound slot memory block hosted flight buffers runs own size flying inside is = record {
   own = own;
   size = size;
-  held = subst (λ (f : Option Flight). IsHeldBy (with_served slot memory block) (in_rooms f buffers runs)) (sym is) (look_held slot memory block hosted buffers runs flying inside);
+  held = subst (λ (f : Option Flight). IsHeldBy (with_served slot memory block) (in_rooms f buffers runs))
+      (sym is) (look_held slot memory block hosted buffers runs flying inside);
 }
 
 -- Nothing that the host is told lies outside the guest's memory or its disk.
-pub told_inside : (slot : BoardSlot) (flight : Option InFlight) → IsSoundHosted slot flight → IfSome flight (λ here. LiesInside (sectors_of (hosted_slot slot).extent) slot.memory here.flight.operation here.runs)
+pub told_inside : (slot : BoardSlot) (flight : Option InFlight) → IsSoundHosted slot flight
+    → IfSome flight (λ here. LiesInside (sectors_of (hosted_slot slot).extent) slot.memory
+    here.flight.operation here.runs)
 told_inside slot None sound = tt
 told_inside slot (Some here) sound = rw (own_count slot sound.own) sound.held.inside
 
 -- ---- a completion
 
 -- what is held of the chain in flight
-pub held_of : (slot : BoardSlot) (found : Option Flight) (flight : Flight) (buffers : List Buffer) (runs : List Segment) → found ≡ Some flight → IsHeldBy slot (in_rooms found buffers runs)
+pub held_of : (slot : BoardSlot) (found : Option Flight) (flight : Flight) (buffers : List Buffer)
+    (runs : List Segment) → found ≡ Some flight → IsHeldBy slot (in_rooms found buffers runs)
     → IsHeld slot (record { flight = flight; buffers = buffers; runs = runs })
-held_of slot found flight buffers runs is held = subst (λ (o : Option Flight). IsHeldBy slot (in_rooms o buffers runs)) is held
+held_of slot found flight buffers runs is held =
+    subst (λ (o : Option Flight). IsHeldBy slot (in_rooms o buffers runs)) is held
 
 -- The slot once its chain was completed, and the queue looked at behind it.
-pub landed : (A : Type 0) (slot after : BoardSlot) (found : Option Flight) (flight : Flight) (buffers : List Buffer) (runs : List Segment) (verdict : Verdict) (new : HostedState) → found ≡ Some flight
-    → CompletesIn flight verdict slot.memory after.memory slot.block after.block buffers → after ≡ with_served slot after.memory after.block → LooksAtQueue (hosted_slot after) new
-    → CompletionGives {A = A} (in_rooms found buffers runs) (record { slot = hosted_slot slot; flight = in_rooms found buffers runs }) verdict (answers new reply.Done)
+pub landed : (A : Type 0) (slot after : BoardSlot) (found : Option Flight) (flight : Flight)
+    (buffers : List Buffer) (runs : List Segment) (verdict : Verdict) (new : HostedState)
+    → found ≡ Some flight
+    → CompletesIn flight verdict slot.memory after.memory slot.block after.block buffers
+    → after ≡ with_served slot after.memory after.block → LooksAtQueue (hosted_slot after) new
+    → CompletionGives {A = A} (in_rooms found buffers runs)
+    (record { slot = hosted_slot slot; flight = in_rooms found buffers runs }) verdict
+    (answers new reply.Done)
 landed A slot after found flight buffers runs verdict new is completes rest then =
-    subst (λ (o : Option Flight). CompletionGives {A = A} (in_rooms o buffers runs) (record { slot = hosted_slot slot; flight = in_rooms o buffers runs }) verdict (answers new reply.Done)) (sym is) (
+    subst (λ (o : Option Flight). CompletionGives {A = A} (in_rooms o buffers runs)
+    (record { slot = hosted_slot slot; flight = in_rooms o buffers runs }) verdict
+    (answers new reply.Done)) (sym is) (
       record {
         memory = after.memory;
         block = after.block;
@@ -159,12 +208,18 @@ landed A slot after found flight buffers runs verdict new is completes rest then
     )
 
 -- Nothing was in flight.
-pub idle : (A : Type 0) (slot : BoardSlot) (found : Option Flight) (buffers : List Buffer) (runs : List Segment) (verdict : Verdict) → found ≡ None
-    → CompletionGives {A = A} (in_rooms found buffers runs) (record { slot = hosted_slot slot; flight = in_rooms found buffers runs }) verdict (answers (record { slot = hosted_slot slot; flight = None }) reply.Idle)
+pub idle : (A : Type 0) (slot : BoardSlot) (found : Option Flight) (buffers : List Buffer)
+    (runs : List Segment) (verdict : Verdict) → found ≡ None
+    → CompletionGives {A = A} (in_rooms found buffers runs)
+    (record { slot = hosted_slot slot; flight = in_rooms found buffers runs }) verdict
+    (answers (record { slot = hosted_slot slot; flight = None }) reply.Idle)
 idle A slot found buffers runs verdict is =
-    subst (λ (o : Option Flight). CompletionGives {A = A} (in_rooms o buffers runs) (record { slot = hosted_slot slot; flight = in_rooms o buffers runs }) verdict (answers (record { slot = hosted_slot slot; flight = None }) reply.Idle)) (sym is) refl
+    subst (λ (o : Option Flight). CompletionGives {A = A} (in_rooms o buffers runs)
+    (record { slot = hosted_slot slot; flight = in_rooms o buffers runs }) verdict
+    (answers (record { slot = hosted_slot slot; flight = None }) reply.Idle)) (sym is) refl
 
 -- whether anything is in flight
-pub some_in : (found : Option Flight) (buffers : List Buffer) (runs : List Segment) → is_some (in_rooms found buffers runs) ≡ is_some found
+pub some_in : (found : Option Flight) (buffers : List Buffer) (runs : List Segment)
+    → is_some (in_rooms found buffers runs) ≡ is_some found
 some_in None buffers runs = refl
 some_in (Some flight) buffers runs = refl

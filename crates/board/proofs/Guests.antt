@@ -14,27 +14,53 @@ use Rattle.board.specs.Image.{Health, health_of, sectors_of, disk_with}
 use Rattle.board.specs.Machine.{at_rest}
 
 -- disks whose parts are equal
-pub disk_of_parts : (failures : ℕ) (dirty : Bool) (contents contents' : Option (List ℕ)) (sectors sectors' : ℕ) → contents ≡ contents' → sectors ≡ sectors' → ◌≡◌ {A = Disk} (record { contents = contents; sector_count = sectors; failures = failures; dirty = dirty }) (record { contents = contents'; sector_count = sectors'; failures = failures; dirty = dirty })
+pub disk_of_parts : (failures : ℕ) (dirty : Bool) (contents contents' : Option (List ℕ))
+    (sectors sectors' : ℕ) → contents ≡ contents' → sectors ≡ sectors'
+    → ◌≡◌ {A = Disk} (record {
+      contents = contents;
+      sector_count = sectors;
+      failures = failures;
+      dirty = dirty;
+    }) (record {
+      contents = contents';
+      sector_count = sectors';
+      failures =
+          failures;
+      dirty = dirty;
+    })
 disk_of_parts failures dirty contents contents' sectors sectors' p q = rw (p, q) refl
 
 -- a disk with these bytes is one of the sectors that they fill
-pub same_disk : (bytes : List ℕ) (disk : Disk) → disk.contents ≡ Some bytes → disk.sector_count ≡ sectors_of bytes → disk ≡ disk_with bytes (health_of disk)
-same_disk bytes disk contents sectors = disk_of_parts disk.failures disk.dirty disk.contents (Some bytes) disk.sector_count (sectors_of bytes) contents sectors
+pub same_disk : (bytes : List ℕ) (disk : Disk) → disk.contents ≡ Some bytes
+    → disk.sector_count ≡ sectors_of bytes → disk ≡ disk_with bytes (health_of disk)
+same_disk bytes disk contents sectors =
+    disk_of_parts disk.failures disk.dirty disk.contents (Some bytes) disk.sector_count
+    (sectors_of bytes) contents sectors
 
 -- a notification that is served exactly, from the image at rest: how it fares afterwards
-pub record AtRest (device : BlockDevice) (queue : Option Queue) (old new : Memory) (before after : WindowState) (bytes bytes' : List ℕ) : Type 0 where
+pub record AtRest (device : BlockDevice) (queue : Option Queue) (old new : Memory)
+    (before after : WindowState) (bytes bytes' : List ℕ) : Type 0 where
   pub health : Health
-  pub notified : IsNotified (exact_device device) 0 queue old new before after (disk_with bytes at_rest) (disk_with bytes' health)
+  pub notified : IsNotified (exact_device device) 0 queue old new before after (disk_with bytes at_rest)
+      (disk_with bytes' health)
 
-pub exact_at_rest : (device : BlockDevice) (queue : Option Queue) (old new : Memory) (before after : WindowState) (bytes bytes' : List ℕ) (health health' : Health) → IsNotified (exact_device device) 0 queue old new before after (disk_with bytes health) (disk_with bytes' health') → AtRest device queue old new before after bytes bytes'
+pub exact_at_rest : (device : BlockDevice) (queue : Option Queue) (old new : Memory)
+    (before after : WindowState) (bytes bytes' : List ℕ) (health health' : Health)
+    → IsNotified (exact_device device) 0 queue old new before after (disk_with bytes health)
+    (disk_with bytes' health') → AtRest device queue old new before after bytes bytes'
 exact_at_rest device queue old new before after bytes bytes' health health' h =
-    let served : NotifiedAs (exact_device device) SameSectors 0 queue h.ending old new before after (disk_with bytes' health') (disk_with bytes at_rest) =
-    notified_as (exact_device device) (exact_device device) SameSectors (exact_same device) 0 queue h.ending old new before after (disk_with bytes health) (disk_with bytes' health') (disk_with bytes at_rest) (record { contents = refl; sectors = refl }) h.notified in
-    let is : served.state ≡ disk_with bytes' (health_of served.state) = same_disk bytes' served.state served.alike.contents served.alike.sectors in
+    let served : NotifiedAs (exact_device device) SameSectors 0 queue h.ending old new before after
+    (disk_with bytes' health') (disk_with bytes at_rest) =
+    notified_as (exact_device device) (exact_device device) SameSectors (exact_same device) 0 queue h.ending
+    old new before after (disk_with bytes health) (disk_with bytes' health') (disk_with bytes at_rest)
+    (record { contents = refl; sectors = refl }) h.notified in
+    let is : served.state ≡ disk_with bytes' (health_of served.state) =
+    same_disk bytes' served.state served.alike.contents served.alike.sectors in
     record {
       health = health_of served.state;
       notified = record {
         ending = h.ending;
-        notified = subst (λ (d : Disk). Notified (exact_device device) 0 queue h.ending old new before after (disk_with bytes at_rest) d) is served.notified;
+        notified = subst (λ (d : Disk). Notified (exact_device device) 0 queue h.ending old new before after
+            (disk_with bytes at_rest) d) is served.notified;
       };
     }

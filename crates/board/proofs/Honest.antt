@@ -42,14 +42,21 @@ use Rattle.board.proofs.Waiting.{outlasts, own_next}
 -- ---- the guest's own events leave the queue where it is
 
 -- a task that isn't the block device's leaves its window
-finished_block : {A : Type 0} (task : Task) (state : SlotState) (before after : Health) (outcome : Outcome A) → is_block_task task ≡ false → Finishes task state before after outcome → outcome.state.block ≡ state.block
+finished_block : {A : Type 0} (task : Task) (state : SlotState) (before after : Health) (outcome : Outcome A)
+    → is_block_task task ≡ false → Finishes task state before after outcome
+    → outcome.state.block ≡ state.block
 finished_block {A} Nothing state before after outcome other f = ap (λ (o : Outcome A). o.state.block) f.alike
 finished_block ServeBlock state before after outcome other f = absurd (cc)
-finished_block {A} ServeReceive state before after outcome other f = ap (λ (o : Outcome A). o.state.block) f.is
-finished_block {A} ServeTransmit state before after outcome other f = ap (λ (o : Outcome A). o.state.block) f.is
-finished_block {A} (PutOut byte) state before after outcome other f = ap (λ (o : Outcome A). o.state.block) f.alike
+finished_block {A} ServeReceive state before after outcome other f =
+    ap (λ (o : Outcome A). o.state.block) f.is
+finished_block {A} ServeTransmit state before after outcome other f =
+    ap (λ (o : Outcome A). o.state.block) f.is
+finished_block {A} (PutOut byte) state before after outcome other f =
+    ap (λ (o : Outcome A). o.state.block) f.alike
 
-cut_block : {A : Type 0} (task : Task) (state : SlotState) (before after : Health) (outcome : Outcome A) → is_block_task task ≡ false → IsCutShort task state before after outcome → outcome.state.block ≡ state.block
+cut_block : {A : Type 0} (task : Task) (state : SlotState) (before after : Health) (outcome : Outcome A)
+    → is_block_task task ≡ false → IsCutShort task state before after outcome
+    → outcome.state.block ≡ state.block
 cut_block Nothing state before after outcome other f = absurd f
 cut_block ServeBlock state before after outcome other f = absurd (cc)
 cut_block ServeReceive state before after outcome other f = absurd f
@@ -57,42 +64,66 @@ cut_block {A} ServeTransmit state before after outcome other f = ap (λ (o : Out
 cut_block {A} (PutOut byte) state before after outcome other f = ap (λ (o : Outcome A). o.state.block) f.alike
 
 -- the block window after the registers of a write, which doesn't wait
-write_keeps : (A : Type 0) (window : DeviceKind) (offset width value : ℕ) (state : SlotState) → must_wait {A = A} (Write window offset width value) ≡ false → KeepsQueues state.block (with_write window offset width value state).block
-write_keeps A Block offset width value state free = ready_queue_outlasts offset width value state.memory state.block free
+write_keeps : (A : Type 0) (window : DeviceKind) (offset width value : ℕ) (state : SlotState)
+    → must_wait {A = A} (Write window offset width value) ≡ false
+    → KeepsQueues state.block (with_write window offset width value state).block
+write_keeps A Block offset width value state free =
+    ready_queue_outlasts offset width value state.memory state.block free
 write_keeps A Console offset width value state free = keeps_all state.block
 
 same_keeps : (old new : WindowState) → new ≡ old → KeepsQueues old new
 same_keeps old new same = subst (λ (w : WindowState). KeepsQueues old w) (sym same) (keeps_all old)
 
-read_stays : (A : Type 0) (state : SlotState) (bytes : List ℕ) (inside : Bool) → (if inside then replies {A = A} state (Bytes bytes) else replies state BadRange).state.block ≡ state.block
+read_stays : (A : Type 0) (state : SlotState) (bytes : List ℕ) (inside : Bool)
+    → (if inside then replies {A = A} state (Bytes bytes) else replies state BadRange).state.block
+    ≡ state.block
 read_stays A state bytes true = refl
 read_stays A state bytes false = refl
 
-write_stays : (A : Type 0) (state : SlotState) (memory : Memory) (inside : Bool) → (if inside then does {A = A} (record state { memory = memory }) else replies state BadRange).state.block ≡ state.block
+write_stays : (A : Type 0) (state : SlotState) (memory : Memory) (inside : Bool)
+    → (if inside then does {A = A} (record state { memory = memory }) else replies state BadRange).state.block
+    ≡ state.block
 write_stays A state memory true = refl
 write_stays A state memory false = refl
 
-given_keeps : {A : Type 0} (state : SlotState) (what : EventKind A) (outcome : Outcome A) → must_wait what ≡ false → notifies_block what state ≡ false → MayGive state what at_rest at_rest outcome → KeepsQueues state.block outcome.state.block
-given_keeps {A} state (Read window offset width) outcome free other (inl served) = same_keeps state.block outcome.state.block (ap (λ (o : Outcome A). o.state.block) served.alike.alike)
+given_keeps : {A : Type 0} (state : SlotState) (what : EventKind A) (outcome : Outcome A)
+    → must_wait what ≡ false → notifies_block what state ≡ false → MayGive state what at_rest at_rest outcome
+    → KeepsQueues state.block outcome.state.block
+given_keeps {A} state (Read window offset width) outcome free other (inl served) =
+    same_keeps state.block outcome.state.block (ap (λ (o : Outcome A). o.state.block) served.alike.alike)
 given_keeps {A} state (Write window offset width value) outcome free other (inl served) =
-    subst (λ (w : WindowState). KeepsQueues state.block w) (sym (finished_block _ _ at_rest at_rest outcome other served.alike)) (write_keeps A window offset width value state free)
-given_keeps {A} state (MemRead addr len) outcome free other (inl served) = same_keeps state.block outcome.state.block (ap (λ (o : Outcome A). o.state.block) served.alike.alike ∙ read_stays A state _ _)
-given_keeps {A} state (MemWrite addr bytes) outcome free other (inl served) = same_keeps state.block outcome.state.block (ap (λ (o : Outcome A). o.state.block) served.alike.alike ∙ write_stays A state _ _)
-given_keeps {A} state (Input bytes) outcome free other (inl served) = same_keeps state.block outcome.state.block (ap (λ (o : Outcome A). o.state.block) served.alike.is)
-given_keeps {A} state (Resize cols rows) outcome free other (inl served) = same_keeps state.block outcome.state.block (ap (λ (o : Outcome A). o.state.block) served.alike.alike)
-given_keeps {A} state (Complete verdict) outcome free other (inl served) = same_keeps state.block outcome.state.block (ap (λ (o : Outcome A). o.state.block) served.alike.alike)
+    subst (λ (w : WindowState). KeepsQueues state.block w)
+    (sym (finished_block _ _ at_rest at_rest outcome other served.alike))
+    (write_keeps A window offset width value state free)
+given_keeps {A} state (MemRead addr len) outcome free other (inl served) =
+    same_keeps state.block outcome.state.block (ap (λ (o : Outcome A). o.state.block) served.alike.alike
+    ∙ read_stays A state _ _)
+given_keeps {A} state (MemWrite addr bytes) outcome free other (inl served) =
+    same_keeps state.block outcome.state.block (ap (λ (o : Outcome A). o.state.block) served.alike.alike
+    ∙ write_stays A state _ _)
+given_keeps {A} state (Input bytes) outcome free other (inl served) =
+    same_keeps state.block outcome.state.block (ap (λ (o : Outcome A). o.state.block) served.alike.is)
+given_keeps {A} state (Resize cols rows) outcome free other (inl served) =
+    same_keeps state.block outcome.state.block (ap (λ (o : Outcome A). o.state.block) served.alike.alike)
+given_keeps {A} state (Complete verdict) outcome free other (inl served) =
+    same_keeps state.block outcome.state.block (ap (λ (o : Outcome A). o.state.block) served.alike.alike)
 given_keeps state (Read window offset width) outcome free other (inr never) = absurd never
 given_keeps {A} state (Write window offset width value) outcome free other (inr cut) =
-    subst (λ (w : WindowState). KeepsQueues state.block w) (sym (cut_block _ _ at_rest at_rest outcome other cut)) (write_keeps A window offset width value state free)
-given_keeps {A} state (MemRead addr len) outcome free other (inr unread) = same_keeps state.block outcome.state.block (ap (λ (o : Outcome A). o.state.block) unread.unchanged)
+    subst (λ (w : WindowState). KeepsQueues state.block w)
+    (sym (cut_block _ _ at_rest at_rest outcome other cut))
+    (write_keeps A window offset width value state free)
+given_keeps {A} state (MemRead addr len) outcome free other (inr unread) =
+    same_keeps state.block outcome.state.block (ap (λ (o : Outcome A). o.state.block) unread.unchanged)
 given_keeps state (MemWrite addr bytes) outcome free other (inr never) = absurd never
 given_keeps state (Input bytes) outcome free other (inr never) = absurd never
 given_keeps state (Resize cols rows) outcome free other (inr never) = absurd never
 given_keeps state (Complete verdict) outcome free other (inr never) = absurd never
 given_keeps state (Restore bytes) outcome free other gives = absurd (cc free)
 
-readied_keeps : {A : Type 0} (state : SlotState) (what : EventKind A) → must_wait what ≡ false → KeepsQueues state.block (readied what state).block
-readied_keeps {A} state (Write window offset width value) free = write_keeps A window offset width value state free
+readied_keeps : {A : Type 0} (state : SlotState) (what : EventKind A) → must_wait what ≡ false
+    → KeepsQueues state.block (readied what state).block
+readied_keeps {A} state (Write window offset width value) free =
+    write_keeps A window offset width value state free
 readied_keeps state (Read window offset width) free = keeps_all state.block
 readied_keeps state (MemRead addr len) free = keeps_all state.block
 readied_keeps state (MemWrite addr bytes) free = keeps_all state.block
@@ -101,16 +132,26 @@ readied_keeps state (Resize cols rows) free = keeps_all state.block
 readied_keeps state (Restore bytes) free = keeps_all state.block
 readied_keeps state (Complete verdict) free = keeps_all state.block
 
-passing_keeps : {A : Type 0} (old : HostedState) (what : EventKind A) (outcome : HostedOutcome A) (rings : Bool) → must_wait what ≡ false → notifies_block what old.slot ≡ rings → GivesInFlight rings old what outcome → KeepsQueues old.slot.block outcome.state.slot.block
+passing_keeps : {A : Type 0} (old : HostedState) (what : EventKind A) (outcome : HostedOutcome A)
+    (rings : Bool) → must_wait what ≡ false → notifies_block what old.slot ≡ rings
+    → GivesInFlight rings old what outcome → KeepsQueues old.slot.block outcome.state.slot.block
 passing_keeps {A} old what outcome true free rings gives =
-    subst (λ (w : WindowState). KeepsQueues old.slot.block w) (sym (ap (λ (o : HostedOutcome A). o.state.slot.block) gives)) (readied_keeps old.slot what free)
+    subst (λ (w : WindowState). KeepsQueues old.slot.block w)
+    (sym (ap (λ (o : HostedOutcome A). o.state.slot.block) gives)) (readied_keeps old.slot what free)
 passing_keeps {A} old what outcome false free rings gives = given_keeps old.slot what _ free rings gives.given
 
-waiting_keeps : {A : Type 0} (old : HostedState) (what : EventKind A) (outcome : HostedOutcome A) (waits : Bool) → must_wait what ≡ waits → WaitsOrGives waits old what outcome → KeepsQueues old.slot.block outcome.state.slot.block
-waiting_keeps {A} old what outcome true is gives = same_keeps old.slot.block outcome.state.slot.block (ap (λ (o : HostedOutcome A). o.state.slot.block) gives)
-waiting_keeps old what outcome false is gives = passing_keeps old what outcome (notifies_block what old.slot) is refl gives
+waiting_keeps : {A : Type 0} (old : HostedState) (what : EventKind A) (outcome : HostedOutcome A)
+    (waits : Bool) → must_wait what ≡ waits → WaitsOrGives waits old what outcome
+    → KeepsQueues old.slot.block outcome.state.slot.block
+waiting_keeps {A} old what outcome true is gives =
+    same_keeps old.slot.block outcome.state.slot.block
+    (ap (λ (o : HostedOutcome A). o.state.slot.block) gives)
+waiting_keeps old what outcome false is gives =
+    passing_keeps old what outcome (notifies_block what old.slot) is refl gives
 
-own_keeps : {A : Type 0} (old : HostedState) (what : EventKind A) (outcome : HostedOutcome A) (here : InFlight) (flight : Option InFlight) → flight ≡ Some here → OwnGives flight old what outcome → KeepsQueues old.slot.block outcome.state.slot.block
+own_keeps : {A : Type 0} (old : HostedState) (what : EventKind A) (outcome : HostedOutcome A)
+    (here : InFlight) (flight : Option InFlight) → flight ≡ Some here → OwnGives flight old what outcome
+    → KeepsQueues old.slot.block outcome.state.slot.block
 own_keeps old what outcome here None is gives = absurd (cc)
 own_keeps old what outcome here (Some f) is gives = waiting_keeps old what outcome (must_wait what) refl gives
 
@@ -125,25 +166,38 @@ record Kept (old new : HostedState) (here : InFlight) : Type 0 where
   keeps : KeepsQueues old.slot.block new.slot.block
   flies : new.flight ≡ Some here
 
-call_keeps : {A : Type 0} (old : HostedState) (what : EventKind A) (outcome : HostedOutcome A) (here : InFlight) → old.flight ≡ Some here → IsOwn what → IsHostedNext old what outcome → Kept old outcome.state here
+call_keeps : {A : Type 0} (old : HostedState) (what : EventKind A) (outcome : HostedOutcome A)
+    (here : InFlight) → old.flight ≡ Some here → IsOwn what → IsHostedNext old what outcome
+    → Kept old outcome.state here
 call_keeps old what outcome here flies own next =
-    record { keeps = own_keeps old what outcome here old.flight flies (own_next old what outcome own next); flies = outlasts old here what outcome own flies next }
+    record {
+      keeps = own_keeps old what outcome here old.flight flies (own_next old what outcome own next);
+      flies = outlasts old here what outcome own flies next;
+    }
 
 -- and so do all of them
-life_keeps : {A : Type 0} (old : HostedState) (calls : List (HostedCall A)) (told : List (Told A)) (last : HostedState) (here : InFlight) → old.flight ≡ Some here → AreOwn calls → IsHostedCourse old calls told last → KeepsQueues old.slot.block last.slot.block
-life_keeps old [] [] last here flies own course = same_keeps old.slot.block last.slot.block (ap (λ (s : HostedState). s.slot.block) course)
+life_keeps : {A : Type 0} (old : HostedState) (calls : List (HostedCall A)) (told : List (Told A))
+    (last : HostedState) (here : InFlight) → old.flight ≡ Some here → AreOwn calls
+    → IsHostedCourse old calls told last → KeepsQueues old.slot.block last.slot.block
+life_keeps old [] [] last here flies own course =
+    same_keeps old.slot.block last.slot.block (ap (λ (s : HostedState). s.slot.block) course)
 life_keeps old [] (t ∷ told) last here flies own course = absurd course
 life_keeps old (call ∷ calls) [] last here flies own course = absurd course
 life_keeps old (call ∷ calls) (t ∷ told) last here flies own course =
     let outcome = course.0 in
     let one = call_keeps old call.event outcome here flies own.0 course.1.0.next in
-    then_keeps old.slot.block outcome.state.slot.block last.slot.block one.keeps (life_keeps outcome.state calls told last here one.flies own.1 course.1.1.1)
+    then_keeps old.slot.block outcome.state.slot.block last.slot.block one.keeps
+    (life_keeps outcome.state calls told last here one.flies own.1 course.1.1.1)
 
 -- ---- the chain that is in flight
 
-with_flight : {A : Type 0} (old : SlotState) (now : HostedState) (verdict : Verdict) (new : HostedState) (here : InFlight) (flown : IsFlown A old here now verdict new) (disk : Disk) (hosted : Hosted) (buffers : List Buffer) (runs : List Segment)
-    → HostsTo (device_of old) First unlimited (queue_at 0 old.block) hosted old.memory flown.asking.slot.memory old.block flown.asking.slot.block buffers runs disk
-    → in_rooms (flight_by hosted) buffers runs ≡ Some here → IsHonestlyServed old here now verdict new flown disk
+with_flight : {A : Type 0} (old : SlotState) (now : HostedState) (verdict : Verdict) (new : HostedState)
+    (here : InFlight) (flown : IsFlown A old here now verdict new) (disk : Disk) (hosted : Hosted)
+    (buffers : List Buffer) (runs : List Segment)
+    → HostsTo (device_of old) First unlimited (queue_at 0 old.block) hosted old.memory
+    flown.asking.slot.memory old.block flown.asking.slot.block buffers runs disk
+    → in_rooms (flight_by hosted) buffers runs ≡ Some here
+    → IsHonestlyServed old here now verdict new flown disk
 with_flight old now verdict new here flown disk More buffers runs hosts is = absurd (cc)
 with_flight old now verdict new here flown disk Done buffers runs hosts is = absurd (cc)
 with_flight {A} old now verdict new here flown disk (Asks flight) buffers runs hosts is =
@@ -151,24 +205,39 @@ with_flight {A} old now verdict new here flown disk (Asks flight) buffers runs h
     let token = ap (λ (h : InFlight). h.flight) flies in
     let places = ap (λ (h : InFlight). h.buffers) flies in
     let completes = flown.lands.completes in
-    let start = at_disk old.memory (opened_at First old.memory hosts.queue) (extent_disk (device_of old).extent disk) in
-    let asking : queue_at 0 flown.asking.slot.block ≡ Some hosts.last = ap (λ (w : WindowState). queue_at 0 w) hosts.window ∙ queue_stands_open 0 old.block hosts.queue hosts.last (sym hosts.ready) in
-    let stays : queue_at 0 now.slot.block ≡ Some hosts.last = (life_keeps flown.asking flown.calls flown.told now here flown.flies flown.own flown.course).served 0 hosts.last asking in
-    let same : completes.queue ≡ hosts.last = same_Some completes.queue hosts.last (sym completes.ready ∙ stays) in
+    let start = at_disk old.memory (opened_at First old.memory hosts.queue)
+    (extent_disk (device_of old).extent disk) in
+    let asking : queue_at 0 flown.asking.slot.block ≡ Some hosts.last =
+    ap (λ (w : WindowState). queue_at 0 w) hosts.window
+    ∙ queue_stands_open 0 old.block hosts.queue hosts.last (sym hosts.ready) in
+    let stays : queue_at 0 now.slot.block ≡ Some hosts.last =
+    (life_keeps flown.asking flown.calls flown.told now here flown.flies flown.own flown.course).served 0
+    hosts.last asking in
+    let same : completes.queue ≡ hosts.last =
+    same_Some completes.queue hosts.last (sym completes.ready ∙ stays) in
     record {
       queue = hosts.queue;
       ready = sym hosts.ready;
       request = hosts.request;
-      asked = subst (λ b. IsAsked (device_of old) flown.asking.slot.memory b hosts.request) places hosts.asks.stops.asked;
+      asked = subst (λ b. IsAsked (device_of old) flown.asking.slot.memory b hosts.request) places
+          hosts.asks.stops.asked;
       operation = ap (λ (f : Flight). f.operation) (sym token) ∙ hosts.operation;
       serves = λ disk' done.
-          honest_host_serves (device_of old) start flown.asking.slot.memory now.slot.memory completes.given hosts.last completes.behind (extent_disk (device_of old).extent disk) disk' here.buffers here.flight verdict hosts.request (wants_stable old.block)
+          honest_host_serves (device_of old) start flown.asking.slot.memory now.slot.memory completes.given
+          hosts.last completes.behind (extent_disk (device_of old).extent disk) disk' here.buffers
+          here.flight verdict hosts.request (wants_stable old.block)
           (ap (λ (f : Flight). f.operation) (sym token) ∙ hosts.operation)
-          (subst (λ (h : InFlight). StopsAt (device_of old) start (at_disk flown.asking.slot.memory hosts.last (extent_disk (device_of old).extent disk)) h.buffers h.flight.token hosts.request) flies hosts.asks.stops)
+          (subst (λ (h : InFlight). StopsAt (device_of old) start
+          (at_disk flown.asking.slot.memory hosts.last (extent_disk (device_of old).extent disk))
+          h.buffers h.flight.token hosts.request) flies hosts.asks.stops)
           done
-          (subst (λ (q : Queue). IsGivenBack here.flight verdict here.buffers now.slot.memory completes.given q completes.behind) same completes.gives);
+          (subst (λ (q : Queue). IsGivenBack here.flight verdict here.buffers now.slot.memory completes.given
+          q completes.behind) same completes.gives);
     }
 
-pub honest : {A : Type 0} (old : SlotState) (here : InFlight) (now : HostedState) (verdict : Verdict) (new : HostedState) (flown : IsFlown A old here now verdict new) (disk : Disk) → IsHonestlyServed old here now verdict new flown disk
+pub honest : {A : Type 0} (old : SlotState) (here : InFlight) (now : HostedState) (verdict : Verdict)
+    (new : HostedState) (flown : IsFlown A old here now verdict new) (disk : Disk)
+    → IsHonestlyServed old here now verdict new flown disk
 honest old here now verdict new flown disk =
-    with_flight old now verdict new here flown disk flown.looks.hosted flown.looks.buffers flown.looks.runs (flown.looks.hosts disk) (sym flown.looks.flight ∙ flown.flies)
+    with_flight old now verdict new here flown disk flown.looks.hosted flown.looks.buffers flown.looks.runs
+    (flown.looks.hosts disk) (sym flown.looks.flight ∙ flown.flies)

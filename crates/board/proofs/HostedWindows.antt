@@ -24,30 +24,39 @@ use Rattle.block_device.specs.declared.operation.Verdict.{Verdict}
 use Rattle.block_device.specs.Asking.{unasked_device}
 use Rattle.block_device.specs.Hosting.{CompletesIn, HostsTo}
 
-registers_kept : (kind : DeviceKind) (change : QueueRegisters → QueueRegisters) (w : WindowState) → KeepsDevice w (with_registers_in (queue_of kind 0) change w)
+registers_kept : (kind : DeviceKind) (change : QueueRegisters → QueueRegisters) (w : WindowState)
+    → KeepsDevice w (with_registers_in (queue_of kind 0) change w)
 registers_kept Block change w = record { kind = refl; offered = refl }
 registers_kept Console change w = record { kind = refl; offered = refl }
 
 ring_kept : (w : WindowState) (ring : Queue) → KeepsDevice w (with_ring 0 w ring)
 ring_kept w ring = registers_kept w.kind (λ registers. record registers { ring = Some ring }) w
 
-spent_kept : (wanted : Bool) (w : WindowState) (ring : Queue) → KeepsDevice w (after_service Spent wanted (with_ring 0 w ring))
+spent_kept : (wanted : Bool) (w : WindowState) (ring : Queue)
+    → KeepsDevice w (after_service Spent wanted (with_ring 0 w ring))
 spent_kept true w ring = record { kind = (ring_kept w ring).kind; offered = (ring_kept w ring).offered }
 spent_kept false w ring = ring_kept w ring
 
-at : (before between after : WindowState) → after ≡ between → KeepsDevice before between → KeepsDevice before after
+at : (before between after : WindowState) → after ≡ between → KeepsDevice before between
+    → KeepsDevice before after
 at before between after is keeps = subst (KeepsDevice before) (sym is) keeps
 
 -- after a look at its queue
-pub KeepsDevice-hosts : (device : BlockDevice) (stage : Stage) (budget : Budget) (found : Option Queue) (hosted : Hosted) (old new : Memory) (before after : WindowState) (buffers : List Buffer) (runs : List Segment) (disk : Disk)
-    → HostsTo device stage budget found hosted old new before after buffers runs disk → KeepsDevice before after
-KeepsDevice-hosts device stage budget found (Asks flight) old new before after buffers runs disk h = at before _ after h.window (ring_kept before h.last)
+pub KeepsDevice-hosts : (device : BlockDevice) (stage : Stage) (budget : Budget) (found : Option Queue)
+    (hosted : Hosted) (old new : Memory) (before after : WindowState) (buffers : List Buffer)
+    (runs : List Segment) (disk : Disk)
+    → HostsTo device stage budget found hosted old new before after buffers runs disk
+    → KeepsDevice before after
+KeepsDevice-hosts device stage budget found (Asks flight) old new before after buffers runs disk h =
+    at before _ after h.window (ring_kept before h.last)
 KeepsDevice-hosts device stage budget found More old new before after buffers runs disk h =
     KeepsDevice-served (unasked_device device) budget 0 stage found progress.More old new before after _ _ h
 KeepsDevice-hosts device stage budget found Done old new before after buffers runs disk h =
     KeepsDevice-served (unasked_device device) budget 0 stage found progress.Done old new before after _ _ h
 
 -- after a completion
-pub KeepsDevice-completes : (flight : Flight) (answer : Verdict) (old new : Memory) (before after : WindowState) (buffers : List Buffer)
+pub KeepsDevice-completes : (flight : Flight) (answer : Verdict) (old new : Memory)
+    (before after : WindowState) (buffers : List Buffer)
     → CompletesIn flight answer old new before after buffers → KeepsDevice before after
-KeepsDevice-completes flight answer old new before after buffers h = at before _ after h.window (spent_kept h.wanted before _)
+KeepsDevice-completes flight answer old new before after buffers h =
+    at before _ after h.window (spent_kept h.wanted before _)

@@ -22,16 +22,19 @@ use Rattle.std.proofs.lemmas.Option.{get_or_from_slice_get}
 use Rattle.board.proofs.Restoring.{restored_named}
 
 -- an outcome that is this one has its identity
-named : {A : Type 0} (outcome wanted : Outcome A) → outcome ≡ wanted → outcome.state.identity ≡ wanted.state.identity
+named : {A : Type 0} (outcome wanted : Outcome A) → outcome ≡ wanted
+    → outcome.state.identity ≡ wanted.state.identity
 named {A} outcome wanted is = ap (λ (o : Outcome A). o.state.identity) is
 
 -- a write of a window's registers
-write_named : (window : DeviceKind) (offset width value : ℕ) (state : SlotState) → (with_write window offset width value state).identity ≡ state.identity
+write_named : (window : DeviceKind) (offset width value : ℕ) (state : SlotState)
+    → (with_write window offset width value state).identity ≡ state.identity
 write_named Block offset width value state = refl
 write_named Console offset width value state = refl
 
 -- what a device does then, where nothing is refused
-finished_named : {A : Type 0} (task : Task) (state : SlotState) (old new : Health) (outcome : Outcome A) → Finishes task state old new outcome → outcome.state.identity ≡ state.identity
+finished_named : {A : Type 0} (task : Task) (state : SlotState) (old new : Health) (outcome : Outcome A)
+    → Finishes task state old new outcome → outcome.state.identity ≡ state.identity
 finished_named Nothing state old new outcome h = named outcome _ h.alike
 finished_named ServeBlock state old new outcome h = named outcome _ h.is
 finished_named ServeReceive state old new outcome h = named outcome _ h.is
@@ -39,7 +42,8 @@ finished_named ServeTransmit state old new outcome h = named outcome _ h.is
 finished_named (PutOut byte) state old new outcome h = named outcome _ h.alike
 
 -- and where it is
-cut_short_named : {A : Type 0} (task : Task) (state : SlotState) (old new : Health) (outcome : Outcome A) → IsCutShort task state old new outcome → outcome.state.identity ≡ state.identity
+cut_short_named : {A : Type 0} (task : Task) (state : SlotState) (old new : Health) (outcome : Outcome A)
+    → IsCutShort task state old new outcome → outcome.state.identity ≡ state.identity
 cut_short_named Nothing state old new outcome h = absurd h
 cut_short_named ServeBlock state old new outcome h = named outcome _ h.service.is
 cut_short_named ServeReceive state old new outcome h = absurd h
@@ -47,30 +51,40 @@ cut_short_named ServeTransmit state old new outcome h = named outcome _ h.is
 cut_short_named (PutOut byte) state old new outcome h = named outcome _ h.alike
 
 -- an access to memory, whether or not it lies in it
-read_named : (A : Type 0) (state : SlotState) (addr len : ℕ) (inside : Bool) → (if inside then replies {A = A} state (Bytes (part_of state.memory addr len)) else replies state BadRange).state.identity ≡ state.identity
+read_named : (A : Type 0) (state : SlotState) (addr len : ℕ) (inside : Bool)
+    → (if inside then replies {A = A} state (Bytes (part_of state.memory addr len)) else replies state
+    BadRange).state.identity ≡ state.identity
 read_named A state addr len true = refl
 read_named A state addr len false = refl
 
-put_named : (A : Type 0) (state : SlotState) (addr : ℕ) (bytes : List ℕ) (inside : Bool) → (if inside then does {A = A} (record state { memory = put state.memory addr bytes }) else replies state BadRange).state.identity ≡ state.identity
+put_named : (A : Type 0) (state : SlotState) (addr : ℕ) (bytes : List ℕ) (inside : Bool)
+    → (if inside then does {A = A} (record state { memory = put state.memory addr bytes }) else replies state
+    BadRange).state.identity ≡ state.identity
 put_named A state addr bytes true = refl
 put_named A state addr bytes false = refl
 
 -- an event of the slot
-served_named : {A : Type 0} (state : SlotState) (what : EventKind A) (old new : Health) (outcome : Outcome A) → Gives state what old new outcome → outcome.state.identity ≡ state.identity
+served_named : {A : Type 0} (state : SlotState) (what : EventKind A) (old new : Health) (outcome : Outcome A)
+    → Gives state what old new outcome → outcome.state.identity ≡ state.identity
 served_named state (Read window offset width) old new outcome h = named outcome _ h.alike
 served_named state (Write window offset width value) old new outcome h =
-    finished_named (task_at window offset width value state) (with_write window offset width value state) old new outcome h ∙ write_named window offset width value state
-served_named {A} state (MemRead addr len) old new outcome h = named outcome _ h.alike ∙ read_named A state addr len (is_inside state.memory addr len)
-served_named {A} state (MemWrite addr bytes) old new outcome h = named outcome _ h.alike ∙ put_named A state addr bytes (is_inside state.memory addr (length bytes))
+    finished_named (task_at window offset width value state) (with_write window offset width value state) old
+    new outcome h ∙ write_named window offset width value state
+served_named {A} state (MemRead addr len) old new outcome h = named outcome _ h.alike
+    ∙ read_named A state addr len (is_inside state.memory addr len)
+served_named {A} state (MemWrite addr bytes) old new outcome h = named outcome _ h.alike
+    ∙ put_named A state addr bytes (is_inside state.memory addr (length bytes))
 served_named state (Input bytes) old new outcome h = named outcome _ h.is
 served_named state (Resize cols rows) old new outcome h = named outcome _ h.alike
 served_named state (Restore bytes) old new outcome h = restored_named state bytes outcome h.alike
 served_named state (Complete verdict) old new outcome h = named outcome _ h.alike
 
-refused_named : {A : Type 0} (state : SlotState) (what : EventKind A) (old new : Health) (outcome : Outcome A) → IsRefused state what old new outcome → outcome.state.identity ≡ state.identity
+refused_named : {A : Type 0} (state : SlotState) (what : EventKind A) (old new : Health) (outcome : Outcome A)
+    → IsRefused state what old new outcome → outcome.state.identity ≡ state.identity
 refused_named state (Read window offset width) old new outcome h = absurd h
 refused_named state (Write window offset width value) old new outcome h =
-    cut_short_named (task_at window offset width value state) (with_write window offset width value state) old new outcome h ∙ write_named window offset width value state
+    cut_short_named (task_at window offset width value state) (with_write window offset width value state) old
+    new outcome h ∙ write_named window offset width value state
 refused_named state (MemRead addr len) old new outcome h = named outcome _ h.unchanged
 refused_named state (MemWrite addr bytes) old new outcome h = absurd h
 refused_named state (Input bytes) old new outcome h = absurd h
@@ -78,24 +92,33 @@ refused_named state (Resize cols rows) old new outcome h = absurd h
 refused_named state (Restore bytes) old new outcome h = absurd h
 refused_named state (Complete verdict) old new outcome h = absurd h
 
-given_named : {A : Type 0} (state : SlotState) (what : EventKind A) (old new : Health) (outcome : Outcome A) → MayGive state what old new outcome → outcome.state.identity ≡ state.identity
+given_named : {A : Type 0} (state : SlotState) (what : EventKind A) (old new : Health) (outcome : Outcome A)
+    → MayGive state what old new outcome → outcome.state.identity ≡ state.identity
 given_named state what old new outcome (inl h) = served_named state what old new outcome h.alike
 given_named state what old new outcome (inr h) = refused_named state what old new outcome h
 
 -- an event of the board
-step_at : {A : Type 0} (old : World) (event : Event A) (written : Record A) (new : World) (o : Option SlotState) → slice_get old.slots event.slot ≡ o
-    → MatchOption o (MissingStep old event.slot written new) (λ s. SlotStep old event.slot s event.what written new) → identities_of new.slots ≡ identities_of old.slots
+step_at : {A : Type 0} (old : World) (event : Event A) (written : Record A) (new : World)
+    (o : Option SlotState) → slice_get old.slots event.slot ≡ o
+    → MatchOption o (MissingStep old event.slot written new)
+    (λ s. SlotStep old event.slot s event.what written new)
+    → identities_of new.slots ≡ identities_of old.slots
 step_at old event written new None there step = ap (λ (w : World). identities_of w.slots) step.same
 step_at old event written new (Some state) there step =
     let name : SlotState → List ℕ = λ s. s.identity in
     ap identities_of step.slots
     ∙ map-set_same name old.slots event.slot step.outcome.state state
-    (given_named state event.what old.health new.health step.outcome step.given ∙ ap name (sym (get_or_from_slice_get old.slots event.slot state state there)))
+    (given_named state event.what old.health new.health step.outcome step.given
+    ∙ ap name (sym (get_or_from_slice_get old.slots event.slot state state there)))
 
-step_named : {A : Type 0} (old : World) (event : Event A) (written : Record A) (new : World) → Step old event written new → identities_of new.slots ≡ identities_of old.slots
-step_named old event written new step = step_at old event written new (slice_get old.slots event.slot) refl step
+step_named : {A : Type 0} (old : World) (event : Event A) (written : Record A) (new : World)
+    → Step old event written new → identities_of new.slots ≡ identities_of old.slots
+step_named old event written new step =
+    step_at old event written new (slice_get old.slots event.slot) refl step
 
 -- and of all events of a line
-pub line_named : {A : Type 0} (old new : World) (moves : List (Move A)) → IsLine old moves new → identities_of new.slots ≡ identities_of old.slots
+pub line_named : {A : Type 0} (old new : World) (moves : List (Move A)) → IsLine old moves new
+    → identities_of new.slots ≡ identities_of old.slots
 line_named old new [] is = ap (λ (w : World). identities_of w.slots) is
-line_named old new (move ∷ moves) line = line_named move.after new moves line.1 ∙ step_named old move.event move.written move.after line.0
+line_named old new (move ∷ moves) line = line_named move.after new moves line.1
+    ∙ step_named old move.event move.written move.after line.0

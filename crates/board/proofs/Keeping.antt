@@ -53,28 +53,33 @@ use Rattle.board.proofs.Lists.{get_set}
 same_range : (m : Memory) → SameRange m m
 same_range m = record { base = refl; size = refl; gaps = refl }
 
-scattered_range : (m : Memory) (addrs : List ℕ) (written : List (Option ℕ)) → SameRange m (scattered m addrs written)
+scattered_range : (m : Memory) (addrs : List ℕ) (written : List (Option ℕ))
+    → SameRange m (scattered m addrs written)
 scattered_range m [] written = same_range m
 scattered_range m (a ∷ addrs) [] = same_range m
 scattered_range m (a ∷ addrs) (None ∷ written) = scattered_range m addrs written
 scattered_range m (a ∷ addrs) (Some x ∷ written) =
-    same_trans m (put m a (x ∷ [])) (scattered (put m a (x ∷ [])) addrs written) (put_range m a (x ∷ [])) (scattered_range (put m a (x ∷ [])) addrs written)
+    same_trans m (put m a (x ∷ [])) (scattered (put m a (x ∷ [])) addrs written) (put_range m a (x ∷ []))
+    (scattered_range (put m a (x ∷ [])) addrs written)
 
 num_range : (m : Memory) (a k v : ℕ) → SameRange m (put_num m a k v)
 num_range m a k v = put_range m a (little_bytes k v)
 
-used_range : (m : Memory) (queue : Queue) (entry : Entry) (len : ℕ) (any : Bool) → SameRange m (queue_kind.used m queue entry len any)
+used_range : (m : Memory) (queue : Queue) (entry : Entry) (len : ℕ) (any : Bool)
+    → SameRange m (queue_kind.used m queue entry len any)
 used_range m (Split ring) entry len any =
     same_trans m _ _ (same_trans m _ _ (num_range m _ 4 entry.id) (num_range _ _ 4 len)) (num_range _ _ 2 _)
 used_range m (Packed ring) entry len any =
     same_trans m _ _ (same_trans m _ _ (num_range m _ 4 len) (num_range _ _ 2 entry.id)) (num_range _ _ 2 _)
 
-flags_range : (m : Memory) (flags : Memory) (idx : Bool) (a v : ℕ) → SameRange m flags → SameRange m (if idx then put_num flags a 2 v else flags)
+flags_range : (m : Memory) (flags : Memory) (idx : Bool) (a v : ℕ) → SameRange m flags
+    → SameRange m (if idx then put_num flags a 2 v else flags)
 flags_range m flags true a v same = same_trans m flags _ same (num_range flags a 2 v)
 flags_range m flags false a v same = same
 
 closed_range : (m : Memory) (queue : Queue) → SameRange m (queue_kind.closed m queue)
-closed_range m (Split ring) = flags_range m _ ring.setup.event_idx _ ring.place (num_range m ring.setup.device 2 0)
+closed_range m (Split ring) =
+    flags_range m _ ring.setup.event_idx _ ring.place (num_range m ring.setup.device 2 0)
 closed_range m (Packed ring) = num_range m ring.setup.device 4 0
 
 -- ---- a request keeps how many bytes the disk tells
@@ -86,153 +91,227 @@ record TellsMany (n : ℕ) (disk : Disk) : Type 0 where
   size : length bytes ≡ n
 
 -- bytes that are written where there are some leave their number
-filled_size : (bytes : List ℕ) (sector : ℕ) (new : List ℕ) → 512 * sector + length new ≤ length bytes → length (with_sectors bytes sector new) ≡ length bytes
+filled_size : (bytes : List ℕ) (sector : ℕ) (new : List ℕ) → 512 * sector + length new ≤ length bytes
+    → length (with_sectors bytes sector new) ≡ length bytes
 filled_size bytes sector new fits =
     simp (length-append, length-take, length-drop) (omega arith)
 
-filled_many : (n : ℕ) (disk other : Disk) (sector : ℕ) (new : List ℕ) → TellsMany n disk → other.contents ≡ option_map (λ bytes. with_sectors bytes sector new) disk.contents → 512 * sector + length new ≤ n → TellsMany n other
+filled_many : (n : ℕ) (disk other : Disk) (sector : ℕ) (new : List ℕ) → TellsMany n disk
+    → other.contents ≡ option_map (λ bytes. with_sectors bytes sector new) disk.contents
+    → 512 * sector + length new ≤ n → TellsMany n other
 filled_many n disk other sector new many is fits =
     let size : length many.bytes ≡ n = many.size in
     let room : 512 * sector + length new ≤ length many.bytes = omega arith in
     record {
       bytes = with_sectors many.bytes sector new;
-      contents = is ∙ ap (λ (o : Option (List ℕ)). option_map (λ bytes. with_sectors bytes sector new) o) many.contents;
+      contents = is ∙ ap (λ (o : Option (List ℕ)). option_map (λ bytes. with_sectors bytes sector new) o)
+          many.contents;
       size = filled_size many.bytes sector new room ∙ size;
     }
 
-same_many : (n : ℕ) (disk other : Disk) → TellsMany n disk → other.contents ≡ disk.contents → TellsMany n other
-same_many n disk other many is = record { bytes = many.bytes; contents = is ∙ many.contents; size = many.size }
+same_many : (n : ℕ) (disk other : Disk) → TellsMany n disk → other.contents ≡ disk.contents
+    → TellsMany n other
+same_many n disk other many is =
+    record { bytes = many.bytes; contents = is ∙ many.contents; size = many.size }
 
 -- so do zeros in some sectors
-written_many : (n capacity sector : ℕ) (new : List ℕ) (disk : Disk) → 512 * capacity ≤ n → sector < capacity → length new ≡ 512 → TellsMany n disk → TellsMany n (written sector new disk)
+written_many : (n capacity sector : ℕ) (new : List ℕ) (disk : Disk) → 512 * capacity ≤ n → sector < capacity
+    → length new ≡ 512 → TellsMany n disk → TellsMany n (written sector new disk)
 written_many n capacity sector new disk small below whole many = record {
   bytes = with_sector many.bytes sector new;
   contents = ap (λ (o : Option (List ℕ)). option_map (λ bytes. with_sector bytes sector new) o) many.contents;
   size = length-with_sector many.bytes sector new (omega (arith, many.size)) whole ∙ many.size;
 }
 
-zeroed_many : (n capacity : ℕ) (sectors : List ℕ) (disk : Disk) → 512 * capacity ≤ n → AllByRecursion (λ sector. sector < capacity) sectors → TellsMany n disk → TellsMany n (zeroed_sectors sectors disk)
+zeroed_many : (n capacity : ℕ) (sectors : List ℕ) (disk : Disk) → 512 * capacity ≤ n
+    → AllByRecursion (λ sector. sector < capacity) sectors → TellsMany n disk
+    → TellsMany n (zeroed_sectors sectors disk)
 zeroed_many n capacity [] disk small below many = many
 zeroed_many n capacity (sector ∷ sectors) disk small below many =
     let zeros : List ℕ = replicate 512 0 in
     zeroed_many n capacity sectors (written sector zeros disk) small below.1
     (written_many n capacity sector zeros disk small below.0 (length-replicate {A = ℕ} 512 0) many)
 
-completed_many : (n : ℕ) (capacity : ℕ) (request : Request) (payload found : List ℕ) (disk : Disk) (room : ℕ) → 512 * capacity ≤ n → IsServable capacity request payload room → TellsMany n disk → TellsMany n (completed request payload found disk).disk
+completed_many : (n : ℕ) (capacity : ℕ) (request : Request) (payload found : List ℕ) (disk : Disk) (room : ℕ)
+    → 512 * capacity ≤ n → IsServable capacity request payload room → TellsMany n disk
+    → TellsMany n (completed request payload found disk).disk
 completed_many n capacity (Rejected status) payload found disk room small fits many = many
 completed_many n capacity (Read sector count) payload found disk room small fits many = many
 completed_many n capacity (Write sector count) payload found disk room small fits many =
     let inside : 512 * sector + length payload ≤ 512 * capacity = omega (arith, fits.0, fits.1) in
-    filled_many n disk (completed (Write sector count) payload found disk).disk sector payload many refl (omega arith)
-completed_many n capacity Flush payload found disk room small fits many = same_many n disk (completed Flush payload found disk).disk many refl
+    filled_many n disk (completed (Write sector count) payload found disk).disk sector payload
+    many refl (omega arith)
+completed_many n capacity Flush payload found disk room small fits many =
+    same_many n disk (completed Flush payload found disk).disk many refl
 completed_many n capacity GetId payload found disk room small fits many = many
 completed_many n capacity (WriteZeroes segments) payload found disk room small fits many =
-    same_many n (zeroed_sectors (all_sectors (segments_in payload)) disk) (completed (WriteZeroes segments) payload found disk).disk
-    (zeroed_many n capacity (all_sectors (segments_in payload)) disk small (all-below capacity (segments_in payload) fits.1) many) refl
+    same_many n (zeroed_sectors (all_sectors (segments_in payload)) disk)
+    (completed (WriteZeroes segments) payload found disk).disk
+    (zeroed_many n capacity (all_sectors (segments_in payload)) disk small
+    (all-below capacity (segments_in payload) fits.1) many) refl
 
-failed_many : (n : ℕ) (capacity : ℕ) (request : Request) (payload : List ℕ) (disk : Disk) (outcome : Outcome) (room : ℕ) → 512 * capacity ≤ n → IsServable capacity request payload room → TellsMany n disk → Fails request payload disk outcome → TellsMany n outcome.disk
+failed_many : (n : ℕ) (capacity : ℕ) (request : Request) (payload : List ℕ) (disk : Disk) (outcome : Outcome)
+    (room : ℕ) → 512 * capacity ≤ n → IsServable capacity request payload room → TellsMany n disk
+    → Fails request payload disk outcome → TellsMany n outcome.disk
 failed_many n capacity (Rejected status) payload disk outcome room small fits many h = absurd h
-failed_many n capacity (Read sector count) payload disk outcome room small fits many h = same_many n disk outcome.disk many (ap (λ (o : Outcome). o.disk.contents) h.is)
+failed_many n capacity (Read sector count) payload disk outcome room small fits many h =
+    same_many n disk outcome.disk many (ap (λ (o : Outcome). o.disk.contents) h.is)
 failed_many n capacity (Write sector count) payload disk outcome room small fits many (inl h) =
     let inside : 512 * sector + length payload ≤ 512 * capacity = omega (arith, fits.0, fits.1) in
     let whole : 512 * count ≤ length payload = omega (arith, fits.1) in
     let torn : length h.torn ≡ 512 = h.whole in
     let sooner : h.done < count = h.sooner in
-    let written : length (take (512 * h.done) payload ++ h.torn) ≤ 512 * count = simp (length-append, length-take) (omega arith) in
-    filled_many n disk outcome.disk sector (take (512 * h.done) payload ++ h.torn) many (ap (λ (o : Outcome). o.disk.contents) h.is) (omega arith)
+    let written : length (take (512 * h.done) payload ++ h.torn) ≤ 512 * count =
+    simp (length-append, length-take) (omega arith) in
+    filled_many n disk outcome.disk sector (take (512 * h.done) payload
+    ++ h.torn) many (ap (λ (o : Outcome). o.disk.contents) h.is) (omega arith)
 failed_many n capacity (Write sector count) payload disk outcome room small fits many (inr h) =
     let inside : 512 * sector + length payload ≤ 512 * capacity = omega (arith, fits.0, fits.1) in
-    filled_many n disk outcome.disk sector payload many (ap (λ (o : Outcome). o.disk.contents) h) (omega arith)
-failed_many n capacity Flush payload disk outcome room small fits many h = same_many n disk outcome.disk many (ap (λ (o : Outcome). o.disk.contents) h)
+    filled_many n disk outcome.disk sector payload many
+    (ap (λ (o : Outcome). o.disk.contents) h) (omega arith)
+failed_many n capacity Flush payload disk outcome room small fits many h =
+    same_many n disk outcome.disk many (ap (λ (o : Outcome). o.disk.contents) h)
 failed_many n capacity GetId payload disk outcome room small fits many h = absurd h
 failed_many n capacity (WriteZeroes segments) payload disk outcome room small fits many (inl h) =
     let sectors = all_sectors (segments_in payload) in
     let s = h.stopped in
-    let below = front-below capacity s.before s.sector s.later (subst (λ l. AllByRecursion (λ sector. sector < capacity) l) s.listed (all-below capacity (segments_in payload) fits.1)) in
+    let below = front-below capacity s.before s.sector s.later
+    (subst (λ l. AllByRecursion (λ sector. sector < capacity) l) s.listed
+    (all-below capacity (segments_in payload) fits.1)) in
     let left : TellsMany n (written s.sector s.torn.left (zeroed_sectors s.before disk)) =
-    written_many n capacity s.sector s.torn.left (zeroed_sectors s.before disk) small below.1 s.torn.whole (zeroed_many n capacity s.before disk small below.0 many) in
+    written_many n capacity s.sector s.torn.left (zeroed_sectors s.before disk) small below.1 s.torn.whole
+    (zeroed_many n capacity s.before disk small below.0 many) in
     same_many n (written s.sector s.torn.left (zeroed_sectors s.before disk)) outcome.disk left
     (ap (λ (o : Outcome). o.disk.contents) h.is ∙ ap (λ (d : Disk). d.contents) s.torn.torn)
 failed_many n capacity (WriteZeroes segments) payload disk outcome room small fits many (inr h) =
     same_many n (zeroed_sectors (all_sectors (segments_in payload)) disk) outcome.disk
-    (zeroed_many n capacity (all_sectors (segments_in payload)) disk small (all-below capacity (segments_in payload) fits.1) many)
+    (zeroed_many n capacity (all_sectors (segments_in payload)) disk small
+    (all-below capacity (segments_in payload) fits.1) many)
     (ap (λ (o : Outcome). o.disk.contents) h)
 
-ends_many : {identity : List ℕ} (n : ℕ) (capacity : ℕ) (request : Request) (payload : List ℕ) (disk : Disk) (outcome : Outcome) (room : ℕ) → 512 * capacity ≤ n → IsServable capacity request payload room → TellsMany n disk → Ends identity request payload disk outcome → TellsMany n outcome.disk
+ends_many : {identity : List ℕ} (n : ℕ) (capacity : ℕ) (request : Request) (payload : List ℕ) (disk : Disk)
+    (outcome : Outcome) (room : ℕ) → 512 * capacity ≤ n → IsServable capacity request payload room
+    → TellsMany n disk → Ends identity request payload disk outcome → TellsMany n outcome.disk
 ends_many n capacity request payload disk outcome room small fits many (inl h) =
-    subst (λ (o : Outcome). TellsMany n o.disk) (sym h.is) (completed_many n capacity request payload h.found disk room small fits many)
-ends_many n capacity request payload disk outcome room small fits many (inr h) = failed_many n capacity request payload disk outcome room small fits many h
+    subst (λ (o : Outcome). TellsMany n o.disk) (sym h.is)
+    (completed_many n capacity request payload h.found disk room small fits many)
+ends_many n capacity request payload disk outcome room small fits many (inr h) =
+    failed_many n capacity request payload disk outcome room small fits many h
 
-gives_many : (n : ℕ) (device : BlockDevice) (disk : Disk) (readable : List ℕ) (w : ℕ) (given : Given Disk) → 512 * device.extent.count ≤ n → TellsMany n disk → GivesBy (Ends device.identity) device disk readable w given → TellsMany n given.state
-gives_many n device disk readable zero given small many h = subst (λ (d : Disk). TellsMany n d) (sym (ap (λ (g : Given Disk). g.state) h)) many
+gives_many : (n : ℕ) (device : BlockDevice) (disk : Disk) (readable : List ℕ) (w : ℕ) (given : Given Disk)
+    → 512 * device.extent.count ≤ n → TellsMany n disk
+    → GivesBy (Ends device.identity) device disk readable w given → TellsMany n given.state
+gives_many n device disk readable zero given small many h =
+    subst (λ (d : Disk). TellsMany n d) (sym (ap (λ (g : Given Disk). g.state) h)) many
 gives_many n device disk readable (suc room) given small many h =
     subst (λ (d : Disk). TellsMany n d) (sym (ap (λ (g : Given Disk). g.state) h.given_is))
-    (ends_many n device.extent.count (request_of device readable room) (payload_of readable) disk h.outcome room small (servable device readable room) many h.is)
+    (ends_many n device.extent.count (request_of device readable room) (payload_of readable) disk h.outcome
+    room small (servable device readable room) many h.is)
 
 -- ---- a service of a queue
 
 module _ {State : Type 0} (device : Device State) where
   -- along its chains the memory keeps its range
-  passes_range : (start at : Site Queue State) (chains : List (Served State)) → ServesAll queue_kind device start chains at → SameRange start.memory at.memory
-  passes_range start at [] p = subst (λ (s : Site Queue State). SameRange start.memory s.memory) p (same_range start.memory)
+  passes_range : (start at : Site Queue State) (chains : List (Served State))
+      → ServesAll queue_kind device start chains at → SameRange start.memory at.memory
+  passes_range start at [] p =
+      subst (λ (s : Site Queue State). SameRange start.memory s.memory) p (same_range start.memory)
   passes_range start at (s ∷ chains) p =
       let next : Site Queue State = after queue_kind device start s in
       let written : Memory = scattered start.memory (writable_of s.buffers) s.given.written in
       same_trans start.memory next.memory at.memory
-      (same_trans start.memory written next.memory (scattered_range start.memory (writable_of s.buffers) s.given.written) (used_range written start.ring s.entry (used_len s.given.written) (wrote s.given.written)))
+      (same_trans start.memory written next.memory
+      (scattered_range start.memory (writable_of s.buffers) s.given.written)
+      (used_range written start.ring s.entry (used_len s.given.written) (wrote s.given.written)))
       (passes_range next at chains p.1)
 
-  stop_range : (start : Memory) (at last : Site Queue State) (ending : Ending) → SameRange start at.memory → last ≡ stop queue_kind device at ending → SameRange start last.memory
-  stop_range start at last Spent same is = subst (λ (s : Site Queue State). SameRange start s.memory) (sym is) same
-  stop_range start at last (Faulted fault) same is = subst (λ (s : Site Queue State). SameRange start s.memory) (sym is) same
-  stop_range start at last Refused same is = subst (λ (s : Site Queue State). SameRange start s.memory) (sym is) same
+  stop_range : (start : Memory) (at last : Site Queue State) (ending : Ending) → SameRange start at.memory
+      → last ≡ stop queue_kind device at ending → SameRange start last.memory
+  stop_range start at last Spent same is =
+      subst (λ (s : Site Queue State). SameRange start s.memory) (sym is) same
+  stop_range start at last (Faulted fault) same is =
+      subst (λ (s : Site Queue State). SameRange start s.memory) (sym is) same
+  stop_range start at last Refused same is =
+      subst (λ (s : Site Queue State). SameRange start s.memory) (sym is) same
 
-  works_range : (fault : Option Fault) (start last : Site Queue State) (ending : Ending) → Works queue_kind device fault start ending last → SameRange start.memory last.memory
-  works_range (Some fault) start last ending h = subst (λ (s : Site Queue State). SameRange start.memory s.memory) (sym h.1) (same_range start.memory)
-  works_range None start last ending h = stop_range start.memory h.at last ending (passes_range start h.at h.chains h.serves) h.stands
+  works_range : (fault : Option Fault) (start last : Site Queue State) (ending : Ending)
+      → Works queue_kind device fault start ending last → SameRange start.memory last.memory
+  works_range (Some fault) start last ending h =
+      subst (λ (s : Site Queue State). SameRange start.memory s.memory) (sym h.1) (same_range start.memory)
+  works_range None start last ending h =
+      stop_range start.memory h.at last ending (passes_range start h.at h.chains h.serves) h.stands
 
-  service_range : (old new : Site Queue State) (ending : Ending) (wanted : Bool) → IsService queue_kind device old new ending wanted → SameRange old.memory new.memory
+  service_range : (old new : Site Queue State) (ending : Ending) (wanted : Bool)
+      → IsService queue_kind device old new ending wanted → SameRange old.memory new.memory
   service_range old new ending wanted h =
       let worked = works_range _ (open_site queue_kind device old) h.last ending h.works in
-      subst (λ (s : Site Queue State). SameRange old.memory s.memory) (sym h.closed) (same_trans old.memory h.last.memory _ worked (closed_range h.last.memory h.last.ring))
+      subst (λ (s : Site Queue State). SameRange old.memory s.memory) (sym h.closed)
+      (same_trans old.memory h.last.memory _ worked (closed_range h.last.memory h.last.ring))
 
-  notified_range : (q : ℕ) (queue : Option Queue) (ending : Ending) (old new : Memory) (before after : WindowState) (s t : State) → Notified device q queue ending old new before after s t → SameRange old new
-  notified_range q None ending old new before after s t h = subst (λ (m : Memory). SameRange old m) (sym h.1.memory) (same_range old)
+  notified_range : (q : ℕ) (queue : Option Queue) (ending : Ending) (old new : Memory)
+      (before after : WindowState) (s t : State) → Notified device q queue ending old new before after s t
+      → SameRange old new
+  notified_range q None ending old new before after s t h =
+      subst (λ (m : Memory). SameRange old m) (sym h.1.memory) (same_range old)
   notified_range q (Some queue) ending old new before after s t h =
-      service_range (record { memory = old; ring = queue; state = s }) (record { memory = new; ring = h.last; state = t }) ending h.wanted h.service
+      service_range (record { memory = old; ring = queue; state = s })
+      (record { memory = new; ring = h.last; state = t }) ending h.wanted h.service
 
 -- along the requests of the block device the disk tells as many bytes as before
-passes_many : (n : ℕ) (device : BlockDevice) (start at : Site Queue Disk) (chains : List (Served Disk)) → 512 * device.extent.count ≤ n → TellsMany n start.state → ServesAll queue_kind (block_device device) start chains at → TellsMany n at.state
+passes_many : (n : ℕ) (device : BlockDevice) (start at : Site Queue Disk) (chains : List (Served Disk))
+    → 512 * device.extent.count ≤ n → TellsMany n start.state
+    → ServesAll queue_kind (block_device device) start chains at → TellsMany n at.state
 passes_many n device start at [] small many p = subst (λ (s : Site Queue Disk). TellsMany n s.state) p many
 passes_many n device start at (s ∷ chains) small many p =
     passes_many n device (after queue_kind (block_device device) start s) at chains small
-    (gives_many n device start.state (readable_of start.memory s.buffers) (length (writable_of s.buffers)) s.given small many p.0.gives) p.1
+    (gives_many n device start.state (readable_of start.memory s.buffers) (length (writable_of s.buffers))
+    s.given small many p.0.gives) p.1
 
-stop_many : (n : ℕ) (device : BlockDevice) (at last : Site Queue Disk) (ending : Ending) → TellsMany n at.state → last ≡ stop queue_kind (block_device device) at ending → TellsMany n last.state
+stop_many : (n : ℕ) (device : BlockDevice) (at last : Site Queue Disk) (ending : Ending)
+    → TellsMany n at.state → last ≡ stop queue_kind (block_device device) at ending → TellsMany n last.state
 stop_many n device at last Spent many is = subst (λ (s : Site Queue Disk). TellsMany n s.state) (sym is) many
-stop_many n device at last (Faulted fault) many is = subst (λ (s : Site Queue Disk). TellsMany n s.state) (sym is) many
-stop_many n device at last Refused many is = subst (λ (s : Site Queue Disk). TellsMany n s.state) (sym is) many
+stop_many n device at last (Faulted fault) many is =
+    subst (λ (s : Site Queue Disk). TellsMany n s.state) (sym is) many
+stop_many n device at last Refused many is =
+    subst (λ (s : Site Queue Disk). TellsMany n s.state) (sym is) many
 
-works_many : (n : ℕ) (device : BlockDevice) (fault : Option Fault) (start last : Site Queue Disk) (ending : Ending) → 512 * device.extent.count ≤ n → TellsMany n start.state → Works queue_kind (block_device device) fault start ending last → TellsMany n last.state
-works_many n device (Some fault) start last ending small many h = subst (λ (s : Site Queue Disk). TellsMany n s.state) (sym h.1) many
-works_many n device None start last ending small many h = stop_many n device h.at last ending (passes_many n device start h.at h.chains small many h.serves) h.stands
+works_many : (n : ℕ) (device : BlockDevice) (fault : Option Fault) (start last : Site Queue Disk)
+    (ending : Ending) → 512 * device.extent.count ≤ n → TellsMany n start.state
+    → Works queue_kind (block_device device) fault start ending last → TellsMany n last.state
+works_many n device (Some fault) start last ending small many h =
+    subst (λ (s : Site Queue Disk). TellsMany n s.state) (sym h.1) many
+works_many n device None start last ending small many h =
+    stop_many n device h.at last ending
+    (passes_many n device start h.at h.chains small many h.serves) h.stands
 
-service_many : (n : ℕ) (device : BlockDevice) (old new : Site Queue Disk) (ending : Ending) (wanted : Bool) → 512 * device.extent.count ≤ n → TellsMany n old.state → IsService queue_kind (block_device device) old new ending wanted → TellsMany n new.state
+service_many : (n : ℕ) (device : BlockDevice) (old new : Site Queue Disk) (ending : Ending) (wanted : Bool)
+    → 512 * device.extent.count ≤ n → TellsMany n old.state
+    → IsService queue_kind (block_device device) old new ending wanted → TellsMany n new.state
 service_many n device old new ending wanted small many h =
-    subst (λ (s : Site Queue Disk). TellsMany n s.state) (sym h.closed) (works_many n device _ (open_site queue_kind (block_device device) old) h.last ending small many h.works)
+    subst (λ (s : Site Queue Disk). TellsMany n s.state) (sym h.closed)
+    (works_many n device _ (open_site queue_kind (block_device device) old) h.last ending
+    small many h.works)
 
-notified_many : (n : ℕ) (device : BlockDevice) (queue : Option Queue) (old new : Memory) (before after : WindowState) (s t : Disk) → 512 * device.extent.count ≤ n → TellsMany n s → IsNotified (block_device device) 0 queue old new before after s t → TellsMany n t
-notified_many n device None old new before after s t small many h = subst (λ (d : Disk). TellsMany n d) (sym h.notified.1.state) many
+notified_many : (n : ℕ) (device : BlockDevice) (queue : Option Queue) (old new : Memory)
+    (before after : WindowState) (s t : Disk) → 512 * device.extent.count ≤ n → TellsMany n s
+    → IsNotified (block_device device) 0 queue old new before after s t → TellsMany n t
+notified_many n device None old new before after s t small many h =
+    subst (λ (d : Disk). TellsMany n d) (sym h.notified.1.state) many
 notified_many n device (Some queue) old new before after s t small many h =
-    service_many n device (record { memory = old; ring = queue; state = s }) (record { memory = new; ring = h.notified.last; state = t }) h.ending h.notified.wanted small many h.notified.service
+    service_many n device (record { memory = old; ring = queue; state = s })
+    (record { memory = new; ring = h.notified.last; state = t }) h.ending h.notified.wanted small
+    many h.notified.service
 
 -- ---- an event
 
-service_beside : {A : Type 0} (old : SlotState) (before after : Health) (outcome : Came A) → IsFailedService old before after outcome → KeepsBesideDisk old outcome.state
+service_beside : {A : Type 0} (old : SlotState) (before after : Health) (outcome : Came A)
+    → IsFailedService old before after outcome → KeepsBesideDisk old outcome.state
 service_beside {A} old before after outcome h =
     let small : 512 * (device_of old).extent.count ≤ length old.extent = omega arith in
     let many : TellsMany (length old.extent) (disk_with outcome.state.extent after) =
-    notified_many (length old.extent) (device_of old) (queue_at 0 old.block) old.memory outcome.state.memory old.block outcome.state.block (disk_with old.extent before) (disk_with outcome.state.extent after) small (record { bytes = old.extent; contents = refl; size = refl }) h.service.notified in
+    notified_many (length old.extent) (device_of old) (queue_at 0 old.block) old.memory outcome.state.memory
+    old.block outcome.state.block (disk_with old.extent before) (disk_with outcome.state.extent after)
+    small (record { bytes = old.extent; contents = refl; size = refl }) h.service.notified in
     let contents : Some outcome.state.extent ≡ Some many.bytes = many.contents in
     let same : outcome.state.extent ≡ many.bytes = cc contents in
     record {
@@ -243,15 +322,19 @@ service_beside {A} old before after outcome h =
       read_only = ap (λ (o : Came A). o.state.read_only) h.service.is;
       identity = ap (λ (o : Came A). o.state.identity) h.service.is;
       memory =
-          notified_range (block_device (device_of old)) 0 (queue_at 0 old.block) h.service.notified.ending old.memory outcome.state.memory old.block outcome.state.block (disk_with old.extent before) (disk_with outcome.state.extent after) h.service.notified.notified;
+          notified_range (block_device (device_of old)) 0 (queue_at 0 old.block) h.service.notified.ending
+          old.memory outcome.state.memory old.block outcome.state.block (disk_with old.extent before)
+          (disk_with outcome.state.extent after) h.service.notified.notified;
       extent = ap (λ (bs : List ℕ). length bs) same ∙ many.size;
     }
 
 never : (before after : Health) → before.failures < after.failures → after ≡ before → ⊥
-never before after rose is = let same : after.failures ≡ before.failures = ap (λ (h : Health). h.failures) is in omega arith
+never before after rose is = let same : after.failures ≡ before.failures =
+    ap (λ (h : Health). h.failures) is in omega arith
 
 -- a write to the block window
-block_beside : {A : Type 0} (act : Action) (old : SlotState) (before after : Health) (outcome : Came A) → IsCutShort (task_of Block act) old before after outcome → KeepsBesideDisk old outcome.state
+block_beside : {A : Type 0} (act : Action) (old : SlotState) (before after : Health) (outcome : Came A)
+    → IsCutShort (task_of Block act) old before after outcome → KeepsBesideDisk old outcome.state
 block_beside (action.Notify zero) old before after outcome h = service_beside old before after outcome h
 block_beside (action.Notify (suc q)) old before after outcome h = absurd h
 block_beside action.Reset old before after outcome h = absurd h
@@ -259,68 +342,108 @@ block_beside (action.ConfigWrite offset width value) old before after outcome h 
 block_beside action.None old before after outcome h = absurd h
 
 -- in one to the console's the image has no part
-put_out_stood : {A : Type 0} (is : Bool) (byte : ℕ) (old : SlotState) (before after : Health) (outcome : Came A) → before.failures < after.failures → IsCutShort (if is then PutOut byte else Nothing) old before after outcome → ⊥
+put_out_stood : {A : Type 0} (is : Bool) (byte : ℕ) (old : SlotState) (before after : Health)
+    (outcome : Came A) → before.failures < after.failures
+    → IsCutShort (if is then PutOut byte else Nothing) old before after outcome → ⊥
 put_out_stood true byte old before after outcome rose h = never before after rose h.image
 put_out_stood false byte old before after outcome rose h = h
 
-console_stood : {A : Type 0} (act : Action) (old : SlotState) (before after : Health) (outcome : Came A) → before.failures < after.failures → IsCutShort (task_of Console act) old before after outcome → ⊥
+console_stood : {A : Type 0} (act : Action) (old : SlotState) (before after : Health) (outcome : Came A)
+    → before.failures < after.failures → IsCutShort (task_of Console act) old before after outcome → ⊥
 console_stood (action.Notify zero) old before after outcome rose h = h
 console_stood (action.Notify (suc zero)) old before after outcome rose h = never before after rose h.image
 console_stood (action.Notify (suc (suc q))) old before after outcome rose h = h
 console_stood action.Reset old before after outcome rose h = h
-console_stood (action.ConfigWrite offset width value) old before after outcome rose h = put_out_stood (offset == emergency_write) (value % 2 ^ 8) old before after outcome rose h
+console_stood (action.ConfigWrite offset width value) old before after outcome rose h =
+    put_out_stood (offset == emergency_write) (value % 2 ^ 8) old before after outcome rose h
 console_stood action.None old before after outcome rose h = h
 
-write_beside : {A : Type 0} (state : SlotState) (window : DeviceKind) (offset width value : ℕ) (before after : Health) (outcome : Came A) → before.failures < after.failures
-    → IsCutShort (task_at window offset width value state) (with_write window offset width value state) before after outcome → KeepsBesideDisk state outcome.state
+write_beside : {A : Type 0} (state : SlotState) (window : DeviceKind) (offset width value : ℕ)
+    (before after : Health) (outcome : Came A) → before.failures < after.failures
+    → IsCutShort (task_at window offset width value state) (with_write window offset width value state) before
+    after outcome → KeepsBesideDisk state outcome.state
 write_beside state Block offset width value before after outcome rose h =
     let kept : KeepsBesideDisk (with_write Block offset width value state) outcome.state =
-    block_beside (action_at Block offset width value state) (with_write Block offset width value state) before after outcome h in
-    record { console = kept.console; pending = kept.pending; cols = kept.cols; rows = kept.rows; read_only = kept.read_only; identity = kept.identity; memory = kept.memory; extent = kept.extent }
+    block_beside (action_at Block offset width value state) (with_write Block offset width value state)
+    before after outcome h in
+    record {
+      console = kept.console;
+      pending = kept.pending;
+      cols = kept.cols;
+      rows = kept.rows;
+      read_only = kept.read_only;
+      identity = kept.identity;
+      memory = kept.memory;
+      extent = kept.extent;
+    }
 write_beside state Console offset width value before after outcome rose h =
-    absurd (console_stood (action_at Console offset width value state) (with_write Console offset width value state) before after outcome rose h)
+    absurd (console_stood (action_at Console offset width value state)
+    (with_write Console offset width value state) before after outcome rose h)
 
-refused_beside : {A : Type 0} (state : SlotState) (what : EventKind A) (before after : Health) (outcome : Came A) → before.failures < after.failures → IsRefused state what before after outcome → KeepsBesideDisk state outcome.state
+refused_beside : {A : Type 0} (state : SlotState) (what : EventKind A) (before after : Health)
+    (outcome : Came A) → before.failures < after.failures → IsRefused state what before after outcome
+    → KeepsBesideDisk state outcome.state
 refused_beside state (event.Read window offset width) before after outcome rose h = absurd h
-refused_beside state (event.Write window offset width value) before after outcome rose h = write_beside state window offset width value before after outcome rose h
-refused_beside state (event.MemRead addr len) before after outcome rose h = absurd (never before after rose h.image)
+refused_beside state (event.Write window offset width value) before after outcome rose h =
+    write_beside state window offset width value before after outcome rose h
+refused_beside state (event.MemRead addr len) before after outcome rose h =
+    absurd (never before after rose h.image)
 refused_beside state (event.MemWrite addr bytes) before after outcome rose h = absurd h
 refused_beside state (event.Input bytes) before after outcome rose h = absurd h
 refused_beside state (event.Resize cols rows) before after outcome rose h = absurd h
 refused_beside state (event.Restore bytes) before after outcome rose h = absurd h
 refused_beside state (event.Complete verdict) before after outcome rose h = absurd h
 
-given_beside : {A : Type 0} (state : SlotState) (what : EventKind A) (before after : Health) (outcome : Came A) → before.failures < after.failures → MayGive state what before after outcome → KeepsBesideDisk state outcome.state
-given_beside state what before after outcome rose (inl h) = let same : after.failures ≡ before.failures = h.failures in absurd (omega arith)
-given_beside state what before after outcome rose (inr h) = refused_beside state what before after outcome rose h
+given_beside : {A : Type 0} (state : SlotState) (what : EventKind A) (before after : Health)
+    (outcome : Came A) → before.failures < after.failures → MayGive state what before after outcome
+    → KeepsBesideDisk state outcome.state
+given_beside state what before after outcome rose (inl h) = let same : after.failures ≡ before.failures =
+    h.failures in absurd (omega arith)
+given_beside state what before after outcome rose (inr h) =
+    refused_beside state what before after outcome rose h
 
 -- the slot's own step
-slot_step : {A : Type 0} (old : World) (e : Event A) (written : Record A) (new : World) (state : SlotState) → slice_get old.slots e.slot ≡ Some state → Step old e written new → SlotStep old e.slot state e.what written new
+slot_step : {A : Type 0} (old : World) (e : Event A) (written : Record A) (new : World) (state : SlotState)
+    → slice_get old.slots e.slot ≡ Some state → Step old e written new
+    → SlotStep old e.slot state e.what written new
 slot_step old e written new state here step =
-    subst (λ (o : Option SlotState). MatchOption o (MissingStep old e.slot written new) (λ s. SlotStep old e.slot s e.what written new)) here step
+    subst (λ (o : Option SlotState). MatchOption o (MissingStep old e.slot written new)
+    (λ s. SlotStep old e.slot s e.what written new)) here step
 
 -- leaves it as it is then
 left_as : {A : Type 0} (old new : World) (e : Event A) (written : Record A) (before after : SlotState)
-    → (taken : SlotStep old e.slot before e.what written new) → slice_get old.slots e.slot ≡ Some before → slice_get new.slots e.slot ≡ Some after
+    → (taken : SlotStep old e.slot before e.what written new) → slice_get old.slots e.slot ≡ Some before
+    → slice_get new.slots e.slot ≡ Some after
     → taken.outcome.state ≡ after
 left_as old new e written before after taken here there =
     let came : slice_get new.slots e.slot ≡ Some taken.outcome.state =
-    ap (λ (slots : List SlotState). slice_get slots e.slot) taken.slots ∙ get_set old.slots e.slot before taken.outcome.state here in
+    ap (λ (slots : List SlotState). slice_get slots e.slot) taken.slots
+    ∙ get_set old.slots e.slot before taken.outcome.state here in
     let both : Some taken.outcome.state ≡ Some after = sym came ∙ there in
     cc both
 
-pub failed_event_keeps : {A : Type 0} (old new : World) (e : Event A) (written : Record A) (before after : SlotState) → Step old e written new → old.health.failures < new.health.failures → slice_get old.slots e.slot ≡ Some before → slice_get new.slots e.slot ≡ Some after → KeepsBesideDisk before after
+pub failed_event_keeps : {A : Type 0} (old new : World) (e : Event A) (written : Record A)
+    (before after : SlotState) → Step old e written new → old.health.failures < new.health.failures
+    → slice_get old.slots e.slot ≡ Some before → slice_get new.slots e.slot ≡ Some after
+    → KeepsBesideDisk before after
 failed_event_keeps {A} old new e written before after step rose here there =
-    let taken : SlotStep old e.slot before e.what written new = slot_step old e written new before here step in
+    let taken : SlotStep old e.slot before e.what written new =
+    slot_step old e written new before here step in
     let same = left_as old new e written before after taken here there in
-    subst (λ (s : SlotState). KeepsBesideDisk before s) same (given_beside before e.what old.health new.health taken.outcome rose taken.given)
+    subst (λ (s : SlotState). KeepsBesideDisk before s) same
+    (given_beside before e.what old.health new.health taken.outcome rose taken.given)
 
 -- each request counts one failure at most
-pub passes_counted : (device : BlockDevice) (start at : Site Queue Disk) (chains : List (Served Disk)) → ServesAll queue_kind (block_device device) start chains at → at.state.failures ≤ start.state.failures + length chains
-passes_counted device start at [] p = let same : start.state.failures ≡ at.state.failures = ap (λ (s : Site Queue Disk). s.state.failures) p in omega arith
+pub passes_counted : (device : BlockDevice) (start at : Site Queue Disk) (chains : List (Served Disk))
+    → ServesAll queue_kind (block_device device) start chains at
+    → at.state.failures ≤ start.state.failures + length chains
+passes_counted device start at [] p = let same : start.state.failures ≡ at.state.failures =
+    ap (λ (s : Site Queue Disk). s.state.failures) p in omega arith
 passes_counted device start at (s ∷ chains) p =
-    let rest : at.state.failures ≤ s.given.state.failures + length chains = passes_counted device (after queue_kind (block_device device) start s) at chains p.1 in
-    elim (gives_counted device start.state (readable_of start.memory s.buffers) (length (writable_of s.buffers)) s.given p.0.gives) [
+    let rest : at.state.failures ≤ s.given.state.failures + length chains =
+    passes_counted device (after queue_kind (block_device device) start s) at chains p.1 in
+    elim (gives_counted device start.state (readable_of start.memory s.buffers)
+    (length (writable_of s.buffers)) s.given p.0.gives) [
       | inl same ↦ omega (arith, same, rest)
       | inr more ↦ omega (arith, more, rest)
     ]
@@ -338,12 +461,17 @@ record Stays {A : Type 0} (state : SlotState) (old new : Health) (outcome : Came
   output : outcome.output ≡ []
   image : new ≡ old
 
-stays_of : {A : Type 0} (state : SlotState) (old new : Health) (outcome : Came A) → outcome ≡ replies state NoMemory → new ≡ old → Stays state old new outcome
-stays_of state old new outcome is image = record { slot = ap (λ o. o.state) is; output = ap (λ o. o.output) is; image = image }
+stays_of : {A : Type 0} (state : SlotState) (old new : Health) (outcome : Came A)
+    → outcome ≡ replies state NoMemory → new ≡ old → Stays state old new outcome
+stays_of state old new outcome is image =
+    record { slot = ap (λ o. o.state) is; output = ap (λ o. o.output) is; image = image }
 
 -- so does all that can be seen of the board, where it does whenever memory is wanting
-board_stays : {A : Type 0} (old new : World) (h : ℕ) (state : SlotState) (what : EventKind A) (written : Record A) → ((outcome : Came A) → IsRefused state what old.health new.health outcome → Stays state old.health new.health outcome)
-    → slice_get old.slots h ≡ Some state → (step : SlotStep old h state what written new) → written.reply ≡ NoMemory → KeepsBoard old written new
+board_stays : {A : Type 0} (old new : World) (h : ℕ) (state : SlotState) (what : EventKind A)
+    (written : Record A) → ((outcome : Came A) → IsRefused state what old.health new.health outcome
+    → Stays state old.health new.health outcome)
+    → slice_get old.slots h ≡ Some state → (step : SlotStep old h state what written new)
+    → written.reply ≡ NoMemory → KeepsBoard old written new
 board_stays {A} old new h state what written stays here step lacks = by_given step.given
   where
     said : step.outcome.reply ≡ NoMemory
@@ -354,39 +482,65 @@ board_stays {A} old new h state what written stays here step lacks = by_given st
     by_given (inr refused) =
         let same = stays step.outcome refused in
         record {
-          slots = step.slots ∙ (ap (λ (s : SlotState). slice_set old.slots h s) same.slot ∙ set_own old.slots h state here);
+          slots = step.slots ∙ (ap (λ (s : SlotState). slice_set old.slots h s) same.slot
+              ∙ set_own old.slots h state here);
           outside = step.outside;
           health = same.image;
           output = ap (λ w. w.output) step.recorded ∙ same.output;
         }
 
-board_stays_at : {A : Type 0} (old new : World) (h : ℕ) (what : EventKind A) (written : Record A) → ((state : SlotState) (outcome : Came A) → IsRefused state what old.health new.health outcome → Stays state old.health new.health outcome)
-    → (o : Option SlotState) → slice_get old.slots h ≡ o → MatchOption o (MissingStep old h written new) (λ s. SlotStep old h s what written new) → written.reply ≡ NoMemory → KeepsBoard old written new
-board_stays_at old new h what written stays None here step lacks = let said : BadSlot ≡ NoMemory = sym (ap (λ w. w.reply) step.recorded) ∙ lacks in absurd (cc said)
-board_stays_at old new h what written stays (Some state) here step lacks = board_stays old new h state what written (stays state) here step lacks
+board_stays_at : {A : Type 0} (old new : World) (h : ℕ) (what : EventKind A) (written : Record A)
+    → ((state : SlotState) (outcome : Came A) → IsRefused state what old.health new.health outcome
+    → Stays state old.health new.health outcome)
+    → (o : Option SlotState) → slice_get old.slots h ≡ o
+    → MatchOption o (MissingStep old h written new) (λ s. SlotStep old h s what written new)
+    → written.reply ≡ NoMemory → KeepsBoard old written new
+board_stays_at old new h what written stays None here step lacks = let said : BadSlot ≡ NoMemory =
+    sym (ap (λ w. w.reply) step.recorded) ∙ lacks in absurd (cc said)
+board_stays_at old new h what written stays (Some state) here step lacks =
+    board_stays old new h state what written (stays state) here step lacks
 
 -- a read of memory
-pub read_without_memory : {A : Type 0} (old new : World) (h addr len : ℕ) (written : Record A) → Step old (record { slot = h; what = event.MemRead addr len }) written new → written.reply ≡ NoMemory → KeepsBoard old written new
+pub read_without_memory : {A : Type 0} (old new : World) (h addr len : ℕ) (written : Record A)
+    → Step old (record { slot = h; what = event.MemRead addr len }) written new → written.reply ≡ NoMemory
+    → KeepsBoard old written new
 read_without_memory {A} old new h addr len written step lacks =
-    board_stays_at old new h (event.MemRead addr len) written (λ state outcome refused. stays_of state old.health new.health outcome refused.unchanged refused.image) (slice_get old.slots h) refl step lacks
+    board_stays_at old new h (event.MemRead addr len) written
+    (λ state outcome refused. stays_of state old.health new.health outcome refused.unchanged
+    refused.image) (slice_get old.slots h) refl step lacks
 
 -- an emergency write
-unput : {A : Type 0} (state : SlotState) (answered : Bool) (width value : ℕ) (old new : Health) (outcome : Came A)
-    → IsCutShort (task_of Console (if answered then action.ConfigWrite emergency_write width value else action.None)) state old new outcome → Stays state old new outcome
+unput : {A : Type 0} (state : SlotState) (answered : Bool) (width value : ℕ)
+    (old new : Health) (outcome : Came A)
+    → IsCutShort (task_of Console (if answered then action.ConfigWrite emergency_write width value else
+    action.None)) state old new outcome → Stays state old new outcome
 unput state true width value old new outcome h = stays_of state old new outcome h.alike h.image
 unput state false width value old new outcome h = absurd h
 
-pub byte_without_memory : {A : Type 0} (old new : World) (h width value : ℕ) (written : Record A) → Step old (record { slot = h; what = event.Write Console emergency_write width value }) written new → written.reply ≡ NoMemory → KeepsBoard old written new
+pub byte_without_memory : {A : Type 0} (old new : World) (h width value : ℕ) (written : Record A)
+    → Step old (record { slot = h; what = event.Write Console emergency_write width value }) written new
+    → written.reply ≡ NoMemory → KeepsBoard old written new
 byte_without_memory {A} old new h width value written step lacks =
     board_stays_at old new h (event.Write Console emergency_write width value) written
-    (λ state outcome refused. unput state (is_configuration_access emergency_write width) width (narrowed width value) old.health new.health outcome refused) (slice_get old.slots h) refl step lacks
+    (λ state outcome refused. unput state (is_configuration_access emergency_write width) width
+    (narrowed width value) old.health new.health outcome refused) (slice_get old.slots h) refl step lacks
 
 -- ---- what stays of a slot whose event found no memory
 
 same_slot : (state : SlotState) → KeepsBesideTransmit state state
-same_slot state = record { extent = refl; read_only = refl; identity = refl; block = refl; pending = refl; cols = refl; rows = refl; memory = same_range state.memory }
+same_slot state = record {
+  extent = refl;
+  read_only = refl;
+  identity = refl;
+  block = refl;
+  pending = refl;
+  cols = refl;
+  rows = refl;
+  memory = same_range state.memory;
+}
 
-transmit_beside : {A : Type 0} (state : SlotState) (old new : Health) (outcome : Came A) → IsRefusedTransmit state old new outcome → KeepsBesideTransmit state outcome.state
+transmit_beside : {A : Type 0} (state : SlotState) (old new : Health) (outcome : Came A)
+    → IsRefusedTransmit state old new outcome → KeepsBesideTransmit state outcome.state
 transmit_beside {A} state old new outcome h = record {
   extent = ap (λ (o : Came A). o.state.extent) h.is;
   read_only = ap (λ (o : Came A). o.state.read_only) h.is;
@@ -395,14 +549,19 @@ transmit_beside {A} state old new outcome h = record {
   pending = ap (λ (o : Came A). o.state.pending) h.is;
   cols = ap (λ (o : Came A). o.state.cols) h.is;
   rows = ap (λ (o : Came A). o.state.rows) h.is;
-  memory = notified_range transmit 1 (queue_at 1 state.console) Refused state.memory outcome.state.memory state.console outcome.state.console [] outcome.output h.notified;
+  memory = notified_range transmit 1 (queue_at 1 state.console) Refused state.memory outcome.state.memory
+      state.console outcome.state.console [] outcome.output h.notified;
 }
 
-unchanged_beside : {A : Type 0} (state : SlotState) (outcome : Came A) → outcome ≡ replies state NoMemory → KeepsBesideTransmit state outcome.state
-unchanged_beside {A} state outcome is = subst (λ (o : Came A). KeepsBesideTransmit state o.state) (sym is) (same_slot state)
+unchanged_beside : {A : Type 0} (state : SlotState) (outcome : Came A) → outcome ≡ replies state NoMemory
+    → KeepsBesideTransmit state outcome.state
+unchanged_beside {A} state outcome is =
+    subst (λ (o : Came A). KeepsBesideTransmit state o.state) (sym is) (same_slot state)
 
 -- what a write of the console's window changes before its task is done isn't looked at here
-console_beside : (offset width value : ℕ) (state after : SlotState) → KeepsBesideTransmit (with_write Console offset width value state) after → KeepsBesideTransmit state after
+console_beside : (offset width value : ℕ) (state after : SlotState)
+    → KeepsBesideTransmit (with_write Console offset width value state) after
+    → KeepsBesideTransmit state after
 console_beside offset width value state after kept = record {
   extent = kept.extent;
   read_only = kept.read_only;
@@ -419,52 +578,71 @@ record Lacks {A : Type 0} (state : SlotState) (old new : Health) (outcome : Came
   slot : KeepsBesideTransmit state outcome.state
   image : new ≡ old
 
-put_out_lacks : {A : Type 0} (is : Bool) (byte : ℕ) (state : SlotState) (old new : Health) (outcome : Came A) → IsCutShort (if is then PutOut byte else Nothing) state old new outcome → Lacks state old new outcome
-put_out_lacks true byte state old new outcome h = record { slot = unchanged_beside state outcome h.alike; image = h.image }
+put_out_lacks : {A : Type 0} (is : Bool) (byte : ℕ) (state : SlotState) (old new : Health) (outcome : Came A)
+    → IsCutShort (if is then PutOut byte else Nothing) state old new outcome → Lacks state old new outcome
+put_out_lacks true byte state old new outcome h =
+    record { slot = unchanged_beside state outcome h.alike; image = h.image }
 put_out_lacks false byte state old new outcome h = absurd h
 
-console_lacks : {A : Type 0} (act : Action) (state : SlotState) (old new : Health) (outcome : Came A) → IsCutShort (task_of Console act) state old new outcome → Lacks state old new outcome
+console_lacks : {A : Type 0} (act : Action) (state : SlotState) (old new : Health) (outcome : Came A)
+    → IsCutShort (task_of Console act) state old new outcome → Lacks state old new outcome
 console_lacks (action.Notify zero) state old new outcome h = absurd h
-console_lacks (action.Notify (suc zero)) state old new outcome h = record { slot = transmit_beside state old new outcome h; image = h.image }
+console_lacks (action.Notify (suc zero)) state old new outcome h =
+    record { slot = transmit_beside state old new outcome h; image = h.image }
 console_lacks (action.Notify (suc (suc q))) state old new outcome h = absurd h
 console_lacks action.Reset state old new outcome h = absurd h
-console_lacks (action.ConfigWrite offset width value) state old new outcome h = put_out_lacks (offset == emergency_write) (value % 2 ^ 8) state old new outcome h
+console_lacks (action.ConfigWrite offset width value) state old new outcome h =
+    put_out_lacks (offset == emergency_write) (value % 2 ^ 8) state old new outcome h
 console_lacks action.None state old new outcome h = absurd h
 
 -- the block device is never without memory
-block_answers : {A : Type 0} (act : Action) (state : SlotState) (old new : Health) (outcome : Came A) → IsCutShort (task_of Block act) state old new outcome → outcome.reply ≡ NoMemory → ⊥
-block_answers (action.Notify zero) state old new outcome h lacks = let said = sym (ap (λ o. o.reply) h.service.is) ∙ lacks in cc said
+block_answers : {A : Type 0} (act : Action) (state : SlotState) (old new : Health) (outcome : Came A)
+    → IsCutShort (task_of Block act) state old new outcome → outcome.reply ≡ NoMemory → ⊥
+block_answers (action.Notify zero) state old new outcome h lacks = let said =
+    sym (ap (λ o. o.reply) h.service.is) ∙ lacks in cc said
 block_answers (action.Notify (suc q)) state old new outcome h lacks = h
 block_answers action.Reset state old new outcome h lacks = h
 block_answers (action.ConfigWrite offset width value) state old new outcome h lacks = h
 block_answers action.None state old new outcome h lacks = h
 
-write_lacks : {A : Type 0} (state : SlotState) (window : DeviceKind) (offset width value : ℕ) (old new : Health) (outcome : Came A) → outcome.reply ≡ NoMemory
-    → IsCutShort (task_at window offset width value state) (with_write window offset width value state) old new outcome → Lacks state old new outcome
+write_lacks : {A : Type 0} (state : SlotState) (window : DeviceKind) (offset width value : ℕ)
+    (old new : Health) (outcome : Came A) → outcome.reply ≡ NoMemory
+    → IsCutShort (task_at window offset width value state) (with_write window offset width value state) old
+    new outcome → Lacks state old new outcome
 write_lacks state Block offset width value old new outcome lacks h =
-    absurd (block_answers (action_at Block offset width value state) (with_write Block offset width value state) old new outcome h lacks)
+    absurd (block_answers (action_at Block offset width value state)
+    (with_write Block offset width value state) old new outcome h lacks)
 write_lacks state Console offset width value old new outcome lacks h =
-    let kept = console_lacks (action_at Console offset width value state) (with_write Console offset width value state) old new outcome h in
+    let kept = console_lacks (action_at Console offset width value state)
+    (with_write Console offset width value state) old new outcome h in
     record { slot = console_beside offset width value state outcome.state kept.slot; image = kept.image }
 
-refused_lacks : {A : Type 0} (state : SlotState) (what : EventKind A) (old new : Health) (outcome : Came A) → outcome.reply ≡ NoMemory → IsRefused state what old new outcome → Lacks state old new outcome
+refused_lacks : {A : Type 0} (state : SlotState) (what : EventKind A) (old new : Health) (outcome : Came A)
+    → outcome.reply ≡ NoMemory → IsRefused state what old new outcome → Lacks state old new outcome
 refused_lacks state (event.Read window offset width) old new outcome lacks h = absurd h
-refused_lacks state (event.Write window offset width value) old new outcome lacks h = write_lacks state window offset width value old new outcome lacks h
-refused_lacks state (event.MemRead addr len) old new outcome lacks h = record { slot = unchanged_beside state outcome h.unchanged; image = h.image }
+refused_lacks state (event.Write window offset width value) old new outcome lacks h =
+    write_lacks state window offset width value old new outcome lacks h
+refused_lacks state (event.MemRead addr len) old new outcome lacks h =
+    record { slot = unchanged_beside state outcome h.unchanged; image = h.image }
 refused_lacks state (event.MemWrite addr bytes) old new outcome lacks h = absurd h
 refused_lacks state (event.Input bytes) old new outcome lacks h = absurd h
 refused_lacks state (event.Resize cols rows) old new outcome lacks h = absurd h
 refused_lacks state (event.Restore bytes) old new outcome lacks h = absurd h
 refused_lacks state (event.Complete verdict) old new outcome lacks h = absurd h
 
-given_lacks : {A : Type 0} (state : SlotState) (what : EventKind A) (old new : Health) (outcome : Came A) → outcome.reply ≡ NoMemory → MayGive state what old new outcome → Lacks state old new outcome
+given_lacks : {A : Type 0} (state : SlotState) (what : EventKind A) (old new : Health) (outcome : Came A)
+    → outcome.reply ≡ NoMemory → MayGive state what old new outcome → Lacks state old new outcome
 given_lacks state what old new outcome lacks (inl h) = absurd (h.answered lacks)
 given_lacks state what old new outcome lacks (inr h) = refused_lacks state what old new outcome lacks h
 
-pub lacking_event_keeps : {A : Type 0} (old new : World) (e : Event A) (written : Record A) (before after : SlotState) → Step old e written new → written.reply ≡ NoMemory → slice_get old.slots e.slot ≡ Some before → slice_get new.slots e.slot ≡ Some after
+pub lacking_event_keeps : {A : Type 0} (old new : World) (e : Event A) (written : Record A)
+    (before after : SlotState) → Step old e written new → written.reply ≡ NoMemory
+    → slice_get old.slots e.slot ≡ Some before → slice_get new.slots e.slot ≡ Some after
     → KeepsBesideTransmit before after × (new.health ≡ old.health)
 lacking_event_keeps {A} old new e written before after step lacks here there =
-    let taken : SlotStep old e.slot before e.what written new = slot_step old e written new before here step in
+    let taken : SlotStep old e.slot before e.what written new =
+    slot_step old e written new before here step in
     let same = left_as old new e written before after taken here there in
-    let kept = given_lacks before e.what old.health new.health taken.outcome (sym (ap (λ w. w.reply) taken.recorded) ∙ lacks) taken.given in
+    let kept = given_lacks before e.what old.health new.health taken.outcome
+    (sym (ap (λ w. w.reply) taken.recorded) ∙ lacks) taken.given in
     (subst (λ (s : SlotState). KeepsBesideTransmit before s) same kept.slot, kept.image)

@@ -34,29 +34,46 @@ record FinishesAtRest {A : Type 0} (task : Task) (old : SlotState) (outcome : Ou
   health : Health
   finishes : Finishes task old at_rest health outcome
 
-finishes_at_rest : {A : Type 0} (task : Task) (old : SlotState) (before after : Health) (outcome : Outcome A) → Finishes task old before after outcome → FinishesAtRest task old outcome
-finishes_at_rest Nothing old before after outcome h = record { health = at_rest; finishes = record { alike = h.alike; image = refl } }
+finishes_at_rest : {A : Type 0} (task : Task) (old : SlotState) (before after : Health) (outcome : Outcome A)
+    → Finishes task old before after outcome → FinishesAtRest task old outcome
+finishes_at_rest Nothing old before after outcome h =
+    record { health = at_rest; finishes = record { alike = h.alike; image = refl } }
 finishes_at_rest ServeBlock old before after outcome h =
-    let rested : AtRest (device_of old) (queue_at 0 old.block) old.memory outcome.state.memory old.block outcome.state.block old.extent outcome.state.extent =
-    exact_at_rest (device_of old) (queue_at 0 old.block) old.memory outcome.state.memory old.block outcome.state.block old.extent outcome.state.extent before after h.notified in
+    let rested : AtRest (device_of old) (queue_at 0 old.block) old.memory outcome.state.memory old.block
+    outcome.state.block old.extent outcome.state.extent =
+    exact_at_rest (device_of old) (queue_at 0 old.block) old.memory outcome.state.memory old.block
+    outcome.state.block old.extent outcome.state.extent before after h.notified in
     record { health = rested.health; finishes = record { notified = rested.notified; is = h.is } }
-finishes_at_rest ServeReceive old before after outcome h = record { health = at_rest; finishes = record { notified = h.notified; is = h.is; image = refl } }
-finishes_at_rest ServeTransmit old before after outcome h = record { health = at_rest; finishes = record { notified = h.notified; is = h.is; image = refl } }
-finishes_at_rest (PutOut byte) old before after outcome h = record { health = at_rest; finishes = record { alike = h.alike; image = refl } }
+finishes_at_rest ServeReceive old before after outcome h =
+    record { health = at_rest; finishes = record { notified = h.notified; is = h.is; image = refl } }
+finishes_at_rest ServeTransmit old before after outcome h =
+    record { health = at_rest; finishes = record { notified = h.notified; is = h.is; image = refl } }
+finishes_at_rest (PutOut byte) old before after outcome h =
+    record { health = at_rest; finishes = record { alike = h.alike; image = refl } }
 
 -- what an event gives is what comes of it for a guest alone
-pub next_of : {A : Type 0} (state : SlotState) (what : EventKind A) (before after : Health) (outcome : Outcome A) → Gives state what before after outcome → IsNext state what outcome
-next_of state (Read window offset width) before after outcome h = record { after = at_rest; gives = record { alike = h.alike; image = refl } }
+pub next_of : {A : Type 0} (state : SlotState) (what : EventKind A) (before after : Health)
+    (outcome : Outcome A) → Gives state what before after outcome → IsNext state what outcome
+next_of state (Read window offset width) before after outcome h =
+    record { after = at_rest; gives = record { alike = h.alike; image = refl } }
 next_of state (Write window offset width value) before after outcome h =
-    let rested : FinishesAtRest (task_at window offset width value state) (with_write window offset width value state) outcome =
-    finishes_at_rest (task_at window offset width value state) (with_write window offset width value state) before after outcome h in
+    let rested : FinishesAtRest (task_at window offset width value state)
+    (with_write window offset width value state) outcome =
+    finishes_at_rest (task_at window offset width value state) (with_write window offset width value state)
+    before after outcome h in
     record { after = rested.health; gives = rested.finishes }
-next_of state (MemRead addr len) before after outcome h = record { after = at_rest; gives = record { alike = h.alike; image = refl } }
-next_of state (MemWrite addr bytes) before after outcome h = record { after = at_rest; gives = record { alike = h.alike; image = refl } }
-next_of state (Input bytes) before after outcome h = record { after = at_rest; gives = record { notified = h.notified; is = h.is; image = refl } }
-next_of state (Resize cols rows) before after outcome h = record { after = at_rest; gives = record { alike = h.alike; image = refl } }
-next_of state (Restore bytes) before after outcome h = record { after = at_rest; gives = record { alike = h.alike; image = refl } }
-next_of state (Complete verdict) before after outcome h = record { after = at_rest; gives = record { alike = h.alike; image = refl } }
+next_of state (MemRead addr len) before after outcome h =
+    record { after = at_rest; gives = record { alike = h.alike; image = refl } }
+next_of state (MemWrite addr bytes) before after outcome h =
+    record { after = at_rest; gives = record { alike = h.alike; image = refl } }
+next_of state (Input bytes) before after outcome h =
+    record { after = at_rest; gives = record { notified = h.notified; is = h.is; image = refl } }
+next_of state (Resize cols rows) before after outcome h =
+    record { after = at_rest; gives = record { alike = h.alike; image = refl } }
+next_of state (Restore bytes) before after outcome h =
+    record { after = at_rest; gives = record { alike = h.alike; image = refl } }
+next_of state (Complete verdict) before after outcome h =
+    record { after = at_rest; gives = record { alike = h.alike; image = refl } }
 
 -- ---- there is at most one outcome
 
@@ -74,8 +91,10 @@ HasOneService {State} device s =
     → IsService queue_kind device (record { memory = m; ring = queue; state = s }) b f w
     → (a ≡ b) × (e ≡ f) × (v ≡ w)
 
-notified_once : {State : Type 0} (device : Device State) (q : ℕ) (queue : Option Queue) (old m n : Memory) (before v w : WindowState) (s0 s t : State) → HasOneService device s0
-    → IsNotified device q queue old m before v s0 s → IsNotified device q queue old n before w s0 t → SameEnd m n v w s t
+notified_once : {State : Type 0} (device : Device State) (q : ℕ) (queue : Option Queue) (old m n : Memory)
+    (before v w : WindowState) (s0 s t : State) → HasOneService device s0
+    → IsNotified device q queue old m before v s0 s → IsNotified device q queue old n before w s0 t
+    → SameEnd m n v w s t
 notified_once device q None old m n before v w s0 s t once a b = record {
   memory = a.notified.1.memory ∙ sym b.notified.1.memory;
   window = a.notified.1.window ∙ sym b.notified.1.window;
@@ -97,9 +116,11 @@ notified_once {State} device q (Some queue) old m n before v w s0 s t once a b =
     }
 
 -- of the block device over a disk that tells its bytes
-one_block : (device : BlockDevice) (bytes : List ℕ) (health : Health) → HasOneService (exact_device device) (disk_with bytes health)
+one_block : (device : BlockDevice) (bytes : List ℕ) (health : Health)
+    → HasOneService (exact_device device) (disk_with bytes health)
 one_block device bytes health m queue a b e f v w x y =
-    at_most_one_exact_service device bytes (record { memory = m; ring = queue; state = disk_with bytes health }) a b e f v w refl x y
+    at_most_one_exact_service device bytes
+    (record { memory = m; ring = queue; state = disk_with bytes health }) a b e f v w refl x y
 
 -- and of the console's queues
 one_receive : (pending : List ℕ) → HasOneService receive pending
@@ -115,51 +136,78 @@ exact_transmit_once = record { given = λ out readable w g h p q. p ∙ sym q }
 one_transmit : (out : List ℕ) → HasOneService exact_transmit out
 one_transmit out m queue a b e f v w x y =
     let old : Site Queue (List ℕ) = record { memory = m; ring = queue; state = out } in
-    let same = at_most_one_service queue_kind exact_transmit has_at_most_one_chain exact_transmit_once old a b e f v w
-    (never_refused queue_kind exact_transmit old a e v (λ s readable room lacks. lacks) x) (never_refused queue_kind exact_transmit old b f w (λ s readable room lacks. lacks) y) x y in
+    let same = at_most_one_service queue_kind exact_transmit has_at_most_one_chain
+    exact_transmit_once old a b e f v w
+    (never_refused queue_kind exact_transmit old a e v (λ s readable room lacks. lacks) x)
+    (never_refused queue_kind exact_transmit old b f w (λ s readable room lacks. lacks) y) x y in
     (same.site, same.ending, same.wanted)
 
 -- a slot with another memory, extent and block window
 abbrev with_block : SlotState → Memory → List ℕ → WindowState → SlotState
 with_block state memory extent block = record state { memory = memory; extent = extent; block = block }
 
-same_block : (state : SlotState) (m n : Memory) (x y : List ℕ) (v w : WindowState) → m ≡ n → x ≡ y → v ≡ w → with_block state m x v ≡ with_block state n y w
+same_block : (state : SlotState) (m n : Memory) (x y : List ℕ) (v w : WindowState) → m ≡ n → x ≡ y → v ≡ w
+    → with_block state m x v ≡ with_block state n y w
 same_block state m n x y v w p q r = rw (p, q, r) refl
 
-block_once : {A : Type 0} (device : BlockDevice) (old : SlotState) (h k : Health) (one other : Outcome A) → IsBlockService (exact_device device) old at_rest h one → IsBlockService (exact_device device) old at_rest k other → one ≡ other
+block_once : {A : Type 0} (device : BlockDevice) (old : SlotState) (h k : Health) (one other : Outcome A)
+    → IsBlockService (exact_device device) old at_rest h one
+    → IsBlockService (exact_device device) old at_rest k other → one ≡ other
 block_once device old h k one other a b =
-    let end : SameEnd one.state.memory other.state.memory one.state.block other.state.block (disk_with one.state.extent h) (disk_with other.state.extent k) =
-    notified_once (exact_device device) 0 (queue_at 0 old.block) old.memory one.state.memory other.state.memory old.block one.state.block other.state.block (disk_with old.extent at_rest) (disk_with one.state.extent h) (disk_with other.state.extent k) (one_block device old.extent at_rest) a.notified b.notified in
-    let contents : Some one.state.extent ≡ Some other.state.extent = ap (λ (d : Disk). d.contents) end.state in
-    a.is ∙ (ap does (same_block old one.state.memory other.state.memory one.state.extent other.state.extent one.state.block other.state.block end.memory (cc contents) end.window) ∙ sym b.is)
+    let end : SameEnd one.state.memory other.state.memory one.state.block other.state.block
+    (disk_with one.state.extent h) (disk_with other.state.extent k) =
+    notified_once (exact_device device) 0 (queue_at 0 old.block) old.memory one.state.memory
+    other.state.memory old.block one.state.block other.state.block (disk_with old.extent at_rest)
+    (disk_with one.state.extent h) (disk_with other.state.extent k) (one_block device old.extent at_rest)
+    a.notified b.notified in
+    let contents : Some one.state.extent ≡ Some other.state.extent =
+    ap (λ (d : Disk). d.contents) end.state in
+    a.is ∙ (ap does (same_block old one.state.memory other.state.memory one.state.extent other.state.extent
+    one.state.block other.state.block end.memory (cc contents) end.window) ∙ sym b.is)
 
 -- a slot with another memory, console window and pending input
 abbrev with_console : SlotState → Memory → WindowState → List ℕ → SlotState
-with_console state memory console pending = record state { memory = memory; console = console; pending = pending }
+with_console state memory console pending =
+    record state { memory = memory; console = console; pending = pending }
 
-same_console : (state : SlotState) (m n : Memory) (v w : WindowState) (x y : List ℕ) → m ≡ n → v ≡ w → x ≡ y → with_console state m v x ≡ with_console state n w y
+same_console : (state : SlotState) (m n : Memory) (v w : WindowState) (x y : List ℕ) → m ≡ n → v ≡ w → x ≡ y
+    → with_console state m v x ≡ with_console state n w y
 same_console state m n v w x y p q r = rw (p, q, r) refl
 
-received_once : {A : Type 0} (old : SlotState) (reply : Reply A) (h k : Health) (one other : Outcome A) → IsReceiveService old reply at_rest h one → IsReceiveService old reply at_rest k other → one ≡ other
+received_once : {A : Type 0} (old : SlotState) (reply : Reply A) (h k : Health) (one other : Outcome A)
+    → IsReceiveService old reply at_rest h one → IsReceiveService old reply at_rest k other → one ≡ other
 received_once old reply h k one other a b =
-    let end : SameEnd one.state.memory other.state.memory one.state.console other.state.console one.state.pending other.state.pending =
-    notified_once receive 0 (queue_at 0 old.console) old.memory one.state.memory other.state.memory old.console one.state.console other.state.console old.pending one.state.pending other.state.pending (one_receive old.pending) a.notified b.notified in
-    a.is ∙ (ap (λ (s : SlotState). replies s reply) (same_console old one.state.memory other.state.memory one.state.console other.state.console one.state.pending other.state.pending end.memory end.window end.state) ∙ sym b.is)
+    let end : SameEnd one.state.memory other.state.memory one.state.console other.state.console
+    one.state.pending other.state.pending =
+    notified_once receive 0 (queue_at 0 old.console) old.memory one.state.memory other.state.memory
+    old.console one.state.console other.state.console old.pending one.state.pending other.state.pending
+    (one_receive old.pending) a.notified b.notified in
+    a.is ∙ (ap (λ (s : SlotState). replies s reply)
+    (same_console old one.state.memory other.state.memory one.state.console other.state.console
+    one.state.pending other.state.pending end.memory end.window end.state) ∙ sym b.is)
 
 -- a slot with another memory and console window, and what was put out
 abbrev transmitted : {A : Type 0} → SlotState → Memory → WindowState → List ℕ → Outcome A
-transmitted state memory console output = record { state = record state { memory = memory; console = console }; reply = Done; output = output }
+transmitted state memory console output =
+    record { state = record state { memory = memory; console = console }; reply = Done; output = output }
 
-same_transmitted : {A : Type 0} (state : SlotState) (m n : Memory) (v w : WindowState) (x y : List ℕ) → m ≡ n → v ≡ w → x ≡ y → transmitted {A = A} state m v x ≡ transmitted state n w y
+same_transmitted : {A : Type 0} (state : SlotState) (m n : Memory) (v w : WindowState) (x y : List ℕ) → m ≡ n
+    → v ≡ w → x ≡ y → transmitted {A = A} state m v x ≡ transmitted state n w y
 same_transmitted state m n v w x y p q r = rw (p, q, r) refl
 
-transmitted_once : {A : Type 0} (old : SlotState) (h k : Health) (one other : Outcome A) → IsTransmitService old at_rest h one → IsTransmitService old at_rest k other → one ≡ other
+transmitted_once : {A : Type 0} (old : SlotState) (h k : Health) (one other : Outcome A)
+    → IsTransmitService old at_rest h one → IsTransmitService old at_rest k other → one ≡ other
 transmitted_once old h k one other a b =
-    let end : SameEnd one.state.memory other.state.memory one.state.console other.state.console one.output other.output =
-    notified_once exact_transmit 1 (queue_at 1 old.console) old.memory one.state.memory other.state.memory old.console one.state.console other.state.console [] one.output other.output (one_transmit []) a.notified b.notified in
-    a.is ∙ (same_transmitted old one.state.memory other.state.memory one.state.console other.state.console one.output other.output end.memory end.window end.state ∙ sym b.is)
+    let end : SameEnd one.state.memory other.state.memory one.state.console other.state.console
+    one.output other.output =
+    notified_once exact_transmit 1 (queue_at 1 old.console) old.memory one.state.memory other.state.memory
+    old.console one.state.console other.state.console [] one.output other.output (one_transmit [])
+    a.notified b.notified in
+    a.is ∙ (same_transmitted old one.state.memory other.state.memory one.state.console other.state.console
+    one.output other.output end.memory end.window end.state ∙ sym b.is)
 
-finishes_once : {A : Type 0} (task : Task) (old : SlotState) (h k : Health) (one other : Outcome A) → Finishes task old at_rest h one → Finishes task old at_rest k other → one ≡ other
+finishes_once : {A : Type 0} (task : Task) (old : SlotState) (h k : Health) (one other : Outcome A)
+    → Finishes task old at_rest h one → Finishes task old at_rest k other → one ≡ other
 finishes_once Nothing old h k one other a b = a.alike ∙ sym b.alike
 finishes_once ServeBlock old h k one other a b = block_once (device_of old) old h k one other a b
 finishes_once ServeReceive old h k one other a b = received_once old Done h k one other a b
@@ -167,23 +215,28 @@ finishes_once ServeTransmit old h k one other a b = transmitted_once old h k one
 finishes_once (PutOut byte) old h k one other a b = a.alike ∙ sym b.alike
 
 -- an event has at most one outcome
-pub next_once : {A : Type 0} (state : SlotState) (what : EventKind A) (one other : Outcome A) → IsNext state what one → IsNext state what other → one ≡ other
+pub next_once : {A : Type 0} (state : SlotState) (what : EventKind A) (one other : Outcome A)
+    → IsNext state what one → IsNext state what other → one ≡ other
 next_once state (Read window offset width) one other a b = a.gives.alike ∙ sym b.gives.alike
 next_once state (Write window offset width value) one other a b =
-    finishes_once (task_at window offset width value state) (with_write window offset width value state) a.after b.after one other a.gives b.gives
+    finishes_once (task_at window offset width value state) (with_write window offset width value state)
+    a.after b.after one other a.gives b.gives
 next_once state (MemRead addr len) one other a b = a.gives.alike ∙ sym b.gives.alike
 next_once state (MemWrite addr bytes) one other a b = a.gives.alike ∙ sym b.gives.alike
 next_once state (Input bytes) one other a b =
-    received_once (with_input bytes state) (Took (fitting state.pending bytes)) a.after b.after one other a.gives b.gives
+    received_once (with_input bytes state) (Took (fitting state.pending bytes)) a.after b.after one
+    other a.gives b.gives
 next_once state (Resize cols rows) one other a b = a.gives.alike ∙ sym b.gives.alike
-next_once state (Restore bytes) one other a b = restored_once state bytes one other a.gives.alike b.gives.alike
+next_once state (Restore bytes) one other a b =
+    restored_once state bytes one other a.gives.alike b.gives.alike
 next_once state (Complete verdict) one other a b = a.gives.alike ∙ sym b.gives.alike
 
 record OneCourse {A : Type 0} (one other : List (Outcome A)) (s t : SlotState) : Type 0 where
   outcomes : one ≡ other
   last : s ≡ t
 
-course_once : {A : Type 0} (state : SlotState) (events : List (EventKind A)) (one other : List (Outcome A)) (s t : SlotState) → IsCourse state events one s → IsCourse state events other t → OneCourse one other s t
+course_once : {A : Type 0} (state : SlotState) (events : List (EventKind A)) (one other : List (Outcome A))
+    (s t : SlotState) → IsCourse state events one s → IsCourse state events other t → OneCourse one other s t
 course_once state [] [] [] s t a b = record { outcomes = refl; last = a ∙ sym b }
 course_once state [] [] (q ∷ other) s t a b = absurd b
 course_once state [] (p ∷ one) other s t a b = absurd a
@@ -191,15 +244,26 @@ course_once state (what ∷ events) [] other s t a b = absurd a
 course_once state (what ∷ events) (p ∷ one) [] s t a b = absurd b
 course_once {A} state (what ∷ events) (p ∷ one) (q ∷ other) s t a b =
     let same : p ≡ q = next_once state what p q a.0 b.0 in
-    let rest : OneCourse one other s t = course_once p.state events one other s t a.1 (subst (λ (o : Outcome A). IsCourse o.state events other t) (sym same) b.1) in
-    record { outcomes = ap (λ (o : Outcome A). o ∷ one) same ∙ ap (λ (os : List (Outcome A)). q ∷ os) rest.outcomes; last = rest.last }
+    let rest : OneCourse one other s t =
+    course_once p.state events one other s t a.1
+    (subst (λ (o : Outcome A). IsCourse o.state events other t) (sym same) b.1) in
+    record {
+      outcomes = ap (λ (o : Outcome A). o ∷ one) same
+          ∙ ap (λ (os : List (Outcome A)). q ∷ os) rest.outcomes;
+      last = rest.last;
+    }
 
 -- and so has a whole run
 pub record OneRun {A : Type 0} (told told' : List (Record A)) (one other : SlotState) : Type 0 where
   pub records : told ≡ told'
   pub last : one ≡ other
 
-pub one_run : {A : Type 0} (g : ℕ) (state one other : SlotState) (events : List (EventKind A)) (records records' : List (Record A)) → RunsOnItsOwn g state events records one → RunsOnItsOwn g state events records' other → OneRun records records' one other
+pub one_run : {A : Type 0} (g : ℕ) (state one other : SlotState) (events : List (EventKind A))
+    (records records' : List (Record A)) → RunsOnItsOwn g state events records one
+    → RunsOnItsOwn g state events records' other → OneRun records records' one other
 one_run g state one other events records records' a b =
     let course = course_once state events a.outcomes b.outcomes one other a.course b.course in
-    record { records = a.told ∙ (ap (λ os. map (record_of g) os) course.outcomes ∙ sym b.told); last = course.last }
+    record {
+      records = a.told ∙ (ap (λ os. map (record_of g) os) course.outcomes ∙ sym b.told);
+      last = course.last;
+    }

@@ -18,17 +18,25 @@ use Rattle.console_device.proofs.Services.{serves_left, stop_state}
 use Rattle.mmio_window.specs.Pieces.{ServesTo}
 
 -- what a piece of the receive queue's service leaves pending is the end of what was
-piece_left : (stage : Stage) (budget : Budget) (queue : Option Queue) (progress : Progress) (m m' : Memory) (w w' : WindowState) (s s' : List ℕ)
+piece_left : (stage : Stage) (budget : Budget) (queue : Option Queue) (progress : Progress) (m m' : Memory)
+    (w w' : WindowState) (s s' : List ℕ)
     → ServesTo stage receive budget 0 queue progress m m' w w' s s' → IsLeft s s'
 piece_left First budget queue Done m m' w w' s s' h =
-    notified_left 0 queue m m' w w' s s' (record { ending = h.ending; notified = notified_once receive budget 0 queue h.ending m m' w w' s s' h.notified })
+    notified_left 0 queue m m' w w' s s'
+    (record {
+      ending = h.ending;
+      notified = notified_once receive budget 0 queue h.ending m m' w w' s s' h.notified;
+    })
 piece_left First budget None More m m' w w' s s' h = absurd h
 piece_left First budget (Some queue) More m m' w w' s s' h =
-    serves_left queue_kind (open_site queue_kind receive (record { memory = m; ring = queue; state = s })) (record { memory = m'; ring = h.last; state = s' }) h.begins.pauses.course.chains h.begins.pauses.course.serves
+    serves_left queue_kind (open_site queue_kind receive (record { memory = m; ring = queue; state = s }))
+    (record { memory = m'; ring = h.last; state = s' }) h.begins.pauses.course.chains
+    h.begins.pauses.course.serves
 piece_left Next budget None Done m m' w w' s s' h = record { taken = 0; rest = h.finished.1.state }
 piece_left Next budget (Some queue) Done m m' w w' s s' h =
     let runs = h.finished.ends.ends.runs in
-    let left = serves_left queue_kind (record { memory = m; ring = queue; state = s }) runs.at runs.chains runs.serves in
+    let left = serves_left queue_kind (record { memory = m; ring = queue; state = s }) runs.at
+    runs.chains runs.serves in
     record {
       taken = left.taken;
       rest =
@@ -39,12 +47,16 @@ piece_left Next budget (Some queue) Done m m' w w' s s' h =
     }
 piece_left Next budget None More m m' w w' s s' h = absurd h
 piece_left Next budget (Some queue) More m m' w w' s s' h =
-    serves_left queue_kind (record { memory = m; ring = queue; state = s }) (record { memory = m'; ring = h.last; state = s' }) h.pauses.course.chains h.pauses.course.serves
+    serves_left queue_kind (record { memory = m; ring = queue; state = s })
+    (record { memory = m'; ring = h.last; state = s' }) h.pauses.course.chains h.pauses.course.serves
 
 left_fits : (old new : List ℕ) → IsLeft old new → length old ≤ 4096 → length new ≤ 4096
-left_fits old new left fits = let size : length new ≡ length old - left.taken = ap length left.rest ∙ length-drop left.taken old in omega (arith, size, fits)
+left_fits old new left fits = let size : length new ≡ length old - left.taken = ap length left.rest
+    ∙ length-drop left.taken old in omega (arith, size, fits)
 
 -- so what fitted fits
-pub piece_fits : (stage : Stage) (budget : Budget) (queue : Option Queue) (progress : Progress) (m m' : Memory) (w w' : WindowState) (s s' : List ℕ)
+pub piece_fits : (stage : Stage) (budget : Budget) (queue : Option Queue) (progress : Progress)
+    (m m' : Memory) (w w' : WindowState) (s s' : List ℕ)
     → ServesTo stage receive budget 0 queue progress m m' w w' s s' → length s ≤ 4096 → length s' ≤ 4096
-piece_fits stage budget queue progress m m' w w' s s' h fits = left_fits s s' (piece_left stage budget queue progress m m' w w' s s' h) fits
+piece_fits stage budget queue progress m m' w w' s s' h fits =
+    left_fits s s' (piece_left stage budget queue progress m m' w w' s s' h) fits

@@ -19,49 +19,64 @@ use Rattle.board.proofs.Saving.{fault_not_read, none_some, same_read, same_windo
 
 -- ---- there is at most one outcome
 
-takes_once : (old : BoardSlot) (saved : SavedSlot) (pending : List ℕ) (one other : BoardSlot) → TakesUp old saved pending one → TakesUp old saved pending other → one ≡ other
+takes_once : (old : BoardSlot) (saved : SavedSlot) (pending : List ℕ) (one other : BoardSlot)
+    → TakesUp old saved pending one → TakesUp old saved pending other → one ≡ other
 takes_once old saved pending one other a b =
     let block : one.block ≡ other.block = same_window _ _ _ a.block b.block in
     let console : one.console ≡ other.console = same_window _ _ _ a.console b.console in
     a.is ∙ (rw (block, console) refl ∙ sym b.is)
 
-slot_once : (old : BoardSlot) (bytes : List ℕ) (one other : BoardSlot) → IsRestored old bytes one → IsRestored old bytes other → one ≡ other
+slot_once : (old : BoardSlot) (bytes : List ℕ) (one other : BoardSlot) → IsRestored old bytes one
+    → IsRestored old bytes other → one ≡ other
 slot_once old bytes one other a b =
     let same : (a.saved, a.pending) ≡ (b.saved, b.pending) = same_read _ _ _ a.read b.read in
-    takes_once old b.saved b.pending one other (subst (λ (x : SavedSlot × List ℕ). TakesUp old x.0 x.1 one) same a.takes_up) b.takes_up
+    takes_once old b.saved b.pending one other (subst (λ (x : SavedSlot × List ℕ). TakesUp old x.0 x.1 one)
+    same a.takes_up) b.takes_up
 
 -- what prevents it doesn't leave a slot that took it up
-not_both : (old : BoardSlot) (saved : SavedSlot) (pending : List ℕ) (new : BoardSlot) (why : RestoreFault) → TakesUp old saved pending new → Prevents old saved why → ⊥
+not_both : (old : BoardSlot) (saved : SavedSlot) (pending : List ℕ) (new : BoardSlot) (why : RestoreFault)
+    → TakesUp old saved pending new → Prevents old saved why → ⊥
 not_both old saved pending new (Snapshot fault) takes prevents = prevents
 not_both old saved pending new OtherSlot takes prevents = prevents takes.suits
 not_both old saved pending new BadBlock takes prevents = none_some _ _ prevents takes.block
 not_both old saved pending new BadConsole takes prevents = none_some _ _ prevents takes.console
 
-no_cause : (old : BoardSlot) (bytes : List ℕ) (new : BoardSlot) (why : RestoreFault) → IsRestored old bytes new → IsCauseOf old bytes why → ⊥
+no_cause : (old : BoardSlot) (bytes : List ℕ) (new : BoardSlot) (why : RestoreFault)
+    → IsRestored old bytes new → IsCauseOf old bytes why → ⊥
 no_cause old bytes new (Snapshot fault) is cause = fault_not_read _ _ fault cause is.read
-no_cause old bytes new OtherSlot is cause = not_both old is.saved is.pending new OtherSlot is.takes_up (rw is.read at cause)
-no_cause old bytes new BadBlock is cause = not_both old is.saved is.pending new BadBlock is.takes_up (rw is.read at cause)
-no_cause old bytes new BadConsole is cause = not_both old is.saved is.pending new BadConsole is.takes_up (rw is.read at cause)
+no_cause old bytes new OtherSlot is cause =
+    not_both old is.saved is.pending new OtherSlot is.takes_up (rw is.read at cause)
+no_cause old bytes new BadBlock is cause =
+    not_both old is.saved is.pending new BadBlock is.takes_up (rw is.read at cause)
+no_cause old bytes new BadConsole is cause =
+    not_both old is.saved is.pending new BadConsole is.takes_up (rw is.read at cause)
 
 -- what a guest can see of a slot whose disk has these bytes
 abbrev state_in : List ℕ → BoardSlot → SlotState
 state_in extent slot = record (state_of [] slot) { extent = extent }
 
-state_once : (state : SlotState) (bytes : List ℕ) (one other : SlotState) → IsTakenUp state bytes one → IsTakenUp state bytes other → one ≡ other
+state_once : (state : SlotState) (bytes : List ℕ) (one other : SlotState) → IsTakenUp state bytes one
+    → IsTakenUp state bytes other → one ≡ other
 state_once state bytes one other a b =
-    let slots : slot_in one ≡ slot_in other = slot_once (slot_in state) bytes (slot_in one) (slot_in other) a.restored b.restored in
+    let slots : slot_in one ≡ slot_in other =
+    slot_once (slot_in state) bytes (slot_in one) (slot_in other) a.restored b.restored in
     let extents : one.extent ≡ other.extent = a.extent ∙ sym b.extent in
-    ap (λ (slot : BoardSlot). state_in one.extent slot) slots ∙ ap (λ (extent : List ℕ). state_in extent (slot_in other)) extents
+    ap (λ (slot : BoardSlot). state_in one.extent slot) slots
+    ∙ ap (λ (extent : List ℕ). state_in extent (slot_in other)) extents
 
-pub restored_once : {A : Type 0} (state : SlotState) (bytes : List ℕ) (one other : Outcome A) → IsRestoring state bytes one → IsRestoring state bytes other → one ≡ other
+pub restored_once : {A : Type 0} (state : SlotState) (bytes : List ℕ) (one other : Outcome A)
+    → IsRestoring state bytes one → IsRestoring state bytes other → one ≡ other
 restored_once state bytes one other (inl a) (inl b) =
     a.1 ∙ (ap does (state_once state bytes one.state other.state a.0 b.0) ∙ sym b.1)
-restored_once state bytes one other (inl a) (inr b) = absurd (no_cause (slot_in state) bytes (slot_in one.state) b.0.why a.0.restored b.0.cause)
-restored_once state bytes one other (inr a) (inl b) = absurd (no_cause (slot_in state) bytes (slot_in other.state) a.0.why b.0.restored a.0.cause)
+restored_once state bytes one other (inl a) (inr b) =
+    absurd (no_cause (slot_in state) bytes (slot_in one.state) b.0.why a.0.restored b.0.cause)
+restored_once state bytes one other (inr a) (inl b) =
+    absurd (no_cause (slot_in state) bytes (slot_in other.state) a.0.why b.0.restored a.0.cause)
 restored_once state bytes one other (inr a) (inr b) = a.1 ∙ sym b.1
 
 -- it keeps the identity
-pub restored_named : {A : Type 0} (state : SlotState) (bytes : List ℕ) (outcome : Outcome A) → IsRestoring state bytes outcome → outcome.state.identity ≡ state.identity
+pub restored_named : {A : Type 0} (state : SlotState) (bytes : List ℕ) (outcome : Outcome A)
+    → IsRestoring state bytes outcome → outcome.state.identity ≡ state.identity
 restored_named state bytes outcome (inl a) = ap (λ (slot : BoardSlot). slot.identity) a.0.restored.takes_up.is
 restored_named state bytes outcome (inr a) = ap (λ o. o.state.identity) a.1
 
@@ -71,7 +86,8 @@ restored_named state bytes outcome (inr a) = ap (λ o. o.state.identity) a.1
 abbrev IsCounted : List ℕ → BoardSlot → Type 0
 IsCounted image slot = sectors_of (state_of image slot).extent ≡ slot.extent.count
 
-suits_in : (image : List ℕ) (slot : BoardSlot) (saved : SavedSlot) → IsCounted image slot → Suits saved slot → Suits saved (slot_in (state_of image slot))
+suits_in : (image : List ℕ) (slot : BoardSlot) (saved : SavedSlot) → IsCounted image slot → Suits saved slot
+    → Suits saved (slot_in (state_of image slot))
 suits_in image slot saved counted suits = record {
   base = suits.base;
   len = suits.len;
@@ -82,7 +98,8 @@ suits_in image slot saved counted suits = record {
   console = suits.console;
 }
 
-suits_out : (image : List ℕ) (slot : BoardSlot) (saved : SavedSlot) → IsCounted image slot → Suits saved (slot_in (state_of image slot)) → Suits saved slot
+suits_out : (image : List ℕ) (slot : BoardSlot) (saved : SavedSlot) → IsCounted image slot
+    → Suits saved (slot_in (state_of image slot)) → Suits saved slot
 suits_out image slot saved counted suits = record {
   base = suits.base;
   len = suits.len;
@@ -93,7 +110,8 @@ suits_out image slot saved counted suits = record {
   console = suits.console;
 }
 
-taken_in : (image : List ℕ) (slot new : BoardSlot) (bytes : List ℕ) → IsCounted image slot → IsRestored slot bytes new → IsTakenUp (state_of image slot) bytes (state_of image new)
+taken_in : (image : List ℕ) (slot new : BoardSlot) (bytes : List ℕ) → IsCounted image slot
+    → IsRestored slot bytes new → IsTakenUp (state_of image slot) bytes (state_of image new)
 taken_in image slot new bytes counted h = record {
   restored = record {
     saved = h.saved;
@@ -109,27 +127,34 @@ taken_in image slot new bytes counted h = record {
   extent = ap (λ (s : BoardSlot). extent_of image s.extent.start s.extent.count) h.takes_up.is;
 }
 
-prevents_in : (image : List ℕ) (slot : BoardSlot) (saved : SavedSlot) (why : RestoreFault) → IsCounted image slot → Prevents slot saved why → Prevents (slot_in (state_of image slot)) saved why
+prevents_in : (image : List ℕ) (slot : BoardSlot) (saved : SavedSlot) (why : RestoreFault)
+    → IsCounted image slot → Prevents slot saved why → Prevents (slot_in (state_of image slot)) saved why
 prevents_in image slot saved (Snapshot fault) counted h = h
 prevents_in image slot saved OtherSlot counted h = λ suits. h (suits_out image slot saved counted suits)
 prevents_in image slot saved BadBlock counted h = h
 prevents_in image slot saved BadConsole counted h = h
 
-found_in : (image : List ℕ) (slot : BoardSlot) (found : Result (SavedSlot × List ℕ) SnapshotFault) (why : RestoreFault) → IsCounted image slot
-    → IsOkAnd found (λ x. Prevents slot x.0 why) → IsOkAnd found (λ x. Prevents (slot_in (state_of image slot)) x.0 why)
+found_in : (image : List ℕ) (slot : BoardSlot) (found : Result (SavedSlot × List ℕ) SnapshotFault)
+    (why : RestoreFault) → IsCounted image slot
+    → IsOkAnd found (λ x. Prevents slot x.0 why)
+    → IsOkAnd found (λ x. Prevents (slot_in (state_of image slot)) x.0 why)
 found_in image slot (Ok x) why counted h = prevents_in image slot x.0 why counted h
 found_in image slot (Err fault) why counted h = h
 
-cause_in : (image : List ℕ) (slot : BoardSlot) (bytes : List ℕ) (why : RestoreFault) → IsCounted image slot → IsCauseOf slot bytes why → IsCauseOf (slot_in (state_of image slot)) bytes why
+cause_in : (image : List ℕ) (slot : BoardSlot) (bytes : List ℕ) (why : RestoreFault) → IsCounted image slot
+    → IsCauseOf slot bytes why → IsCauseOf (slot_in (state_of image slot)) bytes why
 cause_in image slot bytes (Snapshot fault) counted h = h
 cause_in image slot bytes OtherSlot counted h = found_in image slot (snapshot_at bytes) OtherSlot counted h
 cause_in image slot bytes BadBlock counted h = found_in image slot (snapshot_at bytes) BadBlock counted h
 cause_in image slot bytes BadConsole counted h = found_in image slot (snapshot_at bytes) BadConsole counted h
 
 -- A slot that takes up a snapshot, or doesn't, gives what comes of that event.
-pub restore_given : (A : Type 0) (image : List ℕ) (slot new : BoardSlot) (bytes : List ℕ) (result : Result (Unit {0}) RestoreFault) (health : Health) → IsCounted image slot
-    → OnOk result (IsRestored slot bytes new) → IfErr result (IsCauseOf slot bytes) → OnErr result (new ≡ slot)
-    → MayGive {A = A} (state_of image slot) (Restore bytes) health health (replies (state_of image new) (restore_reply result))
+pub restore_given : (A : Type 0) (image : List ℕ) (slot new : BoardSlot) (bytes : List ℕ)
+    (result : Result (Unit {0}) RestoreFault) (health : Health) → IsCounted image slot
+    → OnOk result (IsRestored slot bytes new) → IfErr result (IsCauseOf slot bytes)
+    → OnErr result (new ≡ slot)
+    → MayGive {A = A} (state_of image slot) (Restore bytes) health health
+    (replies (state_of image new) (restore_reply result))
 restore_given A image slot new bytes (Ok done) health counted ok fault kept = inl (record {
   alike = record { alike = inl (taken_in image slot new bytes counted ok, refl); image = refl };
   answered = λ no. absurd (cc);
@@ -137,7 +162,10 @@ restore_given A image slot new bytes (Ok done) health counted ok fault kept = in
 })
 restore_given A image slot new bytes (Err why) health counted ok fault kept = inl (record {
   alike = record {
-    alike = inr (record { why = why; cause = cause_in image slot bytes why counted fault }, ap (λ (s : BoardSlot). replies (state_of image s) BadState) kept);
+    alike = inr (
+      record { why = why; cause = cause_in image slot bytes why counted fault },
+      ap (λ (s : BoardSlot). replies (state_of image s) BadState) kept,
+    );
     image = refl;
   };
   answered = λ no. absurd (cc);

@@ -15,93 +15,151 @@ use Rattle.board.proofs.Alone.{alone, recorded_slot}
 use Rattle.board.proofs.Failures.{given_failures}
 use Rattle.board.proofs.Noted.{line_noted}
 
-step_failures_at : {A : Type 0} (old : World) (event : Event A) (written : Record A) (new : World) (o : Option SlotState) → MatchOption o (MissingStep old event.slot written new) (λ s. SlotStep old event.slot s event.what written new) → old.health.failures ≤ new.health.failures
-step_failures_at old event written new None step = let same : new.health.failures ≡ old.health.failures = ap (λ (w : World). w.health.failures) step.same in omega arith
-step_failures_at old event written new (Some s) step = given_failures s event.what old.health new.health step.outcome step.given
+step_failures_at : {A : Type 0} (old : World) (event : Event A) (written : Record A) (new : World)
+    (o : Option SlotState) → MatchOption o (MissingStep old event.slot written new)
+    (λ s. SlotStep old event.slot s event.what written new) → old.health.failures ≤ new.health.failures
+step_failures_at old event written new None step = let same : new.health.failures ≡ old.health.failures =
+    ap (λ (w : World). w.health.failures) step.same in omega arith
+step_failures_at old event written new (Some s) step =
+    given_failures s event.what old.health new.health step.outcome step.given
 
 -- in a step
-step_failures : {A : Type 0} (old : World) (event : Event A) (written : Record A) (new : World) → Step old event written new → old.health.failures ≤ new.health.failures
-step_failures old event written new step = step_failures_at old event written new (slice_get old.slots event.slot) step
+step_failures : {A : Type 0} (old : World) (event : Event A) (written : Record A) (new : World)
+    → Step old event written new → old.health.failures ≤ new.health.failures
+step_failures old event written new step =
+    step_failures_at old event written new (slice_get old.slots event.slot) step
 
 -- and in a line
-line_failures : {A : Type 0} (old : World) (moves : List (Move A)) (new : World) → IsLine old moves new → old.health.failures ≤ new.health.failures
-line_failures old [] new line = let same : new.health.failures ≡ old.health.failures = ap (λ (w : World). w.health.failures) line in omega arith
+line_failures : {A : Type 0} (old : World) (moves : List (Move A)) (new : World) → IsLine old moves new
+    → old.health.failures ≤ new.health.failures
+line_failures old [] new line = let same : new.health.failures ≡ old.health.failures =
+    ap (λ (w : World). w.health.failures) line in omega arith
 line_failures old (move ∷ moves) new line =
-    let first : old.health.failures ≤ move.after.health.failures = step_failures old move.event move.written move.after line.0 in
+    let first : old.health.failures ≤ move.after.health.failures =
+    step_failures old move.event move.written move.after line.0 in
     let rest : move.after.health.failures ≤ new.health.failures = line_failures move.after moves new line.1 in
     omega arith
 
-outside_at : {A : Type 0} (old : World) (event : Event A) (written : Record A) (new : World) (o : Option SlotState) → MatchOption o (MissingStep old event.slot written new) (λ s. SlotStep old event.slot s event.what written new) → new.outside ≡ old.outside
+outside_at : {A : Type 0} (old : World) (event : Event A) (written : Record A) (new : World)
+    (o : Option SlotState) → MatchOption o (MissingStep old event.slot written new)
+    (λ s. SlotStep old event.slot s event.what written new) → new.outside ≡ old.outside
 outside_at old event written new None step = ap (λ (w : World). w.outside) step.same
 outside_at old event written new (Some s) step = step.outside
 
 -- the bytes outside all extents stay: in a step
-pub step_outside : {A : Type 0} (old : World) (event : Event A) (written : Record A) (new : World) → Step old event written new → new.outside ≡ old.outside
-step_outside old event written new step = outside_at old event written new (slice_get old.slots event.slot) step
+pub step_outside : {A : Type 0} (old : World) (event : Event A) (written : Record A) (new : World)
+    → Step old event written new → new.outside ≡ old.outside
+step_outside old event written new step =
+    outside_at old event written new (slice_get old.slots event.slot) step
 
 -- and in a line
-pub line_outside : {A : Type 0} (old : World) (moves : List (Move A)) (new : World) → IsLine old moves new → new.outside ≡ old.outside
+pub line_outside : {A : Type 0} (old : World) (moves : List (Move A)) (new : World) → IsLine old moves new
+    → new.outside ≡ old.outside
 line_outside old [] new line = ap (λ (w : World). w.outside) line
-line_outside old (move ∷ moves) new line = line_outside move.after moves new line.1 ∙ step_outside old move.event move.written move.after line.0
+line_outside old (move ∷ moves) new line = line_outside move.after moves new line.1
+    ∙ step_outside old move.event move.written move.after line.0
 
 -- where no call of the image failed in a whole line, a guest without a record of NoMemory is quiet
-quiet : {A : Type 0} (g : ℕ) (old : World) (moves : List (Move A)) (new : World) → IsLine old moves new → new.health.failures ≡ old.health.failures → HadMemory g (records_of moves) → IsQuiet g old moves
+quiet : {A : Type 0} (g : ℕ) (old : World) (moves : List (Move A)) (new : World) → IsLine old moves new
+    → new.health.failures ≡ old.health.failures → HadMemory g (records_of moves) → IsQuiet g old moves
 quiet g old [] new line stood had = tt
 quiet {A} g old (move ∷ moves) new line stood had =
-    let first : old.health.failures ≤ move.after.health.failures = step_failures old move.event move.written move.after line.0 in
+    let first : old.health.failures ≤ move.after.health.failures =
+    step_failures old move.event move.written move.after line.0 in
     let rest : move.after.health.failures ≤ new.health.failures = line_failures move.after moves new line.1 in
     let P : Record A → Type 0 = λ entry. entry.slot ≡ g → entry.reply ≢ NoMemory in (
       record {
-        memory = λ mine. All-head P move.written (records_of moves) had (recorded_slot old move.event move.written move.after line.0 ∙ mine);
+        memory = λ mine. All-head P move.written (records_of moves) had
+            (recorded_slot old move.event move.written move.after line.0 ∙ mine);
         image = λ mine. omega arith;
       },
       quiet g move.after moves new line.1 (omega arith) (All-tail P move.written (records_of moves) had),
     )
 
 -- where the board handled an event it answered it
-pub answered : {A : Type 0} {old : World} {event : Event A} {reply : Reply A} {block console : ℕ} {before after : List ℕ} {new : World} → Handles old event reply block console before after new → Answers old event reply before after new
+pub answered : {A : Type 0} {old : World} {event : Event A} {reply : Reply A} {block console : ℕ}
+    {before after : List ℕ} {new : World} → Handles old event reply block console before after new
+    → Answers old event reply before after new
 answered h = record { written = _; step = h.step; replied = refl; appended = h.appended }
 
 -- a line goes on by one step
-line_more : {A : Type 0} (old mid new : World) (moves : List (Move A)) (move : Move A) → IsLine old moves mid → Step mid move.event move.written move.after → move.after ≡ new → IsLine old (moves ++ move ∷ []) new
-line_more old mid new [] move line step last = (subst (λ (w : World). Step w move.event move.written move.after) line step, sym last)
-line_more old mid new (m ∷ moves) move line step last = (line.0, line_more m.after mid new moves move line.1 step last)
+line_more : {A : Type 0} (old mid new : World) (moves : List (Move A)) (move : Move A) → IsLine old moves mid
+    → Step mid move.event move.written move.after → move.after ≡ new → IsLine old (moves ++ move ∷ []) new
+line_more old mid new [] move line step last =
+    (subst (λ (w : World). Step w move.event move.written move.after) line step, sym last)
+line_more old mid new (m ∷ moves) move line step last =
+    (line.0, line_more m.after mid new moves move line.1 step last)
 
 -- What a run did so far: a line over the events so far, whose records were added to those before it.
-pub record Reached {A : Type 0} (old new : World) (events : List (Event A)) (before after : List (Record A)) : Type 0 where
+pub record Reached {A : Type 0} (old new : World) (events : List (Event A))
+    (before after : List (Record A)) : Type 0 where
   pub moves : List (Move A)
   pub line : IsLine old moves new
   pub events_are : events_of moves ≡ events
   pub records_are : after ≡ before ++ records_of moves
 
 -- then the board handles one event more, and its record is added
-pub reached_more : {A : Type 0} (old mid new : World) (events : List (Event A)) (event : Event A) (reply : Reply A) (block console : ℕ) (out : List ℕ) (before so_far after : List (Record A)) →
+pub reached_more : {A : Type 0} (old mid new : World) (events : List (Event A)) (event : Event A)
+    (reply : Reply A) (block console : ℕ) (out : List ℕ) (before so_far after : List (Record A)) →
     Reached old mid events before so_far → Handles mid event reply block console [] out new →
-    after ≡ so_far ++ record { slot = event.slot; reply = reply; output = out; block_irq = block; console_irq = console } ∷ [] →
+    after ≡ so_far ++ record {
+      slot = event.slot;
+      reply = reply;
+      output = out;
+      block_irq = block;
+      console_irq = console;
+    } ∷ [] →
     Reached old new (events ++ event ∷ []) before after
 reached_more {A} old mid new events event reply block console out before so_far after reached handles added =
-    let move : Move A = record { event = event; written = record { slot = event.slot; reply = reply; output = handles.output; block_irq = block; console_irq = console }; after = new } in
+    let move : Move A = record {
+      event = event;
+      written = record {
+        slot = event.slot;
+        reply = reply;
+        output = handles.output;
+        block_irq = block;
+        console_irq = console;
+      };
+      after = new;
+    } in
     record {
       moves = reached.moves ++ move ∷ [];
       line = line_more old mid new reached.moves move reached.line handles.step refl;
-      events_are = map-append (λ (m : Move A). m.event) reached.moves (move ∷ []) ∙ ap (λ es. es ++ event ∷ []) reached.events_are;
+      events_are = map-append (λ (m : Move A). m.event) reached.moves (move ∷ [])
+          ∙ ap (λ es. es ++ event ∷ []) reached.events_are;
       records_are =
           added
-          ∙ (ap (λ (output : List ℕ). so_far ++ record { slot = event.slot; reply = reply; output = output; block_irq = block; console_irq = console } ∷ []) handles.appended
+          ∙ (ap (λ (output : List ℕ). so_far
+          ++ record {
+            slot = event.slot;
+            reply = reply;
+            output = output;
+            block_irq = block;
+            console_irq = console;
+          } ∷ []) handles.appended
           ∙ (ap (λ rs. rs ++ move.written ∷ []) reached.records_are
           ∙ (append_assoc before (records_of reached.moves) (move.written ∷ [])
-          ∙ ap (λ rs. before ++ rs) (sym (map-append (λ (m : Move A). m.written) reached.moves (move ∷ []))))));
+          ∙ ap (λ rs. before ++ rs)
+          (sym (map-append (λ (m : Move A). m.written) reached.moves (move ∷ []))))));
     }
 
 -- another record joins those whose words are right
-pub words_more : {A : Type 0} (so_far after : List (Record A)) (entry : Record A) → after ≡ so_far ++ entry ∷ [] → All HasInterruptWords so_far → HasInterruptWords entry → All HasInterruptWords after
+pub words_more : {A : Type 0} (so_far after : List (Record A)) (entry : Record A) → after ≡ so_far
+    ++ entry ∷ [] → All HasInterruptWords so_far → HasInterruptWords entry → All HasInterruptWords after
 words_more {A} so_far after entry added words own =
     let P : Record A → Type 0 = λ w. HasInterruptWords w in
     subst (λ (rs : List (Record A)). All P rs) (sym added) (All-push P so_far entry words own)
 
 -- the record of an event of a slot that isn't there joins those of other such events
-pub missing_more : {I A : Type 0} {old new : BoardState I} (slots now : List BoardSlot) (so_far after : List (Record A)) (h : ℕ) (reply : Reply A) (out : List ℕ) (block console : ℕ) →
-    after ≡ so_far ++ record { slot = h; reply = reply; output = out; block_irq = block; console_irq = console } ∷ [] →
+pub missing_more : {I A : Type 0} {old new : BoardState I} (slots now : List BoardSlot)
+    (so_far after : List (Record A)) (h : ℕ) (reply : Reply A) (out : List ℕ) (block console : ℕ) →
+    after ≡ so_far ++ record {
+      slot = h;
+      reply = reply;
+      output = out;
+      block_irq = block;
+      console_irq = console;
+    } ∷ [] →
     extents_of now ≡ extents_of slots → All (AnswersMissing (length slots)) so_far →
     (length now ≤ h → reply ≡ BadSlot) → (length now ≤ h → IsMissed old new [] out block console) →
     All (AnswersMissing (length slots)) after
@@ -110,13 +168,22 @@ missing_more {A = A} slots now so_far after h reply out block console added many
     subst (λ (rs : List (Record A)). All P rs) (sym added) (All-push P so_far _ before is)
   where
     as_many : length now ≡ length slots
-    as_many = sym (length-map now (λ (s : BoardSlot). s.extent)) ∙ (ap length many ∙ length-map slots (λ (s : BoardSlot). s.extent))
+    as_many = sym (length-map now (λ (s : BoardSlot). s.extent))
+        ∙ (ap length many ∙ length-map slots (λ (s : BoardSlot). s.extent))
 
-    is : length slots ≤ h → record { slot = h; reply = reply; output = out; block_irq = block; console_irq = console } ≡ bad_slot {A = A} h
-    is past = let away : length now ≤ h = omega (arith, as_many, past) in let missed = rest away in rw (bad away, missed.silent, missed.block, missed.console) refl
+    is : length slots ≤ h → record {
+      slot = h;
+      reply = reply;
+      output = out;
+      block_irq = block;
+      console_irq = console;
+    } ≡ bad_slot {A = A} h
+    is past = let away : length now ≤ h = omega (arith, as_many, past) in let missed = rest away in
+        rw (bad away, missed.silent, missed.block, missed.console) refl
 
 -- what was reached is a run
-pub run_of : {A : Type 0} (old new : World) (events : List (Event A)) (before after : List (Record A)) → Reached old new events before after → IsRun old new events before after
+pub run_of : {A : Type 0} (old new : World) (events : List (Event A)) (before after : List (Record A))
+    → Reached old new events before after → IsRun old new events before after
 run_of old new events before after reached = record {
   moves = reached.moves;
   line = reached.line;
@@ -128,19 +195,24 @@ run_of old new events before after reached = record {
 }
 
 -- two lines, the second from where the first ends, are one
-lines_join : {A : Type 0} (old mid new : World) (moves more : List (Move A)) → IsLine old moves mid → IsLine mid more new → IsLine old (moves ++ more) new
+lines_join : {A : Type 0} (old mid new : World) (moves more : List (Move A)) → IsLine old moves mid
+    → IsLine mid more new → IsLine old (moves ++ more) new
 lines_join old mid new [] more line rest = subst (λ (w : World). IsLine w more new) line rest
-lines_join old mid new (move ∷ moves) more line rest = (line.0, lines_join move.after mid new moves more line.1 rest)
+lines_join old mid new (move ∷ moves) more line rest =
+    (line.0, lines_join move.after mid new moves more line.1 rest)
 
 -- and so are two runs
-pub runs_join : {A : Type 0} (old mid new : World) (events more : List (Event A)) (before between after : List (Record A)) → IsRun old mid events before between → IsRun mid new more between after → IsRun old new (events ++ more) before after
+pub runs_join : {A : Type 0} (old mid new : World) (events more : List (Event A))
+    (before between after : List (Record A)) → IsRun old mid events before between
+    → IsRun mid new more between after → IsRun old new (events ++ more) before after
 runs_join {A} old mid new events more before between after one other =
     run_of old new (events ++ more) before after (record {
       moves = one.moves ++ other.moves;
       line = lines_join old mid new one.moves other.moves one.line other.line;
       events_are =
           map-append (λ (m : Move A). m.event) one.moves other.moves
-          ∙ (ap (λ es. es ++ events_of other.moves) one.events_are ∙ ap (λ es. events ++ es) other.events_are);
+          ∙ (ap (λ es. es ++ events_of other.moves) one.events_are
+          ∙ ap (λ es. events ++ es) other.events_are);
       records_are =
           other.records_are
           ∙ (ap (λ rs. rs ++ records_of other.moves) one.records_are
@@ -149,10 +221,18 @@ runs_join {A} old mid new events more before between after one other =
     })
 
 -- a step is a run of one event
-pub step_run : {A : Type 0} (old new : World) (event : Event A) (written : Record A) (before : List (Record A)) → Step old event written new → IsRun old new (event ∷ []) before (before ++ written ∷ [])
+pub step_run : {A : Type 0} (old new : World) (event : Event A) (written : Record A)
+    (before : List (Record A)) → Step old event written new
+    → IsRun old new (event ∷ []) before (before ++ written ∷ [])
 step_run {A} old new event written before step =
     let move : Move A = record { event = event; written = written; after = new } in
-    run_of old new (event ∷ []) before (before ++ written ∷ []) (record { moves = move ∷ []; line = (step, refl); events_are = refl; records_are = refl })
+    run_of old new (event ∷ []) before (before
+    ++ written ∷ []) (record {
+      moves = move ∷ [];
+      line = (step, refl);
+      events_are = refl;
+      records_are = refl;
+    })
 
 -- what holds where a call succeeded, of one that did
 pub where_ok : {T E : Type 0} (r : Result T E) (P : Type 0) → is_err r ≡ false → OnOk r P → P
@@ -160,38 +240,59 @@ where_ok (Ok x) P succeeded holds = holds
 where_ok (Err e) P succeeded holds = absurd (cc)
 
 -- the run goes on by the next of its events
-pub reached_next : {A : Type 0} (old mid new : World) (events : List (Event A)) (done : ℕ) (event : Event A) (reply : Reply A) (block console : ℕ) (out : List ℕ) (before so_far after : List (Record A)) →
+pub reached_next : {A : Type 0} (old mid new : World) (events : List (Event A)) (done : ℕ) (event : Event A)
+    (reply : Reply A) (block console : ℕ) (out : List ℕ) (before so_far after : List (Record A)) →
     done < length events → event ≡ get_or events done event →
     Reached old mid (take done events) before so_far → Handles mid event reply block console [] out new →
-    after ≡ so_far ++ record { slot = event.slot; reply = reply; output = out; block_irq = block; console_irq = console } ∷ [] →
+    after ≡ so_far ++ record {
+      slot = event.slot;
+      reply = reply;
+      output = out;
+      block_irq = block;
+      console_irq = console;
+    } ∷ [] →
     Reached old new (take (done + 1) events) before after
-reached_next {A} old mid new events done event reply block console out before so_far after below is reached handles added =
-    let next : take (done + 1) events ≡ take done events ++ event ∷ [] = take_more events done event below ∙ ap (λ (e : Event A). take done events ++ e ∷ []) (sym is) in
+reached_next {A} old mid new events done event reply block console out before so_far after below is
+    reached handles added =
+    let next : take (done + 1) events ≡ take done events ++ event ∷ [] = take_more events done event below
+    ∙ ap (λ (e : Event A). take done events ++ e ∷ []) (sym is) in
     subst (λ (es : List (Event A)). Reached old new es before after) (sym next)
-    (reached_more old mid new (take done events) event reply block console out before so_far after reached handles added)
+    (reached_more old mid new (take done events) event reply block console out before so_far after
+    reached handles added)
 
 -- after the last event it is a run over all of them
-pub run_whole : {A : Type 0} (old new : World) (events : List (Event A)) (done : ℕ) (before after : List (Record A)) → length events ≤ done → Reached old new (take done events) before after → IsRun old new events before after
+pub run_whole : {A : Type 0} (old new : World) (events : List (Event A)) (done : ℕ)
+    (before after : List (Record A)) → length events ≤ done → Reached old new (take done events) before after
+    → IsRun old new events before after
 run_whole {A} old new events done before after all reached =
-    run_of old new events before after (subst (λ (es : List (Event A)). Reached old new es before after) (take_all done events all) reached)
+    run_of old new events before after (subst (λ (es : List (Event A)). Reached old new es before after)
+    (take_all done events all) reached)
 
 -- one event more: slots that no event is of are kept still
-pub idle_next : {A : Type 0} (events : List (Event A)) (done : ℕ) (event : Event A) (old mid new : List BoardSlot) →
+pub idle_next : {A : Type 0} (events : List (Event A)) (done : ℕ) (event : Event A)
+    (old mid new : List BoardSlot) →
     done < length events → event ≡ get_or events done event →
-    KeepsIdle (take done events) old mid → KeepsOthers event.slot mid new → KeepsIdle (take (done + 1) events) old new
-idle_next {A} events done event old mid new below is before step other idle = step other differs ∙ before other front
+    KeepsIdle (take done events) old mid → KeepsOthers event.slot mid new
+    → KeepsIdle (take (done + 1) events) old new
+idle_next {A} events done event old mid new below is before step other idle = step other differs
+    ∙ before other front
   where
     fits : done < length (take (done + 1) events)
     fits = omega (arith, length-take-le (done + 1) events (omega arith))
 
     differs : other ≢ event.slot
     differs same =
-        let last : get_or (take (done + 1) events) done event ≡ event = get_or-take (done + 1) events done event (omega arith) ∙ sym is in
+        let last : get_or (take (done + 1) events) done event ≡ event =
+        get_or-take (done + 1) events done event (omega arith) ∙ sym is in
         idle done event fits (ap (λ (e : Event A). e.slot) last ∙ sym same)
 
     front : All (λ e. e.slot ≢ other) (take done events)
-    front = All-same (λ (e : Event A). e.slot ≢ other) _ _ (sym (take-take done (done + 1) events (omega arith))) (All-take (λ (e : Event A). e.slot ≢ other) done (take (done + 1) events) idle)
+    front = All-same (λ (e : Event A). e.slot ≢ other) _ _
+        (sym (take-take done (done + 1) events (omega arith)))
+        (All-take (λ (e : Event A). e.slot ≢ other) done (take (done + 1) events) idle)
 
 -- and after the last event they were kept by all
-pub idle_whole : {A : Type 0} (events : List (Event A)) (done : ℕ) (old new : List BoardSlot) → length events ≤ done → KeepsIdle (take done events) old new → KeepsIdle events old new
-idle_whole {A} events done old new all kept = subst (λ (es : List (Event A)). KeepsIdle es old new) (take_all done events all) kept
+pub idle_whole : {A : Type 0} (events : List (Event A)) (done : ℕ) (old new : List BoardSlot)
+    → length events ≤ done → KeepsIdle (take done events) old new → KeepsIdle events old new
+idle_whole {A} events done old new all kept =
+    subst (λ (es : List (Event A)). KeepsIdle es old new) (take_all done events all) kept

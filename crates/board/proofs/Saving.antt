@@ -20,29 +20,40 @@ use Rattle.board.specs.Slot.{BoardSlot, IsSoundSlot, block_features}
 -- ---- what is saved
 
 -- a window that is sound for a memory is given back over every memory of its range
-restores_it : (m : Memory) (w : WindowState) → IsSound m w → ((other : Memory) → IsSound other w → window_restored w.kind other (saved_window w) ≡ Some w)
+restores_it : (m : Memory) (w : WindowState) → IsSound m w
+    → ((other : Memory) → IsSound other w → window_restored w.kind other (saved_window w) ≡ Some w)
     → RestoresIt w.kind m w
 restores_it m w sound back other same = back other (IsSound-same_range m other w same sound)
 
 -- the snapshot of a slot that is sound
-is_snapshot : (slot : BoardSlot) (bytes : List ℕ) → IsSoundSlot slot.memory slot.read_only slot.block slot.console slot.pending
-    → ((m : Memory) → IsSound m slot.block → window_restored slot.block.kind m (saved_window slot.block) ≡ Some slot.block)
-    → ((m : Memory) → IsSound m slot.console → window_restored slot.console.kind m (saved_window slot.console) ≡ Some slot.console)
-    → bytes ≡ snapshot (saved_slot slot) slot.pending → snapshot_at bytes ≡ Ok (saved_slot slot, slot.pending) → IsSnapshotOf bytes slot
+is_snapshot : (slot : BoardSlot) (bytes : List ℕ)
+    → IsSoundSlot slot.memory slot.read_only slot.block slot.console slot.pending
+    → ((m : Memory) → IsSound m slot.block
+    → window_restored slot.block.kind m (saved_window slot.block) ≡ Some slot.block)
+    → ((m : Memory) → IsSound m slot.console → window_restored slot.console.kind m (saved_window slot.console)
+    ≡ Some slot.console)
+    → bytes ≡ snapshot (saved_slot slot) slot.pending → snapshot_at bytes ≡ Ok (saved_slot slot, slot.pending)
+    → IsSnapshotOf bytes slot
 is_snapshot slot bytes sound block console spelled read = record {
   spelled = spelled;
   read = read;
   offers = record { block = sound.block_offers; console = sound.console_offers };
-  block = subst (λ (kind : DeviceKind). RestoresIt kind slot.memory slot.block) sound.block_kind (restores_it slot.memory slot.block sound.block_sound block);
-  console = subst (λ (kind : DeviceKind). RestoresIt kind slot.memory slot.console) sound.console_kind (restores_it slot.memory slot.console sound.console_sound console);
+  block = subst (λ (kind : DeviceKind). RestoresIt kind slot.memory slot.block) sound.block_kind
+      (restores_it slot.memory slot.block sound.block_sound block);
+  console = subst (λ (kind : DeviceKind). RestoresIt kind slot.memory slot.console) sound.console_kind
+      (restores_it slot.memory slot.console sound.console_sound console);
 }
 
 -- what was written of it
-pub saved_as : {V E : Type 0} (items : V → List ℕ) (result : Result V E) (slot : BoardSlot) (saved : SavedSlot) (front back : List ℕ)
-    → IsSoundSlot slot.memory slot.read_only slot.block slot.console slot.pending → saved ≡ saved_slot slot → front ++ back ≡ slot.pending
+pub saved_as : {V E : Type 0} (items : V → List ℕ) (result : Result V E) (slot : BoardSlot)
+    (saved : SavedSlot) (front back : List ℕ)
+    → IsSoundSlot slot.memory slot.read_only slot.block slot.console slot.pending → saved ≡ saved_slot slot
+    → front ++ back ≡ slot.pending
     → ((m : Memory) → IsSound m slot.block → window_restored slot.block.kind m saved.block ≡ Some slot.block)
-    → ((m : Memory) → IsSound m slot.console → window_restored slot.console.kind m saved.console ≡ Some slot.console)
-    → IfOk result (λ v. items v ≡ snapshot saved (front ++ back)) → IfOk result (λ v. snapshot_at (items v) ≡ Ok (saved, front ++ back))
+    → ((m : Memory) → IsSound m slot.console → window_restored slot.console.kind m saved.console
+    ≡ Some slot.console)
+    → IfOk result (λ v. items v ≡ snapshot saved (front ++ back))
+    → IfOk result (λ v. snapshot_at (items v) ≡ Ok (saved, front ++ back))
     → IfOk result (λ v. IsSnapshotOf (items v) slot)
 saved_as items (Ok v) slot saved front back sound is pending block console text again =
     is_snapshot slot (items v) sound (rw is at block) (rw is at console)
@@ -54,7 +65,8 @@ saved_as items (Err why) slot saved front back sound is pending block console te
 abbrev pub read_as : SavedSlot × List ℕ → Result (SavedSlot × List ℕ) SnapshotFault
 read_as x = Ok x
 
-pub same_read : (r : Result (SavedSlot × List ℕ) SnapshotFault) (x y : SavedSlot × List ℕ) → r ≡ read_as x → r ≡ read_as y → x ≡ y
+pub same_read : (r : Result (SavedSlot × List ℕ) SnapshotFault) (x y : SavedSlot × List ℕ) → r ≡ read_as x
+    → r ≡ read_as y → x ≡ y
 same_read r x y a b = cc
 
 pub same_window : (r : Option WindowState) (w v : WindowState) → r ≡ Some w → r ≡ Some v → w ≡ v
@@ -73,32 +85,42 @@ suits_it slot other bytes is like offers = record {
 }
 
 -- a slot that has taken it up is as the one that was saved
-as_saved : (slot old new : BoardSlot) (bytes : List ℕ) (saved : SavedSlot × List ℕ) → IsSnapshotOf bytes slot → IsLike slot old
+as_saved : (slot old new : BoardSlot) (bytes : List ℕ) (saved : SavedSlot × List ℕ)
+    → IsSnapshotOf bytes slot → IsLike slot old
     → saved ≡ (saved_slot slot, slot.pending) → TakesUp old saved.0 saved.1 new → IsAs slot old new
 as_saved slot old new bytes saved is like e takes =
-    let block_saved : saved.0.block ≡ saved_window slot.block = ap (λ (x : SavedSlot × List ℕ). x.0.block) e in
-    let console_saved : saved.0.console ≡ saved_window slot.console = ap (λ (x : SavedSlot × List ℕ). x.0.console) e in
+    let block_saved : saved.0.block ≡ saved_window slot.block =
+    ap (λ (x : SavedSlot × List ℕ). x.0.block) e in
+    let console_saved : saved.0.console ≡ saved_window slot.console =
+    ap (λ (x : SavedSlot × List ℕ). x.0.console) e in
     let pending_saved : saved.1 ≡ slot.pending = ap (λ (x : SavedSlot × List ℕ). x.1) e in
     let cols_saved : saved.0.cols ≡ slot.cols = ap (λ (x : SavedSlot × List ℕ). x.0.cols) e in
     let rows_saved : saved.0.rows ≡ slot.rows = ap (λ (x : SavedSlot × List ℕ). x.0.rows) e in
     let block : new.block ≡ slot.block
-    = same_window _ _ _ (ap (window_restored Block old.memory) (sym block_saved) ∙ takes.block) (is.block old.memory like.memory) in
+    = same_window _ _ _ (ap (window_restored Block old.memory) (sym block_saved)
+    ∙ takes.block) (is.block old.memory like.memory) in
     let console : new.console ≡ slot.console
-    = same_window _ _ _ (ap (window_restored Console old.memory) (sym console_saved) ∙ takes.console) (is.console old.memory like.memory) in
+    = same_window _ _ _ (ap (window_restored Console old.memory) (sym console_saved)
+    ∙ takes.console) (is.console old.memory like.memory) in
     takes.is ∙ rw (block, console, pending_saved, cols_saved, rows_saved, like.read_only, like.identity) refl
 
 pub none_some : (r : Option WindowState) (w : WindowState) → r ≡ None → r ≡ Some w → ⊥
 none_some r w a b = cc
 
-not_prevented : (slot old : BoardSlot) (bytes : List ℕ) (why : RestoreFault) → IsSnapshotOf bytes slot → IsLike slot old
+not_prevented : (slot old : BoardSlot) (bytes : List ℕ) (why : RestoreFault)
+    → IsSnapshotOf bytes slot → IsLike slot old
     → OffersFeatures old → Prevents old (saved_slot slot) why → ⊥
 not_prevented slot old bytes (Snapshot fault) is like offers prevents = prevents
-not_prevented slot old bytes OtherSlot is like offers prevents = prevents (suits_it slot old bytes is like offers)
-not_prevented slot old bytes BadBlock is like offers prevents = none_some _ _ prevents (is.block old.memory like.memory)
-not_prevented slot old bytes BadConsole is like offers prevents = none_some _ _ prevents (is.console old.memory like.memory)
+not_prevented slot old bytes OtherSlot is like offers prevents =
+    prevents (suits_it slot old bytes is like offers)
+not_prevented slot old bytes BadBlock is like offers prevents =
+    none_some _ _ prevents (is.block old.memory like.memory)
+not_prevented slot old bytes BadConsole is like offers prevents =
+    none_some _ _ prevents (is.console old.memory like.memory)
 
 -- The outcome of taking up what was read, for the slot whose snapshot it is.
-pub taken_up : (slot old new : BoardSlot) (bytes : List ℕ) (saved : SavedSlot) (pending : List ℕ) (result : Result (Unit {0}) RestoreFault)
+pub taken_up : (slot old new : BoardSlot) (bytes : List ℕ) (saved : SavedSlot) (pending : List ℕ)
+    (result : Result (Unit {0}) RestoreFault)
     → IsSnapshotOf bytes slot → IsLike slot old → OffersFeatures old
     → snapshot_at bytes ≡ Ok (saved, pending)
     → OnOk result (TakesUp old saved pending new) → IfErr result (Prevents old saved)
@@ -111,21 +133,28 @@ taken_up slot old new bytes saved pending (Err why) is like offers read takes pr
     (subst (λ (x : SavedSlot × List ℕ). Prevents old x.0 why) same prevents))
 
 -- what was taken up, of the bytes
-pub restored_of : (old new : BoardSlot) (bytes : List ℕ) (saved : SavedSlot) (pending : List ℕ) (result : Result (Unit {0}) RestoreFault)
-    → snapshot_at bytes ≡ Ok (saved, pending) → OnOk result (TakesUp old saved pending new) → OnOk result (IsRestored old bytes new)
-restored_of old new bytes saved pending (Ok done) read takes = record { saved = saved; pending = pending; read = read; takes_up = takes }
+pub restored_of : (old new : BoardSlot) (bytes : List ℕ) (saved : SavedSlot) (pending : List ℕ)
+    (result : Result (Unit {0}) RestoreFault)
+    → snapshot_at bytes ≡ Ok (saved, pending) → OnOk result (TakesUp old saved pending new)
+    → OnOk result (IsRestored old bytes new)
+restored_of old new bytes saved pending (Ok done) read takes =
+    record { saved = saved; pending = pending; read = read; takes_up = takes }
 restored_of old new bytes saved pending (Err why) read takes = tt
 
-pub fault_not_read : (r : Result (SavedSlot × List ℕ) SnapshotFault) (x : SavedSlot × List ℕ) (fault : SnapshotFault) → r ≡ Err fault → r ≡ read_as x → ⊥
+pub fault_not_read : (r : Result (SavedSlot × List ℕ) SnapshotFault) (x : SavedSlot
+    × List ℕ) (fault : SnapshotFault) → r ≡ Err fault → r ≡ read_as x → ⊥
 fault_not_read r x fault a b = cc
 
 -- and no snapshot of a slot is refused as none
-pub not_refused : (slot : BoardSlot) (bytes : List ℕ) (fault : SnapshotFault) → IsSnapshotOf bytes slot → snapshot_at bytes ≡ Err fault → ⊥
+pub not_refused : (slot : BoardSlot) (bytes : List ℕ) (fault : SnapshotFault) → IsSnapshotOf bytes slot
+    → snapshot_at bytes ≡ Err fault → ⊥
 not_refused slot bytes fault is e = fault_not_read _ _ fault e is.read
 
 -- why nothing was taken up, of the bytes
-pub cause_of : (old : BoardSlot) (bytes : List ℕ) (saved : SavedSlot) (pending : List ℕ) (result : Result (Unit {0}) RestoreFault)
-    → snapshot_at bytes ≡ Ok (saved, pending) → IfErr result (Prevents old saved) → IfErr result (IsCauseOf old bytes)
+pub cause_of : (old : BoardSlot) (bytes : List ℕ) (saved : SavedSlot) (pending : List ℕ)
+    (result : Result (Unit {0}) RestoreFault)
+    → snapshot_at bytes ≡ Ok (saved, pending) → IfErr result (Prevents old saved)
+    → IfErr result (IsCauseOf old bytes)
 cause_of old bytes saved pending (Ok done) read prevents = tt
 cause_of old bytes saved pending (Err (Snapshot fault)) read prevents = absurd prevents
 cause_of old bytes saved pending (Err OtherSlot) read prevents = rw read prevents

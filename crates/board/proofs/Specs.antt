@@ -19,67 +19,96 @@ use Rattle.sector_cache.specs.declared.fault.CacheFault.{CacheFault}
 use Rattle.sector_cache.specs.declared.fault.CacheFault.TheVariants.{BadCapacity, NoMemory}
 
 -- the slots before a place all lie in the image
-pub within_below : (sectors : ℕ) (slots : List SlotSpec) (n : ℕ) → n ≤ length slots → GoodBelow sectors slots n → All (λ spec. IsWithin sectors spec.extent) (take n slots)
+pub within_below : (sectors : ℕ) (slots : List SlotSpec) (n : ℕ) → n ≤ length slots
+    → GoodBelow sectors slots n → All (λ spec. IsWithin sectors spec.extent) (take n slots)
 within_below sectors slots n most good k d below =
     let shorter : length (take n slots) ≡ n = length-take-le n slots most in
     let near : k < n = omega arith in
     subst (λ (spec : SlotSpec). IsWithin sectors spec.extent) (sym (get_or-take n slots k d near))
     (good k (get_or slots k d) near (slice_get-get_or slots k d (omega arith))).within
 
-more_at : (sectors : ℕ) (slots : List SlotSpec) (n : ℕ) (last : SlotSpec) → GoodBelow sectors slots n → IsGoodSlot sectors (take n slots) last → slice_get slots n ≡ Some last → (i : ℕ) (spec : SlotSpec) → i < n + 1 → slice_get slots i ≡ Some spec → (i < n) ⊎ (n ≤ i) → IsGoodSlot sectors (take i slots) spec
+more_at : (sectors : ℕ) (slots : List SlotSpec) (n : ℕ) (last : SlotSpec) → GoodBelow sectors slots n
+    → IsGoodSlot sectors (take n slots) last → slice_get slots n ≡ Some last → (i : ℕ) (spec : SlotSpec)
+    → i < n + 1 → slice_get slots i ≡ Some spec → (i < n) ⊎ (n ≤ i) → IsGoodSlot sectors (take i slots) spec
 more_at sectors slots n last good one here i spec below there (inl before) = good i spec before there
 more_at sectors slots n last good one here i spec below there (inr behind) =
     let same : n ≡ i = omega arith in
     let spec_is : last ≡ spec = cc (ap (λ k. slice_get slots k) same) in
-    subst (λ (s : SlotSpec). IsGoodSlot sectors (take i slots) s) spec_is (subst (λ k. IsGoodSlot sectors (take k slots) last) same one)
+    subst (λ (s : SlotSpec). IsGoodSlot sectors (take i slots) s) spec_is
+    (subst (λ k. IsGoodSlot sectors (take k slots) last) same one)
 
 -- one good slot more
-pub good_more : (sectors : ℕ) (slots : List SlotSpec) (n : ℕ) (d : SlotSpec) → n < length slots → GoodBelow sectors slots n → IsGoodSlot sectors (take n slots) (get_or slots n d) → GoodBelow sectors slots (n + 1)
+pub good_more : (sectors : ℕ) (slots : List SlotSpec) (n : ℕ) (d : SlotSpec) → n < length slots
+    → GoodBelow sectors slots n → IsGoodSlot sectors (take n slots) (get_or slots n d)
+    → GoodBelow sectors slots (n + 1)
 good_more sectors slots n d below good one i spec near there =
-    more_at sectors slots n (get_or slots n d) good one (slice_get-get_or slots n d below) i spec near there (cases_lt i n)
+    more_at sectors slots n (get_or slots n d) good one (slice_get-get_or slots n d below) i spec near
+    there (cases_lt i n)
 
 -- where all slots were found good, they are
-pub good_all : (sectors : ℕ) (slots : List SlotSpec) (n : ℕ) → length slots ≤ n → GoodBelow sectors slots n → GoodBelow sectors slots (length slots)
+pub good_all : (sectors : ℕ) (slots : List SlotSpec) (n : ℕ) → length slots ≤ n → GoodBelow sectors slots n
+    → GoodBelow sectors slots (length slots)
 good_all sectors slots n all good i spec below there = good i spec (omega arith) there
 
 -- every memory that is asked for may be had
-pub memories : (sectors : ℕ) (slots : List SlotSpec) → AreGood sectors slots → All (λ spec. AreGoodRegions spec.regions) slots
-memories sectors slots good k d below = (good.each k (get_or slots k d) below (slice_get-get_or slots k d below)).memory
+pub memories : (sectors : ℕ) (slots : List SlotSpec) → AreGood sectors slots
+    → All (λ spec. AreGoodRegions spec.regions) slots
+memories sectors slots good k d below =
+    (good.each k (get_or slots k d) below (slice_get-get_or slots k d below)).memory
 
 -- a cache that is refused refuses the board
-pub refused_cache : (sectors : ℕ) (slots : List SlotSpec) (cache : ℕ) (why : CacheFault) → AreGood sectors slots → RefusesCapacity cache why → Refuses sectors slots cache (cache_refusal why)
+pub refused_cache : (sectors : ℕ) (slots : List SlotSpec) (cache : ℕ) (why : CacheFault)
+    → AreGood sectors slots → RefusesCapacity cache why → Refuses sectors slots cache (cache_refusal why)
 refused_cache sectors slots cache BadCapacity good (inl none) = (good, (λ fits. omega arith, refl))
 refused_cache sectors slots cache BadCapacity good (inr many) = (good, (λ fits. omega arith, refl))
 refused_cache sectors slots cache NoMemory good refuses = (good, refuses)
 
-pub extents_of-opened : (slots : List SlotSpec) → extents_of (map opened slots) ≡ map (λ (spec : SlotSpec). spec.extent) slots
+pub extents_of-opened : (slots : List SlotSpec)
+    → extents_of (map opened slots) ≡ map (λ (spec : SlotSpec). spec.extent) slots
 extents_of-opened [] = refl
 extents_of-opened (spec ∷ slots) = ap (λ (es : List Extent). spec.extent ∷ es) (extents_of-opened slots)
 
-apart_at : (sectors : ℕ) (slots : List SlotSpec) → AreGood sectors slots → (i j : ℕ) (d : SlotSpec) → i < j → j < length slots → IsApart (get_or slots i d).extent (get_or slots j d).extent
+apart_at : (sectors : ℕ) (slots : List SlotSpec) → AreGood sectors slots → (i j : ℕ) (d : SlotSpec) → i < j
+    → j < length slots → IsApart (get_or slots i d).extent (get_or slots j d).extent
 apart_at sectors slots good i j d before below =
-    let one : IsGoodSlot sectors (take j slots) (get_or slots j d) = good.each j (get_or slots j d) below (slice_get-get_or slots j d below) in
+    let one : IsGoodSlot sectors (take j slots) (get_or slots j d) =
+    good.each j (get_or slots j d) below (slice_get-get_or slots j d below) in
     let shorter : length (take j slots) ≡ j = length-take-le j slots (omega arith) in
-    subst (λ (s : SlotSpec). IsApart s.extent (get_or slots j d).extent) (get_or-take j slots i d before) (one.apart i d (omega arith))
+    subst (λ (s : SlotSpec). IsApart s.extent (get_or slots j d).extent) (get_or-take j slots i d before)
+    (one.apart i d (omega arith))
 
-apart_all : (sectors : ℕ) (slots : List SlotSpec) → AreGood sectors slots → AllPairs IsApart (map (λ (spec : SlotSpec). spec.extent) slots)
+apart_all : (sectors : ℕ) (slots : List SlotSpec) → AreGood sectors slots
+    → AllPairs IsApart (map (λ (spec : SlotSpec). spec.extent) slots)
 apart_all sectors slots good i j d before below =
-    let some : SlotSpec = record { regions = []; extent = d; read_only = false; cols = 0; rows = 0; identity = [] } in
+    let some : SlotSpec = record {
+      regions = [];
+      extent = d;
+      read_only = false;
+      cols = 0;
+      rows = 0;
+      identity = [];
+    } in
     let extent : SlotSpec → Extent = λ spec. spec.extent in
     let fits : j < length slots = omega (arith, length-map slots extent) in
-    rw (get_or-map extent slots i some d (omega arith), get_or-map extent slots j some d fits) (apart_at sectors slots good i j some before fits)
+    rw (get_or-map extent slots i some d (omega arith), get_or-map extent slots j some d fits)
+    (apart_at sectors slots good i j some before fits)
 
 -- slots that were found good stand side by side on the image
-pub sound : (sectors : ℕ) (slots : List SlotSpec) → AreGood sectors slots → AreSound sectors (extents_of (map opened slots))
+pub sound : (sectors : ℕ) (slots : List SlotSpec) → AreGood sectors slots
+    → AreSound sectors (extents_of (map opened slots))
 sound sectors slots good =
     subst (AreSound sectors) (sym (extents_of-opened slots)) (record {
-      within = All-map (IsWithin sectors) (λ (spec : SlotSpec). spec.extent) slots (λ k d below. (good.each k (get_or slots k d) below (slice_get-get_or slots k d below)).within);
+      within = All-map (IsWithin sectors) (λ (spec : SlotSpec). spec.extent) slots
+          (λ k d below. (good.each k (get_or slots k d) below (slice_get-get_or slots k d below)).within);
       apart = apart_all sectors slots good;
     })
 
 -- one slot more was opened
-pub opened_more : {X : Type 0} → (made : SlotSpec → X) (specs : List SlotSpec) (i : ℕ) (spec : SlotSpec) (slots new : List X) (slot : X) → i < length specs → spec ≡ get_or specs i spec
-    → slots ≡ map made (take i specs) → slot ≡ made spec → new ≡ slots ++ slot ∷ [] → new ≡ map made (take (i + 1) specs)
+pub opened_more : {X : Type 0}
+    → (made : SlotSpec → X) (specs : List SlotSpec) (i : ℕ) (spec : SlotSpec) (slots new : List X) (slot : X)
+    → i < length specs → spec ≡ get_or specs i spec
+    → slots ≡ map made (take i specs) → slot ≡ made spec → new ≡ slots ++ slot ∷ []
+    → new ≡ map made (take (i + 1) specs)
 opened_more {X} made specs i spec slots new slot below is before slot_is pushed =
     pushed
     ∙ ap (λ (xs : List X). xs ++ slot ∷ []) before

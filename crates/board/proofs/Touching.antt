@@ -16,7 +16,8 @@ use Rattle.board.specs.Slot.{BoardSlot}
 use Rattle.board.specs.World.{BoardState}
 
 -- two extents that are apart stand one behind the other, where each has a sector
-in_order : (one other : Extent) → IsApart one other → 0 < one.count → 0 < other.count → (other.start + other.count ≤ one.start) ⊎ (one.start + one.count ≤ other.start)
+in_order : (one other : Extent) → IsApart one other → 0 < one.count → 0 < other.count
+    → (other.start + other.count ≤ one.start) ⊎ (one.start + one.count ≤ other.start)
 in_order one other apart some more =
     elim (cases_lt other.start one.start) [
       | inl below ↦
@@ -39,11 +40,14 @@ same_bytes place end old new none d =
     ∙ ap (λ rest. take place old ++ rest) (subst (λ k. drop k new ≡ drop k old) none d.behind)
     ∙ take-append-drop place old
 
-no_sector : (bytes left : List ℕ) (start count : ℕ) → count ≡ 0 → extent_of left start count ≡ extent_of bytes start count
+no_sector : (bytes left : List ℕ) (start count : ℕ) → count ≡ 0
+    → extent_of left start count ≡ extent_of bytes start count
 no_sector bytes left start count none = rw none refl
 
 -- what differs within an extent alone is the same in one that is apart
-apart_same : (one other : Extent) (bytes left : List ℕ) → IsApart one other → DiffersWithin (512 * one.start) (512 * (one.start + one.count)) bytes left → extent_of left other.start other.count ≡ extent_of bytes other.start other.count
+apart_same : (one other : Extent) (bytes left : List ℕ) → IsApart one other
+    → DiffersWithin (512 * one.start) (512 * (one.start + one.count)) bytes left
+    → extent_of left other.start other.count ≡ extent_of bytes other.start other.count
 apart_same one other bytes left apart d =
     elim (cases_lt 0 one.count) [
       | inr none ↦
@@ -53,31 +57,45 @@ apart_same one other bytes left apart d =
           elim (cases_lt 0 other.count) [
             | inr none ↦ no_sector bytes left other.start other.count (omega (arith, none))
             | inl more ↦
-                stops.extent_apart (512 * one.start) (512 * (one.start + one.count)) other.start other.count bytes left d
-                (elim (in_order one other apart some more) [ inl before ↦ inl (omega (arith, before)) | inr behind ↦ inr (omega (arith, behind)) ])
+                stops.extent_apart (512 * one.start) (512 * (one.start + one.count)) other.start
+                other.count bytes left d
+                (elim (in_order one other apart some more)
+                [ inl before ↦ inl (omega (arith, before)) | inr behind ↦ inr (omega (arith, behind)) ])
           ]
     ]
 
-module _ {I : Type 0} (moment : I → ℕ) (may_leave : I → List ℕ → Type 0) (left_since : I → ℕ → List ℕ → Type 0) where
+module _ {I : Type 0} (moment : I → ℕ) (may_leave : I → List ℕ → Type 0) (left_since : I → ℕ
+    → List ℕ → Type 0) where
   pub untouched : (extent : Extent) (image : I) → TouchesExtent moment may_leave left_since extent image image
   untouched extent image = stops.touches_none (512 * extent.start) (512 * (extent.start + extent.count))
 
   -- an event of no slot
-  pub touches_missing : (slots : List BoardSlot) (g : ℕ) (image : I) → length slots ≤ g → TouchesSlot moment may_leave left_since g (record { slots = slots; image = image }) (record { slots = slots; image = image })
+  pub touches_missing : (slots : List BoardSlot) (g : ℕ) (image : I) → length slots ≤ g
+      → TouchesSlot moment may_leave left_since g (record { slots = slots; image = image })
+      (record { slots = slots; image = image })
   touches_missing slots g image past = rw (slice_get_past slots g past) (stops.touches_none 0 0)
 
   -- an event of a slot
-  pub touches_slot : (slots slots' : List BoardSlot) (g : ℕ) (slot : BoardSlot) (old new : I) → slice_get slots g ≡ Some slot → TouchesExtent moment may_leave left_since slot.extent old new
-      → TouchesSlot moment may_leave left_since g (record { slots = slots; image = old }) (record { slots = slots'; image = new })
+  pub touches_slot : (slots slots' : List BoardSlot) (g : ℕ) (slot : BoardSlot) (old new : I)
+      → slice_get slots g ≡ Some slot → TouchesExtent moment may_leave left_since slot.extent old new
+      → TouchesSlot moment may_leave left_since g (record { slots = slots; image = old })
+      (record { slots = slots'; image = new })
   touches_slot slots slots' g slot old new here touches = rw here touches
 
-  touched_extent : (old new : BoardState I) (g : ℕ) (slot : BoardSlot) → slice_get old.slots g ≡ Some slot → TouchesSlot moment may_leave left_since g old new → TouchesExtent moment may_leave left_since slot.extent old.image new.image
+  touched_extent : (old new : BoardState I) (g : ℕ) (slot : BoardSlot) → slice_get old.slots g ≡ Some slot
+      → TouchesSlot moment may_leave left_since g old new
+      → TouchesExtent moment may_leave left_since slot.extent old.image new.image
   touched_extent old new g slot here touches = rw here at touches
 
   -- an extent that is apart from the slot's is left as before
-  pub apart_left : (old new : BoardState I) (g since : ℕ) (own other : BoardSlot) (bytes left : List ℕ) → TouchesSlot moment may_leave left_since g old new → slice_get old.slots g ≡ Some own → IsApart own.extent other.extent
-      → Only bytes (may_leave old.image) → BeginsAt (may_leave old.image) (left_since old.image) since → left_since new.image since left
-      → extent_of left other.extent.start other.extent.count ≡ extent_of bytes other.extent.start other.extent.count
+  pub apart_left : (old new : BoardState I) (g since : ℕ) (own other : BoardSlot) (bytes left : List ℕ)
+      → TouchesSlot moment may_leave left_since g old new → slice_get old.slots g ≡ Some own
+      → IsApart own.extent other.extent
+      → Only bytes (may_leave old.image) → BeginsAt (may_leave old.image) (left_since old.image) since
+      → left_since new.image since left
+      → extent_of left other.extent.start other.extent.count
+      ≡ extent_of bytes other.extent.start other.extent.count
   apart_left old new g since own other bytes left touches here apart only begins past =
       apart_same own.extent other.extent bytes left apart
-      (stops.known_beside (512 * own.extent.start) (512 * (own.extent.start + own.extent.count)) since bytes left (touched_extent old new g own here touches) begins only past)
+      (stops.known_beside (512 * own.extent.start) (512 * (own.extent.start + own.extent.count)) since bytes
+      left (touched_extent old new g own here touches) begins only past)

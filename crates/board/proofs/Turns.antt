@@ -51,7 +51,8 @@ use Rattle.board.proofs.Alike.{PieceAs, RefusedAs, piece_as, refused_as}
 use Rattle.board.proofs.Blocks.{block_served, count_of, counted_device, seen_disk, slot_device}
 
 -- a piece comes to the turn of its progress
-pub comes_to : (A : Type 0) (pause : Pause) (stage : Stage) (budget : Budget) (progress : Progress) (old : SlotState) (before after : Health) (new : SlotState) (output : List ℕ)
+pub comes_to : (A : Type 0) (pause : Pause) (stage : Stage) (budget : Budget) (progress : Progress)
+    (old : SlotState) (before after : Health) (new : SlotState) (output : List ℕ)
     → IsPiece pause.service stage budget progress old before after new output
     → ComesTo {A = A} pause stage budget old before after new output (turn_of pause progress)
 comes_to A pause stage budget progress.Done old before after new output piece = inl (refl, piece)
@@ -60,59 +61,87 @@ comes_to A pause stage budget progress.More old before after new output piece = 
 -- ---- the block device
 
 -- where no call of the image failed, the piece is one of the exact device
-finishing_not_refused : (device : BlockDevice) (budget : Budget) (queue : Option Queue) (ending : Ending) (m m' : Memory) (w w' : WindowState) (s t : Disk)
+finishing_not_refused : (device : BlockDevice) (budget : Budget) (queue : Option Queue) (ending : Ending)
+    (m m' : Memory) (w w' : WindowState) (s t : Disk)
     → FinishesWithin (block_device device) budget 0 queue ending m m' w w' s t → ending ≢ Refused
 finishing_not_refused device budget None ending m m' w w' s t h is = let spent = h.0 in cc
-finishing_not_refused device budget (Some queue) Refused m m' w w' s t h is = absurd h.ends.ends.runs.ends.lacks_memory
+finishing_not_refused device budget (Some queue) Refused m m' w w' s t h is =
+    absurd h.ends.ends.runs.ends.lacks_memory
 finishing_not_refused device budget (Some queue) Ending.Spent m m' w w' s t h is = cc
 finishing_not_refused device budget (Some queue) (Ending.Faulted fault) m m' w w' s t h is = cc
 
-exact_piece : (device : BlockDevice) (stage : Stage) (budget : Budget) (queue : Option Queue) (progress : Progress) (m m' : Memory) (w w' : WindowState) (s t : Disk) → t.failures ≡ s.failures
-    → ServesTo stage (block_device device) budget 0 queue progress m m' w w' s t → ServesTo stage (exact_device device) budget 0 queue progress m m' w w' s t
+exact_piece : (device : BlockDevice) (stage : Stage) (budget : Budget) (queue : Option Queue)
+    (progress : Progress) (m m' : Memory) (w w' : WindowState) (s t : Disk) → t.failures ≡ s.failures
+    → ServesTo stage (block_device device) budget 0 queue progress m m' w w' s t
+    → ServesTo stage (exact_device device) budget 0 queue progress m m' w w' s t
 exact_piece device First budget queue progress.Done m m' w w' s t stood h =
     let whole = notified_once (block_device device) budget 0 queue h.ending m m' w w' s t h.notified in
-    let answered = notified_not_refused (block_device device) (λ disk readable places lacks. lacks) 0 queue h.ending m m' w w' s t whole in
+    let answered = notified_not_refused (block_device device) (λ disk readable places lacks. lacks) 0 queue
+    h.ending m m' w w' s t whole in
     record {
       ending = h.ending;
-      notified = notified_within_exact (block_device device) (exact_device device) (λ disk. disk.failures) (exact_unless device) budget 0 queue h.ending m m' w w' s t answered stood h.notified;
+      notified = notified_within_exact (block_device device) (exact_device device) (λ disk. disk.failures)
+          (exact_unless device) budget 0 queue h.ending m m' w w' s t answered stood h.notified;
     }
 exact_piece device First budget None progress.More m m' w w' s t stood h = absurd h
 exact_piece device First budget (Some queue) progress.More m m' w w' s t stood h =
-    pauses_in_exact (block_device device) (exact_device device) (λ disk. disk.failures) (exact_unless device) budget 0 queue m m' w w' s t stood h
+    pauses_in_exact (block_device device) (exact_device device) (λ disk. disk.failures) (exact_unless device)
+    budget 0 queue m m' w w' s t stood h
 exact_piece device Next budget queue progress.Done m m' w w' s t stood h =
     record {
       ending = h.ending;
       finished =
-          finishes_within_exact (block_device device) (exact_device device) (λ disk. disk.failures) (exact_unless device) budget 0 queue h.ending m m' w w' s t
+          finishes_within_exact (block_device device) (exact_device device) (λ disk. disk.failures)
+          (exact_unless device) budget 0 queue h.ending m m' w w' s t
           (finishing_not_refused device budget queue h.ending m m' w w' s t h.finished) stood h.finished;
     }
 exact_piece device Next budget None progress.More m m' w w' s t stood h = absurd h
 exact_piece device Next budget (Some queue) progress.More m m' w w' s t stood h =
-    goes_on_in_exact (block_device device) (exact_device device) (λ disk. disk.failures) (exact_unless device) budget 0 queue m m' w w' s t stood h
+    goes_on_in_exact (block_device device) (exact_device device) (λ disk. disk.failures) (exact_unless device)
+    budget 0 queue m m' w w' s t stood h
 
 -- where the extent lies is never seen
-piece_anywhere : (Way : Request → List ℕ → Disk → Outcome → Type 0) (device : BlockDevice) (stage : Stage) (budget : Budget) (queue : Option Queue) (progress : Progress) (m m' : Memory) (w w' : WindowState) (s t : Disk)
-    → ServesTo stage (device_by Way device) budget 0 queue progress m m' w w' s t → ServesTo stage (device_by Way (guest_device device)) budget 0 queue progress m m' w w' s t
+piece_anywhere : (Way : Request → List ℕ → Disk → Outcome → Type 0) (device : BlockDevice) (stage : Stage)
+    (budget : Budget) (queue : Option Queue) (progress : Progress) (m m' : Memory)
+    (w w' : WindowState) (s t : Disk)
+    → ServesTo stage (device_by Way device) budget 0 queue progress m m' w w' s t
+    → ServesTo stage (device_by Way (guest_device device)) budget 0 queue progress m m' w w' s t
 piece_anywhere Way device stage budget queue progress m m' w w' s t h =
-    let p : PieceAs (device_by Way device) (device_by Way (guest_device device)) Same (does_anywhere Way device) budget stage 0 queue progress m m' w w' t s =
-    piece_as (device_by Way device) (device_by Way (guest_device device)) Same (does_anywhere Way device) budget stage 0 queue progress m m' w w' s t s refl h in
-    subst (λ (d : Disk). ServesTo stage (device_by Way (guest_device device)) budget 0 queue progress m m' w w' s d) p.alike p.served
+    let p : PieceAs (device_by Way device) (device_by Way (guest_device device)) Same
+    (does_anywhere Way device) budget stage 0 queue progress m m' w w' t s =
+    piece_as (device_by Way device) (device_by Way (guest_device device)) Same (does_anywhere Way device)
+    budget stage 0 queue progress m m' w w' s t s refl h in
+    subst (λ (d : Disk). ServesTo stage (device_by Way (guest_device device)) budget 0 queue progress m m' w
+    w' s d) p.alike p.served
 
 -- what was served of the slot, as its guest sees it
-seen_piece : (Way : Request → List ℕ → Disk → Outcome → Type 0) (slot : BoardSlot) (stage : Stage) (budget : Budget) (progress : Progress) (memory : Memory) (block : WindowState) (old new : Disk)
-    → Tells old → Tells new → IsWhole old → IsWhole new → IsWithin old.sector_count slot.extent → IsWithin new.sector_count slot.extent
-    → ServesTo stage (device_by Way (slot_device slot)) budget 0 (queue_at 0 slot.block) progress slot.memory memory slot.block block (extent_disk slot.extent old) (extent_disk slot.extent new)
-    → IsBlockPiece (device_by Way (device_of (state_of (bytes_of old) slot))) stage budget progress (state_of (bytes_of old) slot) (health_of old) (health_of new) (state_of (bytes_of new) (block_served slot memory block)) []
+seen_piece : (Way : Request → List ℕ → Disk → Outcome → Type 0) (slot : BoardSlot) (stage : Stage)
+    (budget : Budget) (progress : Progress) (memory : Memory) (block : WindowState) (old new : Disk)
+    → Tells old → Tells new → IsWhole old → IsWhole new → IsWithin old.sector_count slot.extent
+    → IsWithin new.sector_count slot.extent
+    → ServesTo stage (device_by Way (slot_device slot)) budget 0 (queue_at 0 slot.block) progress slot.memory
+    memory slot.block block (extent_disk slot.extent old) (extent_disk slot.extent new)
+    → IsBlockPiece (device_by Way (device_of (state_of (bytes_of old) slot))) stage budget progress
+    (state_of (bytes_of old) slot) (health_of old) (health_of new)
+    (state_of (bytes_of new) (block_served slot memory block)) []
 seen_piece Way slot stage budget progress memory block old new tells tells' whole whole' lies lies' h =
     let start = state_of (bytes_of old) slot in
-    let count : slot.extent.count ≡ sectors_of start.extent = sym (count_of slot.extent old tells whole lies) in
-    let guest = piece_anywhere Way (slot_device slot) stage budget (queue_at 0 slot.block) progress slot.memory memory slot.block block (extent_disk slot.extent old) (extent_disk slot.extent new) h in
-    let own = subst (λ c. ServesTo stage (device_by Way (counted_device slot c)) budget 0 (queue_at 0 slot.block) progress slot.memory memory slot.block block (extent_disk slot.extent old) (extent_disk slot.extent new)) count guest in
+    let count : slot.extent.count ≡ sectors_of start.extent =
+    sym (count_of slot.extent old tells whole lies) in
+    let guest = piece_anywhere Way (slot_device slot) stage budget (queue_at 0 slot.block) progress
+    slot.memory memory slot.block block (extent_disk slot.extent old) (extent_disk slot.extent new) h in
+    let own = subst (λ c. ServesTo stage (device_by Way (counted_device slot c)) budget 0
+    (queue_at 0 slot.block) progress slot.memory memory slot.block block (extent_disk slot.extent old)
+    (extent_disk slot.extent new)) count guest in
     record {
       served =
-          subst (λ (d : Disk). ServesTo stage (device_by Way (device_of start)) budget 0 (queue_at 0 slot.block) progress slot.memory memory slot.block block d (disk_with (state_of (bytes_of new) slot).extent (health_of new)))
+          subst (λ (d : Disk). ServesTo stage (device_by Way (device_of start)) budget 0
+          (queue_at 0 slot.block) progress slot.memory memory slot.block block d
+          (disk_with (state_of (bytes_of new) slot).extent (health_of new)))
           (seen_disk slot.extent old tells whole lies)
-          (subst (λ (d : Disk). ServesTo stage (device_by Way (device_of start)) budget 0 (queue_at 0 slot.block) progress slot.memory memory slot.block block (extent_disk slot.extent old) d)
+          (subst (λ (d : Disk). ServesTo stage (device_by Way (device_of start)) budget 0
+          (queue_at 0 slot.block) progress slot.memory memory slot.block block
+          (extent_disk slot.extent old) d)
           (seen_disk slot.extent new tells' whole' lies') own);
       is = refl;
       size = count_of slot.extent new tells' whole' lies' ∙ count;
@@ -120,22 +149,31 @@ seen_piece Way slot stage budget progress memory block old new tells tells' whol
     }
 
 -- a piece of the block device's service
-pub block_piece : (slot : BoardSlot) (stage : Stage) (budget : Budget) (progress : Progress) (memory : Memory) (block : WindowState) (old new : Disk)
-    → Tells old → Tells new → IsWhole old → IsWhole new → IsWithin old.sector_count slot.extent → IsWithin new.sector_count slot.extent → old.failures ≤ new.failures
-    → ServesTo stage (block_device (slot_device slot)) budget 0 (queue_at 0 slot.block) progress slot.memory memory slot.block block (extent_disk slot.extent old) (extent_disk slot.extent new)
-    → IsPiece Block stage budget progress (state_of (bytes_of old) slot) (health_of old) (health_of new) (state_of (bytes_of new) (block_served slot memory block)) []
-block_piece slot stage budget progress memory block old new tells tells' whole whole' lies lies' rises served = either (cases_eq new.failures old.failures)
+pub block_piece : (slot : BoardSlot) (stage : Stage) (budget : Budget) (progress : Progress) (memory : Memory)
+    (block : WindowState) (old new : Disk)
+    → Tells old → Tells new → IsWhole old → IsWhole new → IsWithin old.sector_count slot.extent
+    → IsWithin new.sector_count slot.extent → old.failures ≤ new.failures
+    → ServesTo stage (block_device (slot_device slot)) budget 0 (queue_at 0 slot.block) progress slot.memory
+    memory slot.block block (extent_disk slot.extent old) (extent_disk slot.extent new)
+    → IsPiece Block stage budget progress (state_of (bytes_of old) slot) (health_of old) (health_of new)
+    (state_of (bytes_of new) (block_served slot memory block)) []
+block_piece slot stage budget progress memory block old new tells tells' whole whole' lies lies' rises
+    served = either (cases_eq new.failures old.failures)
   where
     either : (new.failures ≡ old.failures) ⊎ (new.failures ≢ old.failures)
-        → IsPiece Block stage budget progress (state_of (bytes_of old) slot) (health_of old) (health_of new) (state_of (bytes_of new) (block_served slot memory block)) []
+        → IsPiece Block stage budget progress (state_of (bytes_of old) slot) (health_of old) (health_of new)
+        (state_of (bytes_of new) (block_served slot memory block)) []
     either (inl stood) = inl (record {
       piece =
-          seen_piece (Completes slot.identity) slot stage budget progress memory block old new tells tells' whole whole' lies lies'
-          (exact_piece (slot_device slot) stage budget (queue_at 0 slot.block) progress slot.memory memory slot.block block (extent_disk slot.extent old) (extent_disk slot.extent new) stood served);
+          seen_piece (Completes slot.identity) slot stage budget progress memory block old new tells tells'
+          whole whole' lies lies'
+          (exact_piece (slot_device slot) stage budget (queue_at 0 slot.block) progress slot.memory memory
+          slot.block block (extent_disk slot.extent old) (extent_disk slot.extent new) stood served);
       failures = stood;
     })
     either (inr rose) = inr (record {
-      piece = seen_piece (Ends slot.identity) slot stage budget progress memory block old new tells tells' whole whole' lies lies' served;
+      piece = seen_piece (Ends slot.identity) slot stage budget progress memory block old new tells tells'
+          whole whole' lies lies' served;
       failures = grind (arith, nat_tests, rises, rose);
     })
 
@@ -145,12 +183,14 @@ block_piece slot stage budget progress memory block old new tells tells' whole w
 abbrev Behind : List ℕ → List ℕ → List ℕ → Type 0
 Behind before out sent = out ≡ before ++ sent
 
-fitting_behind : (limit : Option ℕ) (before : List ℕ) → DoesAs (transmit_fitting limit) exact_transmit (Behind before)
+fitting_behind : (limit : Option ℕ) (before : List ℕ)
+    → DoesAs (transmit_fitting limit) exact_transmit (Behind before)
 fitting_behind limit before = record {
   takes = λ out sent alike. refl;
   gives = λ out sent readable w given alike h. record {
     state = sent ++ readable;
-    alike = ap (λ (g : Given (List ℕ)). g.state) h.0 ∙ ap (λ l. l ++ readable) alike ∙ append_assoc before sent readable;
+    alike = ap (λ (g : Given (List ℕ)). g.state) h.0 ∙ ap (λ l. l ++ readable) alike
+        ∙ append_assoc before sent readable;
     gives = ap (λ (g : Given (List ℕ)). record { state = sent ++ readable; written = g.written }) h.0;
   };
   lacks_memory = λ out sent readable w alike h. h;
@@ -161,7 +201,8 @@ within_behind limit before = record {
   takes = λ out sent alike. refl;
   gives = λ out sent readable w given alike h. record {
     state = sent ++ readable;
-    alike = ap (λ (g : Given (List ℕ)). g.state) h.0 ∙ ap (λ l. l ++ readable) alike ∙ append_assoc before sent readable;
+    alike = ap (λ (g : Given (List ℕ)). g.state) h.0 ∙ ap (λ l. l ++ readable) alike
+        ∙ append_assoc before sent readable;
     gives = ap (λ (g : Given (List ℕ)). record { state = sent ++ readable; written = g.written }) h.0;
   };
   lacks_memory = λ out sent readable w alike h. h.0;
@@ -171,59 +212,104 @@ within_behind limit before = record {
 abbrev pub sent : SlotState → Memory → WindowState → SlotState
 sent state memory console = record state { memory = memory; console = console }
 
-pub sends : {A : Type 0} (state : SlotState) (pause : Pause) (stage : Stage) (budget : Budget) (progress : Progress) (limit : Option ℕ) (health : Health) (memory : Memory) (console : WindowState) (before after : List ℕ) → pause.service ≡ Transmit
-    → ServesTo stage (transmit_fitting limit) budget 1 (queue_at 1 state.console) progress state.memory memory state.console console before after
-    → ServesTurn {A = A} (ComesTo pause stage budget) state health health (sent state memory console) (turn_of pause progress) before after
+pub sends : {A : Type 0} (state : SlotState) (pause : Pause) (stage : Stage) (budget : Budget)
+    (progress : Progress) (limit : Option ℕ) (health : Health) (memory : Memory) (console : WindowState)
+    (before after : List ℕ) → pause.service ≡ Transmit
+    → ServesTo stage (transmit_fitting limit) budget 1 (queue_at 1 state.console) progress state.memory memory
+    state.console console before after
+    → ServesTurn {A = A} (ComesTo pause stage budget) state health health (sent state memory console)
+    (turn_of pause progress) before after
 sends {A} state pause stage budget progress limit health memory console before after is h =
-    let p : PieceAs (transmit_fitting limit) exact_transmit (Behind before) (fitting_behind limit before) budget stage 1 (queue_at 1 state.console) progress state.memory memory state.console console after [] =
-    piece_as (transmit_fitting limit) exact_transmit (Behind before) (fitting_behind limit before) budget stage 1 (queue_at 1 state.console) progress state.memory memory state.console console before after [] (sym (append-nil before)) h in
-    let piece : IsPiece pause.service stage budget progress state health health (sent state memory console) p.state =
+    let p : PieceAs (transmit_fitting limit) exact_transmit (Behind before) (fitting_behind limit before)
+    budget stage 1 (queue_at 1 state.console) progress state.memory memory
+    state.console console after [] =
+    piece_as (transmit_fitting limit) exact_transmit (Behind before) (fitting_behind limit before) budget
+    stage 1 (queue_at 1 state.console) progress state.memory memory state.console console before after []
+    (sym (append-nil before)) h in
+    let piece : IsPiece pause.service stage budget progress state health health
+    (sent state memory console) p.state =
     rw is (record { served = p.served; is = refl; image = refl }) in
-    record { output = p.state; comes = comes_to A pause stage budget progress state health health (sent state memory console) p.state piece; appended = p.alike }
+    record {
+      output = p.state;
+      comes = comes_to A pause stage budget progress state health health (sent state memory console) p.state
+          piece;
+      appended = p.alike;
+    }
 
-pub refuses : {A : Type 0} (state : SlotState) (pause : Pause) (stage : Stage) (budget : Budget) (limit : Option ℕ) (health : Health) (memory : Memory) (console : WindowState) (before after : List ℕ) → pause.service ≡ Transmit
-    → IsRefusedAt stage (transmit_within limit) budget 1 (queue_at 1 state.console) state.memory memory state.console console before after
-    → ServesTurn {A = A} (ComesTo pause stage budget) state health health (sent state memory console) (Answered NoMemory) before after
+pub refuses : {A : Type 0} (state : SlotState) (pause : Pause) (stage : Stage) (budget : Budget)
+    (limit : Option ℕ) (health : Health) (memory : Memory) (console : WindowState) (before after : List ℕ)
+    → pause.service ≡ Transmit
+    → IsRefusedAt stage (transmit_within limit) budget 1 (queue_at 1 state.console) state.memory memory
+    state.console console before after
+    → ServesTurn {A = A} (ComesTo pause stage budget) state health health (sent state memory console)
+    (Answered NoMemory) before after
 refuses state pause stage budget limit health memory console before after is h =
-    let p : RefusedAs (transmit_within limit) transmit (Behind before) (within_behind limit before) budget stage 1 (queue_at 1 state.console) state.memory memory state.console console after [] =
-    refused_as (transmit_within limit) transmit (Behind before) (within_behind limit before) budget stage 1 (queue_at 1 state.console) state.memory memory state.console console before after [] (sym (append-nil before)) h in
-    record { output = p.state; comes = inr (refl, (is, record { refused = p.refused; is = refl; image = refl })); appended = p.alike }
+    let p : RefusedAs (transmit_within limit) transmit (Behind before) (within_behind limit before) budget
+    stage 1 (queue_at 1 state.console) state.memory memory state.console console after [] =
+    refused_as (transmit_within limit) transmit (Behind before) (within_behind limit before) budget stage 1
+    (queue_at 1 state.console) state.memory memory state.console console before after []
+    (sym (append-nil before)) h in
+    record {
+      output = p.state;
+      comes = inr (refl, (is, record { refused = p.refused; is = refl; image = refl }));
+      appended = p.alike;
+    }
 
 -- what puts out nothing
-pub silent_turn : {A : Type 0} (pause : Pause) (stage : Stage) (budget : Budget) (progress : Progress) (old : SlotState) (before after : Health) (new : SlotState) (out : List ℕ)
+pub silent_turn : {A : Type 0} (pause : Pause) (stage : Stage) (budget : Budget) (progress : Progress)
+    (old : SlotState) (before after : Health) (new : SlotState) (out : List ℕ)
     → IsPiece pause.service stage budget progress old before after new []
     → ServesTurn {A = A} (ComesTo pause stage budget) old before after new (turn_of pause progress) out out
 silent_turn {A} pause stage budget progress old before after new out piece =
-    record { output = []; comes = comes_to A pause stage budget progress old before after new [] piece; appended = sym (append-nil out) }
+    record {
+      output = [];
+      comes = comes_to A pause stage budget progress old before after new [] piece;
+      appended = sym (append-nil out);
+    }
 
 -- ---- which pieces find no memory
 
-never_lacks_at : (A : Type 0) (pause : Pause) (taken : Option ℕ) (progress : Progress) → pause.taken ≡ taken → turn_of {A = A} pause progress ≡ Answered NoMemory → ⊥
+never_lacks_at : (A : Type 0) (pause : Pause) (taken : Option ℕ) (progress : Progress) → pause.taken ≡ taken
+    → turn_of {A = A} pause progress ≡ Answered NoMemory → ⊥
 never_lacks_at A pause None progress.Done is lacks = cc (is, lacks)
 never_lacks_at A pause (Some taken) progress.Done is lacks = cc (is, lacks)
 never_lacks_at A pause taken progress.More is lacks = cc
 
-pub never_lacks : {A : Type 0} (pause : Pause) (progress : Progress) → turn_of {A = A} pause progress ≡ Answered NoMemory → ⊥
+pub never_lacks : {A : Type 0} (pause : Pause) (progress : Progress)
+    → turn_of {A = A} pause progress ≡ Answered NoMemory → ⊥
 never_lacks {A} pause progress lacks = never_lacks_at A pause pause.taken progress refl lacks
 
-bytes_at : (budget : Budget) (limit : Option ℕ) (queue : Option Queue) (m m' : Memory) (w w' : WindowState) (before after : List ℕ) → queue_at 1 w ≡ queue
+bytes_at : (budget : Budget) (limit : Option ℕ) (queue : Option Queue) (m m' : Memory) (w w' : WindowState)
+    (before after : List ℕ) → queue_at 1 w ≡ queue
     → IsRefusedAt First (transmit_within limit) budget 1 queue m m' w w' before after → HasBytesToPutOut m w
 bytes_at budget limit None m m' w w' before after is h = let never = h.0 in absurd (cc)
 bytes_at budget limit (Some queue) m m' w w' before after is h =
-    let p : RefusedAs (transmit_within limit) transmit (Behind before) (within_behind limit before) budget First 1 (Some queue) m m' w w' after [] =
-    refused_as (transmit_within limit) transmit (Behind before) (within_behind limit before) budget First 1 (Some queue) m m' w w' before after [] (sym (append-nil before)) h in
+    let p : RefusedAs (transmit_within limit) transmit (Behind before) (within_behind limit before) budget
+    First 1 (Some queue) m m' w w' after [] =
+    refused_as (transmit_within limit) transmit (Behind before) (within_behind limit before) budget First 1
+    (Some queue) m m' w w' before after [] (sym (append-nil before)) h in
     let start : Site Queue (List ℕ) = record { memory = m; ring = queue; state = [] } in
     let end : Site Queue (List ℕ) = record { memory = m'; ring = p.refused.last; state = p.state } in
-    record { queue = queue; ready = is; end = end; wanted = p.refused.wanted; stops = refused_service queue_kind transmit start end p.refused.wanted p.refused.service.service }
+    record {
+      queue = queue;
+      ready = is;
+      end = end;
+      wanted = p.refused.wanted;
+      stops = refused_service queue_kind transmit start end p.refused.wanted p.refused.service.service;
+    }
 
-pub has_bytes : (stage : Stage) (budget : Budget) (limit : Option ℕ) (m m' : Memory) (w w' : WindowState) (before after : List ℕ) → stage ≡ First
-    → IsRefusedAt stage (transmit_within limit) budget 1 (queue_at 1 w) m m' w w' before after → HasBytesToPutOut m w
-has_bytes First budget limit m m' w w' before after first h = bytes_at budget limit (queue_at 1 w) m m' w w' before after refl h
+pub has_bytes : (stage : Stage) (budget : Budget) (limit : Option ℕ) (m m' : Memory) (w w' : WindowState)
+    (before after : List ℕ) → stage ≡ First
+    → IsRefusedAt stage (transmit_within limit) budget 1 (queue_at 1 w) m m' w w' before after
+    → HasBytesToPutOut m w
+has_bytes First budget limit m m' w w' before after first h =
+    bytes_at budget limit (queue_at 1 w) m m' w w' before after refl h
 has_bytes Next budget limit m m' w w' before after first h = absurd (cc)
 
 -- ---- what a write leaves to be done
 
-pub serve_asked : (task : Task) (service : Service) → duty.Serve service ≡ duty_of task → asked_by task ≡ Some (record { service = service; taken = None })
+pub serve_asked : (task : Task) (service : Service) → duty.Serve service ≡ duty_of task
+    → asked_by task ≡ Some (record { service = service; taken = None })
 serve_asked Nothing service is = absurd (cc)
 serve_asked ServeBlock service is = cc
 serve_asked ServeReceive service is = cc
@@ -254,8 +340,11 @@ transmit_asked (PutOut byte) is = absurd (cc)
 -- ---- an event
 
 -- the service that it asks for takes its first piece
-pub begins_by : {A : Type 0} (what : EventKind A) (pause : Pause) (budget : Budget) (state mid : SlotState) (old new : Health) (after : SlotState) (turn : Turn A) (out out' : List ℕ) → asked what state ≡ Some pause → mid ≡ readied what state
-    → ServesTurn (ComesTo pause First budget) mid old new after turn out out' → ServesTurn (Begins what budget) state old new after turn out out'
+pub begins_by : {A : Type 0} (what : EventKind A) (pause : Pause) (budget : Budget) (state mid : SlotState)
+    (old new : Health) (after : SlotState) (turn : Turn A) (out out' : List ℕ) → asked what state ≡ Some pause
+    → mid ≡ readied what state
+    → ServesTurn (ComesTo pause First budget) mid old new after turn out out'
+    → ServesTurn (Begins what budget) state old new after turn out out'
 begins_by what pause budget state mid old new after turn out out' is ready h = record {
   output = h.output;
   comes =
@@ -265,78 +354,111 @@ begins_by what pause budget state mid old new after turn out out' is ready h = r
 }
 
 -- and puts nothing out
-pub comes_first : {A : Type 0} (what : EventKind A) (pause : Pause) (budget : Budget) (state : SlotState) (old new : Health) (after : SlotState) (turn : Turn A) (out : List ℕ) → asked what state ≡ Some pause
-    → ComesTo pause First budget (readied what state) old new after [] turn → ServesTurn (Begins what budget) state old new after turn out out
+pub comes_first : {A : Type 0} (what : EventKind A) (pause : Pause) (budget : Budget) (state : SlotState)
+    (old new : Health) (after : SlotState) (turn : Turn A) (out : List ℕ) → asked what state ≡ Some pause
+    → ComesTo pause First budget (readied what state) old new after [] turn
+    → ServesTurn (Begins what budget) state old new after turn out out
 comes_first what pause budget state old new after turn out is comes =
-    begins_by what pause budget state (readied what state) old new after turn out out is refl (record { output = []; comes = comes; appended = sym (append-nil out) })
+    begins_by what pause budget state (readied what state) old new after turn out out is refl
+    (record { output = []; comes = comes; appended = sym (append-nil out) })
 
 -- it asks for none
-pub at_once : {A : Type 0} (what : EventKind A) (budget : Budget) (state : SlotState) (old new : Health) (after : SlotState) (reply : Reply A) (out out' : List ℕ) → asked what state ≡ None
-    → Serves state what old new after reply out out' → ServesTurn (Begins what budget) state old new after (Answered reply) out out'
+pub at_once : {A : Type 0} (what : EventKind A) (budget : Budget) (state : SlotState) (old new : Health)
+    (after : SlotState) (reply : Reply A) (out out' : List ℕ) → asked what state ≡ None
+    → Serves state what old new after reply out out'
+    → ServesTurn (Begins what budget) state old new after (Answered reply) out out'
 at_once what budget state old new after reply out out' is h = record {
   output = h.output;
-  comes = subst (λ (o : Option Pause). TurnsTo o what budget state old new after h.output (Answered reply)) (sym is) h.given;
+  comes = subst (λ (o : Option Pause). TurnsTo o what budget state old new after h.output
+      (Answered reply)) (sym is) h.given;
   appended = h.appended;
 }
 
 -- what comes of a write, by the task that it leaves
-pub task_given : {A : Type 0} (state : SlotState) (window : DeviceKind) (task : Task) (offset width value : ℕ) (old new : Health) (outcome : Came A) → task_at window offset width value state ≡ task
-    → (Finishes task (with_write window offset width value state) old new outcome × ((outcome.reply ≢ NoMemory) × (new.failures ≡ old.failures))) ⊎ IsCutShort task (with_write window offset width value state) old new outcome
+pub task_given : {A : Type 0} (state : SlotState) (window : DeviceKind) (task : Task) (offset width value : ℕ)
+    (old new : Health) (outcome : Came A) → task_at window offset width value state ≡ task
+    → (Finishes task (with_write window offset width value state) old new outcome
+    × ((outcome.reply ≢ NoMemory) × (new.failures ≡ old.failures)))
+    ⊎ IsCutShort task (with_write window offset width value state) old new outcome
     → MayGive state (Write window offset width value) old new outcome
 task_given {A} state window task offset width value old new outcome is (inl h) = inl (record {
-  alike = subst (λ (t : Task). Finishes t (with_write window offset width value state) old new outcome) (sym is) h.0;
+  alike = subst (λ (t : Task). Finishes t (with_write window offset width value state) old new
+      outcome) (sym is) h.0;
   answered = h.1.0;
   failures = h.1.1;
 })
 task_given {A} state window task offset width value old new outcome is (inr h) =
-    inr (subst (λ (t : Task). IsCutShort t (with_write window offset width value state) old new outcome) (sym is) h)
+    inr (subst (λ (t : Task). IsCutShort t (with_write window offset width value state) old new
+    outcome) (sym is) h)
 
 -- a write that leaves nothing
-pub nothing_turn : {A : Type 0} (state : SlotState) (window : DeviceKind) (offset width value : ℕ) (budget : Budget) (health : Health) (out : List ℕ) → task_at window offset width value state ≡ Nothing
-    → ServesTurn (Begins {A = A} (Write window offset width value) budget) state health health (with_write window offset width value state) (Answered Done) out out
+pub nothing_turn : {A : Type 0} (state : SlotState) (window : DeviceKind) (offset width value : ℕ)
+    (budget : Budget) (health : Health) (out : List ℕ) → task_at window offset width value state ≡ Nothing
+    → ServesTurn (Begins {A = A} (Write window offset width value) budget) state health health
+    (with_write window offset width value state) (Answered Done) out out
 nothing_turn {A} state window offset width value budget health out is =
     let after = with_write window offset width value state in
-    at_once (Write window offset width value) budget state health health after Done out out (ap asked_by is) (record {
+    at_once (Write window offset width value) budget state health health after Done out out
+    (ap asked_by is) (record {
       output = [];
-      given = task_given state window Nothing offset width value health health (does after) is (inl (record { alike = refl; image = refl }, (λ none. cc, refl)));
+      given = task_given state window Nothing offset width value health health (does after) is
+          (inl (record { alike = refl; image = refl }, (λ none. cc, refl)));
       appended = sym (append-nil out);
     })
 
 -- or a byte to be put out
-pub put_out_turn : {A E : Type 0} (state : SlotState) (window : DeviceKind) (offset width value byte : ℕ) (budget : Budget) (health : Health) (before after : List ℕ) (r : Result (Unit {0}) E) (reply : Reply A) → task_at window offset width value state ≡ PutOut byte
-    → OnOk r (after ≡ before ++ byte ∷ []) → OnErr r (after ≡ before) → OnOk r (reply ≡ Done) → OnErr r (reply ≡ NoMemory)
-    → ServesTurn (Begins (Write window offset width value) budget) state health health (with_write window offset width value state) (Answered reply) before after
-put_out_turn {A} {E} state window offset width value byte budget health before after (Ok x) reply is out kept done none =
+pub put_out_turn : {A E : Type 0} (state : SlotState) (window : DeviceKind) (offset width value byte : ℕ)
+    (budget : Budget) (health : Health) (before after : List ℕ) (r : Result (Unit {0}) E) (reply : Reply A)
+    → task_at window offset width value state ≡ PutOut byte
+    → OnOk r (after ≡ before ++ byte ∷ []) → OnErr r (after ≡ before) → OnOk r (reply ≡ Done)
+    → OnErr r (reply ≡ NoMemory)
+    → ServesTurn (Begins (Write window offset width value) budget) state health health
+    (with_write window offset width value state) (Answered reply) before after
+put_out_turn {A} {E} state window offset width value byte budget health before after (Ok x) reply is
+    out kept done none =
     let mid = with_write window offset width value state in
-    at_once (Write window offset width value) budget state health health mid reply before after (ap asked_by is) (record {
+    at_once (Write window offset width value) budget state health health mid reply before after
+    (ap asked_by is) (record {
       output = byte ∷ [];
-      given = rw done (task_given state window (PutOut byte) offset width value health health (puts_out byte mid) is (inl (record { alike = refl; image = refl }, (λ lacks. cc, refl))));
+      given = rw done (task_given state window (PutOut byte) offset width value health health
+          (puts_out byte mid) is (inl (record { alike = refl; image = refl }, (λ lacks. cc, refl))));
       appended = out;
     })
-put_out_turn {A} {E} state window offset width value byte budget health before after (Err x) reply is out kept done none =
+put_out_turn {A} {E} state window offset width value byte budget health before after (Err x) reply is
+    out kept done none =
     let mid = with_write window offset width value state in
-    at_once (Write window offset width value) budget state health health mid reply before after (ap asked_by is) (record {
+    at_once (Write window offset width value) budget state health health mid reply before after
+    (ap asked_by is) (record {
       output = [];
-      given = rw none (task_given state window (PutOut byte) offset width value health health (replies mid NoMemory) is (inr (record { alike = refl; image = refl })));
+      given = rw none (task_given state window (PutOut byte) offset width value health health
+          (replies mid NoMemory) is (inr (record { alike = refl; image = refl })));
       appended = kept ∙ sym (append-nil before);
     })
 
 -- an event that asks for no service, and puts nothing out
-pub silent_answer : {A : Type 0} (what : EventKind A) (budget : Budget) (state : SlotState) (old new : Health) (after : SlotState) (reply : Reply A) (out : List ℕ) → asked what state ≡ None
-    → MayGive state what old new (replies after reply) → ServesTurn (Begins what budget) state old new after (Answered reply) out out
+pub silent_answer : {A : Type 0} (what : EventKind A) (budget : Budget) (state : SlotState) (old new : Health)
+    (after : SlotState) (reply : Reply A) (out : List ℕ) → asked what state ≡ None
+    → MayGive state what old new (replies after reply)
+    → ServesTurn (Begins what budget) state old new after (Answered reply) out out
 silent_answer what budget state old new after reply out is given =
-    at_once what budget state old new after reply out out is (record { output = []; given = given; appended = sym (append-nil out) })
+    at_once what budget state old new after reply out out is
+    (record { output = []; given = given; appended = sym (append-nil out) })
 
 -- ---- within a limit
 
-pub begins_within : {A : Type 0} (limit : ℕ) (what : EventKind A) (pause : Pause) (budget : Budget) (state mid after : SlotState) (waiting left : List ℕ) (turn : Turn A) → asked what state ≡ Some pause → mid ≡ readied what state
-    → PieceWithin limit pause First budget mid after waiting left turn → BeginsWithin limit what budget state after waiting left turn
+pub begins_within : {A : Type 0} (limit : ℕ) (what : EventKind A) (pause : Pause) (budget : Budget)
+    (state mid after : SlotState) (waiting left : List ℕ) (turn : Turn A) → asked what state ≡ Some pause
+    → mid ≡ readied what state
+    → PieceWithin limit pause First budget mid after waiting left turn
+    → BeginsWithin limit what budget state after waiting left turn
 begins_within limit what pause budget state mid after waiting left turn is ready h =
     subst (λ (o : Option Pause). TurnWithin limit o what budget state after waiting left turn) (sym is)
     (subst (λ (s : SlotState). PieceWithin limit pause First budget s after waiting left turn) ready h)
 
-put_within : {A E : Type 0} (limit : ℕ) (o : Option ℕ) (byte : ℕ) (state : SlotState) (waiting left : List ℕ) (r : Result (Unit {0}) E) (reply : Reply A) → o ≡ Some limit
-    → OnOk r (left ≡ waiting ++ byte ∷ []) → OnOk r (Fits o (length waiting + 1)) → OnErr r (left ≡ waiting) → OnErr r (MayRefuse o (length waiting + 1))
+put_within : {A E : Type 0} (limit : ℕ) (o : Option ℕ) (byte : ℕ) (state : SlotState) (waiting left : List ℕ)
+    (r : Result (Unit {0}) E) (reply : Reply A) → o ≡ Some limit
+    → OnOk r (left ≡ waiting ++ byte ∷ []) → OnOk r (Fits o (length waiting + 1)) → OnErr r (left ≡ waiting)
+    → OnErr r (MayRefuse o (length waiting + 1))
     → OnOk r (reply ≡ Done) → OnErr r (reply ≡ NoMemory)
     → PutsWithin limit byte state state waiting left reply
 put_within limit o byte state waiting left (Ok x) reply limited put fits kept past done none =
@@ -346,31 +468,51 @@ put_within limit o byte state waiting left (Err x) reply limited put fits kept p
     let full : MayRefuse (Some limit) (length waiting + 1) = rw limited at past in
     record { stays = refl; fits = λ some. absurd (omega (arith, full, some)); refused = λ past. (kept, none) }
 
-pub put_out_within : {A E : Type 0} (limit : ℕ) (o : Option ℕ) (state : SlotState) (window : DeviceKind) (offset width value byte : ℕ) (budget : Budget) (waiting left : List ℕ) (r : Result (Unit {0}) E) (reply : Reply A) → o ≡ Some limit
+pub put_out_within : {A E : Type 0} (limit : ℕ) (o : Option ℕ) (state : SlotState) (window : DeviceKind)
+    (offset width value byte : ℕ) (budget : Budget) (waiting left : List ℕ) (r : Result (Unit {0}) E)
+    (reply : Reply A) → o ≡ Some limit
     → task_at window offset width value state ≡ PutOut byte
-    → OnOk r (left ≡ waiting ++ byte ∷ []) → OnOk r (Fits o (length waiting + 1)) → OnErr r (left ≡ waiting) → OnErr r (MayRefuse o (length waiting + 1))
+    → OnOk r (left ≡ waiting ++ byte ∷ []) → OnOk r (Fits o (length waiting + 1)) → OnErr r (left ≡ waiting)
+    → OnErr r (MayRefuse o (length waiting + 1))
     → OnOk r (reply ≡ Done) → OnErr r (reply ≡ NoMemory)
-    → BeginsWithin limit (Write window offset width value) budget state (with_write window offset width value state) waiting left (Answered reply)
-put_out_within {A} limit o state window offset width value byte budget waiting left r reply limited is put fits kept past done none =
+    → BeginsWithin limit (Write window offset width value) budget state
+    (with_write window offset width value state) waiting left (Answered reply)
+put_out_within {A} limit o state window offset width value byte budget waiting left r reply limited is put
+    fits kept past done none =
     let mid = with_write window offset width value state in
-    subst (λ (a : Option Pause). TurnWithin {A = A} limit a (Write window offset width value) budget state mid waiting left (Answered reply)) (sym (ap asked_by is))
-    (subst (λ (t : Task). PutsOutWithin limit t mid mid waiting left reply) (sym is) (put_within limit o byte mid waiting left r reply limited put fits kept past done none))
+    subst (λ (a : Option Pause). TurnWithin {A = A} limit a (Write window offset width value) budget state mid
+    waiting left (Answered reply)) (sym (ap asked_by is))
+    (subst (λ (t : Task). PutsOutWithin limit t mid mid waiting left reply) (sym is)
+    (put_within limit o byte mid waiting left r reply limited put fits kept past done none))
 
-sent_at : (A : Type 0) (limit : ℕ) (pause : Pause) (stage : Stage) (budget : Budget) (progress : Progress) (old new : SlotState) (waiting left : List ℕ)
-    → IsSentPiece limit stage budget progress old new waiting left → SendsWithin {A = A} limit pause stage budget old new waiting left (turn_of pause progress)
+sent_at : (A : Type 0) (limit : ℕ) (pause : Pause) (stage : Stage) (budget : Budget) (progress : Progress)
+    (old new : SlotState) (waiting left : List ℕ)
+    → IsSentPiece limit stage budget progress old new waiting left
+    → SendsWithin {A = A} limit pause stage budget old new waiting left (turn_of pause progress)
 sent_at A limit pause stage budget progress.Done old new waiting left h = inl (refl, h)
 sent_at A limit pause stage budget progress.More old new waiting left h = h
 
-pub sent_within : (A : Type 0) (limit : ℕ) (o : Option ℕ) (pause : Pause) (stage : Stage) (budget : Budget) (progress : Progress) (state : SlotState) (memory : Memory) (console : WindowState) (waiting left : List ℕ) → o ≡ Some limit → pause.service ≡ Transmit
-    → ServesTo stage (transmit_fitting o) budget 1 (queue_at 1 state.console) progress state.memory memory state.console console waiting left
-    → PieceWithin {A = A} limit pause stage budget state (sent state memory console) waiting left (turn_of pause progress)
+pub sent_within : (A : Type 0) (limit : ℕ) (o : Option ℕ) (pause : Pause) (stage : Stage) (budget : Budget)
+    (progress : Progress) (state : SlotState) (memory : Memory) (console : WindowState)
+    (waiting left : List ℕ) → o ≡ Some limit → pause.service ≡ Transmit
+    → ServesTo stage (transmit_fitting o) budget 1 (queue_at 1 state.console) progress state.memory memory
+    state.console console waiting left
+    → PieceWithin {A = A} limit pause stage budget state (sent state memory console) waiting left
+    (turn_of pause progress)
 sent_within A limit o pause stage budget progress state memory console waiting left limited is h =
-    subst (λ (service : Service). PieceBy {A = A} service limit pause stage budget state (sent state memory console) waiting left (turn_of pause progress)) (sym is)
-    (sent_at A limit pause stage budget progress state (sent state memory console) waiting left (record { served = rw limited at h; is = refl }))
+    subst (λ (service : Service). PieceBy {A = A} service limit pause stage budget state
+    (sent state memory console) waiting left (turn_of pause progress)) (sym is)
+    (sent_at A limit pause stage budget progress state (sent state memory console) waiting left
+    (record { served = rw limited at h; is = refl }))
 
-pub unsent_within : (A : Type 0) (limit : ℕ) (o : Option ℕ) (pause : Pause) (stage : Stage) (budget : Budget) (state : SlotState) (memory : Memory) (console : WindowState) (waiting left : List ℕ) → o ≡ Some limit → pause.service ≡ Transmit
-    → IsRefusedAt stage (transmit_within o) budget 1 (queue_at 1 state.console) state.memory memory state.console console waiting left
-    → PieceWithin {A = A} limit pause stage budget state (sent state memory console) waiting left (Answered NoMemory)
+pub unsent_within : (A : Type 0) (limit : ℕ) (o : Option ℕ) (pause : Pause) (stage : Stage) (budget : Budget)
+    (state : SlotState) (memory : Memory) (console : WindowState) (waiting left : List ℕ) → o ≡ Some limit
+    → pause.service ≡ Transmit
+    → IsRefusedAt stage (transmit_within o) budget 1 (queue_at 1 state.console) state.memory memory
+    state.console console waiting left
+    → PieceWithin {A = A} limit pause stage budget state (sent state memory console) waiting left
+    (Answered NoMemory)
 unsent_within A limit o pause stage budget state memory console waiting left limited is h =
-    subst (λ (service : Service). PieceBy {A = A} service limit pause stage budget state (sent state memory console) waiting left (Answered NoMemory)) (sym is)
+    subst (λ (service : Service). PieceBy {A = A} service limit pause stage budget state
+    (sent state memory console) waiting left (Answered NoMemory)) (sym is)
     (inr (refl, record { refused = rw limited at h; is = refl }))

@@ -30,27 +30,34 @@ use Rattle.board.proofs.Turns.{task_given}
 abbrev pub came : {A : Type 0} → SlotState → Reply A → List ℕ → Outcome A
 came state reply output = record { state = state; reply = reply; output = output }
 
-same_came : {A : Type 0} (s t : SlotState) (r q : Reply A) (x y : List ℕ) → s ≡ t → r ≡ q → x ≡ y → came s r x ≡ came t q y
+same_came : {A : Type 0} (s t : SlotState) (r q : Reply A) (x y : List ℕ) → s ≡ t → r ≡ q → x ≡ y
+    → came s r x ≡ came t q y
 same_came s t r q x y a b c = rw (a, b, c) refl
 
 -- the block device
-block_whole : {A : Type 0} (device : Device Disk) (budget : Budget) (old : SlotState) (before after : Health) (new : SlotState) (output : List ℕ) (reply : Reply A) → reply ≡ Done
-    → IsBlockPiece device First budget progress.Done old before after new output → IsBlockService device old before after (came new reply output)
+block_whole : {A : Type 0} (device : Device Disk) (budget : Budget) (old : SlotState) (before after : Health)
+    (new : SlotState) (output : List ℕ) (reply : Reply A) → reply ≡ Done
+    → IsBlockPiece device First budget progress.Done old before after new output
+    → IsBlockService device old before after (came new reply output)
 block_whole device budget old before after new output reply done h = record {
   notified = record {
     ending = h.served.ending;
-    notified = notified_once device budget 0 (queue_at 0 old.block) h.served.ending old.memory new.memory old.block new.block (disk_with old.extent before) (disk_with new.extent after) h.served.notified;
+    notified = notified_once device budget 0 (queue_at 0 old.block) h.served.ending old.memory new.memory
+        old.block new.block (disk_with old.extent before) (disk_with new.extent after) h.served.notified;
   };
   is = same_came new _ reply Done output [] h.is done h.silent;
 }
 
 -- the receive queue
-receive_whole : {A : Type 0} (budget : Budget) (old : SlotState) (before after : Health) (new : SlotState) (output : List ℕ) (reply wanted : Reply A) → reply ≡ wanted
-    → IsReceivePiece First budget progress.Done old before after new output → IsReceiveService old wanted before after (came new reply output)
+receive_whole : {A : Type 0} (budget : Budget) (old : SlotState) (before after : Health) (new : SlotState)
+    (output : List ℕ) (reply wanted : Reply A) → reply ≡ wanted
+    → IsReceivePiece First budget progress.Done old before after new output
+    → IsReceiveService old wanted before after (came new reply output)
 receive_whole budget old before after new output reply wanted done h = record {
   notified = record {
     ending = h.served.ending;
-    notified = notified_once receive budget 0 (queue_at 0 old.console) h.served.ending old.memory new.memory old.console new.console old.pending new.pending h.served.notified;
+    notified = notified_once receive budget 0 (queue_at 0 old.console) h.served.ending old.memory new.memory
+        old.console new.console old.pending new.pending h.served.notified;
   };
   is = same_came new _ reply wanted output [] h.is done h.silent;
   image = h.image;
@@ -59,29 +66,46 @@ receive_whole budget old before after new output reply wanted done h = record {
 -- what a task comes to whose service ended in one piece
 abbrev ServedOrCut : {A : Type 0} → Task → SlotState → Health → Health → Outcome A → Type 0
 ServedOrCut task mid before after outcome =
-    (Finishes task mid before after outcome × ((outcome.reply ≢ NoMemory) × (after.failures ≡ before.failures))) ⊎ IsCutShort task mid before after outcome
+    (Finishes task mid before after outcome
+    × ((outcome.reply ≢ NoMemory) × (after.failures ≡ before.failures)))
+    ⊎ IsCutShort task mid before after outcome
 
-block_ended : {A : Type 0} (budget : Budget) (mid : SlotState) (before after : Health) (new : SlotState) (output : List ℕ) (reply : Reply A)
-    → EndsBy (record { service = Block; taken = None }) First budget mid before after new output reply → ServedOrCut ServeBlock mid before after (came new reply output)
-block_ended budget mid before after new output reply (inl (done, inl h)) = inl (block_whole (exact_device (device_of mid)) budget mid before after new output reply done h.piece, (λ lacks. cc, h.failures))
+block_ended : {A : Type 0} (budget : Budget) (mid : SlotState) (before after : Health) (new : SlotState)
+    (output : List ℕ) (reply : Reply A)
+    → EndsBy (record { service = Block; taken = None }) First budget mid before after new output reply
+    → ServedOrCut ServeBlock mid before after (came new reply output)
+block_ended budget mid before after new output reply (inl (done, inl h)) =
+    inl (
+      block_whole (exact_device (device_of mid)) budget mid before after new output reply done h.piece,
+      (λ lacks. cc, h.failures),
+    )
 block_ended budget mid before after new output reply (inl (done, inr h)) = inr (record {
   service = block_whole (block_device (device_of mid)) budget mid before after new output reply done h.piece;
   failures = h.failures;
 })
 block_ended budget mid before after new output reply (inr (lacks, (other, h))) = absurd (cc)
 
-receive_ended : {A : Type 0} (budget : Budget) (mid : SlotState) (before after : Health) (new : SlotState) (output : List ℕ) (reply : Reply A)
-    → EndsBy (record { service = Receive; taken = None }) First budget mid before after new output reply → ServedOrCut ServeReceive mid before after (came new reply output)
-receive_ended budget mid before after new output reply (inl (done, h)) = inl (receive_whole budget mid before after new output reply Done done h, (λ lacks. cc, ap (λ (x : Health). x.failures) h.image))
+receive_ended : {A : Type 0} (budget : Budget) (mid : SlotState) (before after : Health) (new : SlotState)
+    (output : List ℕ) (reply : Reply A)
+    → EndsBy (record { service = Receive; taken = None }) First budget mid before after new output reply
+    → ServedOrCut ServeReceive mid before after (came new reply output)
+receive_ended budget mid before after new output reply (inl (done, h)) =
+    inl (
+      receive_whole budget mid before after new output reply Done done h,
+      (λ lacks. cc, ap (λ (x : Health). x.failures) h.image),
+    )
 receive_ended budget mid before after new output reply (inr (lacks, (other, h))) = absurd (cc)
 
-transmit_ended : {A : Type 0} (budget : Budget) (mid : SlotState) (before after : Health) (new : SlotState) (output : List ℕ) (reply : Reply A)
-    → EndsBy (record { service = Transmit; taken = None }) First budget mid before after new output reply → ServedOrCut ServeTransmit mid before after (came new reply output)
+transmit_ended : {A : Type 0} (budget : Budget) (mid : SlotState) (before after : Health) (new : SlotState)
+    (output : List ℕ) (reply : Reply A)
+    → EndsBy (record { service = Transmit; taken = None }) First budget mid before after new output reply
+    → ServedOrCut ServeTransmit mid before after (came new reply output)
 transmit_ended budget mid before after new output reply (inl (done, h)) = inl (
   record {
     notified = record {
       ending = h.served.ending;
-      notified = notified_once exact_transmit budget 1 (queue_at 1 mid.console) h.served.ending mid.memory new.memory mid.console new.console [] output h.served.notified;
+      notified = notified_once exact_transmit budget 1 (queue_at 1 mid.console) h.served.ending mid.memory
+          new.memory mid.console new.console [] output h.served.notified;
     };
     is = same_came new _ reply Done output output h.is done refl;
     image = h.image;
@@ -89,42 +113,56 @@ transmit_ended budget mid before after new output reply (inl (done, h)) = inl (
   (λ lacks. cc, ap (λ (x : Health). x.failures) h.image),
 )
 transmit_ended budget mid before after new output reply (inr (lacks, (is, h))) = inr (record {
-  notified = notified_once transmit budget 1 (queue_at 1 mid.console) Refused mid.memory new.memory mid.console new.console [] output h.refused;
+  notified = notified_once transmit budget 1 (queue_at 1 mid.console) Refused mid.memory new.memory
+      mid.console new.console [] output h.refused;
   is = same_came new _ reply NoMemory output output h.is lacks refl;
   image = h.image;
 })
 
-write_whole : {A : Type 0} (state : SlotState) (window : DeviceKind) (offset width value : ℕ) (budget : Budget) (before after : Health) (new : SlotState) (output : List ℕ) (reply : Reply A) (task : Task) → task_at window offset width value state ≡ task
-    → TurnsTo (asked_by task) (Write window offset width value) budget state before after new output (Answered reply)
+write_whole : {A : Type 0} (state : SlotState) (window : DeviceKind) (offset width value : ℕ)
+    (budget : Budget) (before after : Health) (new : SlotState) (output : List ℕ) (reply : Reply A)
+    (task : Task) → task_at window offset width value state ≡ task
+    → TurnsTo (asked_by task) (Write window offset width value) budget state before after new
+    output (Answered reply)
     → MayGive state (Write window offset width value) before after (came new reply output)
 write_whole state window offset width value budget before after new output reply Nothing is h = h
 write_whole state window offset width value budget before after new output reply ServeBlock is h =
-    task_given state window ServeBlock offset width value before after (came new reply output) is (block_ended budget (with_write window offset width value state) before after new output reply h)
+    task_given state window ServeBlock offset width value before after (came new reply output) is
+    (block_ended budget (with_write window offset width value state) before after new output reply h)
 write_whole state window offset width value budget before after new output reply ServeReceive is h =
-    task_given state window ServeReceive offset width value before after (came new reply output) is (receive_ended budget (with_write window offset width value state) before after new output reply h)
+    task_given state window ServeReceive offset width value before after (came new reply output) is
+    (receive_ended budget (with_write window offset width value state) before after new output reply h)
 write_whole state window offset width value budget before after new output reply ServeTransmit is h =
-    task_given state window ServeTransmit offset width value before after (came new reply output) is (transmit_ended budget (with_write window offset width value state) before after new output reply h)
+    task_given state window ServeTransmit offset width value before after (came new reply output) is
+    (transmit_ended budget (with_write window offset width value state) before after new output reply h)
 write_whole state window offset width value budget before after new output reply (PutOut byte) is h = h
 
-input_whole : {A : Type 0} (state : SlotState) (bytes : List ℕ) (budget : Budget) (before after : Health) (new : SlotState) (output : List ℕ) (reply : Reply A)
-    → EndsBy (record { service = Receive; taken = Some (fitting state.pending bytes) }) First budget (with_input bytes state) before after new output reply
+input_whole : {A : Type 0} (state : SlotState) (bytes : List ℕ) (budget : Budget) (before after : Health)
+    (new : SlotState) (output : List ℕ) (reply : Reply A)
+    → EndsBy (record { service = Receive; taken = Some (fitting state.pending bytes) }) First budget
+    (with_input bytes state) before after new output reply
     → MayGive state (Input bytes) before after (came new reply output)
 input_whole state bytes budget before after new output reply (inl (done, h)) = inl (record {
-  alike = receive_whole budget (with_input bytes state) before after new output reply (Took (fitting state.pending bytes)) done h;
+  alike = receive_whole budget (with_input bytes state) before after new output reply
+      (Took (fitting state.pending bytes)) done h;
   answered = λ lacks. cc;
   failures = ap (λ (x : Health). x.failures) h.image;
 })
 input_whole state bytes budget before after new output reply (inr (lacks, (other, h))) = absurd (cc)
 
 -- An event that is answered in its first turn came to what it may come to.
-pub whole : {A : Type 0} (what : EventKind A) (budget : Budget) (state : SlotState) (before after : Health) (new : SlotState) (output : List ℕ) (reply : Reply A)
-    → Begins what budget state before after new output (Answered reply) → MayGive state what before after (came new reply output)
+pub whole : {A : Type 0} (what : EventKind A) (budget : Budget) (state : SlotState) (before after : Health)
+    (new : SlotState) (output : List ℕ) (reply : Reply A)
+    → Begins what budget state before after new output (Answered reply)
+    → MayGive state what before after (came new reply output)
 whole (Read window offset width) budget state before after new output reply h = h
 whole (Write window offset width value) budget state before after new output reply h =
-    write_whole state window offset width value budget before after new output reply (task_at window offset width value state) refl h
+    write_whole state window offset width value budget before after new output reply
+    (task_at window offset width value state) refl h
 whole (MemRead addr len) budget state before after new output reply h = h
 whole (MemWrite addr bytes) budget state before after new output reply h = h
-whole (Input bytes) budget state before after new output reply h = input_whole state bytes budget before after new output reply h
+whole (Input bytes) budget state before after new output reply h =
+    input_whole state bytes budget before after new output reply h
 whole (Resize cols rows) budget state before after new output reply h = h
 whole (Restore bytes) budget state before after new output reply h = h
 whole (Complete verdict) budget state before after new output reply h = h

@@ -44,7 +44,8 @@ pub record HasSharedSector (sectors : ℕ) (earlier : List SlotSpec) (spec : Slo
   pub within : IsWithin sectors spec.extent
   pub shared : Any (λ other. Overlaps other.extent spec.extent) earlier
 
--- a slot's fault, of which the first counts: its memory's, then its extent's end, then a sector that it shares
+-- a slot's fault, of which the first counts: its memory's, then its extent's end, then a sector that it
+-- shares
 abbrev pub IsFaultOf : ℕ → List SlotSpec → SlotSpec → SlotFault → Type 0
 IsFaultOf sectors earlier spec (Memory region fault) = IsRefusedAt spec.regions region fault
 IsFaultOf sectors earlier spec ExtentOutside = HasExtentOutside sectors spec
@@ -64,7 +65,8 @@ abbrev pub Refuses : ℕ → List SlotSpec → ℕ → BoardFault → Type 0
 Refuses sectors slots cache NoSlots = slots ≡ []
 Refuses sectors slots cache TooManySlots = 64 < length slots
 Refuses sectors slots cache (Slot number fault) = HasFaultAt sectors slots number fault
-Refuses sectors slots cache (Cache fault) = AreGood sectors slots × (¬ IsCapacity cache × (fault ≡ BadCapacity))
+Refuses sectors slots cache (Cache fault) = AreGood sectors slots
+    × (¬ IsCapacity cache × (fault ≡ BadCapacity))
 Refuses sectors slots cache NoMemory = AreGood sectors slots × IsCapacity cache
 
 -- what is needed for a board
@@ -99,7 +101,8 @@ abbrev pub IsGoodHosted : SlotSpec → Type 0
 IsGoodHosted spec = IsGoodSlot most_sectors [] (with_own_disk spec)
 
 abbrev pub GoodHostedBelow : List SlotSpec → ℕ → Type 0
-GoodHostedBelow slots n = (i : ℕ) (spec : SlotSpec) → i < n → slice_get slots i ≡ Some spec → IsGoodHosted spec
+GoodHostedBelow slots n = (i : ℕ) (spec : SlotSpec) → i < n → slice_get slots i ≡ Some spec
+    → IsGoodHosted spec
 
 -- all the slots can be had together
 pub record AreGoodHosted (slots : List SlotSpec) : Type 0 where
@@ -115,7 +118,8 @@ pub record HasHostedFaultAt (slots : List SlotSpec) (number : ℕ) (fault : Slot
   pub before : GoodHostedBelow slots number
   pub fault_is : IsFaultOf most_sectors [] (with_own_disk spec) fault
 
--- Why such a board is refused, in the same order as one over an image: there is no image that an extent could pass the
+-- Why such a board is refused, in the same order as one over an image: there is no image that an extent could
+-- pass the
 -- end of, but a disk may be too large; extents share nothing, and there is no cache.
 abbrev pub RefusesHosted : List SlotSpec → BoardFault → Type 0
 RefusesHosted slots NoSlots = slots ≡ []

@@ -26,9 +26,11 @@ abbrev pub AreOwn : {A : Type 0} → List (HostedCall A) → Type 0
 AreOwn [] = ⊤
 AreOwn (call ∷ calls) = IsOwn call.event × AreOwn calls
 
--- The way of a request that the host serves: the slot, which was old, looked at its queue and asked; its guest did what it
+-- The way of a request that the host serves: the slot, which was old, looked at its queue and asked; its
+-- guest did what it
 -- did, and its memory was written; and then the host completed what is in flight.
-pub record IsFlown (A : Type 0) (old : SlotState) (here : InFlight) (now : HostedState) (verdict : Verdict) (new : HostedState) : Type 0 where
+pub record IsFlown (A : Type 0) (old : SlotState) (here : InFlight) (now : HostedState) (verdict : Verdict)
+    (new : HostedState) : Type 0 where
   pub asking : HostedState
   pub looks : LooksAtQueue old asking
   pub flies : asking.flight ≡ Some here
@@ -38,9 +40,12 @@ pub record IsFlown (A : Type 0) (old : SlotState) (here : InFlight) (now : Hoste
   pub course : IsHostedCourse asking calls told now
   pub lands : Lands now.slot here verdict new
 
--- Over this disk it is a course of the model's block device, from the opened queue to behind the chain: whatever the host
--- did to the disk meanwhile, where that is what may become of the request that was asked for, and memory has it.
-pub record IsHonestlyServed {A : Type 0} (old : SlotState) (here : InFlight) (now : HostedState) (verdict : Verdict) (new : HostedState)
+-- Over this disk it is a course of the model's block device, from the opened queue to behind the chain:
+-- whatever the host
+-- did to the disk meanwhile, where that is what may become of the request that was asked for, and memory has
+-- it.
+pub record IsHonestlyServed {A : Type 0} (old : SlotState) (here : InFlight) (now : HostedState)
+    (verdict : Verdict) (new : HostedState)
     (flown : IsFlown A old here now verdict new) (disk : Disk) : Type 0 where
   pub queue : Queue
   pub ready : queue_at 0 old.block ≡ Some queue
@@ -49,8 +54,10 @@ pub record IsHonestlyServed {A : Type 0} (old : SlotState) (here : InFlight) (no
   pub operation : here.flight.operation ≡ operation_of (wants_stable old.block) request
   pub serves :
       (disk' : Disk)
-      → IsDone old.identity request here.buffers flown.asking.slot.memory now.slot.memory (extent_disk (device_of old).extent disk) disk'
-      (found_by here.flight.operation.kind verdict (length (writable_of here.buffers) - 1)) (status_by verdict)
+      → IsDone old.identity request here.buffers flown.asking.slot.memory now.slot.memory
+      (extent_disk (device_of old).extent disk) disk'
+      (found_by here.flight.operation.kind verdict (length (writable_of here.buffers) - 1))
+      (status_by verdict)
       → Course queue_kind (block_device (device_of old))
       (at_disk old.memory (opened_at First old.memory queue) (extent_disk (device_of old).extent disk))
       (at_disk flown.lands.completes.given flown.lands.completes.behind disk')

@@ -1,4 +1,5 @@
--- A board whose disks the host serves: calls of any slots in any order, and what each guest sees of them. Slots share
+-- A board whose disks the host serves: calls of any slots in any order, and what each guest sees of them.
+-- Slots share
 -- nothing, so its world is the list of their states.
 use Rattle.std.specs.Prelude.{◌≡◌, ◌≢◌, ℕ, ◌==◌, ⊤, Bool, true, false, nat_lt, if◌then◌else◌, Option, Some, None, List, [], ◌∷◌, ◌++◌, map, filter, slice_set, MatchOption}
 use Rattle.std.specs.List.{slice_get}
@@ -11,14 +12,16 @@ use Rattle.board.specs.Hosting.{HostedOutcome, HostedState, IsHostedNext}
 use Rattle.board.specs.Machine.{block_irq, console_irq}
 use Rattle.board.specs.Within.{TakesWithin}
 
--- One call for a guest: what is done, and the outlet of its console, with its limit where that alone decides what it
+-- One call for a guest: what is done, and the outlet of its console, with its limit where that alone decides
+-- what it
 -- refuses, and what waits there.
 pub record HostedCall (A : Type 0) : Type 0 where
   pub event : EventKind A
   pub limit : Option ℕ
   pub waiting : List ℕ
 
--- what is told of it: the reply, what the console put out, and InterruptStatus of both windows after it (4.2.2)
+-- what is told of it: the reply, what the console put out, and InterruptStatus of both windows after it
+-- (4.2.2)
 pub record Told (A : Type 0) : Type 0 where
   pub reply : Reply A
   pub output : List ℕ
@@ -36,17 +39,22 @@ told_of outcome = record {
 -- ---- a guest alone
 
 -- What waits in an outlet with a limit decides what of an event is refused.
-abbrev pub DecidesBy : {A : Type 0} → Option ℕ → HostedState → EventKind A → HostedState → List ℕ → List ℕ → Reply A → Type 0
+abbrev pub DecidesBy : {A : Type 0} → Option ℕ → HostedState → EventKind A → HostedState → List ℕ
+    → List ℕ → Reply A → Type 0
 DecidesBy None old event new waiting left reply = ⊤
-DecidesBy (Some limit) old event new waiting left reply = TakesWithin limit old.slot event new.slot waiting left reply
+DecidesBy (Some limit) old event new waiting left reply =
+    TakesWithin limit old.slot event new.slot waiting left reply
 
 -- one call of a guest that is alone with its outlet
-pub record IsCalledNext {A : Type 0} (old : HostedState) (call : HostedCall A) (outcome : HostedOutcome A) : Type 0 where
+pub record IsCalledNext {A : Type 0} (old : HostedState) (call : HostedCall A)
+    (outcome : HostedOutcome A) : Type 0 where
   pub next : IsHostedNext old call.event outcome
   pub within :
-      DecidesBy call.limit old call.event outcome.state call.waiting (call.waiting ++ outcome.output) outcome.reply
+      DecidesBy call.limit old call.event outcome.state call.waiting (call.waiting
+      ++ outcome.output) outcome.reply
 
--- Memory was found for a call: what it puts out an outlet with a limit decides, and a read of memory found some.
+-- Memory was found for a call: what it puts out an outlet with a limit decides, and a read of memory found
+-- some.
 abbrev pub FindsMemory : {A : Type 0} → Option ℕ → EventKind A → Reply A → Type 0
 FindsMemory None event reply = reply ≢ NoMemory
 FindsMemory (Some limit) (MemRead addr len) reply = reply ≢ NoMemory
@@ -59,18 +67,21 @@ AreFound (call ∷ calls) [] = ⊤
 AreFound (call ∷ calls) (told ∷ rest) = FindsMemory call.limit call.event told.reply × AreFound calls rest
 
 -- one call after another: what each is told, and the state after the last
-abbrev pub IsHostedCourse : {A : Type 0} → HostedState → List (HostedCall A) → List (Told A) → HostedState → Type 0
+abbrev pub IsHostedCourse : {A : Type 0} → HostedState → List (HostedCall A) → List (Told A)
+    → HostedState → Type 0
 IsHostedCourse old [] [] last = last ≡ old
 IsHostedCourse old [] (told ∷ rest) last = ⊥
 IsHostedCourse old (call ∷ calls) [] last = ⊥
 IsHostedCourse {A} old (call ∷ calls) (told ∷ rest) last =
     (outcome : HostedOutcome A)
-    × (IsCalledNext old call outcome × ((told ≡ told_of outcome) × IsHostedCourse outcome.state calls rest last))
+    × (IsCalledNext old call outcome
+    × ((told ≡ told_of outcome) × IsHostedCourse outcome.state calls rest last))
 
 -- ---- the whole board
 
 -- A call for slot h, which was in this state: every other slot stays.
-pub record CallsSlot {A : Type 0} (old : List HostedState) (h : ℕ) (state : HostedState) (call : HostedCall A) (told : Told A)
+pub record CallsSlot {A : Type 0} (old : List HostedState) (h : ℕ) (state : HostedState)
+    (call : HostedCall A) (told : Told A)
     (new : List HostedState) : Type 0 where
   pub outcome : HostedOutcome A
   pub next : IsCalledNext state call outcome
@@ -78,7 +89,8 @@ pub record CallsSlot {A : Type 0} (old : List HostedState) (h : ℕ) (state : Ho
   pub slots : new ≡ slice_set old h outcome.state
 
 -- A call for a slot that isn't there changes nothing.
-pub record CallsNone {A : Type 0} (old : List HostedState) (told : Told A) (new : List HostedState) : Type 0 where
+pub record CallsNone {A : Type 0} (old : List HostedState) (told : Told A)
+    (new : List HostedState) : Type 0 where
   pub told_is : told ≡ record { reply = BadSlot; output = []; block_irq = 0; console_irq = 0 }
   pub same : new ≡ old
 
@@ -101,7 +113,8 @@ pub record TakesQuietly {A : Type 0} (old : List HostedState) (h : ℕ) (event :
   pub block : ℕ
   pub console : ℕ
   pub takes :
-      (limit : Option ℕ) (waiting : List ℕ) → TakesCall old h event limit reply block console waiting waiting new
+      (limit : Option ℕ) (waiting : List ℕ)
+      → TakesCall old h event limit reply block console waiting waiting new
 
 -- every slot but that one is kept as it was
 abbrev pub KeepsOtherGuests : ℕ → List HostedState → List HostedState → Type 0
@@ -154,7 +167,8 @@ pub record HostedMove (A : Type 0) : Type 0 where
 
 abbrev pub IsHostedLine : {A : Type 0} → List HostedState → List (HostedMove A) → List HostedState → Type 0
 IsHostedLine old [] new = new ≡ old
-IsHostedLine old (move ∷ moves) new = Calls old move.slot move.call move.told move.after × IsHostedLine move.after moves new
+IsHostedLine old (move ∷ moves) new = Calls old move.slot move.call move.told move.after
+    × IsHostedLine move.after moves new
 
 -- what is called for guest g, in order, and what it is told
 abbrev pub own_moves : {A : Type 0} → ℕ → List (HostedMove A) → List (HostedMove A)
@@ -166,9 +180,12 @@ own_calls g moves = map (λ move. move.call) (own_moves g moves)
 abbrev pub own_told : {A : Type 0} → ℕ → List (HostedMove A) → List (Told A)
 own_told g moves = map (λ move. move.told) (own_moves g moves)
 
--- Guest g, which was in this state, is told what it would be told alone, and its state afterwards is what it would be
--- alone: its own calls decide both, the outcomes of its completions among them, whatever was called for others.
-pub record RunsHostedAlone {A : Type 0} (g : ℕ) (state : HostedState) (moves : List (HostedMove A)) (new : List HostedState) : Type 0 where
+-- Guest g, which was in this state, is told what it would be told alone, and its state afterwards is what it
+-- would be
+-- alone: its own calls decide both, the outcomes of its completions among them, whatever was called for
+-- others.
+pub record RunsHostedAlone {A : Type 0} (g : ℕ) (state : HostedState) (moves : List (HostedMove A))
+    (new : List HostedState) : Type 0 where
   pub last : HostedState
   pub course : IsHostedCourse state (own_calls g moves) (own_told g moves) last
   pub state_after : slice_get new g ≡ Some last

@@ -3,7 +3,8 @@ use Rattle.std.specs.Prelude.{ℕ, ◌/◌, Bool, IsSome, List, [], length, Some
 use Rattle.sector_cache.specs.Disk.{Disk}
 use Rattle.block_device.specs.Extent.{sector_len}
 
--- How the image fares: how many of its calls failed so far, and whether it is dirty: a write was tried since the
+-- How the image fares: how many of its calls failed so far, and whether it is dirty: a write was tried since
+-- the
 -- last flush that succeeded.
 pub record Health : Type 0 where
   pub failures : ℕ

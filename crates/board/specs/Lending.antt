@@ -24,4 +24,5 @@ put_back i (Some found) addr bytes slots = slice_set slots i (with_bytes addr fo
 
 -- a board with these bytes in the memory of slot i
 abbrev pub with_slot_bytes : {I : Type 0} → ℕ → ℕ → BoardState I → List ℕ → BoardState I
-with_slot_bytes i addr board bytes = record board { slots = put_back i (slice_get board.slots i) addr bytes board.slots }
+with_slot_bytes i addr board bytes =
+    record board { slots = put_back i (slice_get board.slots i) addr bytes board.slots }

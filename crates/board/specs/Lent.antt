@@ -1,4 +1,5 @@
--- Boards whose memories' bytes a host lends: one run of bytes for each region of all slots, in the slots' order and in each
+-- Boards whose memories' bytes a host lends: one run of bytes for each region of all slots, in the slots'
+-- order and in each
 -- slot in the regions' order.
 use Rattle.std.specs.Prelude.{◌≡◌, ℕ, ⊤, List, [], ◌∷◌, length, drop, map, None}
 use Rattle.std.specs.List.{flat_map}
@@ -28,13 +29,15 @@ BeginWith (region ∷ regions) (run ∷ bytes) = (length run ≡ region.len) × 
 abbrev pub with_bytes : List RegionSpec → List (List ℕ) → List Region
 with_bytes [] bytes = []
 with_bytes (region ∷ regions) [] = []
-with_bytes (region ∷ regions) (run ∷ bytes) = record { base = region.base; bytes = run } ∷ with_bytes regions bytes
+with_bytes (region ∷ regions) (run ∷ bytes) =
+    record { base = region.base; bytes = run } ∷ with_bytes regions bytes
 
 -- what is made of each slot and its memory, where each slot takes the next of the bytes
 abbrev pub made_over : {X : Type 0} → (SlotSpec → Memory → X) → List SlotSpec → List (List ℕ) → List X
 made_over made [] bytes = []
 made_over made (spec ∷ slots) bytes =
-    made spec (memory_of (with_bytes spec.regions bytes)) ∷ made_over made slots (drop (length spec.regions) bytes)
+    made spec (memory_of (with_bytes spec.regions bytes))
+    ∷ made_over made slots (drop (length spec.regions) bytes)
 
 -- a slot of a new board over this memory, which else is one over zeros
 abbrev pub opened_over : SlotSpec → Memory → BoardSlot
@@ -42,4 +45,5 @@ opened_over spec memory = record (opened spec) { memory = memory }
 
 -- the same of a slot whose disk the host serves
 abbrev pub hosted_over : SlotSpec → Memory → HostedState
-hosted_over spec memory = record { slot = hosted_slot (opened_over (with_own_disk spec) memory); flight = None }
+hosted_over spec memory =
+    record { slot = hosted_slot (opened_over (with_own_disk spec) memory); flight = None }

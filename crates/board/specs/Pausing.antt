@@ -35,7 +35,8 @@ use Rattle.board.specs.World.{World, MayGive, MayLackMemory, lacks_memory, noted
 -- ---- one piece
 
 -- A piece of the block device's service: its window, the memory and the guest's sectors may change.
-pub record IsBlockPiece (device : Device Disk) (stage : Stage) (budget : Budget) (progress : Progress) (old : SlotState) (before after : Health) (new : SlotState) (output : List ℕ) : Type 0 where
+pub record IsBlockPiece (device : Device Disk) (stage : Stage) (budget : Budget) (progress : Progress)
+    (old : SlotState) (before after : Health) (new : SlotState) (output : List ℕ) : Type 0 where
   pub served :
       ServesTo stage device budget 0 (queue_at 0 old.block) progress old.memory new.memory old.block new.block
       (disk_with old.extent before) (disk_with new.extent after)
@@ -44,44 +45,56 @@ pub record IsBlockPiece (device : Device Disk) (stage : Stage) (budget : Budget)
   pub silent : output ≡ []
 
 -- one in which no call of the image failed
-pub record IsExactPiece (stage : Stage) (budget : Budget) (progress : Progress) (old : SlotState) (before after : Health) (new : SlotState) (output : List ℕ) : Type 0 where
+pub record IsExactPiece (stage : Stage) (budget : Budget) (progress : Progress) (old : SlotState)
+    (before after : Health) (new : SlotState) (output : List ℕ) : Type 0 where
   pub piece : IsBlockPiece (exact_device (device_of old)) stage budget progress old before after new output
   pub failures : after.failures ≡ before.failures
 
 -- and one in which some did
-pub record IsFailedPiece (stage : Stage) (budget : Budget) (progress : Progress) (old : SlotState) (before after : Health) (new : SlotState) (output : List ℕ) : Type 0 where
+pub record IsFailedPiece (stage : Stage) (budget : Budget) (progress : Progress) (old : SlotState)
+    (before after : Health) (new : SlotState) (output : List ℕ) : Type 0 where
   pub piece : IsBlockPiece (block_device (device_of old)) stage budget progress old before after new output
   pub failures : before.failures < after.failures
 
 -- A piece of the receive queue's service: the console's window, the memory and pending input may change.
-pub record IsReceivePiece (stage : Stage) (budget : Budget) (progress : Progress) (old : SlotState) (before after : Health) (new : SlotState) (output : List ℕ) : Type 0 where
+pub record IsReceivePiece (stage : Stage) (budget : Budget) (progress : Progress) (old : SlotState)
+    (before after : Health) (new : SlotState) (output : List ℕ) : Type 0 where
   pub served :
-      ServesTo stage receive budget 0 (queue_at 0 old.console) progress old.memory new.memory old.console new.console
+      ServesTo stage receive budget 0 (queue_at 0 old.console) progress old.memory new.memory
+      old.console new.console
       old.pending new.pending
   pub is : new ≡ record old { memory = new.memory; console = new.console; pending = new.pending }
   pub image : after ≡ before
   pub silent : output ≡ []
 
 -- A piece of the transmit queue's service: the console's window and the memory may change.
-pub record IsTransmitPiece (stage : Stage) (budget : Budget) (progress : Progress) (old : SlotState) (before after : Health) (new : SlotState) (output : List ℕ) : Type 0 where
+pub record IsTransmitPiece (stage : Stage) (budget : Budget) (progress : Progress) (old : SlotState)
+    (before after : Health) (new : SlotState) (output : List ℕ) : Type 0 where
   pub served :
-      ServesTo stage exact_transmit budget 1 (queue_at 1 old.console) progress old.memory new.memory old.console new.console
+      ServesTo stage exact_transmit budget 1 (queue_at 1 old.console) progress old.memory new.memory
+      old.console new.console
       [] output
   pub is : new ≡ record old { memory = new.memory; console = new.console }
   pub image : after ≡ before
 
 -- and one that finds no memory for the bytes of the chain on offer
-pub record IsRefusedPiece (stage : Stage) (budget : Budget) (old : SlotState) (before after : Health) (new : SlotState) (output : List ℕ) : Type 0 where
+pub record IsRefusedPiece (stage : Stage) (budget : Budget) (old : SlotState) (before after : Health)
+    (new : SlotState) (output : List ℕ) : Type 0 where
   pub refused :
-      IsRefusedAt stage transmit budget 1 (queue_at 1 old.console) old.memory new.memory old.console new.console [] output
+      IsRefusedAt stage transmit budget 1 (queue_at 1 old.console) old.memory new.memory old.console
+      new.console [] output
   pub is : new ≡ record old { memory = new.memory; console = new.console }
   pub image : after ≡ before
 
-abbrev pub IsPiece : Service → Stage → Budget → Progress → SlotState → Health → Health → SlotState → List ℕ → Type 0
+abbrev pub IsPiece : Service → Stage → Budget → Progress → SlotState → Health → Health
+    → SlotState → List ℕ → Type 0
 IsPiece Block stage budget progress old before after new output =
-    IsExactPiece stage budget progress old before after new output ⊎ IsFailedPiece stage budget progress old before after new output
-IsPiece Receive stage budget progress old before after new output = IsReceivePiece stage budget progress old before after new output
-IsPiece Transmit stage budget progress old before after new output = IsTransmitPiece stage budget progress old before after new output
+    IsExactPiece stage budget progress old before after new output
+    ⊎ IsFailedPiece stage budget progress old before after new output
+IsPiece Receive stage budget progress old before after new output =
+    IsReceivePiece stage budget progress old before after new output
+IsPiece Transmit stage budget progress old before after new output =
+    IsTransmitPiece stage budget progress old before after new output
 
 -- whether a budget has a limit: without one no service pauses
 abbrev pub HasLimit : Budget → Type 0
@@ -107,13 +120,16 @@ turn_of pause progress.Done = Answered (reply_of pause)
 turn_of pause progress.More = More pause
 
 -- A piece that ends the service: it goes to the end, or finds no memory for what is put out.
-abbrev pub EndsBy : {A : Type 0} → Pause → Stage → Budget → SlotState → Health → Health → SlotState → List ℕ → Reply A → Type 0
+abbrev pub EndsBy : {A : Type 0} → Pause → Stage → Budget → SlotState → Health → Health → SlotState
+    → List ℕ → Reply A → Type 0
 EndsBy pause stage budget old before after new output reply =
     ((reply ≡ reply_of pause) × IsPiece pause.service stage budget progress.Done old before after new output)
-    ⊎ ((reply ≡ NoMemory) × ((pause.service ≡ Transmit) × IsRefusedPiece stage budget old before after new output))
+    ⊎ ((reply ≡ NoMemory) × ((pause.service ≡ Transmit)
+    × IsRefusedPiece stage budget old before after new output))
 
 -- What a piece of a service comes to.
-abbrev pub ComesTo : {A : Type 0} → Pause → Stage → Budget → SlotState → Health → Health → SlotState → List ℕ → Turn A → Type 0
+abbrev pub ComesTo : {A : Type 0} → Pause → Stage → Budget → SlotState → Health → Health → SlotState
+    → List ℕ → Turn A → Type 0
 ComesTo pause stage budget old before after new output (Answered reply) =
     EndsBy pause stage budget old before after new output reply
 ComesTo pause stage budget old before after new output (More next) =
@@ -149,25 +165,32 @@ readied (Input bytes) state = with_input bytes state
 readied what state = state
 
 -- What an event comes to, by the service that it asks for. One that asks for none is answered at once.
-abbrev pub TurnsTo : {A : Type 0} → Option Pause → EventKind A → Budget → SlotState → Health → Health → SlotState → List ℕ → Turn A → Type 0
+abbrev pub TurnsTo : {A : Type 0} → Option Pause → EventKind A → Budget → SlotState → Health → Health
+    → SlotState → List ℕ → Turn A → Type 0
 TurnsTo (Some pause) what budget old before after new output turn =
     ComesTo pause First budget (readied what old) before after new output turn
 TurnsTo None what budget old before after new output (Answered reply) =
     MayGive old what before after (record { state = new; reply = reply; output = output })
 TurnsTo None what budget old before after new output (More pause) = ⊥
 
-abbrev pub Begins : {A : Type 0} → EventKind A → Budget → SlotState → Health → Health → SlotState → List ℕ → Turn A → Type 0
+abbrev pub Begins : {A : Type 0} → EventKind A → Budget → SlotState → Health → Health → SlotState
+    → List ℕ → Turn A → Type 0
 Begins what budget old before after new output turn =
     TurnsTo (asked what old) what budget old before after new output turn
 
 -- What a service that paused comes to as it goes on.
-abbrev pub GoesOn : {A : Type 0} → Pause → Budget → SlotState → Health → Health → SlotState → List ℕ → Turn A → Type 0
-GoesOn pause budget old before after new output turn = ComesTo pause Next budget old before after new output turn
+abbrev pub GoesOn : {A : Type 0} → Pause → Budget → SlotState → Health → Health → SlotState
+    → List ℕ → Turn A → Type 0
+GoesOn pause budget old before after new output turn =
+    ComesTo pause Next budget old before after new output turn
 
 -- What a turn of a slot comes to, by what it is to do: an event begins, or a service that paused goes on.
-abbrev pub Does : {A : Type 0} → Work A → Budget → SlotState → Health → Health → SlotState → List ℕ → Turn A → Type 0
-Does (Begin what) budget old before after new output turn = Begins what.now budget old before after new output turn
-Does (Resume pause) budget old before after new output turn = GoesOn pause budget old before after new output turn
+abbrev pub Does : {A : Type 0} → Work A → Budget → SlotState → Health → Health → SlotState
+    → List ℕ → Turn A → Type 0
+Does (Begin what) budget old before after new output turn =
+    Begins what.now budget old before after new output turn
+Does (Resume pause) budget old before after new output turn =
+    GoesOn pause budget old before after new output turn
 
 -- the turns that may find no memory: those of the events that may, and any of a service that goes on
 abbrev pub MayLackMemoryIn : {A : Type 0} → Work A → SlotState → Type 0
@@ -185,15 +208,19 @@ lacks_memory_in (More pause) = false
 abbrev pub met_in : {A : Type 0} → Turn A → ℕ → ℕ → Bool
 met_in turn old_failures new_failures = lacks_memory_in turn || nat_lt old_failures new_failures
 
--- A slot's guest is served so: its event comes to a turn that it may come to, and the output was appended to what
+-- A slot's guest is served so: its event comes to a turn that it may come to, and the output was appended to
+-- what
 -- was put out before.
-pub record ServesTurn {A : Type 0} (Comes : SlotState → Health → Health → SlotState → List ℕ → Turn A → Type 0)
-    (state : SlotState) (old new : Health) (after : SlotState) (turn : Turn A) (out_before out_after : List ℕ) : Type 0 where
+pub record ServesTurn {A : Type 0} (Comes : SlotState → Health → Health → SlotState
+    → List ℕ → Turn A → Type 0)
+    (state : SlotState) (old new : Health) (after : SlotState) (turn : Turn A)
+    (out_before out_after : List ℕ) : Type 0 where
   pub output : List ℕ
   pub comes : Comes state old new after output turn
   pub appended : out_after ≡ out_before ++ output
 
--- A turn of slot h on the whole board, which shows these interrupt words after it: a refusal is noted, and every
+-- A turn of slot h on the whole board, which shows these interrupt words after it: a refusal is noted, and
+-- every
 -- other slot and each byte outside all extents stay as they are.
 pub record SlotTurn {A : Type 0} (Comes : SlotState → Health → Health → SlotState → List ℕ → Turn A → Type 0)
     (old : World) (h : ℕ) (turn : Turn A) (output : List ℕ) (block console : ℕ) (new : World) : Type 0 where
@@ -209,7 +236,8 @@ pub record SlotTurn {A : Type 0} (Comes : SlotState → Health → Health → Sl
 
 -- The board takes a turn, whose output was appended to what was put out before.
 pub record TakesTurn {A : Type 0} (Comes : SlotState → Health → Health → SlotState → List ℕ → Turn A → Type 0)
-    (old : World) (h : ℕ) (turn : Turn A) (block console : ℕ) (out_before out_after : List ℕ) (new : World) : Type 0 where
+    (old : World) (h : ℕ) (turn : Turn A) (block console : ℕ) (out_before out_after : List ℕ)
+    (new : World) : Type 0 where
   pub output : List ℕ
   pub taken : SlotTurn Comes old h turn output block console new
   pub appended : out_after ≡ out_before ++ output

@@ -42,7 +42,8 @@ IsRestoring state bytes outcome =
     ⊎ (IsNotTakenUp state bytes × (outcome ≡ replies state BadState))
 
 -- The same, for an image that has no part in it.
-pub record Restores {A : Type 0} (state : SlotState) (bytes : List ℕ) (before after : Health) (outcome : Outcome A) : Type 0 where
+pub record Restores {A : Type 0} (state : SlotState) (bytes : List ℕ) (before after : Health)
+    (outcome : Outcome A) : Type 0 where
   pub alike : IsRestoring state bytes outcome
   pub image : after ≡ before
 

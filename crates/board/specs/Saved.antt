@@ -42,7 +42,8 @@ pub record OffersFeatures (slot : BoardSlot) : Type 0 where
   pub block : slot.block.negotiation.offered ≡ block_features slot.read_only
   pub console : slot.console.negotiation.offered ≡ console_features
 
--- The bytes are the snapshot of a slot that stands so on a board: they are spelled so and read back, its windows are
+-- The bytes are the snapshot of a slot that stands so on a board: they are spelled so and read back, its
+-- windows are
 -- those of its two devices, and they are restored over each memory of its memory's range.
 pub record IsSnapshotOf (bytes : List ℕ) (slot : BoardSlot) : Type 0 where
   pub spelled : bytes ≡ snapshot (saved_slot slot) slot.pending
@@ -60,7 +61,8 @@ pub record IsSavedTo (slot : BoardSlot) (old new : List ℕ) (len : ℕ) : Type 
 
 -- ---- what takes it up
 
--- The slot is of the description that was saved: its memory begins and ends at the same addresses, its disk has as many
+-- The slot is of the description that was saved: its memory begins and ends at the same addresses, its disk
+-- has as many
 -- sectors, the same mode and the same identity, and its devices offer the same features.
 pub record Suits (saved : SavedSlot) (slot : BoardSlot) : Type 0 where
   pub base : saved.base ≡ slot.memory.base
@@ -71,7 +73,8 @@ pub record Suits (saved : SavedSlot) (slot : BoardSlot) : Type 0 where
   pub block : saved.block.offered ≡ slot.block.negotiation.offered
   pub console : saved.console.offered ≡ slot.console.negotiation.offered
 
--- The slot has taken up what was saved: both windows, the pending input and the size. The memory stays, and the disk
+-- The slot has taken up what was saved: both windows, the pending input and the size. The memory stays, and
+-- the disk
 -- with its mode and identity, and whether an event of the slot has met a refusal.
 pub record TakesUp (old : BoardSlot) (saved : SavedSlot) (pending : List ℕ) (new : BoardSlot) : Type 0 where
   pub suits : Suits saved old
@@ -115,12 +118,15 @@ pub record IsLike (slot other : BoardSlot) : Type 0 where
   pub read_only : other.read_only ≡ slot.read_only
   pub identity : other.identity ≡ slot.identity
 
--- the slot is as that one was, but for the memory's bytes, where its disk lies, and whether an event of it has met a
+-- the slot is as that one was, but for the memory's bytes, where its disk lies, and whether an event of it
+-- has met a
 -- refusal: those are its own
 abbrev pub IsAs : BoardSlot → BoardSlot → BoardSlot → Type 0
 IsAs slot old new = new ≡ record slot { memory = old.memory; extent = old.extent; disturbed = old.disturbed }
 
--- The host has put back the bytes of a slot's memory and of its disk: this slot has them, in an image of these bytes.
+-- The host has put back the bytes of a slot's memory and of its disk: this slot has them, in an image of
+-- these bytes.
 pub record HasBytesOf (slot : BoardSlot) (bytes : List ℕ) (old : BoardSlot) (other : List ℕ) : Type 0 where
   pub memory : old.memory ≡ slot.memory
-  pub disk : extent_of other old.extent.start old.extent.count ≡ extent_of bytes slot.extent.start slot.extent.count
+  pub disk : extent_of other old.extent.start old.extent.count
+      ≡ extent_of bytes slot.extent.start slot.extent.count

@@ -66,7 +66,8 @@ pub record IsUnnoted (old new : BoardSlot) (before after : Disk) (failed : Bool)
   pub disturbed : new.disturbed ≡ old.disturbed
   pub counted : failed ≡ nat_lt before.failures after.failures
 
--- All that a block request doesn't reach stays: the console's window, pending input and size, whether the disk may be
+-- All that a block request doesn't reach stays: the console's window, pending input and size, whether the
+-- disk may be
 -- written, its identity, where the memory lies and how large it is, and how many bytes the disk has.
 pub record KeepsBesideDisk (old new : SlotState) : Type 0 where
   pub console : new.console ≡ old.console
@@ -78,7 +79,8 @@ pub record KeepsBesideDisk (old new : SlotState) : Type 0 where
   pub memory : SameRange old.memory new.memory
   pub extent : length new.extent ≡ length old.extent
 
--- All that a transmit doesn't reach stays: the disk, whether it may be written and its identity, the block device's
+-- All that a transmit doesn't reach stays: the disk, whether it may be written and its identity, the block
+-- device's
 -- window, the console's pending input and size, and where the memory lies and how large it is.
 pub record KeepsBesideTransmit (old new : SlotState) : Type 0 where
   pub extent : new.extent ≡ old.extent
@@ -97,15 +99,18 @@ device_features = indirect_desc + event_idx + version_1 + ring_packed + notifica
 -- the features that a block device offers (5.2.3); one that refuses writes says so
 abbrev pub block_features : Bool → ℕ
 block_features read_only =
-    (if read_only then block_ro else 0) + block_seg_max + block_blk_size + block_flush + block_write_zeroes + device_features
+    (if read_only then block_ro else
+    0) + block_seg_max + block_blk_size + block_flush + block_write_zeroes + device_features
 
 -- the features that a console offers (5.3.3): it tells its size, and takes emergency writes
 abbrev pub console_features : ℕ
 console_features = console_size + console_emerg_write + device_features
 
--- Each window is that of its device, of its kind and offering what it offers. Both are sound for the memory: their ready
+-- Each window is that of its device, of its kind and offering what it offers. Both are sound for the memory:
+-- their ready
 -- queues lie in it. And no more input is pending than may be.
-pub record IsSoundSlot (memory : Memory) (read_only : Bool) (block console : WindowState) (pending : List ℕ) : Type 0 where
+pub record IsSoundSlot (memory : Memory) (read_only : Bool) (block console : WindowState)
+    (pending : List ℕ) : Type 0 where
   pub block_kind : block.kind ≡ Block
   pub block_offers : block.negotiation.offered ≡ block_features read_only
   pub console_kind : console.kind ≡ Console
@@ -130,7 +135,8 @@ opened spec = record {
   disturbed = false;
 }
 
--- Both interrupt words have no bits but the two that a device may set: a used buffer, and a change of configuration
+-- Both interrupt words have no bits but the two that a device may set: a used buffer, and a change of
+-- configuration
 -- (4.2.2).
 pub record AreInterruptWords (block_irq console_irq : ℕ) : Type 0 where
   pub block : block_irq ≤ 3

@@ -27,7 +27,8 @@ pub data Task : Type 0 where
   ServeTransmit : Task
   PutOut : ℕ → Task
 
--- where a driver writes to the console without a queue: emerg_wr, behind columns, rows and max_nr_ports (5.3.4)
+-- where a driver writes to the console without a queue: emerg_wr, behind columns, rows and max_nr_ports
+-- (5.3.4)
 abbrev pub emergency_write : ℕ
 emergency_write = configuration_offset + 8
 
@@ -80,9 +81,11 @@ pub record IsReceiveService {A : Type 0} (old : SlotState) (reply : Reply A) (be
       }) reply
   pub image : after ≡ before
 
--- The console puts out the chains of its transmit queue (5.3.6): its window and the memory may change, and the
+-- The console puts out the chains of its transmit queue (5.3.6): its window and the memory may change, and
+-- the
 -- rest of the slot stays.
-pub record IsTransmitService {A : Type 0} (old : SlotState) (before after : Health) (outcome : Outcome A) : Type 0 where
+pub record IsTransmitService {A : Type 0} (old : SlotState) (before after : Health)
+    (outcome : Outcome A) : Type 0 where
   pub notified :
       IsNotified exact_transmit 1 (queue_at 1 old.console) old.memory outcome.state.memory
       old.console outcome.state.console [] outcome.output

@@ -62,8 +62,10 @@ seen slots disk = record {
 abbrev pub world_of : {I : Type 0} → (I → Disk) → BoardState I → World
 world_of disk board = seen board.slots (disk board.image)
 
--- What events do to a board stays in its slots' extents: an image that tells its bytes goes on telling them, and those
--- outside all extents stay; the extents lie where they did, in an image of the same size; its failures never fall, and
+-- What events do to a board stays in its slots' extents: an image that tells its bytes goes on telling them,
+-- and those
+-- outside all extents stay; the extents lie where they did, in an image of the same size; its failures never
+-- fall, and
 -- while they stay a clean image stays clean.
 pub record StaysInExtents {I : Type 0} (disk : I → Disk) (old new : BoardState I) : Type 0 where
   pub tells : Tells (disk old.image) → Tells (disk new.image)
@@ -94,13 +96,15 @@ pub record IsUnread {A : Type 0} (state : SlotState) (addr len : ℕ) (old new :
 
 -- A service of the block device met an image that failed: each request that met no failure is served as
 -- ever, and each that did is counted and ends in one of the ways of a request that fails.
-pub record IsFailedService {A : Type 0} (state : SlotState) (old new : Health) (outcome : Outcome A) : Type 0 where
+pub record IsFailedService {A : Type 0} (state : SlotState) (old new : Health)
+    (outcome : Outcome A) : Type 0 where
   pub service : IsBlockService (block_device (device_of state)) state old new outcome
   pub failures : old.failures < new.failures
 
 -- A service of the transmit queue found no memory for the bytes of the chain on offer, which stays there: the
 -- chains before it are out, used and notified, the reply says so, and the rest of the slot stays.
-pub record IsRefusedTransmit {A : Type 0} (state : SlotState) (old new : Health) (outcome : Outcome A) : Type 0 where
+pub record IsRefusedTransmit {A : Type 0} (state : SlotState) (old new : Health)
+    (outcome : Outcome A) : Type 0 where
   pub notified :
       Notified transmit 1 (queue_at 1 state.console) Refused state.memory outcome.state.memory
       state.console outcome.state.console [] outcome.output
@@ -253,7 +257,8 @@ pub record KeepsBoard {A : Type 0} (old : World) (written : Record A) (new : Wor
   pub output : written.output ≡ []
 
 -- A call for a slot that isn't there changes nothing, puts nothing out and shows 0 for both interrupt words.
-pub record IsMissed {I : Type 0} (old new : BoardState I) (out_before out_after : List ℕ) (block_irq console_irq : ℕ) : Type 0 where
+pub record IsMissed {I : Type 0} (old new : BoardState I) (out_before out_after : List ℕ)
+    (block_irq console_irq : ℕ) : Type 0 where
   pub same : new ≡ old
   pub silent : out_after ≡ out_before
   pub block : block_irq ≡ 0
@@ -261,7 +266,8 @@ pub record IsMissed {I : Type 0} (old new : BoardState I) (out_before out_after 
 
 -- the slot of that number is there, and whatever the image has, this holds of what its guest can see
 abbrev pub HoldsAt : ℕ → List BoardSlot → (SlotState → Type 0) → Type 0
-HoldsAt slot slots Holds = IsSomeAnd (slice_get slots slot) (λ found. (image : List ℕ) → Holds (state_of image found))
+HoldsAt slot slots Holds =
+    IsSomeAnd (slice_get slots slot) (λ found. (image : List ℕ) → Holds (state_of image found))
 
 -- every slot but that one is kept as it was
 abbrev pub KeepsOthers : ℕ → List BoardSlot → List BoardSlot → Type 0

@@ -16,7 +16,17 @@ abbrev pub Row : RattleType
 Row = AnySession.the_row
 
 abbrev pub E : Bx
-E = record { row = Row; laws = session.the_row_laws; al = record { row = Heap.the_row; laws = heap.the_row_laws; g = ghosts; d = dict; drops = impl [] tnil dnil } }
+E = record {
+  row = Row;
+  laws = session.the_row_laws;
+  al = record {
+    row = Heap.the_row;
+    laws = heap.the_row_laws;
+    g = ghosts;
+    d = dict;
+    drops = impl [] tnil dnil;
+  };
+}
 
 abbrev pub Of : RattleType
 Of = Parts.the_row Row Heap.the_row ghosts

@@ -20,14 +20,16 @@ use Rattle.board_ffi.specs.Handle.{Held}
 use Rattle.board_ffi.specs.Hosted as hosted
 use Rattle.board_ffi.specs.OfImage as image
 
--- A call on a handle: where it holds no board it answers 1 and goes on holding none; a board does this, and is
+-- A call on a handle: where it holds no board it answers 1 and goes on holding none; a board does this, and
+-- is
 -- still there.
 abbrev pub Calls : Held → Held → ℕ → (AnySession → AnySession → Type 0) → Type 0
 Calls before after code step =
     MatchOption before ((code ≡ 1) × (after ≡ None)) (λ old. IsSomeAnd after (step old))
 
 -- A board over an image does this, or one whose disks the host serves does that. It stays of its kind.
-abbrev pub ByKind : (SessionState → SessionState → Type 0) → (HostedSessionState → HostedSessionState → Type 0) → AnySession → AnySession → Type 0
+abbrev pub ByKind : (SessionState → SessionState → Type 0)
+    → (HostedSessionState → HostedSessionState → Type 0) → AnySession → AnySession → Type 0
 ByKind over served (OfImage old) (OfImage new) = over old new
 ByKind over served (Hosted old) (Hosted new) = served old new
 ByKind over served (OfImage old) (Hosted new) = ⊥
@@ -65,7 +67,8 @@ abbrev pub HasSavedLen : ℕ → ℕ → ℕ → AnySession → AnySession → T
 HasSavedLen slot code len = ByKind (image.HasSavedLen slot code len) (hosted.HasSavedLen slot code len)
 
 abbrev pub Saves : ℕ → ℕ → List ℕ → List ℕ → ℕ → AnySession → AnySession → Type 0
-Saves slot code room into len = ByKind (image.Saves slot code room into len) (hosted.Saves slot code room into len)
+Saves slot code room into len =
+    ByKind (image.Saves slot code room into len) (hosted.Saves slot code room into len)
 
 abbrev pub Restores : ℕ → List ℕ → ℕ → AnySession → AnySession → Type 0
 Restores slot bytes code = ByKind (image.Restores slot bytes code) (hosted.Restores slot bytes code)
@@ -103,7 +106,8 @@ abbrev pub HasWords : ℕ → ℕ → ℕ → AnySession → AnySession → Type
 HasWords slot block console = ByKind (image.HasWords slot block console) (hosted.HasWords slot block console)
 
 abbrev pub IsUndisturbed : ℕ → Bool → AnySession → AnySession → Type 0
-IsUndisturbed slot disturbed = ByKind (image.IsUndisturbed slot disturbed) (hosted.IsUndisturbed slot disturbed)
+IsUndisturbed slot disturbed =
+    ByKind (image.IsUndisturbed slot disturbed) (hosted.IsUndisturbed slot disturbed)
 
 abbrev pub HasCounters : ℕ → AnySession → AnySession → Type 0
 HasCounters slot = ByKind (image.HasCounters slot) (hosted.HasCounters slot)
@@ -134,4 +138,5 @@ TellsOf slot (Hosted session) before after =
 
 -- and of a board that isn't there
 abbrev pub Tells : ℕ → Held → Pending → Pending → Type 0
-Tells slot board before after = MatchOption board (after ≡ before) (λ session. TellsOf slot session before after)
+Tells slot board before after =
+    MatchOption board (after ≡ before) (λ session. TellsOf slot session before after)

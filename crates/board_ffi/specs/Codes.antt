@@ -35,7 +35,8 @@ refusal_code NoRoom = 15
 refusal_code Busy = 19
 refusal_code Idle = 21
 
--- the board's response that a number stands for, where this one is what a call that is done is replied; where an outlet
+-- the board's response that a number stands for, where this one is what a call that is done is replied; where
+-- an outlet
 -- has no room the board has no memory for the output
 abbrev pub response_of : {A : Type 0} → ℕ → Reply A → Response A
 response_of code done =
@@ -49,7 +50,8 @@ response_of code done =
 abbrev pub is_response : ℕ → Bool
 is_response code = (code == 0) || (code == 3) || (code == 4) || (code == 15) || (code == 18) || (code == 19)
 
--- the reply of a board whose disks the host serves that a number stands for, where this one is what a call that is done is
+-- the reply of a board whose disks the host serves that a number stands for, where this one is what a call
+-- that is done is
 -- replied; what a disk is then asked for is told aside
 abbrev pub hosted_reply_of : {A : Type 0} → ℕ → Reply A → Reply A
 hosted_reply_of code done =
@@ -104,7 +106,8 @@ save_code (Err why) = save_refusal_code why
 abbrev pub is_saving : ℕ → Bool
 is_saving code = (code == 0) || (code == 3) || (code == 19) || (code == 26)
 
--- a snapshot that a slot doesn't take up: bytes that are none, one of another description, or of a window that can't be so
+-- a snapshot that a slot doesn't take up: bytes that are none, one of another description, or of a window
+-- that can't be so
 abbrev pub restore_fault_code : RestoreFault → ℕ
 restore_fault_code (Snapshot fault) = 23
 restore_fault_code OtherSlot = 24

@@ -49,13 +49,15 @@ abbrev pub budget_of : ℕ → ℕ → Budget
 budget_of chains bytes = record { chains = limit_of chains; bytes = limit_of bytes }
 
 -- there is a new board of these guests over the image
-pub record IsMade (guests : List GuestSpec) (image : List ℕ) (cache : ℕ) (budget : Budget) (after : Held) : Type 0 where
+pub record IsMade (guests : List GuestSpec) (image : List ℕ) (cache : ℕ) (budget : Budget)
+    (after : Held) : Type 0 where
   pub made : after ≡ Some (OfImage (new_session guests image budget))
   pub accepted : IsAccepted (length image / 512) (slots_of guests) cache
   pub outlets : AreOutlets guests
 
 -- there is none, and the number is that of a fault of what was described
-pub record IsNotMade (guests : List GuestSpec) (image : List ℕ) (cache : ℕ) (budget : Budget) (code : ℕ) (after : Held) : Type 0 where
+pub record IsNotMade (guests : List GuestSpec) (image : List ℕ) (cache : ℕ) (budget : Budget) (code : ℕ)
+    (after : Held) : Type 0 where
   pub none : after ≡ None
   pub why : SessionFault
   pub code_is : code ≡ fault_code why

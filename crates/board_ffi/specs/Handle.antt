@@ -21,4 +21,5 @@ held_coded = coded_option the_row.coded
 abbrev pub held : Global → Ptr → Held → Fml
 held alloc null_ptr session = fex (session ≡ None) (λ _. ftrue)
 held alloc (block_ptr b o) None = ffalse
-held alloc (block_ptr b o) (Some session) = box_owns (ghosts.dealloc_token alloc) the_row (block_ptr b o) session
+held alloc (block_ptr b o) (Some session) =
+    box_owns (ghosts.dealloc_token alloc) the_row (block_ptr b o) session

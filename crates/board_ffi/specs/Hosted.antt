@@ -31,9 +31,11 @@ use Rattle.board_ffi.specs.declared.operation.Run.{Run}
 use Rattle.board_ffi.specs.OfImage.{HasRoom}
 use Rattle.board_ffi.specs.Codes.{asking_code, code_at, hosted_reply_of, is_hosted, is_saving, restore_code}
 
--- The board takes a call for this event of a slot, and its reply is the one that the number stands for: where the call is
+-- The board takes a call for this event of a slot, and its reply is the one that the number stands for: where
+-- the call is
 -- done it is this one.
-pub record Takes (slot : ℕ) (what : EventKind Global) (code : ℕ) (done : Reply Global) (old new : HostedSessionState) : Type 0 where
+pub record Takes (slot : ℕ) (what : EventKind Global) (code : ℕ) (done : Reply Global)
+    (old new : HostedSessionState) : Type 0 where
   pub call : IsHostedCall old slot what (hosted_reply_of code done) new
   pub code_is : IsTrue (is_hosted code)
 
@@ -66,13 +68,15 @@ pub record HasNoPause (slot code : ℕ) (old new : HostedSessionState) : Type 0 
   pub kept : new ≡ old
 
 -- The first bytes of what a slot's console put out are moved out, as many as find room, and the others stay.
-pub record MovesOutput (slot : ℕ) (into_old into_new : List ℕ) (taken : ℕ) (old new : HostedSessionState) : Type 0 where
+pub record MovesOutput (slot : ℕ) (into_old into_new : List ℕ) (taken : ℕ)
+    (old new : HostedSessionState) : Type 0 where
   pub there : slot < length old.slots
   pub count : taken ≡ min (length (waiting_at slot old.outputs).bytes) (length into_old)
   pub moved : into_new ≡ take taken (waiting_at slot old.outputs).bytes ++ drop taken into_old
   pub left : IsHostedTaken old slot (length into_old) (take taken (waiting_at slot old.outputs).bytes) new
 
--- There is such a slot. A region of its memory holds the address, and has so many bytes from there on. Nothing changes.
+-- There is such a slot. A region of its memory holds the address, and has so many bytes from there on.
+-- Nothing changes.
 pub record HasMemory (slot addr len : ℕ) (old new : HostedSessionState) : Type 0 where
   pub there : IsSomeAnd (slice_get old.slots slot) (λ found. HasRoom found.slot.memory addr len)
   pub kept : new ≡ old
@@ -111,17 +115,20 @@ IsAtWork slot session = IsSomeAnd (slice_get session.slots slot) (λ found. IsSo
 
 -- The snapshot of a slot has so many bytes, or the number says why there is none. Nothing changes.
 pub record HasSavedLen (slot code len : ℕ) (old new : HostedSessionState) : Type 0 where
-  pub told : code ≡ 0 → IsSomeAnd (slice_get old.slots slot) (λ found. len ≡ length (snapshot_of (slot_in found.slot)))
+  pub told : code ≡ 0 → IsSomeAnd (slice_get old.slots slot)
+      (λ found. len ≡ length (snapshot_of (slot_in found.slot)))
   pub missing : (code ≡ 3) ↔ (length old.slots ≤ slot)
   pub busy : (code ≡ 19) ↔ IsAtWork slot old
   pub not_short : code ≢ 26
   pub code_is : IsTrue (is_saving code)
   pub kept : new ≡ old
 
--- The snapshot of a slot stands at the front of the buffer, which held these bytes, or the number says why it doesn't.
+-- The snapshot of a slot stands at the front of the buffer, which held these bytes, or the number says why it
+-- doesn't.
 -- Nothing of the board changes.
 pub record Saves (slot code : ℕ) (room into : List ℕ) (len : ℕ) (old new : HostedSessionState) : Type 0 where
-  pub saved : code ≡ 0 → IsSomeAnd (slice_get old.slots slot) (λ found. IsSavedTo (slot_in found.slot) room into len)
+  pub saved : code ≡ 0 → IsSomeAnd (slice_get old.slots slot)
+      (λ found. IsSavedTo (slot_in found.slot) room into len)
   pub missing : (code ≡ 3) ↔ (length old.slots ≤ slot)
   pub busy : (code ≡ 19) ↔ IsAtWork slot old
   pub short :
@@ -130,7 +137,8 @@ pub record Saves (slot code : ℕ) (room into : List ℕ) (len : ℕ) (old new :
   pub code_is : IsTrue (is_saving code)
   pub kept : new ≡ old
 
--- The board takes a call for the restore of a slot, and the number says what came of it. What was saved of a slot is
+-- The board takes a call for the restore of a slot, and the number says what came of it. What was saved of a
+-- slot is
 -- taken by every slot of its description at rest, and brings it to its state.
 pub record Restores (slot : ℕ) (bytes : List ℕ) (code : ℕ) (old new : HostedSessionState) : Type 0 where
   pub result : Result (Unit {0}) RestoreRefusal
@@ -179,8 +187,10 @@ told_runs [] room = room
 told_runs (run ∷ runs) [] = []
 told_runs (run ∷ runs) (place ∷ room) = told_run run ∷ told_runs runs room
 
--- What is in flight of a slot is told. None of it lies outside the guest's memory or its disk. Nothing changes.
-pub record IsAskedFor (slot : ℕ) (operation : Operation) (room runs : List Run) (old new : HostedSessionState) : Type 0 where
+-- What is in flight of a slot is told. None of it lies outside the guest's memory or its disk. Nothing
+-- changes.
+pub record IsAskedFor (slot : ℕ) (operation : Operation) (room runs : List Run)
+    (old new : HostedSessionState) : Type 0 where
   pub found : HostedState
   pub here : InFlight
   pub there : slice_get old.slots slot ≡ Some found

@@ -25,14 +25,16 @@ pub record TakesFront (old new : List Loan) : Type 0 where
   pub same : length new ≡ length old
 
 -- there is a new board of these guests over the image, and over these bytes as their memories
-pub record IsMadeOver (guests : List GuestSpec) (bytes : List (List ℕ)) (image : List ℕ) (cache : ℕ) (budget : Budget) (after : Held) : Type 0 where
+pub record IsMadeOver (guests : List GuestSpec) (bytes : List (List ℕ)) (image : List ℕ) (cache : ℕ)
+    (budget : Budget) (after : Held) : Type 0 where
   pub made : after ≡ Some (OfImage (new_session_over guests bytes image budget))
   pub lent : AreBytesOf (slots_of guests) bytes
   pub accepted : IsAccepted (length image / 512) (slots_of guests) cache
   pub outlets : AreOutlets guests
 
 -- There is none, and the number is that of a fault of what was described, or of want of memory.
-pub record IsNotMadeOver (guests : List GuestSpec) (bytes : List (List ℕ)) (image : List ℕ) (cache : ℕ) (budget : Budget) (code : ℕ) (after : Held) : Type 0 where
+pub record IsNotMadeOver (guests : List GuestSpec) (bytes : List (List ℕ)) (image : List ℕ) (cache : ℕ)
+    (budget : Budget) (code : ℕ) (after : Held) : Type 0 where
   pub none : after ≡ None
   pub why : SessionFault
   pub code_is : code ≡ fault_code why
@@ -46,7 +48,8 @@ pub record IsHostedMadeOver (guests : List GuestSpec) (bytes : List (List ℕ)) 
   pub outlets : AreOutlets guests
 
 -- There is none, and the number is that of a fault of what was described, or of want of memory.
-pub record IsHostedNotMadeOver (guests : List GuestSpec) (bytes : List (List ℕ)) (code : ℕ) (after : Held) : Type 0 where
+pub record IsHostedNotMadeOver (guests : List GuestSpec) (bytes : List (List ℕ)) (code : ℕ)
+    (after : Held) : Type 0 where
   pub none : after ≡ None
   pub why : SessionFault
   pub code_is : code ≡ fault_code why

@@ -20,9 +20,11 @@ use Rattle.session.specs.Pacing.{Handle}
 use Rattle.session.specs.Restoring.{restore_response}
 use Rattle.board_ffi.specs.Codes.{code_at, is_response, is_saving, response_of, restore_code, went_on_code}
 
--- The board takes a call for this event of a slot, and its response is the one that the number stands for: where the
+-- The board takes a call for this event of a slot, and its response is the one that the number stands for:
+-- where the
 -- call is done it is this reply, and a step of the board.
-pub record Takes (slot : ℕ) (what : EventKind Global) (code : ℕ) (done : Reply Global) (old new : SessionState) : Type 0 where
+pub record Takes (slot : ℕ) (what : EventKind Global) (code : ℕ) (done : Reply Global)
+    (old new : SessionState) : Type 0 where
   pub call : IsCall old (Handle (record { slot = slot; what = what })) (response_of code done) new
   pub whole : IsWhole old (record { slot = slot; what = what }) (response_of code done) new
   pub code_is : IsTrue (is_response code)
@@ -38,7 +40,8 @@ abbrev pub PausesBehind : ℕ → ℕ → SessionState → SessionState → Type
 PausesBehind slot took old new = taken_at slot new ≡ Some took
 
 -- The first bytes of what a slot's console put out are moved out, as many as find room, and the others stay.
-pub record MovesOutput (slot : ℕ) (into_old into_new : List ℕ) (taken : ℕ) (old new : SessionState) : Type 0 where
+pub record MovesOutput (slot : ℕ) (into_old into_new : List ℕ) (taken : ℕ)
+    (old new : SessionState) : Type 0 where
   pub there : slot < length old.slots
   pub count : taken ≡ min (length (output_of slot old)) (length into_old)
   pub moved : into_new ≡ take taken (output_of slot old) ++ drop taken into_old
@@ -50,14 +53,16 @@ pub record HasRoom (m : Memory) (addr len : ℕ) : Type 0 where
   pub inside : Inside m addr len
   pub longest : (n : ℕ) → Inside m addr n → n ≤ len
 
--- There is such a slot, of which nothing is paused. A region of its memory holds the address, and has so many bytes from there
+-- There is such a slot, of which nothing is paused. A region of its memory holds the address, and has so many
+-- bytes from there
 -- on. Nothing changes.
 pub record HasMemory (slot addr len : ℕ) (old new : SessionState) : Type 0 where
   pub idle : IsIdle slot old
   pub there : IsSomeAnd (slice_get old.slots slot) (λ found. HasRoom found.memory addr len)
   pub kept : new ≡ old
 
--- There is such a slot, of which nothing is paused. No region of its memory holds the address. Nothing changes.
+-- There is such a slot, of which nothing is paused. No region of its memory holds the address. Nothing
+-- changes.
 pub record HasNoRegion (slot addr code : ℕ) (old new : SessionState) : Type 0 where
   pub idle : IsIdle slot old
   pub there : IsSomeAnd (slice_get old.slots slot) (λ found. ¬ Inside found.memory addr 1)
@@ -119,23 +124,28 @@ pub record HasSavedLen (slot code len : ℕ) (old new : SessionState) : Type 0 w
   pub code_is : IsTrue (is_saving code)
   pub kept : new ≡ old
 
--- The snapshot of a slot stands at the front of the buffer, which held these bytes, or the number says why it doesn't.
+-- The snapshot of a slot stands at the front of the buffer, which held these bytes, or the number says why it
+-- doesn't.
 -- Nothing of the board changes.
 pub record Saves (slot code : ℕ) (room into : List ℕ) (len : ℕ) (old new : SessionState) : Type 0 where
   pub saved : code ≡ 0 → IsSomeAnd (slice_get old.slots slot) (λ found. IsSavedTo found room into len)
   pub missing : (code ≡ 3) ↔ (length old.slots ≤ slot)
   pub busy : (code ≡ 19) ↔ ¬ IsIdle slot old
-  pub short : code ≡ 26 → IsSomeAnd (slice_get old.slots slot) (λ found. length room < length (snapshot_of found))
+  pub short : code ≡ 26 → IsSomeAnd (slice_get old.slots slot)
+      (λ found. length room < length (snapshot_of found))
   pub code_is : IsTrue (is_saving code)
   pub kept : new ≡ old
 
--- The board takes a call for the restore of a slot, and the number says what came of it. What was saved of a slot is
+-- The board takes a call for the restore of a slot, and the number says what came of it. What was saved of a
+-- slot is
 -- taken by every idle slot of its description, and brings it to its state.
 pub record Restores (slot : ℕ) (bytes : List ℕ) (code : ℕ) (old new : SessionState) : Type 0 where
   pub result : Result (Unit {0}) RestoreRefusal
   pub code_is : code ≡ restore_code result
-  pub call : IsCall {A = Global} old (Handle (record { slot = slot; what = EventKind.Restore bytes })) (restore_response result) new
-  pub whole : IsWhole {A = Global} old (record { slot = slot; what = EventKind.Restore bytes }) (restore_response result) new
+  pub call : IsCall {A = Global} old (Handle (record { slot = slot; what = EventKind.Restore bytes }))
+      (restore_response result) new
+  pub whole : IsWhole {A = Global} old (record { slot = slot; what = EventKind.Restore bytes })
+      (restore_response result) new
   pub fault :
       (why : RestoreFault) → IsErrOf result (Fault why) →
       IsSomeAnd (slice_get old.slots slot) (λ found. IsCauseOf found bytes why)

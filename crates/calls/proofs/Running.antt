@@ -10,9 +10,11 @@ use Rattle.replay.specs.Replay.{RecordedBy, Replays}
 use Rattle.calls.specs.Replayed.{HasRun, RanBy}
 
 -- the same run, of whose text something else holds too
-pub ran_more : {A : Type 0} (disks : Disks) (slots : List SlotSpec) (events : List (Event A)) (before after : Disk) (Old New : List ℕ → Type 0) → ((text : List ℕ) → Old text → New text)
+pub ran_more : {A : Type 0} (disks : Disks) (slots : List SlotSpec) (events : List (Event A))
+    (before after : Disk) (Old New : List ℕ → Type 0) → ((text : List ℕ) → Old text → New text)
     → RanBy disks slots events before after Old → RanBy disks slots events before after New
-ran_more (Cached capacity) slots events before after Old New so run = record { records = run.records; ran = run.ran; output = so _ run.output }
+ran_more (Cached capacity) slots events before after Old New so run =
+    record { records = run.records; ran = run.ran; output = so _ run.output }
 ran_more Hosted slots events before after Old New so run = record {
   moves = run.moves;
   last = run.last;

@@ -16,22 +16,27 @@ use Rattle.replay.specs.declared.fault.ReplayFault.{ReplayFault}
 
 -- The replay is told by `Replays`, from the bytes of its text and those that its writer held before and holds
 -- after. Where it failed some image was left, which is dropped.
-abbrev pub ComesTo : {I : Type 0} → Type 0 → (I → Disk) → Option (List ℕ) → Option (List ℕ) → Option (List ℕ) → I → Result I ReplayFault → Type 0
+abbrev pub ComesTo : {I : Type 0} → Type 0 → (I → Disk) → Option (List ℕ) → Option (List ℕ) → Option (List ℕ)
+    → I → Result I ReplayFault → Type 0
 ComesTo A disk input old new before (Ok after) = Replays A disk input old new before after (Ok tt)
-ComesTo {I} A disk input old new before (Err fault) = (after : I) × Replays A disk input old new before after (Err fault)
+ComesTo {I} A disk input old new before (Err fault) = (after : I)
+    × Replays A disk input old new before after (Err fault)
 
 -- A run over an image, which found it so and left it so, and of whose text this holds.
-pub record RanOver {A : Type 0} (slots : List SlotSpec) (events : List (Event A)) (before after : Disk) (Output : List ℕ → Type 0) : Type 0 where
+pub record RanOver {A : Type 0} (slots : List SlotSpec) (events : List (Event A)) (before after : Disk)
+    (Output : List ℕ → Type 0) : Type 0 where
   pub records : List (Record A)
   pub ran : RunsOn slots before after events records
   pub output : Output (records_text records)
 
 -- the same by where the disks of the trace are
-abbrev pub RanBy : {A : Type 0} → Disks → List SlotSpec → List (Event A) → Disk → Disk → (List ℕ → Type 0) → Type 0
+abbrev pub RanBy : {A : Type 0} → Disks → List SlotSpec → List (Event A) → Disk → Disk
+    → (List ℕ → Type 0) → Type 0
 RanBy (Cached capacity) slots events before after Output = RanOver slots events before after Output
 RanBy Hosted slots events before after Output = RecordedHosted slots events before after Output
 
--- A replay that came to its end: the trace that was read, and the run of its events on its board, whose records' text
+-- A replay that came to its end: the trace that was read, and the run of its events on its board, whose
+-- records' text
 -- went out.
 pub record HasRun (A : Type 0) (input old new : Option (List ℕ)) (before after : Disk) : Type 0 where
   pub trace : Content A

@@ -14,9 +14,11 @@ use Rattle.chain.specs.Buffers.{Within, Good, Admits, AdmitsAll, Refuses, total_
 
 module _ (m : Memory) where
   -- one more behind those that may stand there
-  pub AdmitsAll-push : (before xs : List Buffer) (b : Buffer) → AdmitsAll m before xs → Admits m (before ++ xs) b → AdmitsAll m before (xs ++ b ∷ [])
+  pub AdmitsAll-push : (before xs : List Buffer) (b : Buffer) → AdmitsAll m before xs
+      → Admits m (before ++ xs) b → AdmitsAll m before (xs ++ b ∷ [])
   AdmitsAll-push before [] b h a = (rw append-nil at a, tt)
-  AdmitsAll-push before (x ∷ xs) b h a = (h.0, AdmitsAll-push (before ++ x ∷ []) xs b h.1 (rw (append_assoc before (x ∷ []) xs) a))
+  AdmitsAll-push before (x ∷ xs) b h a =
+      (h.0, AdmitsAll-push (before ++ x ∷ []) xs b h.1 (rw (append_assoc before (x ∷ []) xs) a))
 
   -- what may stand behind a good list makes a good list
   pub Good-append : (before xs : List Buffer) → Good m before → AdmitsAll m before xs → Good m (before ++ xs)
@@ -44,21 +46,29 @@ module _ (m : Memory) where
       let n = length-append before (x ∷ xs) in
       let s = sum_by-append (λ (b : Buffer). b.segment.len) before (x ∷ xs) in
       let c = sum_by-cons (λ (b : Buffer). b.segment.len) x xs in (
-        record { inside = All-here before x xs g.inside; room = omega (arith, n, g.few); fits = omega (arith, s, c, g.fits) },
+        record {
+          inside = All-here before x xs g.inside;
+          room = omega (arith, n, g.few);
+          fits = omega (arith, s, c, g.fits);
+        },
         AdmitsAll-from_Good (before ++ x ∷ []) xs (rw (append_assoc before (x ∷ []) xs) g),
       )
     where
-      All-here : (before : List Buffer) (x : Buffer) (xs : List Buffer) → All (Within m) (before ++ x ∷ xs) → Within m x
+      All-here : (before : List Buffer) (x : Buffer) (xs : List Buffer)
+          → All (Within m) (before ++ x ∷ xs) → Within m x
       All-here [] x xs h = All-head (Within m) x xs h
       All-here (b ∷ before) x xs h = All-here before x xs (All-tail (Within m) b (before ++ x ∷ xs) h)
 
   -- the first of those that may stand behind a front
-  pub Admits-at : (before front : List Buffer) (b : Buffer) (rest : List Buffer) → AdmitsAll m before (front ++ b ∷ rest) → Admits m (before ++ front) b
+  pub Admits-at : (before front : List Buffer) (b : Buffer) (rest : List Buffer)
+      → AdmitsAll m before (front ++ b ∷ rest) → Admits m (before ++ front) b
   Admits-at before [] b rest h = rw append-nil h.0
-  Admits-at before (x ∷ front) b rest h = rw (append_assoc before (x ∷ []) front) at (Admits-at (before ++ x ∷ []) front b rest h.1)
+  Admits-at before (x ∷ front) b rest h =
+      rw (append_assoc before (x ∷ []) front) at (Admits-at (before ++ x ∷ []) front b rest h.1)
 
   -- no buffer is both admitted and refused
-  pub Admits-Refuses : (buffers : List Buffer) (b : Buffer) (fault : Fault) → Admits m buffers b → Refuses m buffers b fault → ⊥
+  pub Admits-Refuses : (buffers : List Buffer) (b : Buffer) (fault : Fault) → Admits m buffers b
+      → Refuses m buffers b fault → ⊥
   Admits-Refuses buffers b Range a r = r a.inside
   Admits-Refuses buffers b TooMany a r = absurd (omega (arith, a.room, r.1))
   Admits-Refuses buffers b TooLong a r = absurd (omega (arith, a.fits, r.2))
@@ -71,12 +81,14 @@ module _ (m : Memory) where
   Admits-Refuses buffers b NoIndirect a r = r
 
   -- a buffer is refused for one cause: which one hangs on these two tests
-  abbrev cause : (b : Buffer) (buffers : List Buffer) → Within m b ⊎ (¬ Within m b) → (length buffers < 256) ⊎ (256 ≤ length buffers) → Fault
+  abbrev cause : (b : Buffer) (buffers : List Buffer) → Within m b ⊎ (¬ Within m b) → (length buffers < 256)
+      ⊎ (256 ≤ length buffers) → Fault
   cause b buffers (inr outside) room = Range
   cause b buffers (inl inside) (inr full) = TooMany
   cause b buffers (inl inside) (inl room) = TooLong
 
-  is_cause : (buffers : List Buffer) (b : Buffer) (f : Fault) (inside : Within m b ⊎ (¬ Within m b)) (room : (length buffers < 256) ⊎ (256 ≤ length buffers))
+  is_cause : (buffers : List Buffer) (b : Buffer) (f : Fault) (inside : Within m b
+      ⊎ (¬ Within m b)) (room : (length buffers < 256) ⊎ (256 ≤ length buffers))
       → Refuses m buffers b f → f ≡ cause b buffers inside room
   is_cause buffers b Range (inr outside) room r = refl
   is_cause buffers b Range (inl inside) room r = absurd (r inside)
@@ -94,14 +106,16 @@ module _ (m : Memory) where
   is_cause buffers b Joined inside room r = absurd r
   is_cause buffers b NoIndirect inside room r = absurd r
 
-  pub Refuses-unique : (buffers : List Buffer) (b : Buffer) (f g : Fault) → Refuses m buffers b f → Refuses m buffers b g → f ≡ g
+  pub Refuses-unique : (buffers : List Buffer) (b : Buffer) (f g : Fault) → Refuses m buffers b f
+      → Refuses m buffers b g → f ≡ g
   Refuses-unique buffers b f g r s =
       let inside = inside_cases m b.segment.addr b.segment.len in
       let room = cases_lt (length buffers) 256 in
       is_cause buffers b f inside room r ∙ sym (is_cause buffers b g inside room s)
 
   -- the same buffer under another name
-  pub Refuses-at : (buffers : List Buffer) (b c : Buffer) (f : Fault) → b ≡ c → Refuses m buffers b f → Refuses m buffers c f
+  pub Refuses-at : (buffers : List Buffer) (b c : Buffer) (f : Fault) → b ≡ c → Refuses m buffers b f
+      → Refuses m buffers c f
   Refuses-at buffers b c f e r = rw e at r
 
   -- what may stand behind these buffers, without its end
@@ -110,7 +124,8 @@ module _ (m : Memory) where
   AdmitsAll-front before (x ∷ xs) ys h = (h.0, AdmitsAll-front (before ++ x ∷ []) xs ys h.1)
 
   -- a buffer may stand behind these, or is refused
-  pub admits_or_refuses : (buffers : List Buffer) (b : Buffer) → Admits m buffers b ⊎ ((fault : Fault) × Refuses m buffers b fault)
+  pub admits_or_refuses : (buffers : List Buffer) (b : Buffer) → Admits m buffers b
+      ⊎ ((fault : Fault) × Refuses m buffers b fault)
   admits_or_refuses buffers b =
       elim (inside_cases m b.segment.addr b.segment.len) [
         | inr outside ↦ inr (Range, outside)

@@ -31,32 +31,41 @@ scattered-append m (a ∷ addrs) (None ∷ front) back = scattered-append m addr
 scattered-append m (a ∷ addrs) (Some x ∷ front) back = scattered-append (put m a (x ∷ [])) addrs front back
 
 -- every place of a run is written
-pub scattered-run : (m : Memory) (addrs bytes : List ℕ) → scattered m addrs (map Some bytes) ≡ scatter m addrs bytes
+pub scattered-run : (m : Memory) (addrs bytes : List ℕ)
+    → scattered m addrs (map Some bytes) ≡ scatter m addrs bytes
 scattered-run m [] bytes = refl
 scattered-run m (a ∷ addrs) [] = refl
 scattered-run m (a ∷ addrs) (x ∷ bytes) = scattered-run (put m a (x ∷ [])) addrs bytes
 
 -- A run of bytes is written behind what was written so far.
-pub scattered-then_run : (m : Memory) (addrs : List ℕ) (front : List (Option ℕ)) (bytes : List ℕ) (from : ℕ) → length front ≡ from
+pub scattered-then_run : (m : Memory) (addrs : List ℕ) (front : List (Option ℕ)) (bytes : List ℕ) (from : ℕ)
+    → length front ≡ from
     → scatter (scattered m addrs front) (drop from addrs) bytes ≡ scattered m addrs (front ++ map Some bytes)
 scattered-then_run m addrs front bytes from e =
-    rw (← e) (sym (scattered-run (scattered m addrs front) (drop (length front) addrs) bytes) ∙ sym (scattered-append m addrs front (map Some bytes)))
+    rw (← e) (sym (scattered-run (scattered m addrs front) (drop (length front) addrs) bytes)
+    ∙ sym (scattered-append m addrs front (map Some bytes)))
 
 -- Places are passed over: what was written so far stands.
 pub scattered-then_unwritten : (m : Memory) (addrs : List ℕ) (front : List (Option ℕ)) (n : ℕ)
     → scattered m addrs (front ++ unwritten n) ≡ scattered m addrs front
 scattered-then_unwritten m addrs front n =
-    scattered-append m addrs front (unwritten n) ∙ scattered-unwritten (scattered m addrs front) (drop (length front) addrs) n
+    scattered-append m addrs front (unwritten n)
+    ∙ scattered-unwritten (scattered m addrs front) (drop (length front) addrs) n
 
 -- One byte is written at a later place.
-pub scattered-then_byte : (m : Memory) (addrs : List ℕ) (front : List (Option ℕ)) (x n place : ℕ) → length front + n ≡ place
-    → scatter (scattered m addrs front) (drop place addrs) (x ∷ []) ≡ scattered m addrs ((front ++ unwritten n) ++ Some x ∷ [])
+pub scattered-then_byte : (m : Memory) (addrs : List ℕ) (front : List (Option ℕ)) (x n place : ℕ)
+    → length front + n ≡ place
+    → scatter (scattered m addrs front) (drop place addrs) (x ∷ [])
+    ≡ scattered m addrs ((front ++ unwritten n) ++ Some x ∷ [])
 scattered-then_byte m addrs front x n place e =
-    let size : length (front ++ unwritten n) ≡ place = length-append front (unwritten n) ∙ ap (λ k. length front + k) (length-replicate n None) ∙ e in
-    rw (← scattered-then_unwritten m addrs front n) (scattered-then_run m addrs (front ++ unwritten n) (x ∷ []) place size)
+    let size : length (front ++ unwritten n) ≡ place = length-append front (unwritten n)
+    ∙ ap (λ k. length front + k) (length-replicate n None) ∙ e in
+    rw (← scattered-then_unwritten m addrs front n) (scattered-then_run m addrs (front
+    ++ unwritten n) (x ∷ []) place size)
 
 -- how much is written without a gap, and whether anything is
-pub used_len-run : (bytes : List ℕ) (rest : List (Option ℕ)) → used_len (map Some bytes ++ rest) ≡ length bytes + used_len rest
+pub used_len-run : (bytes : List ℕ) (rest : List (Option ℕ))
+    → used_len (map Some bytes ++ rest) ≡ length bytes + used_len rest
 used_len-run [] rest = omega arith
 used_len-run (x ∷ bytes) rest = let e = used_len-run bytes rest in omega (arith, e)
 

@@ -10,15 +10,18 @@ use Rattle.chain.specs.Buffers.{Within}
 use Rattle.chain.specs.Bytes.{scatter}
 
 -- buffers stay inside a memory of the same addresses
-pub within_same : (old new : Memory) (xs : List Buffer) → SameRange old new → All (Within old) xs → All (Within new) xs
-within_same old new xs s h = All-weaker (Within old) (Within new) (λ b i. inside_same old new b.segment.addr b.segment.len s i) xs h
+pub within_same : (old new : Memory) (xs : List Buffer) → SameRange old new → All (Within old) xs
+    → All (Within new) xs
+within_same old new xs s h =
+    All-weaker (Within old) (Within new) (λ b i. inside_same old new b.segment.addr b.segment.len s i) xs h
 
 -- no byte is left
 pub scatter_none : (m : Memory) (addrs : List ℕ) → scatter m addrs [] ≡ m
 scatter_none m [] = refl
 scatter_none m (a ∷ addrs) = refl
 
-pub scatter_done : (m : Memory) (addrs bytes : List ℕ) (place i : ℕ) → length bytes ≤ i → scatter m (drop place addrs) (drop i bytes) ≡ m
+pub scatter_done : (m : Memory) (addrs bytes : List ℕ) (place i : ℕ) → length bytes ≤ i
+    → scatter m (drop place addrs) (drop i bytes) ≡ m
 scatter_done m addrs bytes place i h =
     ap (scatter m (drop place addrs)) (drop_all i bytes h) ∙ scatter_none m (drop place addrs)
 
@@ -28,4 +31,5 @@ pub scatter-push : (m : Memory) (addrs bytes : List ℕ) (a x : ℕ) → length 
 scatter-push m [] [] a x e = refl
 scatter-push m [] (y ∷ bytes) a x e = absurd (omega (arith, e))
 scatter-push m (b ∷ addrs) [] a x e = absurd (omega (arith, e))
-scatter-push m (b ∷ addrs) (y ∷ bytes) a x e = scatter-push (put m b (y ∷ [])) addrs bytes a x (omega (arith, e))
+scatter-push m (b ∷ addrs) (y ∷ bytes) a x e =
+    scatter-push (put m b (y ∷ [])) addrs bytes a x (omega (arith, e))

@@ -8,7 +8,8 @@ use Rattle.chain.specs.declared.setup.Setup.{Setup}
 use Rattle.chain.specs.declared.setup.Areas.{Areas}
 use Rattle.chain.specs.Setup.{FitsIn, LiesIn, fits_in}
 
-pub LiesIn-from_SameRange : (m m' : Memory) (setup : Setup) (areas : Areas) → SameRange m m' → LiesIn m setup areas → LiesIn m' setup areas
+pub LiesIn-from_SameRange : (m m' : Memory) (setup : Setup) (areas : Areas) → SameRange m m'
+    → LiesIn m setup areas → LiesIn m' setup areas
 LiesIn-from_SameRange m m' setup areas same lies = record {
   desc = inside_same m m' setup.desc areas.desc same lies.desc;
   driver = inside_same m m' setup.driver areas.driver same lies.driver;
@@ -17,7 +18,11 @@ LiesIn-from_SameRange m m' setup areas same lies = record {
 
 fits : (m : Memory) (setup : Setup) (areas : Areas) → fits_in m setup areas ≡ true → FitsIn m setup areas
 fits m setup areas test = record {
-  aligned = record { desc = grind (arith, nat_tests); driver = grind (arith, nat_tests); device = grind (arith, nat_tests) };
+  aligned = record {
+    desc = grind (arith, nat_tests);
+    driver = grind (arith, nat_tests);
+    device = grind (arith, nat_tests);
+  };
   lies = record {
     desc = (is_inside-tells m setup.desc areas.desc).0 (grind (arith, nat_tests));
     driver = (is_inside-tells m setup.driver areas.driver).0 (grind (arith, nat_tests));
@@ -33,10 +38,12 @@ passes m setup areas fit =
     grind (arith, nat_tests, fit.aligned.desc, fit.aligned.driver, fit.aligned.device, desc, driver, device)
 
 -- the test tells whether the areas are aligned and lie in the memory
-pub fits_in-tells : (m : Memory) (setup : Setup) (areas : Areas) → IsTrue (fits_in m setup areas) ↔ FitsIn m setup areas
+pub fits_in-tells : (m : Memory) (setup : Setup) (areas : Areas) → IsTrue (fits_in m setup areas)
+    ↔ FitsIn m setup areas
 fits_in-tells m setup areas = (fits m setup areas, passes m setup areas)
 
 -- areas of a ring whose size and areas pass their tests lie in the memory
-pub LiesIn-from_test : (m : Memory) (setup : Setup) (areas : Areas) (is_size : Bool) → is_size && fits_in m setup areas ≡ true → LiesIn m setup areas
+pub LiesIn-from_test : (m : Memory) (setup : Setup) (areas : Areas) (is_size : Bool)
+    → is_size && fits_in m setup areas ≡ true → LiesIn m setup areas
 LiesIn-from_test m setup areas true test = (fits m setup areas test).lies
 LiesIn-from_test m setup areas false test = cc

@@ -12,7 +12,8 @@ less limit n = option_map (λ most. most - n) limit
 
 -- what is left of a budget after one more chain, of these buffers
 abbrev pub less_chain : Budget → List Buffer → Budget
-less_chain budget buffers = record { chains = less budget.chains 1; bytes = less budget.bytes (total_len buffers) }
+less_chain budget buffers =
+    record { chains = less budget.chains 1; bytes = less budget.bytes (total_len buffers) }
 
 -- how many bytes the buffers of these chains have
 abbrev pub bytes_of : List (List Buffer) → ℕ
@@ -20,7 +21,8 @@ bytes_of chains = sum_by total_len chains
 
 -- what is left of a budget after these chains
 abbrev pub left_after : Budget → List (List Buffer) → Budget
-left_after budget chains = record { chains = less budget.chains (length chains); bytes = less budget.bytes (bytes_of chains) }
+left_after budget chains =
+    record { chains = less budget.chains (length chains); bytes = less budget.bytes (bytes_of chains) }
 
 -- no chain is left of it, or no byte
 abbrev pub IsSpent : Budget → Type 0

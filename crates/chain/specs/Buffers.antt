@@ -39,7 +39,8 @@ AdmitsAll m buffers (b ∷ more) = Admits m buffers b × AdmitsAll m (buffers ++
 abbrev pub Refuses : Memory → List Buffer → Buffer → Fault → Type 0
 Refuses m buffers b Range = ¬ Within m b
 Refuses m buffers b TooMany = Within m b × (256 ≤ length buffers)
-Refuses m buffers b TooLong = Within m b × (length buffers < 256) × (2 ^ 32 ≤ total_len buffers + b.segment.len)
+Refuses m buffers b TooLong = Within m b × (length buffers < 256)
+    × (2 ^ 32 ≤ total_len buffers + b.segment.len)
 Refuses m buffers b Jump = ⊥
 Refuses m buffers b Index = ⊥
 Refuses m buffers b Loop = ⊥

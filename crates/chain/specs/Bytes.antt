@@ -8,8 +8,10 @@ use Rattle.chain.specs.declared.segment.Buffer.{Buffer}
 -- the segments of the buffers with WRITE (true), or of those without it (false), in order
 abbrev pub segments_of : Bool → List Buffer → List Segment
 segments_of writable [] = []
-segments_of true (b ∷ buffers) = if b.writable then b.segment ∷ segments_of true buffers else segments_of true buffers
-segments_of false (b ∷ buffers) = if b.writable then segments_of false buffers else b.segment ∷ segments_of false buffers
+segments_of true (b ∷ buffers) =
+    if b.writable then b.segment ∷ segments_of true buffers else segments_of true buffers
+segments_of false (b ∷ buffers) = if b.writable then segments_of false buffers else b.segment
+    ∷ segments_of false buffers
 
 -- the addresses of a segment's bytes, in order
 abbrev pub addresses : Segment → List ℕ
@@ -35,7 +37,8 @@ len_of writable buffers = sum_by (λ s. s.len) (segments_of writable buffers)
 abbrev pub rest_at : List Segment → ℕ → Segment
 rest_at [] place = record { addr = 0; len = 0 }
 rest_at (s ∷ segments) place =
-    if nat_lt place s.len then record { addr = s.addr + place; len = s.len - place } else rest_at segments (place - s.len)
+    if nat_lt place s.len then record { addr = s.addr + place; len = s.len - place } else rest_at
+    segments (place - s.len)
 
 -- what is left of the segment that a place of the readable list lies in, and of the writable list
 abbrev pub readable_rest : List Buffer → ℕ → Segment

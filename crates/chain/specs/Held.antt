@@ -7,9 +7,13 @@ use Rattle.chain.specs.Bytes.{len_of}
 
 -- how many bytes of each direction come before the buffer i
 abbrev pub start_at : List Buffer → ℕ → Start
-start_at buffers i = record { readable = len_of false (take i buffers); writable = len_of true (take i buffers) }
+start_at buffers i = record {
+  readable = len_of false (take i buffers);
+  writable = len_of true (take i buffers);
+}
 
--- the two lengths and the start of each buffer are kept, the sum of the lengths fits, and no buffer passes the
+-- the two lengths and the start of each buffer are kept, the sum of the lengths fits, and no buffer passes
+-- the
 -- last address
 pub record IsHeld (buffers : List Buffer) (starts : List Start) (readable writable : ℕ) : Type 0 where
   pub readable_is : readable ≡ len_of false buffers

@@ -1,5 +1,7 @@
--- A service in pieces (2.7.13, 2.8.14 and 2.8.21), for every kind of ring and every device: some of its chains are
--- served, then it pauses, and its ring stands open until it goes on. What its driver finds at the end is one service.
+-- A service in pieces (2.7.13, 2.8.14 and 2.8.21), for every kind of ring and every device: some of its
+-- chains are
+-- served, then it pauses, and its ring stands open until it goes on. What its driver finds at the end is one
+-- service.
 use Rattle.std.specs.Prelude.{◌≡◌, ◌↔◌, Bool, IsTrue, None, List, [], ◌∷◌}
 use Rattle.chain.specs.declared.budget.Budget.{Budget}
 use Rattle.chain.specs.declared.segment.Buffer.{Buffer}
@@ -26,7 +28,8 @@ module _ {Ring State : Type 0} (kind : Kind Ring) (device : Device State) where
 
   -- ---- within a budget
 
-  -- A piece that pauses: the chains that it served have spent the budget, and one more is on offer, which isn't
+  -- A piece that pauses: the chains that it served have spent the budget, and one more is on offer, which
+  -- isn't
   -- touched.
   pub record Pauses (budget : Budget) (start now : Site Ring State) : Type 0 where
     pub course : Course kind device start now
@@ -38,12 +41,14 @@ module _ {Ring State : Type 0} (kind : Kind Ring) (device : Device State) where
     pub offered : kind.Offers now.memory now.ring buffers entry
 
   -- the chains of a piece that doesn't pause
-  pub record RunsWithin (budget : Budget) (start : Site Ring State) (ending : Ending) (last : Site Ring State) : Type 0 where
+  pub record RunsWithin (budget : Budget) (start : Site Ring State) (ending : Ending)
+      (last : Site Ring State) : Type 0 where
     pub runs : Runs kind device start ending last
     pub within : AreWithin budget (chains_of runs.chains)
 
   -- A piece that goes to the end.
-  pub record EndsWithin (budget : Budget) (now new : Site Ring State) (ending : Ending) (wanted : Bool) : Type 0 where
+  pub record EndsWithin (budget : Budget) (now new : Site Ring State) (ending : Ending)
+      (wanted : Bool) : Type 0 where
     pub ends : GoesToEnd now new ending wanted
     pub within : AreWithin budget (chains_of ends.runs.chains)
 
@@ -53,22 +58,27 @@ module _ {Ring State : Type 0} (kind : Kind Ring) (device : Device State) where
     pub pauses : Pauses budget (open_site kind device old) now
 
   -- A service in one piece: after a fault of the opening it is closed at once.
-  pub record IsServiceWithin (budget : Budget) (old new : Site Ring State) (ending : Ending) (wanted : Bool) : Type 0 where
+  pub record IsServiceWithin (budget : Budget) (old new : Site Ring State) (ending : Ending)
+      (wanted : Bool) : Type 0 where
     pub service : IsService kind device old new ending wanted
-    pub within : kind.opening_fault old.memory old.ring ≡ None → EndsWithin budget (open_site kind device old) new ending wanted
+    pub within : kind.opening_fault old.memory old.ring ≡ None
+        → EndsWithin budget (open_site kind device old) new ending wanted
 
   -- ---- with pauses
 
-  -- From here on it goes to its end with pauses. In a pause memory and ring stay, and the device's state may become
+  -- From here on it goes to its end with pauses. In a pause memory and ring stay, and the device's state may
+  -- become
   -- another one that its driver can't tell from it.
-  abbrev pub GoesInPieces : (State → State → Type 0) → Site Ring State → List (Pause Ring State) → Site Ring State → Ending → Bool → Type 0
+  abbrev pub GoesInPieces : (State → State → Type 0) → Site Ring State → List (Pause Ring State)
+      → Site Ring State → Ending → Bool → Type 0
   GoesInPieces Alike now [] new ending wanted = GoesToEnd now new ending wanted
   GoesInPieces Alike now (pause ∷ pauses) new ending wanted =
       Course kind device now pause.at × Alike pause.state pause.at.state
       × GoesInPieces Alike (record pause.at { state = pause.state }) pauses new ending wanted
 
   -- It is one service, but for a state of the device that its driver can't tell from the one that it ends in.
-  pub record IsOneService (Alike : State → State → Type 0) (old new : Site Ring State) (ending : Ending) (wanted : Bool) : Type 0 where
+  pub record IsOneService (Alike : State → State → Type 0) (old new : Site Ring State) (ending : Ending)
+      (wanted : Bool) : Type 0 where
     pub state : State
     pub alike : Alike new.state state
     pub service : IsService kind device old (record new { state = state }) ending wanted

@@ -27,7 +27,8 @@ pub record Kind (Ring : Type 0) : Type 1 where
   -- the ring behind an entry, and after a fault
   pub past : Ring → Entry → Ring
   pub stopped : Ring → Ring
-  -- the memory with the closing writes, whether a notification is wanted on it, and the ring once it is closed
+  -- the memory with the closing writes, whether a notification is wanted on it, and the ring once it is
+  -- closed
   pub closed : Memory → Ring → Memory
   pub Wants : Memory → Ring → Type 0
   pub shut : Ring → Ring
@@ -89,9 +90,11 @@ pub record Served (State : Type 0) : Type 0 where
 
 -- The device serves the chain of these buffers on memory old with state s: with state t and memory new
 -- after it, len bytes written without a gap, and any byte written or none.
-pub record Does {State : Type 0} (device : Device State) (old new : Memory) (buffers : List Buffer) (s t : State) (len : ℕ) (any : Bool) : Type 0 where
+pub record Does {State : Type 0} (device : Device State) (old new : Memory) (buffers : List Buffer)
+    (s t : State) (len : ℕ) (any : Bool) : Type 0 where
   pub written : List (Option ℕ)
-  pub gives : device.Gives s (readable_of old buffers) (length (writable_of buffers)) (record { state = t; written = written })
+  pub gives : device.Gives s (readable_of old buffers) (length (writable_of buffers))
+      (record { state = t; written = written })
   pub each : length written ≡ length (writable_of buffers)
   pub memory : new ≡ scattered old (writable_of buffers) written
   pub len_is : len ≡ used_len written
@@ -106,13 +109,15 @@ module _ {Ring State : Type 0} (kind : Kind Ring) (device : Device State) where
   pub record ServesChain (site : Site Ring State) (s : Served State) : Type 0 where
     pub ready : IsReady site
     pub offered : kind.Offers site.memory site.ring s.buffers s.entry
-    pub gives : device.Gives site.state (readable_of site.memory s.buffers) (length (writable_of s.buffers)) s.given
+    pub gives : device.Gives site.state (readable_of site.memory s.buffers)
+        (length (writable_of s.buffers)) s.given
     pub each : length s.given.written ≡ length (writable_of s.buffers)
 
   -- where the service stands after that chain: its bytes are scattered, then its used entry is written
   abbrev pub after : Site Ring State → Served State → Site Ring State
   after site s = record {
-    memory = kind.used (scattered site.memory (writable_of s.buffers) s.given.written) site.ring s.entry (used_len s.given.written) (wrote s.given.written);
+    memory = kind.used (scattered site.memory (writable_of s.buffers) s.given.written) site.ring s.entry
+        (used_len s.given.written) (wrote s.given.written);
     ring = kind.past site.ring s.entry;
     state = s.given.state;
   }
@@ -128,7 +133,8 @@ module _ {Ring State : Type 0} (kind : Kind Ring) (device : Device State) where
     pub buffers : List Buffer
     pub entry : Entry
     pub offered : kind.Offers site.memory site.ring buffers entry
-    pub lacks_memory : device.LacksMemory site.state (readable_of site.memory buffers) (length (writable_of buffers))
+    pub lacks_memory : device.LacksMemory site.state (readable_of site.memory buffers)
+        (length (writable_of buffers))
 
   -- why the service goes no further than this
   abbrev pub IsEnding : Site Ring State → Ending → Type 0
@@ -189,22 +195,31 @@ module _ {Ring State : Type 0} (kind : Kind Ring) (device : Device State) where
 
 -- the ring has at most one chain at a place: the buffers and the entry, or a fault, and never both
 pub record HasAtMostOneChain {Ring : Type 0} (kind : Kind Ring) : Type 0 where
-  pub buffers : (m : Memory) (ring : Ring) (b c : List Buffer) (e f : Entry) → kind.Offers m ring b e → kind.Offers m ring c f → b ≡ c
-  pub entry : (m : Memory) (ring : Ring) (b c : List Buffer) (e f : Entry) → kind.Offers m ring b e → kind.Offers m ring c f → e ≡ f
-  pub fault : (m : Memory) (ring : Ring) (f g : Fault) → kind.HasFault m ring f → kind.HasFault m ring g → f ≡ g
-  pub not_both : (m : Memory) (ring : Ring) (b : List Buffer) (e : Entry) (f : Fault) → kind.Offers m ring b e → kind.HasFault m ring f → ⊥
+  pub buffers : (m : Memory) (ring : Ring) (b c : List Buffer) (e f : Entry) → kind.Offers m ring b e
+      → kind.Offers m ring c f → b ≡ c
+  pub entry : (m : Memory) (ring : Ring) (b c : List Buffer) (e f : Entry) → kind.Offers m ring b e
+      → kind.Offers m ring c f → e ≡ f
+  pub fault : (m : Memory) (ring : Ring) (f g : Fault) → kind.HasFault m ring f
+      → kind.HasFault m ring g → f ≡ g
+  pub not_both : (m : Memory) (ring : Ring) (b : List Buffer) (e : Entry) (f : Fault) → kind.Offers m ring b e
+      → kind.HasFault m ring f → ⊥
 
 -- the ring has a chain or a fault at each place, whether or not that is on offer
 pub record HasSomeChain {Ring : Type 0} (kind : Kind Ring) : Type 0 where
-  pub some : (m : Memory) (ring : Ring) → ((buffers : List Buffer) × (entry : Entry) × kind.Offers m ring buffers entry) ⊎ ((fault : Fault) × kind.HasFault m ring fault)
+  pub some : (m : Memory) (ring : Ring)
+      → ((buffers : List Buffer) × (entry : Entry) × kind.Offers m ring buffers entry)
+      ⊎ ((fault : Fault) × kind.HasFault m ring fault)
 
 -- the device has at most one answer to a chain
 pub record HasAtMostOneAnswer {State : Type 0} (device : Device State) : Type 0 where
-  pub given : (s : State) (readable : List ℕ) (w : ℕ) (g h : Given State) → device.Gives s readable w g → device.Gives s readable w h → g ≡ h
+  pub given : (s : State) (readable : List ℕ) (w : ℕ) (g h : Given State) → device.Gives s readable w g
+      → device.Gives s readable w h → g ≡ h
 
 -- The device is the exact one where the count of its failures stays, and that count never falls. Of chains
 -- that it leaves for want of memory this says nothing.
 pub record IsExactUnless {State : Type 0} (device exact : Device State) (count : State → ℕ) : Type 0 where
   pub takes : (s : State) → device.takes s ≡ exact.takes s
-  pub rises : (s : State) (readable : List ℕ) (w : ℕ) (g : Given State) → device.Gives s readable w g → count s ≤ count g.state
-  pub gives : (s : State) (readable : List ℕ) (w : ℕ) (g : Given State) → device.Gives s readable w g → count g.state ≡ count s → exact.Gives s readable w g
+  pub rises : (s : State) (readable : List ℕ) (w : ℕ) (g : Given State) → device.Gives s readable w g
+      → count s ≤ count g.state
+  pub gives : (s : State) (readable : List ℕ) (w : ℕ) (g : Given State) → device.Gives s readable w g
+      → count g.state ≡ count s → exact.Gives s readable w g

@@ -23,10 +23,12 @@ pub record FitsIn (m : Memory) (setup : Setup) (areas : Areas) : Type 0 where
 
 -- the tests whether they do
 abbrev pub is_aligned : Setup → Areas → Bool
-is_aligned setup areas = setup.desc % 16 == 0 && setup.driver % areas.driver_alignment == 0 && setup.device % 4 == 0
+is_aligned setup areas = setup.desc % 16 == 0 && setup.driver % areas.driver_alignment == 0 &&
+    setup.device % 4 == 0
 
 abbrev pub lies_in : Memory → Setup → Areas → Bool
-lies_in m setup areas = is_inside m setup.desc areas.desc && is_inside m setup.driver areas.driver && is_inside m setup.device areas.device
+lies_in m setup areas = is_inside m setup.desc areas.desc && is_inside m setup.driver areas.driver &&
+    is_inside m setup.device areas.device
 
 abbrev pub fits_in : Memory → Setup → Areas → Bool
 fits_in m setup areas = is_aligned setup areas && lies_in m setup areas
@@ -36,7 +38,8 @@ pub record RingState : Type 0 where
   pub setup : Setup
   -- the place of the next chain
   pub place : ℕ
-  -- how much its service may still take, and how much it has used: chains of a split ring, places of a packed one
+  -- how much its service may still take, and how much it has used: chains of a split ring, places of a packed
+  -- one
   pub pending : ℕ
   pub used_count : ℕ
 

@@ -16,20 +16,24 @@ use Rattle.console_device.specs.Output.{IsUnrefused}
 use Rattle.console_device.proofs.Services.{exact_within, some_within, receive_left}
 
 -- a service that wasn't refused is an exact one
-pub served_exactly : (limit : Option ℕ) (q : ℕ) (at : Option Queue) (old new : Memory) (before after : WindowState) (s s' : List ℕ)
+pub served_exactly : (limit : Option ℕ) (q : ℕ) (at : Option Queue) (old new : Memory)
+    (before after : WindowState) (s s' : List ℕ)
     → IsUnrefused (transmit_within limit) q at old new before after s s'
     → IsNotified exact_transmit q at old new before after s s'
 served_exactly limit q at old new before after s s' h = record {
   ending = h.ending;
-  notified = notified_exact (transmit_within limit) exact_transmit (λ out. 0) (exact_within limit) q at h.ending old new before after s s' h.unrefused refl h.notified;
+  notified = notified_exact (transmit_within limit) exact_transmit (λ out. 0) (exact_within limit) q at
+      h.ending old new before after s s' h.unrefused refl h.notified;
 }
 
 -- and one that was refused may be so
-pub refused_somewhere : (limit : Option ℕ) (q : ℕ) (at : Option Queue) (old new : Memory) (before after : WindowState) (s s' : List ℕ)
+pub refused_somewhere : (limit : Option ℕ) (q : ℕ) (at : Option Queue) (old new : Memory)
+    (before after : WindowState) (s s' : List ℕ)
     → Notified (transmit_within limit) q at Refused old new before after s s'
     → Notified transmit q at Refused old new before after s s'
 refused_somewhere limit q at old new before after s s' h =
-    let own = notified_as (transmit_within limit) transmit (λ out sent. sent ≡ out) (some_within limit) q at Refused old new before after s s' s refl h in
+    let own = notified_as (transmit_within limit) transmit (λ out sent. sent ≡ out) (some_within limit) q at
+    Refused old new before after s s' s refl h in
     rw own.alike at own.notified
 
 -- what holds where a call is refused holds of any that is
@@ -38,12 +42,17 @@ on_refusal (Ok x) P p = tt
 on_refusal (Err x) P p = p
 
 -- and the window stays sound
-pub sound_still : (old new : Memory) (w : WindowState) (q : ℕ) (queue last : Queue) → IsSound old w → SameRange old new → Some queue ≡ queue_at q w → made_as last ≡ made_as queue
+pub sound_still : (old new : Memory) (w : WindowState) (q : ℕ) (queue last : Queue) → IsSound old w
+    → SameRange old new → Some queue ≡ queue_at q w → made_as last ≡ made_as queue
     → IsSound new (with_ring q w last)
-sound_still old new w q queue last sound range lent made = serving_keeps_sound old new w q queue last sound range (sym lent) made
+sound_still old new w q queue last sound range lent made =
+    serving_keeps_sound old new w q queue last sound range (sym lent) made
 
 -- what a notification of the receive queue leaves pending is the end of what was
-pub notified_left : (q : ℕ) (queue : Option Queue) (old new : Memory) (before after : WindowState) (s s' : List ℕ) → IsNotified receive q queue old new before after s s' → IsLeft s s'
+pub notified_left : (q : ℕ) (queue : Option Queue) (old new : Memory) (before after : WindowState)
+    (s s' : List ℕ) → IsNotified receive q queue old new before after s s' → IsLeft s s'
 notified_left q None old new before after s s' h = record { taken = 0; rest = h.notified.1.state }
 notified_left q (Some queue) old new before after s s' h =
-    receive_left queue_kind (record { memory = old; ring = queue; state = s }) (record { memory = new; ring = h.notified.last; state = s' }) h.ending h.notified.wanted h.notified.service
+    receive_left queue_kind (record { memory = old; ring = queue; state = s })
+    (record { memory = new; ring = h.notified.last; state = s' }) h.ending
+    h.notified.wanted h.notified.service

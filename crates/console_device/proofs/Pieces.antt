@@ -33,7 +33,8 @@ no_refusal None e = cc
 no_refusal (Some fault) e = cc
 
 -- a transmit that isn't refused
-pub transmits : (limit : Option ℕ) (stage : Stage) (budget : Budget) (queue last : Queue) (m m' : Memory) (s s' : List ℕ) (left : Left)
+pub transmits : (limit : Option ℕ) (stage : Stage) (budget : Budget) (queue last : Queue) (m m' : Memory)
+    (s s' : List ℕ) (left : Left)
     → LeavesQueue (transmit_within limit) stage budget (site_at m queue s) (site_at m' last s') left
     → LeavesQueue (transmit_fitting limit) stage budget (site_at m queue s) (site_at m' last s') left
 transmits limit stage budget queue last m m' s s' Open h =
@@ -45,22 +46,29 @@ transmits limit stage budget queue last m m' s s' (Closed fault wanted) h =
 
 -- ---- without limits
 
-pub fitting_within : (limit : Option ℕ) → DoesAs (transmit_fitting limit) (transmit_within limit) (λ out sent. sent ≡ out)
+pub fitting_within : (limit : Option ℕ)
+    → DoesAs (transmit_fitting limit) (transmit_within limit) (λ out sent. sent ≡ out)
 fitting_within limit = record {
   takes = λ out sent alike. refl;
-  gives = λ out sent readable w given alike h. record { state = given.state; alike = refl; gives = rw alike h };
+  gives = λ out sent readable w given alike h.
+      record { state = given.state; alike = refl; gives = rw alike h };
   lacks_memory = λ out sent readable w alike h. absurd h;
 }
 
-pub sent_whole : (limit : Option ℕ) (budget : Budget) (found : Option Queue) (progress : Progress) (m m' : Memory) (w w' : WindowState) (s t : List ℕ)
+pub sent_whole : (limit : Option ℕ) (budget : Budget) (found : Option Queue) (progress : Progress)
+    (m m' : Memory) (w w' : WindowState) (s t : List ℕ)
     → budget.chains ≡ None → budget.bytes ≡ None
-    → BeginsTo (transmit_fitting limit) budget 1 found progress m m' w w' s t → IsUnrefused (transmit_within limit) 1 found m m' w w' s t
+    → BeginsTo (transmit_fitting limit) budget 1 found progress m m' w w' s t
+    → IsUnrefused (transmit_within limit) 1 found m m' w w' s t
 sent_whole limit budget found progress m m' w w' s t chains bytes h =
     let once = never_pauses (transmit_fitting limit) budget 1 found progress m m' w w' s t chains bytes h in
-    let whole : Notified (transmit_fitting limit) 1 found once.ending m m' w w' s t = notified_once (transmit_fitting limit) budget 1 found once.ending m m' w w' s t once.notified in
-    let own = notified_as (transmit_fitting limit) (transmit_within limit) (λ out sent. sent ≡ out) (fitting_within limit) 1 found once.ending m m' w w' s t s refl whole in
+    let whole : Notified (transmit_fitting limit) 1 found once.ending m m' w w' s t =
+    notified_once (transmit_fitting limit) budget 1 found once.ending m m' w w' s t once.notified in
+    let own = notified_as (transmit_fitting limit) (transmit_within limit) (λ out sent. sent ≡ out)
+    (fitting_within limit) 1 found once.ending m m' w w' s t s refl whole in
     record {
       ending = once.ending;
-      unrefused = notified_not_refused (transmit_fitting limit) (λ out readable w lacks. lacks) 1 found once.ending m m' w w' s t whole;
+      unrefused = notified_not_refused (transmit_fitting limit) (λ out readable w lacks. lacks) 1 found
+          once.ending m m' w w' s t whole;
       notified = rw own.alike at own.notified;
     }

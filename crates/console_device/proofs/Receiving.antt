@@ -12,7 +12,8 @@ use Rattle.chain.proofs.Partial.{unwritten, scattered-run, scattered-then_unwrit
 use Rattle.console_device.specs.Device.{receive}
 
 -- a run of bytes and the next one are one run
-scatter_on : (m : Memory) (addrs xs ys : List ℕ) → scatter (scatter m addrs xs) (drop (length xs) addrs) ys ≡ scatter m addrs (xs ++ ys)
+scatter_on : (m : Memory) (addrs xs ys : List ℕ) → scatter (scatter m addrs xs) (drop (length xs) addrs) ys
+    ≡ scatter m addrs (xs ++ ys)
 scatter_on m [] [] ys = refl
 scatter_on m [] (x ∷ xs) ys = refl
 scatter_on m (a ∷ addrs) [] ys = refl
@@ -29,11 +30,14 @@ take-append (suc n) (x ∷ xs) ys =
 
 -- no more than there are
 take_fewer : (k n : ℕ) (xs : List ℕ) → k ≡ min (length xs) n → take k xs ≡ take n xs
-take_fewer k n xs h = let e : k ≡ min n (length xs) = omega (arith, h) in ap (λ j. take j xs) e ∙ take_min n xs
+take_fewer k n xs h = let e : k ≡ min n (length xs) = omega (arith, h) in
+    ap (λ j. take j xs) e ∙ take_min n xs
 
 -- Two runs from the two parts of the ring are the first n bytes of it.
-pub two_runs : (m one both : Memory) (addrs items front back : List ℕ) (n room from_front from_back : ℕ) → room ≡ n
-    → front ++ back ≡ items → from_front ≡ min (length front) room → from_back ≡ min (length back) (room - from_front)
+pub two_runs : (m one both : Memory) (addrs items front back : List ℕ) (n room from_front from_back : ℕ)
+    → room ≡ n
+    → front ++ back ≡ items → from_front ≡ min (length front) room
+    → from_back ≡ min (length back) (room - from_front)
     → one ≡ scatter m (drop 0 addrs) (take from_front front)
     → both ≡ scatter one (drop from_front addrs) (take from_back back)
     → both ≡ scatter m addrs (take n items)
@@ -66,8 +70,15 @@ receive_does m new buffers pending left count count_is written left_is =
     record {
       written = map Some bytes ++ unwritten rest;
       gives = rw left_is refl;
-      each = length-append (map Some bytes) (unwritten rest) ∙ (let e = length-map bytes Some in let f = length-replicate {A = Option ℕ} rest None in let t = length-take w pending in omega (arith, e, f, t));
-      memory = written ∙ sym (scattered-run m (writable_of buffers) bytes) ∙ sym (scattered-then_unwritten m (writable_of buffers) (map Some bytes) rest);
-      len_is = count_is ∙ (let e = used_len-run bytes (unwritten rest) in let f = used_len-none rest in omega (arith, e, f));
-      any_is = ap (nat_lt 0) count_is ∙ sym (wrote-append (map Some bytes) (unwritten rest) ∙ ap (λ b. wrote (map Some bytes) || b) (wrote-unwritten rest) ∙ or-false (wrote (map Some bytes)) ∙ wrote-run bytes);
+      each = length-append (map Some bytes) (unwritten rest)
+          ∙ (let e = length-map bytes Some in let f = length-replicate {A = Option ℕ} rest None in
+          let t = length-take w pending in omega (arith, e, f, t));
+      memory = written ∙ sym (scattered-run m (writable_of buffers) bytes)
+          ∙ sym (scattered-then_unwritten m (writable_of buffers) (map Some bytes) rest);
+      len_is = count_is ∙ (let e = used_len-run bytes (unwritten rest) in let f = used_len-none rest in
+          omega (arith, e, f));
+      any_is = ap (nat_lt 0) count_is
+          ∙ sym (wrote-append (map Some bytes) (unwritten rest)
+          ∙ ap (λ b. wrote (map Some bytes) || b) (wrote-unwritten rest) ∙ or-false (wrote (map Some bytes))
+          ∙ wrote-run bytes);
     }

@@ -11,7 +11,8 @@ use Rattle.console_device.specs.Device.{Fits, transmit_within}
 use Rattle.console_device.proofs.Receiving.{used_len-none}
 
 -- A chain is transmitted once its readable bytes are out.
-pub transmit_does : (limit : Option ℕ) (m : Memory) (buffers : List Buffer) (out more : List ℕ) → more ≡ out ++ readable_of m buffers
+pub transmit_does : (limit : Option ℕ) (m : Memory) (buffers : List Buffer) (out more : List ℕ) → more ≡ out
+    ++ readable_of m buffers
     → Fits limit (length out + length (readable_of m buffers))
     → Does (transmit_within limit) m m buffers out more 0 false
 transmit_does limit m buffers out more out_is fits =
@@ -31,16 +32,20 @@ pub record IsPuttingOut (list : List ℕ) (done : ℕ) (before now : List ℕ) (
   pub out : now ≡ before ++ take done list
   pub holds : length list ≤ done + room
 
-module _ (list : List ℕ) (done : ℕ) (before now : List ℕ) (room : ℕ) (h : IsPuttingOut list done before now room) (part : List ℕ) (is : part ≡ take (length part) (drop done list)) where
+module _ (list : List ℕ) (done : ℕ) (before now : List ℕ) (room : ℕ)
+    (h : IsPuttingOut list done before now room) (part : List ℕ)
+    (is : part ≡ take (length part) (drop done list)) where
   -- the next bytes are some of the others
   next : done + length part ≤ length list
-  next = let e = ap (λ (l : List ℕ). length l) is ∙ length-take (length part) (drop done list) in omega (arith, e, length-drop done list, h.within)
+  next = let e = ap (λ (l : List ℕ). length l) is ∙ length-take (length part) (drop done list) in
+      omega (arith, e, length-drop done list, h.within)
 
   pub room_for : length part ≤ room
   room_for = omega (arith, next, h.holds)
 
   -- and then they are out as well
-  pub put_out_more : (more : List ℕ) (left : ℕ) → more ≡ now ++ part → room ≤ left + length part → IsPuttingOut list (done + length part) before more left
+  pub put_out_more : (more : List ℕ) (left : ℕ) → more ≡ now ++ part → room ≤ left + length part
+      → IsPuttingOut list (done + length part) before more left
   put_out_more more left put leaves = record {
     within = next;
     out =

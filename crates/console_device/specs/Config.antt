@@ -4,4 +4,5 @@ use Rattle.byteorder.specs.Endian.{little_bytes}
 
 -- 64 bytes: the columns in 2, the rows in 2; max_nr_ports in 4 and emerg_wr in 4 are 0, and zeros follow
 abbrev pub config_of : ℕ → ℕ → List ℕ
-config_of cols rows = little_bytes 2 cols ++ little_bytes 2 rows ++ little_bytes 4 0 ++ little_bytes 4 0 ++ replicate 52 0
+config_of cols rows = little_bytes 2 cols ++ little_bytes 2 rows ++ little_bytes 4 0
+    ++ little_bytes 4 0 ++ replicate 52 0

@@ -53,12 +53,14 @@ abbrev pub MayRefuse : Option ℕ → ℕ → Type 0
 MayRefuse None n = ⊤
 MayRefuse (Some limit) n = limit < n
 
--- The transmit queue, over what waits in an output with this limit: a chain is served where its readable bytes
+-- The transmit queue, over what waits in an output with this limit: a chain is served where its readable
+-- bytes
 -- fit behind what waits, and one with readable bytes may be refused where they don't.
 abbrev pub transmit_within : Option ℕ → Device (List ℕ)
 transmit_within limit = record {
   takes = λ out. true;
-  Gives = λ out readable w given. (given ≡ transmitted out readable w) × Fits limit (length out + length readable);
+  Gives = λ out readable w given. (given ≡ transmitted out readable w)
+      × Fits limit (length out + length readable);
   LacksMemory = λ out readable w. (readable ≢ []) × MayRefuse limit (length out + length readable);
 }
 
@@ -66,6 +68,7 @@ transmit_within limit = record {
 abbrev pub transmit_fitting : Option ℕ → Device (List ℕ)
 transmit_fitting limit = record {
   takes = λ out. true;
-  Gives = λ out readable w given. (given ≡ transmitted out readable w) × Fits limit (length out + length readable);
+  Gives = λ out readable w given. (given ≡ transmitted out readable w)
+      × Fits limit (length out + length readable);
   LacksMemory = λ out readable w. ⊥;
 }

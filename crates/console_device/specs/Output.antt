@@ -9,13 +9,16 @@ use Rattle.console_device.specs.Device.{transmit}
 
 -- A service puts these bytes out behind what stood there before: they are those of the same service into an
 -- empty output.
-pub record PutsOut {Ring : Type 0} (kind : Kind Ring) (old new : Memory) (ring last : Ring) (before after : List ℕ) (ending : Ending) (wanted : Bool) : Type 0 where
+pub record PutsOut {Ring : Type 0} (kind : Kind Ring) (old new : Memory) (ring last : Ring)
+    (before after : List ℕ) (ending : Ending) (wanted : Bool) : Type 0 where
   pub sent : List ℕ
   pub behind : after ≡ before ++ sent
-  pub service : IsService kind transmit (record { memory = old; ring = ring; state = [] }) (record { memory = new; ring = last; state = sent }) ending wanted
+  pub service : IsService kind transmit (record { memory = old; ring = ring; state = [] })
+      (record { memory = new; ring = last; state = sent }) ending wanted
 
 -- A notification of a queue whose service was not refused.
-pub record IsUnrefused {State : Type 0} (device : Device State) (q : ℕ) (queue : Option Queue) (old new : Memory) (before after : WindowState) (s s' : State) : Type 0 where
+pub record IsUnrefused {State : Type 0} (device : Device State) (q : ℕ) (queue : Option Queue)
+    (old new : Memory) (before after : WindowState) (s s' : State) : Type 0 where
   pub ending : Ending
   pub unrefused : ending ≢ Refused
   pub notified : Notified device q queue ending old new before after s s'

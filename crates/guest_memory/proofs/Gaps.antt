@@ -1,4 +1,5 @@
--- What the gaps of a memory are to a range: the test of them, a part of a range that misses them, and the bytes of a write.
+-- What the gaps of a memory are to a range: the test of them, a part of a range that misses them, and the
+-- bytes of a write.
 use Rattle.std.proofs.Common.{◌≡◌, ◌↔◌, ◌⊎◌, inl, inr, ℕ, ◌+◌, ◌-◌, ◌≤◌, ◌<◌, List, [], ◌∷◌, length, take, refl, sym, ◌∙◌, ap, arith, Bool, true, false}
 use Rattle.std.specs.Prelude.{nat_le, ◌&&◌, ◌||◌, if◌then◌else◌}
 use Rattle.std.proofs.lemmas.Bool.{cases_lt, and_parts, and_from}

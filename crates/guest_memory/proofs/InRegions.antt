@@ -434,7 +434,8 @@ found_holds rs a n i room x m same h found is rest =
     let at = found_touches rs a i x found in
     let above : x.base ≤ a = rw is at.1 in (
       λ test. subst (λ (m : Memory). Inside m a n) same (region_inside rs i x a n h at.0
-          (subst (λ (r : Region). IsIn r a n) is (record { above = above; below = grind (arith, nat_tests) }))),
+          (subst (λ (r : Region). IsIn r a n) is
+          (record { above = above; below = grind (arith, nat_tests) }))),
       λ inside.
           let lies = inside_region rs i x a n h at.0 at.1 at.2
           (subst (λ (m : Memory). Inside m a n) (sym same) inside) in
@@ -464,7 +465,8 @@ pub one_holds : (rs : List Region) (a n room : ℕ) (x : Region) (m : Memory) �
 one_holds rs a n room x m same h one is test rest =
     found_holds rs a n 0 room x m same h (first_found rs a x one is test) is rest
   where
-    first_found : (rs : List Region) (a : ℕ) (x : Region) → length rs ≡ 1 → x ≡ get_or rs 0 x → touches a x ≡ true
+    first_found : (rs : List Region) (a : ℕ) (x : Region) → length rs ≡ 1 → x ≡ get_or rs 0 x
+        → touches a x ≡ true
         → position (touches a) rs ≡ Some 0
     first_found [] a x one is test = absurd (omega (arith, one))
     first_found (r ∷ []) a x one is test =
@@ -473,12 +475,14 @@ one_holds rs a n room x m same h one is test rest =
     first_found (r ∷ (s ∷ rs)) a x one is test = absurd (omega (arith, one))
 
 -- and where it doesn't
-pub one_misses : (rs : List Region) (a n : ℕ) (x : Region) (t : Bool) (m : Memory) → memory_of rs ≡ m → AreApart rs
+pub one_misses : (rs : List Region) (a n : ℕ) (x : Region) (t : Bool) (m : Memory)
+    → memory_of rs ≡ m → AreApart rs
     → length rs ≡ 1 → x ≡ get_or rs 0 x → t ≡ touches a x → t ≡ false → IsTrue t ↔ Inside m a n
 one_misses rs a n x t m same h one is tells test = (
   λ never. cc,
   λ inside.
-      let isin : IsIn (get_or rs 0 x) a n = only_inside rs a n x h (subst (λ (m : Memory). Inside m a n) (sym same) inside) one in
+      let isin : IsIn (get_or rs 0 x) a n =
+      only_inside rs a n x h (subst (λ (m : Memory). Inside m a n) (sym same) inside) one in
       let here : IsIn x a n = subst (λ (r : Region). IsIn r a n) (sym is) isin in
       absurd (grind (arith, nat_tests, here.above, here.below, tells, test)),
 )
@@ -555,14 +559,17 @@ place_in xs rs i a n x same within isin =
     subst (λ (ys : List Region). (i < length ys) × IsIn (get_or ys i x) a n) same (within, isin)
 
 -- the address lies in that region, or is its end
-pub touches_found : (rs : List Region) (a i : ℕ) (o : Option ℕ) (x : Region) → o ≡ position (touches a) rs → o ≡ Some i → x ≡ get_or rs i x
+pub touches_found : (rs : List Region) (a i : ℕ) (o : Option ℕ) (x : Region) → o ≡ position (touches a) rs
+    → o ≡ Some i → x ≡ get_or rs i x
     → touches a x ≡ true
 touches_found rs a i o x found some is = (found_region rs a i x (sym found ∙ some) is).1
 
 -- the test of a range, where no region is found
-pub none_inside : (rs : List Region) (a n : ℕ) (o : Option ℕ) → AreApart rs → o ≡ position (touches a) rs → o ≡ None
+pub none_inside : (rs : List Region) (a n : ℕ) (o : Option ℕ) → AreApart rs
+    → o ≡ position (touches a) rs → o ≡ None
     → IsTrue false ↔ Inside (memory_of rs) a n
-none_inside rs a n o h found none = (λ never. cc, λ inside. absurd (found_none rs a n (memory_of rs) refl h (sym found ∙ none) inside))
+none_inside rs a n o h found none =
+    (λ never. cc, λ inside. absurd (found_none rs a n (memory_of rs) refl h (sym found ∙ none) inside))
 
 -- the last of some regions ends where the memory does
 pub ends_last : (rs : List Region) (i : ℕ) (d : Region) → AreApart rs → suc i ≡ length rs
@@ -601,7 +608,8 @@ last_region rs x i m same h last is = (
   omega (arith, h.spans, ap (λ (m : Memory). length m.bytes) same),
 )
 
--- how many bytes there are from a to the end of the region x: a range from there on lies inside where it has no more
+-- how many bytes there are from a to the end of the region x: a range from there on lies inside where it has
+-- no more
 pub found_room : (rs : List Region) (a i room : ℕ) (x : Region) (m : Memory) → memory_of rs ≡ m → AreApart rs
     → position (touches a) rs ≡ Some i → x ≡ get_or rs i x → a + room ≡ end_of x
     → (n : ℕ) → (n ≤ room) ↔ Inside m a n
@@ -610,12 +618,15 @@ found_room rs a i room x m same h found is rest n =
     (λ within. test.0 (grind (arith, nat_tests)), λ inside. grind (arith, nat_tests, test.1 inside))
 
 -- what a search answered: there is so much room in the region x that it found
-pub room_found : (rs : List Region) (a i room : ℕ) (o : Option ℕ) (x : Region) → AreApart rs → o ≡ position (touches a) rs → o ≡ Some i
+pub room_found : (rs : List Region) (a i room : ℕ) (o : Option ℕ) (x : Region) → AreApart rs
+    → o ≡ position (touches a) rs → o ≡ Some i
     → x ≡ get_or rs i x → a + room ≡ end_of x → (n : ℕ) → (n ≤ room) ↔ Inside (memory_of rs) a n
-room_found rs a i room o x h found some is rest = found_room rs a i room x (memory_of rs) refl h (sym found ∙ some) is rest
+room_found rs a i room o x h found some is rest =
+    found_room rs a i room x (memory_of rs) refl h (sym found ∙ some) is rest
 
 -- the bytes from an address on that has so much room are the rest of its region
-pub rest_is : (m : Memory) (a room : ℕ) (bytes : List ℕ) → ((n : ℕ) → (n ≤ room) ↔ Inside m a n) → length bytes ≡ room
+pub rest_is : (m : Memory) (a room : ℕ) (bytes : List ℕ) → ((n : ℕ) → (n ≤ room) ↔ Inside m a n)
+    → length bytes ≡ room
     → bytes ≡ part_of m a room → IsRest m a bytes
 rest_is m a room bytes fits size are = record {
   inside = (fits (length bytes)).0 (omega (arith, size));

@@ -14,7 +14,8 @@ drop_behind [] ys = refl
 drop_behind (x ∷ xs) ys = drop_behind xs ys
 
 -- regions in the first places, and none behind them
-pub put_in_places : (regions : List RegionSpec) → length regions ≤ 8 → HasPlaces (regions ++ drop (length regions) (replicate 8 none)) (length regions)
+pub put_in_places : (regions : List RegionSpec) → length regions ≤ 8
+    → HasPlaces (regions ++ drop (length regions) (replicate 8 none)) (length regions)
 put_in_places regions few = record {
   eight =
       omega (

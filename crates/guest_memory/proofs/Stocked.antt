@@ -1,4 +1,5 @@
--- Of a memory's own regions and lent ones there is one kind. So a memory has one list of regions, whichever it is.
+-- Of a memory's own regions and lent ones there is one kind. So a memory has one list of regions, whichever
+-- it is.
 use Rattle.std.proofs.Common.{◌≡◌, ◌==◌, ◌<◌, ◌≤◌, ◌+◌, ◌-◌, ◌^◌, ℕ, Bool, true, false, List, [], ◌∷◌, length, take, drop, get_or, set, refl, sym, ◌∙◌, ap, subst, arith}
 use Rattle.std.proofs.lemmas.Bool.Decides.{nat_tests}
 use Rattle.std.proofs.lemmas.List.{length-set}
@@ -8,12 +9,14 @@ use Rattle.guest_memory.specs.Stock.{regions_of}
 use Rattle.guest_memory.proofs.InRegions.{only_inside, part_in, place_in, put_in, region_fits, regions-put_in, with_put}
 
 -- none are its own: the lent ones
-pub lent_regions : (own lent : List Region) (count : ℕ) (test : Bool) → length own ≡ count → test ≡ (count == 0) → test ≡ true → regions_of own lent ≡ lent
+pub lent_regions : (own lent : List Region) (count : ℕ) (test : Bool) → length own ≡ count
+    → test ≡ (count == 0) → test ≡ true → regions_of own lent ≡ lent
 lent_regions [] lent count test size is empty = refl
 lent_regions (r ∷ rs) lent count test size is empty = absurd (grind (arith, nat_tests, size, is, empty))
 
 -- some are
-pub some_own : (own : List Region) (count : ℕ) (test : Bool) → length own ≡ count → test ≡ (count == 0) → test ≡ false → 0 < length own
+pub some_own : (own : List Region) (count : ℕ) (test : Bool) → length own ≡ count → test ≡ (count == 0)
+    → test ≡ false → 0 < length own
 some_own own count test size is some = grind (arith, nat_tests, size, is, some)
 
 -- where there is one, they are its own
@@ -22,22 +25,28 @@ regions_own [] lent some = absurd (omega (arith, some))
 regions_own (r ∷ rs) lent some = refl
 
 -- the list xs that is searched has the memory's regions: the lent ones, or its own
-pub lent_view : (own lent xs : List Region) (count : ℕ) (test : Bool) (m : Memory) → length own ≡ count → test ≡ (count == 0) → test ≡ true
+pub lent_view : (own lent xs : List Region) (count : ℕ) (test : Bool) (m : Memory) → length own ≡ count
+    → test ≡ (count == 0) → test ≡ true
     → memory_of (regions_of own lent) ≡ m → xs ≡ lent → memory_of xs ≡ m
-lent_view own lent xs count test m size is empty view same = ap memory_of (same ∙ sym (lent_regions own lent count test size is empty)) ∙ view
+lent_view own lent xs count test m size is empty view same =
+    ap memory_of (same ∙ sym (lent_regions own lent count test size is empty)) ∙ view
 
-pub own_view : (own lent xs : List Region) (count : ℕ) (test : Bool) (m : Memory) → length own ≡ count → test ≡ (count == 0) → test ≡ false
+pub own_view : (own lent xs : List Region) (count : ℕ) (test : Bool) (m : Memory) → length own ≡ count
+    → test ≡ (count == 0) → test ≡ false
     → memory_of (regions_of own lent) ≡ m → xs ≡ own → memory_of xs ≡ m
-own_view own lent xs count test m size is some view same = ap memory_of (same ∙ sym (regions_own own lent (some_own own count test size is some))) ∙ view
+own_view own lent xs count test m size is some view same =
+    ap memory_of (same ∙ sym (regions_own own lent (some_own own count test size is some))) ∙ view
 
--- the memory m has the regions rs, and where other regions ys stand in their list, it has those: all = λ ys. what is then its list
+-- the memory m has the regions rs, and where other regions ys stand in their list, it has those: all = λ ys.
+-- what is then its list
 pub record IsStock (all : List Region → List Region) (rs : List Region) (m : Memory) : Type 0 where
   pub others : (ys : List Region) → length ys ≡ length rs → all ys ≡ ys
   pub regions : AreRegions rs
   pub view : memory_of rs ≡ m
 
 -- its own ones, where it has some
-pub own_stock : (own lent : List Region) (m : Memory) → 0 < length own → AreRegions (regions_of own lent) → memory_of (regions_of own lent) ≡ m
+pub own_stock : (own lent : List Region) (m : Memory) → 0 < length own → AreRegions (regions_of own lent)
+    → memory_of (regions_of own lent) ≡ m
     → IsStock (λ ys. regions_of ys lent) own m
 own_stock own lent m some regions view = record {
   others = λ ys size. regions_own ys lent (omega (arith, some, size));
@@ -46,8 +55,10 @@ own_stock own lent m some regions view = record {
 }
 
 -- the lent ones, where it has none
-pub lent_stock : (own lent : List Region) (count : ℕ) (test : Bool) (m : Memory) → length own ≡ count → test ≡ (count == 0) → test ≡ true
-    → AreRegions (regions_of own lent) → memory_of (regions_of own lent) ≡ m → IsStock (λ ys. regions_of own ys) lent m
+pub lent_stock : (own lent : List Region) (count : ℕ) (test : Bool) (m : Memory) → length own ≡ count
+    → test ≡ (count == 0) → test ≡ true
+    → AreRegions (regions_of own lent) → memory_of (regions_of own lent) ≡ m
+    → IsStock (λ ys. regions_of own ys) lent m
 lent_stock own lent count test m size is empty regions view = record {
   others = λ ys _. lent_regions own ys count test size is empty;
   regions = subst AreRegions (lent_regions own lent count test size is empty) regions;
@@ -55,52 +66,62 @@ lent_stock own lent count test m size is empty regions view = record {
 }
 
 -- the n bytes from address a on lie in the region x, which is the i-th of them
-pub record IsFound (all : List Region → List Region) (rs : List Region) (m : Memory) (i a n : ℕ) (x : Region) : Type 0 where
+pub record IsFound (all : List Region → List Region) (rs : List Region) (m : Memory) (i a n : ℕ)
+    (x : Region) : Type 0 where
   pub stock : IsStock all rs m
   pub place : i < length rs
   pub lies : IsIn (get_or rs i x) a n
   pub is : x ≡ get_or rs i x
 
 -- of one region it is that one
-pub only_found : (all : List Region → List Region) (rs : List Region) (m : Memory) (a n : ℕ) (x : Region) → IsStock all rs m
+pub only_found : (all : List Region → List Region) (rs : List Region) (m : Memory) (a n : ℕ) (x : Region)
+    → IsStock all rs m
     → length rs ≡ 1 → Inside m a n → x ≡ get_or rs 0 x → IsFound all rs m 0 a n x
 only_found all rs m a n x stock one inside is = record {
   stock = stock;
   place = omega (arith, one);
-  lies = only_inside rs a n x stock.regions.apart (subst (λ (m : Memory). Inside m a n) (sym stock.view) inside) one;
+  lies = only_inside rs a n x stock.regions.apart
+      (subst (λ (m : Memory). Inside m a n) (sym stock.view) inside) one;
   is = is;
 }
 
 -- one that was searched for, in the same list under another name
-pub search_found : (all : List Region → List Region) (xs rs : List Region) (m : Memory) (i a n : ℕ) (x : Region) → IsStock all rs m
+pub search_found : (all : List Region → List Region) (xs rs : List Region) (m : Memory) (i a n : ℕ)
+    (x : Region) → IsStock all rs m
     → xs ≡ rs → i < length xs → IsIn (get_or xs i x) a n → x ≡ get_or rs i x → IsFound all rs m i a n x
 search_found all xs rs m i a n x stock same within lies is =
     let at = place_in xs rs i a n x same within lies in
     record { stock = stock; place = at.0; lies = at.1; is = is }
 
 -- the range lies in that region, and ends by 2^64
-pub found_lies : {all : List Region → List Region} {rs : List Region} {m : Memory} {i a n : ℕ} {x : Region} → IsFound all rs m i a n x
+pub found_lies : {all : List Region → List Region} {rs : List Region} {m : Memory} {i a n : ℕ} {x : Region}
+    → IsFound all rs m i a n x
     → IsIn x a n
 found_lies {a = a} {n = n} at = subst (λ (r : Region). IsIn r a n) (sym at.is) at.lies
 
-pub found_fits : {all : List Region → List Region} {rs : List Region} {m : Memory} {i a n : ℕ} {x : Region} → IsFound all rs m i a n x
+pub found_fits : {all : List Region → List Region} {rs : List Region} {m : Memory} {i a n : ℕ} {x : Region}
+    → IsFound all rs m i a n x
     → a + n ≤ 2 ^ 64
-found_fits {rs = rs} {i = i} {x = x} at = omega (arith, region_fits rs i x at.stock.regions.apart at.place, at.lies.below)
+found_fits {rs = rs} {i = i} {x = x} at =
+    omega (arith, region_fits rs i x at.stock.regions.apart at.place, at.lies.below)
 
 -- its bytes are the region's
-pub found_part : {all : List Region → List Region} {rs : List Region} {m : Memory} {i a n : ℕ} {x : Region} → IsFound all rs m i a n x
+pub found_part : {all : List Region → List Region} {rs : List Region} {m : Memory} {i a n : ℕ} {x : Region}
+    → IsFound all rs m i a n x
     → take n (drop (a - x.base) x.bytes) ≡ part_of m a n
 found_part {rs = rs} {m = m} {i = i} {a = a} {n = n} {x = x} at =
     part_in rs i a n x m at.stock.view at.stock.regions.apart at.place at.lies at.is
 
 -- a write there is one to the region, and leaves regions
-pub found_put : {all : List Region → List Region} {rs : List Region} {m : Memory} {i a n : ℕ} {x : Region} (bs : List ℕ)
+pub found_put : {all : List Region → List Region} {rs : List Region} {m : Memory} {i a n : ℕ}
+    {x : Region} (bs : List ℕ)
     → IsFound all rs m i a n x → memory_of (all (set rs i (with_put x a bs))) ≡ put m a bs
 found_put {rs = rs} {m = m} {i = i} {a = a} {n = n} {x = x} bs at =
     ap memory_of (at.stock.others _ (length-set rs i (with_put x a bs)))
     ∙ put_in rs i a n x m bs at.stock.view at.stock.regions.apart at.place at.lies at.is
 
-pub found_regions : {all : List Region → List Region} {rs : List Region} {m : Memory} {i a n : ℕ} {x : Region} (bs : List ℕ)
+pub found_regions : {all : List Region → List Region} {rs : List Region} {m : Memory} {i a n : ℕ}
+    {x : Region} (bs : List ℕ)
     → IsFound all rs m i a n x → AreRegions (all (set rs i (with_put x a bs)))
 found_regions {rs = rs} {i = i} {a = a} {n = n} {x = x} bs at =
     subst AreRegions (sym (at.stock.others _ (length-set rs i (with_put x a bs))))

@@ -42,7 +42,8 @@ pub record AreGood (regions : List RegionSpec) : Type 0 where
   pub some : 1 ≤ length regions
   pub each : GoodBelow regions (length regions)
 
--- a region's fault behind those before it, of which the first counts: its size, its base, and that it isn't apart
+-- a region's fault behind those before it, of which the first counts: its size, its base, and that it isn't
+-- apart
 abbrev pub IsFaultOf : List RegionSpec → RegionSpec → MemoryFault → Type 0
 IsFaultOf earlier r BadSize = ¬ HasSize earlier r
 IsFaultOf earlier r BadBase = HasSize earlier r × ¬ HasBase earlier r
@@ -56,7 +57,8 @@ pub record HasFaultAt (regions : List RegionSpec) (place : ℕ) (fault : MemoryF
   pub before : GoodBelow regions place
   pub fault_is : IsFaultOf (take place regions) region fault
 
--- why there can be no memory of these regions, and the place of the region by which: there is none, or one has a fault
+-- why there can be no memory of these regions, and the place of the region by which: there is none, or one
+-- has a fault
 abbrev pub IsRefusedAt : List RegionSpec → ℕ → MemoryFault → Type 0
 IsRefusedAt regions place NoRegions = (regions ≡ []) × (place ≡ 0)
 IsRefusedAt regions place NoMemory = ⊥

@@ -14,4 +14,6 @@ LendsPart A heap m a r = Lends (the_row A heap) (Array u8 0) m r (put m.now a)
 
 -- the same of one region
 abbrev pub LendsRegion : (A : RattleType) → Ghosts A.Denot → MutBor Region → ℕ → MutBor (List ℕ) → Fml
-LendsRegion A heap m a r = Lends (region.the_row A heap) (Array u8 0) m r (λ bs. record m.now { bytes = put_at m.now.bytes (a - m.now.base) bs })
+LendsRegion A heap m a r =
+    Lends (region.the_row A heap) (Array u8 0) m r
+    (λ bs. record m.now { bytes = put_at m.now.bytes (a - m.now.base) bs })

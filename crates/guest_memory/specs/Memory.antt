@@ -1,4 +1,5 @@
--- Guest memory as a driver and a device see it: bytes from a base address on, with gaps between regions, and the
+-- Guest memory as a driver and a device see it: bytes from a base address on, with gaps between regions, and
+-- the
 -- little-endian numbers that virtqueues keep in it (2.7, 2.8; numbers are little-endian by 1.4).
 use Rattle.std.specs.Prelude.{◌≡◌, ℕ, ◌+◌, ◌-◌, ◌≤◌, ◌⊎◌, nat_le, Bool, true, ◌&&◌, ◌||◌, List, [], ◌∷◌, ◌++◌, length, take, drop, replicate, if◌then◌else◌}
 use Rattle.std.specs.List.{All}
@@ -9,7 +10,8 @@ pub record Gap : Type 0 where
   pub start : ℕ
   pub end : ℕ
 
--- the first address, the byte at each address from there on, and the gaps in order. In a gap a byte stands as 0, and nobody
+-- the first address, the byte at each address from there on, and the gaps in order. In a gap a byte stands as
+-- 0, and nobody
 -- reads it. A memory of one region has no gaps
 pub record Memory : Type 0 where
   pub base : ℕ
@@ -24,7 +26,8 @@ pub record Misses (g : Gap) (a n : ℕ) : Type 0 where
 unfoldable pub MissesAll : List Gap → ℕ → ℕ → Type 0
 MissesAll gaps a n = All (λ g. Misses g a n) gaps
 
--- the n bytes from address a on all lie in the memory, in one region; for n = 0 the address does, or is a region's end
+-- the n bytes from address a on all lie in the memory, in one region; for n = 0 the address does, or is a
+-- region's end
 pub record Inside (m : Memory) (a n : ℕ) : Type 0 where
   pub above : m.base ≤ a
   pub below : a + n ≤ m.base + length m.bytes
@@ -56,7 +59,8 @@ up_to_gap (g ∷ gs) a bs = if nat_le g.end a then up_to_gap gs a bs else take (
 abbrev pub put : Memory → ℕ → List ℕ → Memory
 put m a bs = record m { bytes = put_at m.bytes (a - m.base) (up_to_gap m.gaps a bs) }
 
--- these are the bytes from address a to the end of its region: no longer range from there on lies in the memory
+-- these are the bytes from address a to the end of its region: no longer range from there on lies in the
+-- memory
 pub record IsRest (m : Memory) (a : ℕ) (bytes : List ℕ) : Type 0 where
   pub inside : Inside m a (length bytes)
   pub longest : (n : ℕ) → Inside m a n → n ≤ length bytes

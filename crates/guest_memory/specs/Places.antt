@@ -18,10 +18,12 @@ abbrev pub in_places : List RegionSpec → List RegionSpec
 in_places regions = regions ++ replicate (8 - length regions) none
 
 -- so many regions, and those places, are told from the regions
-pub count_again : (places : List RegionSpec) (count : ℕ) → HasPlaces places count → length (take count places) ≡ count
+pub count_again : (places : List RegionSpec) (count : ℕ) → HasPlaces places count
+    → length (take count places) ≡ count
 count_again places count h = length-take-le count places (subst (λ (n : ℕ). count ≤ n) (sym h.eight) h.few)
 
-pub places_again : (places : List RegionSpec) (count : ℕ) → HasPlaces places count → in_places (take count places) ≡ places
+pub places_again : (places : List RegionSpec) (count : ℕ) → HasPlaces places count
+    → in_places (take count places) ≡ places
 places_again places count h =
     ap (λ (k : ℕ). take count places ++ replicate (8 - k) none) (count_again places count h)
     ∙ ap (λ (rest : List RegionSpec). take count places ++ rest) (sym h.rest)

@@ -31,7 +31,8 @@ AreApart [] = ⊥
 AreApart (r ∷ []) = end_of r ≤ 2 ^ 64
 AreApart (r ∷ (s ∷ rs)) = (end_of r < s.base) × AreApart (s ∷ rs)
 
--- the regions of a memory: apart, and the number of addresses from the first byte to the last is one of 64 bits
+-- the regions of a memory: apart, and the number of addresses from the first byte to the last is one of 64
+-- bits
 pub record AreRegions (rs : List Region) : Type 0 where
   pub apart : AreApart rs
   pub spans : length (memory_of rs).bytes < 2 ^ 64

@@ -14,7 +14,8 @@ abbrev pub AreBytes : List ℕ → Type 0
 AreBytes = All (λ b. b < 2 ^ 8)
 
 pub is_bytes : (bs : List ℕ) → AreBytes bs → IsBytes bs
-is_bytes bs h k = elim (cases_lt k (length bs)) [ inl lt ↦ h k 0 lt | inr le ↦ rw (get_or_past bs k 0 le) (omega arith) ]
+is_bytes bs h k = elim (cases_lt k (length bs))
+    [ inl lt ↦ h k 0 lt | inr le ↦ rw (get_or_past bs k 0 le) (omega arith) ]
 
 pub bytes_above : (bs : List ℕ) → 0 < length (encode_lower bs) → bytes bs ≡ encode_lower bs
 unfolding bytes
@@ -26,11 +27,14 @@ unfolding digit encode_with
 digits_encoded [] h = All-nil IsDigit
 digits_encoded (b ∷ bs) h =
     let byte : b < 256 = h 0 in
-    All-cons IsDigit (digit (b / 16)) (digit (b % 16) ∷ encode_lower bs) (record { value = b / 16; small = omega arith; is = refl })
-    (All-cons IsDigit (digit (b % 16)) (encode_lower bs) (record { value = b % 16; small = omega arith; is = refl }) (digits_encoded bs (λ k. h (suc k))))
+    All-cons IsDigit (digit (b / 16)) (digit (b % 16) ∷ encode_lower bs)
+    (record { value = b / 16; small = omega arith; is = refl })
+    (All-cons IsDigit (digit (b % 16)) (encode_lower bs)
+    (record { value = b % 16; small = omega arith; is = refl }) (digits_encoded bs (λ k. h (suc k))))
 
 -- what is read of such a field
-pub bytes_read : (field bs : List ℕ) → 0 < length field → encode_lower bs ≡ field → AreBytes bs → IsBytesField field bs
+pub bytes_read : (field bs : List ℕ) → 0 < length field → encode_lower bs ≡ field → AreBytes bs
+    → IsBytesField field bs
 bytes_read field bs some spelled fits =
     let enough : 0 < length (encode_lower bs) = omega (arith, ap length spelled) in
     record { fits = fits; spelled = sym spelled ∙ sym (bytes_above bs enough) }
@@ -41,7 +45,8 @@ record AreBytesOf (field : List ℕ) : Type 0 where
   spelled : encode_lower bs ≡ field
   fits : AreBytes bs
 
-pair_decoded : (a b x y : ℕ) (bs field : List ℕ) → y < 16 → a ≡ digit x → b ≡ digit y → encode_lower bs ≡ field → encode_lower ((16 * x + y) ∷ bs) ≡ a ∷ b ∷ field
+pair_decoded : (a b x y : ℕ) (bs field : List ℕ) → y < 16 → a ≡ digit x → b ≡ digit y
+    → encode_lower bs ≡ field → encode_lower ((16 * x + y) ∷ bs) ≡ a ∷ b ∷ field
 unfolding digit encode_with
 pair_decoded a b x y bs field small high low rest =
     let over : (16 * x + y) / 16 ≡ x = omega arith in
@@ -66,14 +71,18 @@ pairs_decoded (a ∷ b ∷ field) even h =
     }
 
 -- what `hex` reads of digits, two and two, are the bytes that they spell
-pub by_hex : (digits out read : List ℕ) (result : Result Unit FromHexError) → All IsDigit digits → length digits ≡ 2 * length out
-    → MatchResult (decode_sized digits (length out)) (λ bs. (result ≡ Ok tt) × (read ≡ bs)) (λ e. result ≡ Err e)
+pub by_hex : (digits out read : List ℕ) (result : Result Unit FromHexError) → All IsDigit digits
+    → length digits ≡ 2 * length out
+    → MatchResult (decode_sized digits (length out)) (λ bs. (result ≡ Ok tt)
+    × (read ≡ bs)) (λ e. result ≡ Err e)
     → (encode_lower read ≡ digits) × AreBytes read
 by_hex digits out read result are size gives =
     let spelled = pairs_decoded digits (omega (arith, size)) are in
-    let len : length spelled.bs ≡ length out = omega (arith, size, ap length spelled.spelled, length-encode_with lower_digits spelled.bs) in
+    let len : length spelled.bs ≡ length out =
+    omega (arith, size, ap length spelled.spelled, length-encode_with lower_digits spelled.bs) in
     let decoded : decode_sized digits (length out) ≡ Ok spelled.bs =
-    subst (λ (t : List ℕ). decode_sized t (length out) ≡ Ok spelled.bs) spelled.spelled (decode_sized-encode_lower spelled.bs (length out) len (is_bytes spelled.bs spelled.fits)) in
+    subst (λ (t : List ℕ). decode_sized t (length out) ≡ Ok spelled.bs) spelled.spelled
+    (decode_sized-encode_lower spelled.bs (length out) len (is_bytes spelled.bs spelled.fits)) in
     let same = (rw decoded at gives).1 in
     (ap encode_lower same ∙ spelled.spelled, subst AreBytes (sym same) spelled.fits)
 
@@ -113,9 +122,11 @@ said_pairs field h some = some_pairs h.0 field h.1 some
 none_read : (bs field : List ℕ) → IsBytesField field bs → length field / 2 ≡ 0 → IsBytesField field []
 unfolding bytes
 none_read [] field h none = h
-none_read (b ∷ bs) field h none = absurd (omega (arith, ap length h.spelled, length-encode_with lower_digits (b ∷ bs)))
+none_read (b ∷ bs) field h none =
+    absurd (omega (arith, ap length h.spelled, length-encode_with lower_digits (b ∷ bs)))
 
-pub said_none : (field bs : List ℕ) → SpellsBytes field → length bs ≡ length field / 2 → length bs ≡ 0 → IsBytesField field bs
+pub said_none : (field bs : List ℕ) → SpellsBytes field → length bs ≡ length field / 2 → length bs ≡ 0
+    → IsBytesField field bs
 said_none field [] h size none = none_read h.0 field h.1 (omega (arith, size))
 said_none field (b ∷ bs) h size none = absurd (omega (arith, none))
 
@@ -126,26 +137,35 @@ spelled_len field [] h = omega (arith, ap length h.spelled)
 spelled_len field (b ∷ bs) h = omega (arith, ap length h.spelled, length-encode_with lower_digits (b ∷ bs))
 
 -- the test for a field of bytes
-pub minus_test : (field : List ℕ) (minus : Bool) → minus ≡ true → IsTrue minus ↔ (field ≡ 45 ∷ []) → IsTrue minus ↔ SpellsBytes field
+pub minus_test : (field : List ℕ) (minus : Bool) → minus ≡ true → IsTrue minus ↔ (field ≡ 45 ∷ [])
+    → IsTrue minus ↔ SpellsBytes field
 minus_test field minus is means = (λ h. ([], minus_is field (means.0 h)), λ _. is)
 
-pub pairs_test : (field : List ℕ) (minus pairs : Bool) → minus ≡ false → IsTrue minus ↔ (field ≡ 45 ∷ []) → IsTrue pairs ↔ ArePairs field → IsTrue pairs ↔ SpellsBytes field
+pub pairs_test : (field : List ℕ) (minus pairs : Bool) → minus ≡ false → IsTrue minus ↔ (field ≡ 45 ∷ [])
+    → IsTrue pairs ↔ ArePairs field → IsTrue pairs ↔ SpellsBytes field
 pairs_test field minus true other means two = (λ yes. pairs_say field (two.0 yes), λ h. refl)
-pairs_test field minus false other means two =
-    (λ yes. absurd cc, λ h. absurd (no_bytes field (λ e. false≢true (sym other ∙ means.1 e)) (λ pairs. false≢true (two.1 pairs)) h))
+pairs_test field minus false other means two = (
+  λ yes. absurd cc,
+  λ h. absurd
+      (no_bytes field (λ e. false≢true (sym other ∙ means.1 e)) (λ pairs. false≢true (two.1 pairs)) h),
+)
 
 -- one run of bytes after another
 pub encode_append : (xs ys : List ℕ) → encode_lower (xs ++ ys) ≡ encode_lower xs ++ encode_lower ys
 unfolding encode_with
 encode_append [] ys = refl
-encode_append (x ∷ xs) ys = ap (λ (t : List ℕ). get_or lower_digits (x / 16) 0 ∷ get_or lower_digits (x % 16) 0 ∷ t) (encode_append xs ys)
+encode_append (x ∷ xs) ys =
+    ap (λ (t : List ℕ). get_or lower_digits (x / 16) 0 ∷ get_or lower_digits (x % 16) 0 ∷ t)
+    (encode_append xs ys)
 
 -- where the first n bytes were written, the later ones are left
-pub one_block : (front out text bytes : List ℕ) (n : ℕ) → out ++ encode_lower bytes ≡ text → front ≡ out ++ encode_lower (take n bytes) → front ++ encode_lower (drop n bytes) ≡ text
+pub one_block : (front out text bytes : List ℕ) (n : ℕ) → out ++ encode_lower bytes ≡ text → front ≡ out
+    ++ encode_lower (take n bytes) → front ++ encode_lower (drop n bytes) ≡ text
 one_block front out text bytes n so more =
     ap (λ (t : List ℕ). t ++ encode_lower (drop n bytes)) more
     ∙ append_assoc out (encode_lower (take n bytes)) (encode_lower (drop n bytes))
-    ∙ ap (λ (t : List ℕ). out ++ t) (sym (encode_append (take n bytes) (drop n bytes)) ∙ ap encode_lower (take-append-drop n bytes))
+    ∙ ap (λ (t : List ℕ). out ++ t) (sym (encode_append (take n bytes) (drop n bytes))
+    ∙ ap encode_lower (take-append-drop n bytes))
     ∙ so
 
 -- none is left

@@ -10,19 +10,24 @@ use Rattle.hexadecimal.proofs.Digits.{digit_cases, digit_small}
 
 abbrev is_pair : ℕ → Bool
 unfolding digit
-is_pair b = eqb (b / 16 + 256 * (b % 16) + 12336 + 39 * bit_and ((b / 16 + 256 * (b % 16) + 1542) / 16) 257) (digit (b / 16) + 256 * digit (b % 16))
+is_pair b = eqb (b / 16 + 256 * (b % 16) + 12336 + 39 * bit_and ((b / 16 + 256 * (b % 16) + 1542) / 16) 257)
+    (digit (b / 16) + 256 * digit (b % 16))
 
 abbrev yes : ℕ → Bool
 yes b = true
 
-pub pair_computed : (b : ℕ) → b < 256 → b / 16 + 256 * (b % 16) + 12336 + 39 * bit_and ((b / 16 + 256 * (b % 16) + 1542) / 16) 257 ≡ digit (b / 16) + 256 * digit (b % 16)
+pub pair_computed : (b : ℕ) → b < 256
+    → b / 16 + 256 * (b % 16) + 12336 + 39 * bit_and ((b / 16 + 256 * (b % 16) + 1542) / 16) 257
+    ≡ digit (b / 16) + 256 * digit (b % 16)
 unfolding digit
 pair_computed b lt = eqb-true _ _ (agree_below_at is_pair yes 256 b refl lt)
 
-pub first_half : (b pair : ℕ) → b < 256 → pair ≡ digit (b / 16) + 256 * digit (b % 16) → pair % 256 ≡ digit (b / 16)
+pub first_half : (b pair : ℕ) → b < 256 → pair ≡ digit (b / 16) + 256 * digit (b % 16)
+    → pair % 256 ≡ digit (b / 16)
 first_half b pair lt is = let small = digit_small (b / 16) (omega arith) in omega (arith, is, small)
 
-pub second_half : (b pair : ℕ) → b < 256 → pair ≡ digit (b / 16) + 256 * digit (b % 16) → pair / 256 ≡ digit (b % 16)
+pub second_half : (b pair : ℕ) → b < 256 → pair ≡ digit (b / 16) + 256 * digit (b % 16)
+    → pair / 256 ≡ digit (b % 16)
 second_half b pair lt is = let small = digit_small (b / 16) (omega arith) in omega (arith, is, small)
 
 -- ---- from two digits to their byte
@@ -40,15 +45,24 @@ value_at c h =
     elim (digit_cases h.value small) [
       | inl low ↦
           let same : c % 16 + 9 * (c / 64) ≡ h.value = omega (arith, low.0, low.1, is) in
-          record { is = ap digit same ∙ sym is; small = omega (arith, same, small); most = omega (arith, low.0, low.1, is) }
+          record {
+            is = ap digit same ∙ sym is;
+            small = omega (arith, same, small);
+            most = omega (arith, low.0, low.1, is);
+          }
       | inr high ↦
           let same : c % 16 + 9 * (c / 64) ≡ h.value = omega (arith, high.0, high.1, is, small) in
-          record { is = ap digit same ∙ sym is; small = omega (arith, same, small); most = omega (arith, high.1, is, small) }
+          record {
+            is = ap digit same ∙ sym is;
+            small = omega (arith, same, small);
+            most = omega (arith, high.1, is, small);
+          }
     ]
 
 -- what is computed of both digits, by each of them
 apart : (pair : ℕ) → pair % 256 < 128 → pair / 256 < 128
-    → bit_and pair 3855 + 9 * bit_and (pair / 64) 257 ≡ (pair / 256 % 16 + 9 * (pair / 256 / 64)) * 256 + (pair % 256 % 16 + 9 * (pair % 256 / 64))
+    → bit_and pair 3855 + 9 * bit_and (pair / 64) 257
+    ≡ (pair / 256 % 16 + 9 * (pair / 256 / 64)) * 256 + (pair % 256 % 16 + 9 * (pair % 256 / 64))
 apart pair low high =
     let whole : pair / 256 * 2 ^ 8 + pair % 256 ≡ pair = omega arith in
     let shifted : pair / 64 / 256 * 2 ^ 8 + pair / 64 % 256 ≡ pair / 64 = omega arith in
@@ -70,7 +84,8 @@ pub record AreValues (pair values : ℕ) : Type 0 where
   pub first_small : values % 256 < 16
   pub second_small : values / 256 < 16
 
-pub values_are : (pair values : ℕ) → IsDigit (pair % 256) → IsDigit (pair / 256) → values ≡ bit_and pair 3855 + 9 * bit_and (pair / 64) 257 → AreValues pair values
+pub values_are : (pair values : ℕ) → IsDigit (pair % 256) → IsDigit (pair / 256)
+    → values ≡ bit_and pair 3855 + 9 * bit_and (pair / 64) 257 → AreValues pair values
 values_are pair values p q is =
     let a = value_at (pair % 256) p in
     let b = value_at (pair / 256) q in
@@ -88,14 +103,16 @@ values_are pair values p q is =
     }
 
 -- the byte of these values
-pub high_read : (pair values byte : ℕ) → AreValues pair values → byte ≡ (values * 16 + values / 256) % 256 → digit (byte / 16) ≡ pair % 256
+pub high_read : (pair values byte : ℕ) → AreValues pair values → byte ≡ (values * 16 + values / 256) % 256
+    → digit (byte / 16) ≡ pair % 256
 high_read pair values byte are is =
     let x = are.first_small in
     let y = are.second_small in
     let same : byte / 16 ≡ values % 256 = omega (arith, is, x, y) in
     ap digit same ∙ are.first
 
-pub low_read : (pair values byte : ℕ) → AreValues pair values → byte ≡ (values * 16 + values / 256) % 256 → digit (byte % 16) ≡ pair / 256
+pub low_read : (pair values byte : ℕ) → AreValues pair values → byte ≡ (values * 16 + values / 256) % 256
+    → digit (byte % 16) ≡ pair / 256
 low_read pair values byte are is =
     let x = are.first_small in
     let y = are.second_small in

@@ -5,7 +5,8 @@ use Rattle.std.proofs.lemmas.Nat.{le_bytes_8}
 use Rattle.hexadecimal.specs.Spelling.{digit, fixed}
 use Rattle.hexadecimal.proofs.Digits.{digit_small}
 
-eight_small : (a b c d e f g h : ℕ) → a < 256 → b < 256 → c < 256 → d < 256 → e < 256 → f < 256 → g < 256 → h < 256
+eight_small : (a b c d e f g h : ℕ) → a < 256 → b < 256 → c < 256 → d < 256 → e < 256 → f < 256
+    → g < 256 → h < 256
     → (i : ℕ) → get_or (a ∷ b ∷ c ∷ d ∷ e ∷ f ∷ g ∷ h ∷ []) i 0 < 256
 eight_small a b c d e f g h p q r s t u v w zero = p
 eight_small a b c d e f g h p q r s t u v w (suc zero) = q
@@ -18,14 +19,18 @@ eight_small a b c d e f g h p q r s t u v w (suc (suc (suc (suc (suc (suc (suc z
 eight_small a b c d e f g h p q r s t u v w (suc (suc (suc (suc (suc (suc (suc (suc i)))))))) = omega arith
 
 -- eight bytes of a number of 64 bits
-eight_bytes : (a b c d e f g h word : ℕ) → a < 256 → b < 256 → c < 256 → d < 256 → e < 256 → f < 256 → g < 256 → h < 256
+eight_bytes : (a b c d e f g h word : ℕ) → a < 256 → b < 256 → c < 256 → d < 256 → e < 256 → f < 256
+    → g < 256 → h < 256
     → word ≡ a + 256 * b + 65536 * (c + 256 * d) + 4294967296 * (e + 256 * f + 65536 * (g + 256 * h))
     → to_le_bytes w64 word ≡ a ∷ b ∷ c ∷ d ∷ e ∷ f ∷ g ∷ h ∷ []
 eight_bytes a b c d e f g h word p q r s t u v w is =
-    le_bytes_8 (a ∷ b ∷ c ∷ d ∷ e ∷ f ∷ g ∷ h ∷ []) word refl (eight_small a b c d e f g h p q r s t u v w) (omega (arith, is))
+    le_bytes_8 (a ∷ b ∷ c ∷ d ∷ e ∷ f ∷ g ∷ h ∷ []) word refl (eight_small a b c d e f g h p q r s t u v w)
+    (omega (arith, is))
 
 -- the eight digits of a number, one after another
-spelled_by : (n : ℕ) → fixed 8 n ≡ digit (n / 16 / 16 / 16 / 16 / 16 / 16 / 16 % 16) ∷ digit (n / 16 / 16 / 16 / 16 / 16 / 16 % 16) ∷ digit (n / 16 / 16 / 16 / 16 / 16 % 16) ∷ digit (n / 16 / 16 / 16 / 16 % 16)
+spelled_by : (n : ℕ) → fixed 8 n ≡ digit (n / 16 / 16 / 16 / 16 / 16 / 16 / 16 % 16)
+    ∷ digit (n / 16 / 16 / 16 / 16 / 16 / 16 % 16) ∷ digit (n / 16 / 16 / 16 / 16 / 16 % 16)
+    ∷ digit (n / 16 / 16 / 16 / 16 % 16)
     ∷ digit (n / 16 / 16 / 16 % 16) ∷ digit (n / 16 / 16 % 16) ∷ digit (n / 16 % 16) ∷ digit (n % 16) ∷ []
 unfolding fixed
 spelled_by n = refl
@@ -53,8 +58,10 @@ eight_spelled n p q r s word text fits pe qe re se we te =
     let sf = rw (e1, e0) at se in
     te
     ∙ eight_bytes _ _ _ _ _ _ _ _ word
-    (digit_small (n / 16 / 16 / 16 / 16 / 16 / 16 / 16 % 16) (omega arith)) (digit_small (n / 16 / 16 / 16 / 16 / 16 / 16 % 16) (omega arith))
-    (digit_small (n / 16 / 16 / 16 / 16 / 16 % 16) (omega arith)) (digit_small (n / 16 / 16 / 16 / 16 % 16) (omega arith))
+    (digit_small (n / 16 / 16 / 16 / 16 / 16 / 16 / 16 % 16) (omega arith))
+    (digit_small (n / 16 / 16 / 16 / 16 / 16 / 16 % 16) (omega arith))
+    (digit_small (n / 16 / 16 / 16 / 16 / 16 % 16) (omega arith))
+    (digit_small (n / 16 / 16 / 16 / 16 % 16) (omega arith))
     (digit_small (n / 16 / 16 / 16 % 16) (omega arith)) (digit_small (n / 16 / 16 % 16) (omega arith))
     (digit_small (n / 16 % 16) (omega arith)) (digit_small (n % 16) (omega arith))
     (omega (arith, pf, qf, rf, sf, we))

@@ -7,7 +7,8 @@ use Rattle.std.proofs.lemmas.List.Elements.{All-append, All-more, All-nil, All-t
 use Rattle.hexadecimal.specs.Fields.{IsDigit}
 use Rattle.hexadecimal.proofs.Digits.{digit_cases, digit_high, digit_low}
 
-one_pair : (p q r s : Bool) → ((p && q) || (r && s)) ≡ true → ((p ≡ true) × (q ≡ true)) ⊎ ((r ≡ true) × (s ≡ true))
+one_pair : (p q r s : Bool) → ((p && q) || (r && s)) ≡ true → ((p ≡ true) × (q ≡ true))
+    ⊎ ((r ≡ true) × (s ≡ true))
 one_pair true true r s e = inl (refl, refl)
 one_pair true false true true e = inr (refl, refl)
 one_pair true false true false e = absurd cc
@@ -46,8 +47,11 @@ digit_test c = (
       let is = h.is in
       let small = h.small in
       elim (digit_cases h.value small) [
-        | inl low ↦ first_pair (leb 48 c) (leb c 57) (leb 97 c) (leb c 102) (le-leb 48 c (omega (arith, low.0, low.1, is))) (le-leb c 57 (omega (arith, low.0, low.1, is)))
-        | inr high ↦ second_pair (leb 48 c) (leb c 57) (leb 97 c) (leb c 102) (le-leb 97 c (omega (arith, high.0, high.1, is))) (le-leb c 102 (omega (arith, high.0, high.1, is)))
+        | inl low ↦ first_pair (leb 48 c) (leb c 57) (leb 97 c) (leb c 102)
+            (le-leb 48 c (omega (arith, low.0, low.1, is))) (le-leb c 57 (omega (arith, low.0, low.1, is)))
+        | inr high ↦ second_pair (leb 48 c) (leb c 57) (leb 97 c) (leb c 102)
+            (le-leb 97 c (omega (arith, high.0, high.1, is)))
+            (le-leb c 102 (omega (arith, high.0, high.1, is)))
       ],
 )
 
@@ -57,18 +61,25 @@ both true false e = absurd cc
 both false q e = absurd cc
 
 -- one byte more
-pub judged_more : (xs : List ℕ) (i : ℕ) (all here : Bool) → i < length xs → (IsTrue all ↔ All IsDigit (take i xs)) → (IsTrue here ↔ IsDigit (get_or xs i 0)) → (IsTrue (all && here) ↔ All IsDigit (take (i + 1) xs))
+pub judged_more : (xs : List ℕ) (i : ℕ) (all here : Bool) → i < length xs
+    → (IsTrue all ↔ All IsDigit (take i xs)) → (IsTrue here ↔ IsDigit (get_or xs i 0))
+    → (IsTrue (all && here) ↔ All IsDigit (take (i + 1) xs))
 judged_more xs i all here lt so_far this = (
   λ yes. let parts = both all here yes in All-more IsDigit xs i 0 lt (so_far.0 parts.0) (this.0 parts.1),
   λ h.
-      let front = subst (All IsDigit) (take-take i (i + 1) xs (omega arith)) (All-take IsDigit i (take (i + 1) xs) h) in
-      let last = subst IsDigit (get_or-take (i + 1) xs i 0 (omega arith)) (h i 0 (omega (arith, length-take (i + 1) xs))) in
+      let front = subst (All IsDigit) (take-take i (i + 1) xs (omega arith))
+      (All-take IsDigit i (take (i + 1) xs) h) in
+      let last = subst IsDigit (get_or-take (i + 1) xs i 0 (omega arith))
+      (h i 0 (omega (arith, length-take (i + 1) xs))) in
       rw (so_far.1 front, this.1 last) refl,
 )
 
 -- so many digits more
-pub digits_more : (xs : List ℕ) (i n : ℕ) → All IsDigit (take i xs) → All IsDigit (take n (drop i xs)) → All IsDigit (take (i + n) xs)
-digits_more xs i n front block = subst (All IsDigit) (sym (take-add i n xs)) (All-append IsDigit (take i xs) (take n (drop i xs)) front block)
+pub digits_more : (xs : List ℕ) (i n : ℕ) → All IsDigit (take i xs) → All IsDigit (take n (drop i xs))
+    → All IsDigit (take (i + n) xs)
+digits_more xs i n front block =
+    subst (All IsDigit) (sym (take-add i n xs))
+    (All-append IsDigit (take i xs) (take n (drop i xs)) front block)
 
 -- the bytes before the nth are digits
 pub record DigitsBefore (xs : List ℕ) (n : ℕ) : Type 0 where
@@ -78,12 +89,15 @@ pub record DigitsBefore (xs : List ℕ) (n : ℕ) : Type 0 where
 pub none_before : (xs : List ℕ) → DigitsBefore xs 0
 none_before xs = record { within = omega arith; digits = All-nil IsDigit }
 
-pub block_more : (xs : List ℕ) (n size : ℕ) (all : Bool) → DigitsBefore xs n → n + size ≤ length xs → all ≡ true
+pub block_more : (xs : List ℕ) (n size : ℕ) (all : Bool) → DigitsBefore xs n
+    → n + size ≤ length xs → all ≡ true
     → (IsTrue all ↔ All IsDigit (take (n + size - n) (drop n xs))) → DigitsBefore xs (n + size)
 block_more xs n size all before room held test =
     let same : n + size - n ≡ size = omega arith in
     let block = subst (λ (k : ℕ). All IsDigit (take k (drop n xs))) same (test.0 held) in
     record { within = room; digits = digits_more xs n size before.digits block }
 
-pub one_more : (xs : List ℕ) (n : ℕ) (here : Bool) → DigitsBefore xs n → n < length xs → here ≡ true → (IsTrue here ↔ IsDigit (get_or xs n 0)) → DigitsBefore xs (n + 1)
-one_more xs n here before lt held test = record { within = omega arith; digits = All-more IsDigit xs n 0 lt before.digits (test.0 held) }
+pub one_more : (xs : List ℕ) (n : ℕ) (here : Bool) → DigitsBefore xs n → n < length xs → here ≡ true
+    → (IsTrue here ↔ IsDigit (get_or xs n 0)) → DigitsBefore xs (n + 1)
+one_more xs n here before lt held test =
+    record { within = omega arith; digits = All-more IsDigit xs n 0 lt before.digits (test.0 held) }

@@ -43,7 +43,8 @@ pub are_digits_num : (n : ℕ) → AreDigits (num n)
 are_digits_num n =
     elim (cases_eq n 0) [
       | inl e ↦ rw (e, zero_text) (record { value = 0; small = omega arith; is = refl }, tt)
-      | inr ne ↦ rw (num_above n (omega arith)) (are_digits_map (digits_of 16 n) (all_below_base_digits_of 16 n (omega arith)))
+      | inr ne ↦ rw (num_above n (omega arith))
+          (are_digits_map (digits_of 16 n) (all_below_base_digits_of 16 n (omega arith)))
     ]
 
 -- one digit more
@@ -52,7 +53,9 @@ num_push n d pos lt =
     let quotient : (n * 16 + d) / 16 ≡ n = omega arith in
     let rest : (n * 16 + d) % 16 ≡ d = omega arith in
     let step = digits_of_step 16 (n * 16 + d) (omega arith) (omega arith) in
-    num_above (n * 16 + d) (omega arith) ∙ ap (map digit) (rw (quotient, rest) at step) ∙ map-append digit (digits_of 16 n) (d ∷ []) ∙ ap (λ (xs : List ℕ). xs ++ digit d ∷ []) (sym (num_above n pos))
+    num_above (n * 16 + d) (omega arith) ∙ ap (map digit) (rw (quotient, rest) at step)
+    ∙ map-append digit (digits_of 16 n) (d ∷ [])
+    ∙ ap (λ (xs : List ℕ). xs ++ digit d ∷ []) (sym (num_above n pos))
 
 -- a number, by its last digit and those before it
 pub num_split : (n : ℕ) → 16 ≤ n → num n ≡ num (n / 16) ++ digit (n % 16) ∷ []
@@ -83,7 +86,8 @@ length_num_above n =
     elim (cases_eq n 0) [
       | inl e ↦ rw (e, zero_text) (omega arith)
       | inr ne ↦
-          rw (num_above n (omega arith), length-map) (omega (arith, length-digits_of_step 16 n (omega arith) (omega arith)))
+          rw (num_above n (omega arith), length-map)
+          (omega (arith, length-digits_of_step 16 n (omega arith) (omega arith)))
     ]
 
 first_below : (ds : List ℕ) → AllBelowBase 16 ds → 0 < length ds → get_or ds 0 0 < 16
@@ -96,11 +100,13 @@ leading_zero n e =
     elim (cases_eq n 0) [
       | inl z ↦ z
       | inr ne ↦
-          let long : 0 < length (digits_of 16 n) = omega (arith, length-digits_of_step 16 n (omega arith) (omega arith)) in
+          let long : 0 < length (digits_of 16 n) =
+          omega (arith, length-digits_of_step 16 n (omega arith) (omega arith)) in
           let first = first_digits_of 16 n (omega arith) (omega arith) in
           let at = get_or-map digit (digits_of 16 n) 0 0 0 long in
           let small = first_below (digits_of 16 n) (all_below_base_digits_of 16 n (omega arith)) long in
-          let nothing = same_digit (get_or (digits_of 16 n) 0 0) 0 small (omega arith) (sym at ∙ ap (λ (xs : List ℕ). get_or xs 0 0) (sym (num_above n (omega arith))) ∙ e) in
+          let nothing = same_digit (get_or (digits_of 16 n) 0 0) 0 small (omega arith) (sym at
+          ∙ ap (λ (xs : List ℕ). get_or xs 0 0) (sym (num_above n (omega arith))) ∙ e) in
           absurd (omega arith)
     ]
 
@@ -125,7 +131,8 @@ same_num m n e =
             | inl z ↦ leading_zero m (ap (λ (xs : List ℕ). get_or xs 0 0) (e ∙ ap num z ∙ zero_text)) ∙ sym z
             | inr nn ↦
                 same_from_digits_of 16 m n (omega arith)
-                (same_map (digits_of 16 m) (digits_of 16 n) (all_below_base_digits_of 16 m (omega arith)) (all_below_base_digits_of 16 n (omega arith))
+                (same_map (digits_of 16 m) (digits_of 16 n) (all_below_base_digits_of 16 m (omega arith))
+                (all_below_base_digits_of 16 n (omega arith))
                 (sym (num_above m (omega arith)) ∙ e ∙ num_above n (omega arith)))
           ]
     ]
@@ -135,7 +142,11 @@ same_num m n e =
 pub length_fixed : (k n : ℕ) → length (fixed k n) ≡ k
 unfolding fixed
 length_fixed zero n = refl
-length_fixed (suc k) n = omega (arith, length-append (fixed k (n / 16)) (digit (n % 16) ∷ []), length_fixed k (n / 16))
+length_fixed (suc k) n = omega (
+  arith,
+  length-append (fixed k (n / 16)) (digit (n % 16) ∷ []),
+  length_fixed k (n / 16),
+)
 
 pub are_digits_fixed : (k n : ℕ) → AreDigits (fixed k n)
 unfolding fixed
@@ -155,7 +166,8 @@ fixed_push k n d lt =
 pub fixed_split : (k n : ℕ) → 0 < k → fixed k n ≡ fixed (k - 1) (n / 16) ++ digit (n % 16) ∷ []
 unfolding fixed
 fixed_split zero n h = absurd (omega arith)
-fixed_split (suc k) n h = ap (λ (j : ℕ). fixed j (n / 16) ++ digit (n % 16) ∷ []) (let e : k ≡ suc k - 1 = omega arith in e)
+fixed_split (suc k) n h =
+    ap (λ (j : ℕ). fixed j (n / 16) ++ digit (n % 16) ∷ []) (let e : k ≡ suc k - 1 = omega arith in e)
 
 pub fixed_none : (n : ℕ) → fixed 0 n ≡ []
 unfolding fixed
@@ -177,7 +189,8 @@ sixteen i j le = let pos : 0 < 16 = omega arith in pow-le-pow_right pos le
 
 -- before one more digit a number of 64 bits has room for it
 pub room : (field : List ℕ) (i n most : ℕ) → n < 16 ^ i → i < most → n * 16 + 15 < 16 ^ most
-room field i n most lt less = let more = sixteen (i + 1) most (omega arith) in let step : n * 16 + 15 < 16 ^ (i + 1) = rw add-one (omega arith) in omega arith
+room field i n most lt less = let more = sixteen (i + 1) most (omega arith) in
+    let step : n * 16 + 15 < 16 ^ (i + 1) = rw add-one (omega arith) in omega arith
 
 -- n is what the first i bytes of the field say
 pub record Reads (field : List ℕ) (i n : ℕ) : Type 0 where
@@ -185,9 +198,11 @@ pub record Reads (field : List ℕ) (i n : ℕ) : Type 0 where
   pub spelled : 0 < i → take i field ≡ num n
   pub below : n < 16 ^ i
 
-pub reads_more : (field : List ℕ) (i n d c : ℕ) → Reads field i n → i < length field → c ≡ get_or field i 0 → d < 16 → digit d ≡ c → (0 < i → 0 < n) → Reads field (i + 1) (n * 16 + d)
+pub reads_more : (field : List ℕ) (i n d c : ℕ) → Reads field i n → i < length field → c ≡ get_or field i 0
+    → d < 16 → digit d ≡ c → (0 < i → 0 < n) → Reads field (i + 1) (n * 16 + d)
 reads_more field i n d c r lt is small e pos =
-    let more : take (i + 1) field ≡ take i field ++ digit d ∷ [] = take_more field i 0 lt ∙ ap (λ (x : ℕ). take i field ++ x ∷ []) (sym is ∙ sym e) in
+    let more : take (i + 1) field ≡ take i field ++ digit d ∷ [] = take_more field i 0 lt
+    ∙ ap (λ (x : ℕ). take i field ++ x ∷ []) (sym is ∙ sym e) in
     record {
       start = λ h. absurd (omega arith);
       spelled = λ _.
@@ -196,7 +211,8 @@ reads_more field i n d c r lt is small e pos =
                 let zn = r.start z in
                 let one : n * 16 + d ≡ d = omega arith in
                 more ∙ ap (λ (k : ℕ). take k field ++ digit d ∷ []) z ∙ sym (ap num one ∙ num_digit d small)
-            | inr ne ↦ more ∙ ap (λ (xs : List ℕ). xs ++ digit d ∷ []) (r.spelled (omega arith)) ∙ sym (num_push n d (pos (omega arith)) small)
+            | inr ne ↦ more ∙ ap (λ (xs : List ℕ). xs ++ digit d ∷ []) (r.spelled (omega arith))
+                ∙ sym (num_push n d (pos (omega arith)) small)
           ];
       below = let b = r.below in rw add-one (omega arith);
     }
@@ -205,46 +221,59 @@ pub record ReadsFixed (field : List ℕ) (i n : ℕ) : Type 0 where
   pub spelled : take i field ≡ fixed i n
   pub below : n < 16 ^ i
 
-pub reads_fixed_more : (field : List ℕ) (i n d c : ℕ) → ReadsFixed field i n → i < length field → c ≡ get_or field i 0 → d < 16 → digit d ≡ c → ReadsFixed field (i + 1) (n * 16 + d)
+pub reads_fixed_more : (field : List ℕ) (i n d c : ℕ) → ReadsFixed field i n → i < length field
+    → c ≡ get_or field i 0 → d < 16 → digit d ≡ c → ReadsFixed field (i + 1) (n * 16 + d)
 reads_fixed_more field i n d c r lt is small e =
     record {
-      spelled = take_more field i 0 lt ∙ ap (λ (x : ℕ). take i field ++ x ∷ []) (sym is ∙ sym e) ∙ ap (λ (xs : List ℕ). xs ++ digit d ∷ []) r.spelled ∙ sym (fixed_push i n d small);
+      spelled = take_more field i 0 lt ∙ ap (λ (x : ℕ). take i field ++ x ∷ []) (sym is ∙ sym e)
+          ∙ ap (λ (xs : List ℕ). xs ++ digit d ∷ []) r.spelled ∙ sym (fixed_push i n d small);
       below = let b = r.below in rw add-one (omega arith);
     }
 
 -- ---- what no number spells
 
-pub no_number_long : (field : List ℕ) (k : ℕ) → 0 < k → k < length field → (n : ℕ) → n < 16 ^ k → field ≡ num n → ⊥
+pub no_number_long : (field : List ℕ) (k : ℕ) → 0 < k → k < length field → (n : ℕ) → n < 16 ^ k
+    → field ≡ num n → ⊥
 no_number_long field k pos long n lt e = omega (arith, length_num k n pos lt, ap length e)
 
 pub no_number_empty : (field : List ℕ) → length field ≡ 0 → (n : ℕ) → field ≡ num n → ⊥
 no_number_empty field none n e = omega (arith, length_num_above n, ap length e)
 
 -- a byte that isn't a digit stands in no number
-pub no_digit : (field xs : List ℕ) (i c : ℕ) → AreDigits xs → i < length field → c ≡ get_or field i 0 → ((d : ℕ) → d < 16 → digit d ≡ c → ⊥) → field ≡ xs → ⊥
+pub no_digit : (field xs : List ℕ) (i c : ℕ) → AreDigits xs → i < length field → c ≡ get_or field i 0
+    → ((d : ℕ) → d < 16 → digit d ≡ c → ⊥) → field ≡ xs → ⊥
 no_digit field xs i c all lt is differs e =
     let d = digit_at xs i all (omega (arith, ap length e)) in
     differs d.value d.small (sym d.is ∙ ap (λ (ys : List ℕ). get_or ys i 0) (sym e) ∙ sym is)
 
 -- nothing follows a leading zero
-pub no_number_zero : (field : List ℕ) (i n m : ℕ) → Reads field i n → n ≡ 0 → 0 < i → i < length field → field ≡ num m → ⊥
+pub no_number_zero : (field : List ℕ) (i n m : ℕ) → Reads field i n → n ≡ 0 → 0 < i → i < length field
+    → field ≡ num m → ⊥
 no_number_zero field i n m r z pos lt e =
     let front : take i field ≡ digit 0 ∷ [] = r.spelled pos ∙ ap num z ∙ zero_text in
-    let first : get_or field 0 0 ≡ digit 0 = sym (get_or-take i field 0 0 pos) ∙ ap (λ (xs : List ℕ). get_or xs 0 0) front in
+    let first : get_or field 0 0 ≡ digit 0 = sym (get_or-take i field 0 0 pos)
+    ∙ ap (λ (xs : List ℕ). get_or xs 0 0) front in
     let nothing = leading_zero m (ap (λ (xs : List ℕ). get_or xs 0 0) (sym e) ∙ first) in
     let one : field ≡ digit 0 ∷ [] = e ∙ ap num nothing ∙ zero_text in
     let length-is = ap length one in
     omega arith
 
 -- a field that spells a wider number spells no narrower one
-no_narrower : (field : List ℕ) (bits limit n : ℕ) → 2 ^ bits ≡ limit → limit ≤ n → IsNum 64 field n → (m : ℕ) → IsNum bits field m → ⊥
+no_narrower : (field : List ℕ) (bits limit n : ℕ) → 2 ^ bits ≡ limit → limit ≤ n → IsNum 64 field n → (m : ℕ)
+    → IsNum bits field m → ⊥
 no_narrower field bits limit n lim le h m k =
     let same = same_num m n (sym k.spelled ∙ h.spelled) in
     let small = k.fits in
     omega arith
 
 -- a number above the bits is none of so many
-pub none_narrower : {E : Type 0} (field : List ℕ) (bits limit n : ℕ) (r : Result ℕ E) (found : Option ℕ) → 2 ^ bits ≡ limit → IsNum 64 field n → OkIff r (n < limit) n → found ≡ result_ok r → IfNone found (¬ ((m : ℕ) × IsNum bits field m))
+pub none_narrower : {E : Type 0} (field : List ℕ) (bits limit n : ℕ) (r : Result ℕ E) (found : Option ℕ)
+    → 2 ^ bits ≡ limit → IsNum 64 field n → OkIff r (n < limit) n → found ≡ result_ok r
+    → IfNone found (¬ ((m : ℕ) × IsNum bits field m))
 none_narrower field bits limit n (Ok x) found lim is fits e = rw e tt
 none_narrower field bits limit n (Err x) found lim is fits e =
-    rw e (λ h. elim (cases_lt n limit) [ inl lt ↦ fits lt | inr le ↦ no_narrower field bits limit n lim le is h.0 h.1 ])
+    rw e (λ h. elim (cases_lt n limit) [
+      | inl lt ↦ fits lt
+      | inr le ↦ no_narrower field bits limit n
+          lim le is h.0 h.1
+    ])

@@ -21,13 +21,15 @@ second true q e f = absurd cc
 second false q e f = e
 
 none_at : (v : ℕ) → v < 16 → leb 16 v ≡ false
-none_at v lt = elim (leb 16 v) as (λ b. leb 16 v ≡ b → b ≡ false) [ true ↦ (λ e. absurd (omega (arith, leb-true 16 v e))) | false ↦ (λ e. refl) ] refl
+none_at v lt = elim (leb 16 v) as (λ b. leb 16 v ≡ b
+    → b ≡ false) [ true ↦ (λ e. absurd (omega (arith, leb-true 16 v e))) | false ↦ (λ e. refl) ] refl
 
 -- a value in the table is that of the byte it stands at
 pub listed : (c : ℕ) → c < 256 → get_or VALUES c 0 < 16 → digit (get_or VALUES c 0) ≡ c
 unfolding digit
 listed c below lt =
-    eqb-true _ _ (second (leb 16 (get_or VALUES c 0)) (eqb (digit (get_or VALUES c 0)) c) (agree_below_at is_own yes 256 c refl below) (none_at (get_or VALUES c 0) lt))
+    eqb-true _ _ (second (leb 16 (get_or VALUES c 0)) (eqb (digit (get_or VALUES c 0)) c)
+    (agree_below_at is_own yes 256 c refl below) (none_at (get_or VALUES c 0) lt))
 
 -- each digit has its value in the table
 pub found : (d : ℕ) → d < 16 → get_or VALUES (digit d) 0 ≡ d

@@ -9,26 +9,35 @@ use Rattle.indirect.specs.declared.descriptor.Descriptor.{Descriptor}
 use Rattle.indirect.specs.Descriptors.{split_descriptor, split_table, packed_buffer, packed_buffers}
 
 -- the descriptor at 16 times an index is that of the index
-pub entry_is : (m : Memory) (addr offset i : ℕ) (d : Descriptor) → d ≡ split_descriptor m (addr + offset) → offset ≡ 16 * i → d ≡ split_table m addr i
+pub entry_is : (m : Memory) (addr offset i : ℕ) (d : Descriptor) → d ≡ split_descriptor m (addr + offset)
+    → offset ≡ 16 * i → d ≡ split_table m addr i
 entry_is m addr offset i d e k = e ∙ ap (λ j. split_descriptor m (addr + j)) k
 
 -- a packed table's buffers, one more
-pub packed_buffers-more : (m : Memory) (addr n : ℕ) → packed_buffers m addr (n + 1) ≡ packed_buffers m addr n ++ packed_buffer m (addr + 16 * n) ∷ []
-packed_buffers-more m addr n = map-range_with_len_more (λ i. packed_buffer m (addr + 16 * i)) 0 n n (omega arith)
+pub packed_buffers-more : (m : Memory) (addr n : ℕ) → packed_buffers m addr (n + 1) ≡ packed_buffers m addr n
+    ++ packed_buffer m (addr + 16 * n) ∷ []
+packed_buffers-more m addr n =
+    map-range_with_len_more (λ i. packed_buffer m (addr + 16 * i)) 0 n n (omega arith)
 
 -- the buffers so far of a packed table
-pub record Gathered (m : Memory) (addr : ℕ) (before : List Buffer) (n : ℕ) (buffers : List Buffer) : Type 0 where
+pub record Gathered (m : Memory) (addr : ℕ) (before : List Buffer) (n : ℕ)
+    (buffers : List Buffer) : Type 0 where
   pub admitted : AdmitsAll m before (packed_buffers m addr n)
   pub named : buffers ≡ before ++ packed_buffers m addr n
 
-pub gathered_step : (m : Memory) (addr : ℕ) (before buffers after : List Buffer) (n : ℕ) (b : Buffer) → b ≡ packed_buffer m (addr + 16 * n)
-    → Admits m buffers b → after ≡ buffers ++ b ∷ [] → Gathered m addr before n buffers → Gathered m addr before (n + 1) after
+pub gathered_step : (m : Memory) (addr : ℕ) (before buffers after : List Buffer) (n : ℕ) (b : Buffer)
+    → b ≡ packed_buffer m (addr + 16 * n)
+    → Admits m buffers b → after ≡ buffers ++ b ∷ [] → Gathered m addr before n buffers
+    → Gathered m addr before (n + 1) after
 gathered_step m addr before buffers after n b e a pushed g =
     let more = packed_buffers-more m addr n in
     record {
-      admitted = rw more (AdmitsAll-push m before (packed_buffers m addr n) (packed_buffer m (addr + 16 * n)) g.admitted (rw (e, g.named) at a));
-      named = rw (more, pushed, e, g.named) (append_assoc before (packed_buffers m addr n) (packed_buffer m (addr + 16 * n) ∷ []));
+      admitted = rw more (AdmitsAll-push m before (packed_buffers m addr n) (packed_buffer m (addr + 16 * n))
+          g.admitted (rw (e, g.named) at a));
+      named = rw (more, pushed, e, g.named)
+          (append_assoc before (packed_buffers m addr n) (packed_buffer m (addr + 16 * n) ∷ []));
     }
 
-pub packed_entry_is : (m : Memory) (addr offset i : ℕ) (b : Buffer) → b ≡ packed_buffer m (addr + offset) → offset ≡ 16 * i → b ≡ packed_buffer m (addr + 16 * i)
+pub packed_entry_is : (m : Memory) (addr offset i : ℕ) (b : Buffer) → b ≡ packed_buffer m (addr + offset)
+    → offset ≡ 16 * i → b ≡ packed_buffer m (addr + 16 * i)
 packed_entry_is m addr offset i b e k = e ∙ ap (λ j. packed_buffer m (addr + j)) k

@@ -38,7 +38,8 @@ table_cases m addr len =
     ]
 
 -- a range that is no table has one fault
-one_no_table : (m : Memory) (addr len : ℕ) (f g : Fault) → IsNoTable m addr len f → IsNoTable m addr len g → f ≡ g
+one_no_table : (m : Memory) (addr len : ℕ) (f g : Fault) → IsNoTable m addr len f
+    → IsNoTable m addr len g → f ≡ g
 one_no_table m addr len f g x y =
     elim (len_cases len) [
       | inl good ↦ (x.outside good).0 ∙ sym (y.outside good).0
@@ -46,60 +47,86 @@ one_no_table m addr len f g x y =
     ]
 
 module _ (m : Memory) (addr len : ℕ) (before : List Buffer) where
-  pub one_split_fault : (f g : Fault) (a b : List Buffer) → SplitTableFails m addr len before f a → SplitTableFails m addr len before g b → (f ≡ g) × (a ≡ b)
+  pub one_split_fault : (f g : Fault) (a b : List Buffer) → SplitTableFails m addr len before f a
+      → SplitTableFails m addr len before g b → (f ≡ g) × (a ≡ b)
   one_split_fault f g a b x y =
       elim (table_cases m addr len) [
-        | inl table ↦ one_fault m before (split_table m addr) (len / 16) 0 f g a b (x.walked table) (y.walked table)
-        | inr none ↦ (one_no_table m addr len f g (x.no_table none).0 (y.no_table none).0, (x.no_table none).1 ∙ sym (y.no_table none).1)
+        | inl table ↦ one_fault m before (split_table m addr) (len / 16) 0 f g a b
+            (x.walked table) (y.walked table)
+        | inr none ↦ (
+          one_no_table m addr len f g (x.no_table none).0 (y.no_table none).0,
+          (x.no_table none).1
+              ∙ sym (y.no_table none).1,
+        )
       ]
 
-  pub one_split_path : (a b : List Buffer) → SplitTableResolves m addr len before a → SplitTableResolves m addr len before b → a ≡ b
+  pub one_split_path : (a b : List Buffer) → SplitTableResolves m addr len before a
+      → SplitTableResolves m addr len before b → a ≡ b
   one_split_path a b x y = one_path m before (split_table m addr) (len / 16) 0 a b x.path y.path
 
-  pub never_both_split : (f : Fault) (a b : List Buffer) → SplitTableFails m addr len before f a → SplitTableResolves m addr len before b → ⊥
-  never_both_split f a b x y = never_both m before (split_table m addr) (len / 16) 0 f a b (x.walked y.table) y.path
+  pub never_both_split : (f : Fault) (a b : List Buffer) → SplitTableFails m addr len before f a
+      → SplitTableResolves m addr len before b → ⊥
+  never_both_split f a b x y =
+      never_both m before (split_table m addr) (len / 16) 0 f a b (x.walked y.table) y.path
 
   -- the buffer of a descriptor of a packed table whose first n buffers are admitted
-  admits_entry : (n i : ℕ) → i < n → AdmitsAll m before (packed_buffers m addr n) → Admits m (before ++ packed_buffers m addr i) (packed_buffer m (addr + 16 * i))
+  admits_entry : (n i : ℕ) → i < n → AdmitsAll m before (packed_buffers m addr n)
+      → Admits m (before ++ packed_buffers m addr i) (packed_buffer m (addr + 16 * i))
   admits_entry n i h a = go (n - i - 1) n (omega arith) a
     where
-      go : (k n : ℕ) → n ≡ i + 1 + k → AdmitsAll m before (packed_buffers m addr n) → Admits m (before ++ packed_buffers m addr i) (packed_buffer m (addr + 16 * i))
+      go : (k n : ℕ) → n ≡ i + 1 + k → AdmitsAll m before (packed_buffers m addr n)
+          → Admits m (before ++ packed_buffers m addr i) (packed_buffer m (addr + 16 * i))
       go zero n e a =
           let s : n ≡ i + 1 = omega arith in
-          Admits-at m before (packed_buffers m addr i) (packed_buffer m (addr + 16 * i)) [] (rw (s, packed_buffers-more m addr i) at a)
+          Admits-at m before (packed_buffers m addr i) (packed_buffer m (addr + 16 * i)) []
+          (rw (s, packed_buffers-more m addr i) at a)
       go (suc k) n e a =
           let s : n ≡ (i + 1 + k) + 1 = omega arith in
           go k (i + 1 + k) refl
-          (AdmitsAll-front m before (packed_buffers m addr (i + 1 + k)) (packed_buffer m (addr + 16 * (i + 1 + k)) ∷ [])
+          (AdmitsAll-front m before (packed_buffers m addr (i + 1 + k))
+          (packed_buffer m (addr + 16 * (i + 1 + k)) ∷ [])
           (rw (s, packed_buffers-more m addr (i + 1 + k)) at a))
 
   -- the descriptor at fault isn't among those that were taken
-  not_among : (n n' : ℕ) (f : Fault) (a : List Buffer) (x : PackedFaultAt m addr n before f a) → AdmitsAll m before (packed_buffers m addr n') → n' ≤ x.at
+  not_among : (n n' : ℕ) (f : Fault) (a : List Buffer) (x : PackedFaultAt m addr n before f a)
+      → AdmitsAll m before (packed_buffers m addr n') → n' ≤ x.at
   not_among n n' f a x all =
       elim (cases_lt x.at n') [
         | inr above ↦ above
-        | inl below ↦ absurd (Admits-Refuses m a (packed_buffer m (addr + 16 * x.at)) f (rw (← x.named) at (admits_entry n' x.at below all)) x.refused)
+        | inl below ↦ absurd (Admits-Refuses m a (packed_buffer m (addr + 16 * x.at)) f
+            (rw (← x.named) at (admits_entry n' x.at below all)) x.refused)
       ]
 
-  packed_fault_once : (n : ℕ) (f g : Fault) (a b : List Buffer) → PackedFaultAt m addr n before f a → PackedFaultAt m addr n before g b → (f ≡ g) × (a ≡ b)
+  packed_fault_once : (n : ℕ) (f g : Fault) (a b : List Buffer) → PackedFaultAt m addr n before f a
+      → PackedFaultAt m addr n before g b → (f ≡ g) × (a ≡ b)
   packed_fault_once n f g a b x y =
       let l = not_among n y.at f a x y.admitted in
       let r = not_among n x.at g b y x.admitted in
       let at : x.at ≡ y.at = omega (arith, l, r) in
-      let same : a ≡ b = x.named ∙ ap (λ i. before ++ packed_buffers m addr i) at ∙ sym y.named in
-      (Refuses-unique m b (packed_buffer m (addr + 16 * y.at)) f g (rw (← same, ← at) x.refused) y.refused, same)
+      let same : a ≡ b = x.named ∙ ap (λ i. before ++ packed_buffers m addr i) at ∙ sym y.named in (
+        Refuses-unique m b (packed_buffer m (addr + 16 * y.at)) f g
+            (rw (← same, ← at) x.refused) y.refused,
+        same,
+      )
 
-  pub one_packed_fault : (f g : Fault) (a b : List Buffer) → PackedTableFails m addr len before f a → PackedTableFails m addr len before g b → (f ≡ g) × (a ≡ b)
+  pub one_packed_fault : (f g : Fault) (a b : List Buffer) → PackedTableFails m addr len before f a
+      → PackedTableFails m addr len before g b → (f ≡ g) × (a ≡ b)
   one_packed_fault f g a b x y =
       elim (table_cases m addr len) [
         | inl table ↦ packed_fault_once (len / 16) f g a b (x.walked table) (y.walked table)
-        | inr none ↦ (one_no_table m addr len f g (x.no_table none).0 (y.no_table none).0, (x.no_table none).1 ∙ sym (y.no_table none).1)
+        | inr none ↦ (
+          one_no_table m addr len f g (x.no_table none).0 (y.no_table none).0,
+          (x.no_table none).1
+              ∙ sym (y.no_table none).1,
+        )
       ]
 
-  pub one_packed_list : (a b : List Buffer) → PackedTableResolves m addr len before a → PackedTableResolves m addr len before b → a ≡ b
+  pub one_packed_list : (a b : List Buffer) → PackedTableResolves m addr len before a
+      → PackedTableResolves m addr len before b → a ≡ b
   one_packed_list a b x y = x.named ∙ sym y.named
 
-  pub never_both_packed : (f : Fault) (a b : List Buffer) → PackedTableFails m addr len before f a → PackedTableResolves m addr len before b → ⊥
+  pub never_both_packed : (f : Fault) (a b : List Buffer) → PackedTableFails m addr len before f a
+      → PackedTableResolves m addr len before b → ⊥
   never_both_packed f a b x y =
       let w = x.walked y.table in
       let l = not_among (len / 16) (len / 16) f a w y.admitted in

@@ -26,27 +26,46 @@ next_cases (Some j) = inr (j, refl)
 
 module _ (m : Memory) (before : List Buffer) (t : ℕ → Descriptor) (n h : ℕ) where
   -- k members are left until the walk has as many as the table
-  walk_on : (k count i : ℕ) (buffers : List Buffer) → count + k ≡ n → Reached m before t n h count i buffers → WalkHasOutcome m before t n h
-  walk_on zero count i buffers e r = inr (Loop, buffers, record { count = count; at = i; reached = r; stops = omega (arith, e) })
+  walk_on : (k count i : ℕ) (buffers : List Buffer) → count + k ≡ n → Reached m before t n h count i buffers
+      → WalkHasOutcome m before t n h
+  walk_on zero count i buffers e r =
+      inr (Loop, buffers, record { count = count; at = i; reached = r; stops = omega (arith, e) })
   walk_on (suc k) count i buffers e r =
       let room : count < n = omega (arith, e) in
       elim (cases_lt i n) [
         | inr past ↦ inr (Index, buffers, record { count = count; at = i; reached = r; stops = (room, past) })
         | inl below ↦ elim (cases_Bool (t i).indirect) [
-          | inl nested ↦ inr (Nested, buffers, record { count = count; at = i; reached = r; stops = record { comes = record { room = room; below = below }; indirect = nested } })
+          | inl nested ↦ inr (
+            Nested,
+            buffers,
+            record {
+              count = count;
+              at = i;
+              reached = r;
+              stops = record { comes = record { room = room; below = below }; indirect = nested };
+            },
+          )
           | inr plain ↦ elim (admits_or_refuses m buffers (t i).buffer) [
             | inr refused ↦ inr (
               refused.0,
               buffers,
-              record { count = count; at = i; reached = r; stops = refused_stops m buffers t n count i (t i) refused.0 refl room below plain refused.1 },
+              record {
+                count = count;
+                at = i;
+                reached = r;
+                stops = refused_stops m buffers t n count i (t i) refused.0 refl room
+                    below plain refused.1;
+              },
             )
             | inl admits ↦ elim (next_cases (t i).next) [
               | inl ends ↦ inl (
                 buffers ++ (t i).buffer ∷ [],
-                resolves_step m before buffers (buffers ++ (t i).buffer ∷ []) t n h count i (t i) refl room below plain ends admits refl r,
+                resolves_step m before buffers (buffers ++ (t i).buffer ∷ []) t n h count i (t i) refl room
+                    below plain ends admits refl r,
               )
               | inr next ↦ walk_on k (count + 1) next.0 (buffers ++ (t i).buffer ∷ []) (omega (arith, e))
-                  (reached_step m before buffers (buffers ++ (t i).buffer ∷ []) t n h count i next.0 (t i) refl below plain next.1 admits refl r)
+                  (reached_step m before buffers (buffers ++ (t i).buffer ∷ []) t n h count i next.0 (t i)
+                  refl below plain next.1 admits refl r)
             ]
           ]
         ]
@@ -63,39 +82,69 @@ module _ (m : Memory) (addr len : ℕ) (before : List Buffer) where
         | inr bad ↦ (Table, record { bad_len = λ b. refl; outside = λ good. absurd (bad good) })
         | inl good ↦ (
           Range,
-          record { bad_len = λ bad. absurd (bad good); outside = λ g. (refl, λ inside. none (record { size = good; inside = inside })) },
+          record {
+            bad_len = λ bad. absurd (bad good);
+            outside = λ g. (refl, λ inside. none (record { size = good; inside = inside }));
+          },
         )
       ]
 
   split_table_has_outcome : TableHasOutcome split_tables m addr len before
   split_table_has_outcome =
       elim (table_cases m addr len) [
-        | inr none ↦ let f = no_table_fault none in inr (f.0, before, record { no_table = λ _. (f.1, refl); walked = λ table. absurd (none table) })
+        | inr none ↦ let f = no_table_fault none in
+            inr (f.0, before, record { no_table = λ _. (f.1, refl); walked = λ table. absurd (none table) })
         | inl table ↦ elim (walk_has_outcome m before (split_table m addr) (len / 16) 0) [
           | inl found ↦ inl (found.0, record { table = table; path = found.1 })
-          | inr stopped ↦ inr (stopped.0, stopped.1, record { no_table = λ none. absurd (none table); walked = λ _. stopped.2 })
+          | inr stopped ↦ inr (
+            stopped.0,
+            stopped.1,
+            record { no_table = λ none. absurd (none table); walked = λ _. stopped.2 },
+          )
         ]
       ]
 
   -- k descriptors are left until the end of the packed table
   gather_on : (n k i : ℕ) (buffers : List Buffer) → i + k ≡ n → Gathered m addr before i buffers
-      → ((after : List Buffer) × Gathered m addr before n after) ⊎ ((fault : Fault) × (left : List Buffer) × PackedFaultAt m addr n before fault left)
+      → ((after : List Buffer) × Gathered m addr before n after)
+      ⊎ ((fault : Fault) × (left : List Buffer) × PackedFaultAt m addr n before fault left)
   gather_on n zero i buffers e g = let same : i ≡ n = omega (arith, e) in inl (buffers, rw same at g)
   gather_on n (suc k) i buffers e g =
       let b = packed_buffer m (addr + 16 * i) in
       elim (admits_or_refuses m buffers b) [
-        | inr refused ↦ inr (refused.0, buffers, record { at = i; below = omega (arith, e); admitted = g.admitted; named = g.named; refused = refused.1 })
-        | inl admits ↦ gather_on n k (i + 1) (buffers ++ b ∷ []) (omega (arith, e)) (gathered_step m addr before buffers (buffers ++ b ∷ []) i b refl admits refl g)
+        | inr refused ↦ inr (
+          refused.0,
+          buffers,
+          record {
+            at = i;
+            below = omega (arith, e);
+            admitted = g.admitted;
+            named = g.named;
+            refused = refused.1;
+          },
+        )
+        | inl admits ↦ gather_on n k (i + 1) (buffers
+            ++ b ∷ []) (omega (arith, e)) (gathered_step m addr before buffers (buffers
+            ++ b ∷ []) i b refl admits refl g)
       ]
 
   packed_table_has_outcome : TableHasOutcome packed_tables m addr len before
   packed_table_has_outcome =
       elim (table_cases m addr len) [
-        | inr none ↦ let f = no_table_fault none in inr (f.0, before, record { no_table = λ _. (f.1, refl); walked = λ table. absurd (none table) })
-        | inl table ↦ elim (gather_on (len / 16) (len / 16) 0 before (omega arith) (record { admitted = tt; named = sym (append-nil before) })) [
-          | inl found ↦ inl (found.0, record { table = table; admitted = found.1.admitted; named = found.1.named })
-          | inr stopped ↦ inr (stopped.0, stopped.1, record { no_table = λ none. absurd (none table); walked = λ _. stopped.2 })
-        ]
+        | inr none ↦ let f = no_table_fault none in
+            inr (f.0, before, record { no_table = λ _. (f.1, refl); walked = λ table. absurd (none table) })
+        | inl table ↦ elim (gather_on (len / 16) (len / 16) 0 before (omega arith)
+            (record { admitted = tt; named = sym (append-nil before) })) [
+              | inl found ↦ inl (
+                found.0,
+                record { table = table; admitted = found.1.admitted; named = found.1.named },
+              )
+              | inr stopped ↦ inr (
+                stopped.0,
+                stopped.1,
+                record { no_table = λ none. absurd (none table); walked = λ _. stopped.2 },
+              )
+            ]
       ]
 
 pub split_has_one_table : HasOneTable split_tables
@@ -117,34 +166,46 @@ packed_has_one_table = record {
 module _ (kind : TableKind) (one : HasOneTable kind) where
   module _ (negotiated : Bool) (m : Memory) (t : ℕ → Descriptor) (n h : ℕ) where
     -- a descriptor comes next that refers to a table
-    at_table : (count i : ℕ) (buffers : List Buffer) → Reached m [] t n h count i buffers → count < n → i < n → (t i).indirect ≡ true
+    at_table : (count i : ℕ) (buffers : List Buffer) → Reached m [] t n h count i buffers → count < n → i < n
+        → (t i).indirect ≡ true
         → ListHasOutcome kind negotiated m t n h
     at_table count i buffers r room below is =
         let d = t i in
         elim (cases_Bool negotiated) [
           | inr unknown ↦ inr (
             NoIndirect,
-            list_table_refused kind negotiated m t n h buffers count i d NoIndirect refl room below is (table_unknown kind negotiated m t n h buffers count d unknown) r,
+            list_table_refused kind negotiated m t n h buffers count i d NoIndirect refl room below is
+                (table_unknown kind negotiated m t n h buffers count d unknown) r,
           )
           | inl known ↦ elim (cases_Bool (is_joined kind count d)) [
             | inl joined ↦ inr (
               Joined,
-              list_table_refused kind negotiated m t n h buffers count i d Joined refl room below is (table_joined kind negotiated m t n h buffers count d known joined) r,
+              list_table_refused kind negotiated m t n h buffers count i d Joined refl room below is
+                  (table_joined kind negotiated m t n h buffers count d known joined) r,
             )
             | inr apart ↦ elim (one.some m d.buffer.segment.addr d.buffer.segment.len buffers) [
-              | inl found ↦ inl (count, i, found.0, list_table kind negotiated m t n h buffers found.0 count i d refl room below is known apart found.1 r)
+              | inl found ↦ inl (
+                count,
+                i,
+                found.0,
+                list_table kind negotiated m t n h buffers found.0 count i
+                    d refl room below is known apart found.1 r,
+              )
               | inr stopped ↦ inr (
                 stopped.0,
                 list_table_refused kind negotiated m t n h buffers count i d stopped.0 refl room below is
-                    (table_faulty kind negotiated m t n h buffers stopped.1 count d stopped.0 known apart stopped.2) r,
+                    (table_faulty kind negotiated m t n h buffers stopped.1 count d stopped.0 known
+                    apart stopped.2) r,
               )
             ]
           ]
         ]
 
     -- k members are left until the list has as many as the ring
-    list_on : (k count i : ℕ) (buffers : List Buffer) → count + k ≡ n → Reached m [] t n h count i buffers → ListHasOutcome kind negotiated m t n h
-    list_on zero count i buffers e r = inr (Loop, list_full kind negotiated m t n h buffers count i (omega (arith, e)) r)
+    list_on : (k count i : ℕ) (buffers : List Buffer) → count + k ≡ n → Reached m [] t n h count i buffers
+        → ListHasOutcome kind negotiated m t n h
+    list_on zero count i buffers e r =
+        inr (Loop, list_full kind negotiated m t n h buffers count i (omega (arith, e)) r)
     list_on (suc k) count i buffers e r =
         let room : count < n = omega (arith, e) in
         let d = t i in
@@ -153,16 +214,22 @@ module _ (kind : TableKind) (one : HasOneTable kind) where
           | inl below ↦ elim (cases_Bool d.indirect) [
             | inl is ↦ at_table count i buffers r room below is
             | inr plain ↦ elim (admits_or_refuses m buffers d.buffer) [
-              | inr refused ↦ inr (refused.0, list_refused kind negotiated m t n h buffers count i d refused.0 refl room below plain refused.1 r)
+              | inr refused ↦ inr (
+                refused.0,
+                list_refused kind negotiated m t n h buffers count i d refused.0
+                    refl room below plain refused.1 r,
+              )
               | inl admits ↦ elim (next_cases d.next) [
                 | inl ends ↦ inl (
                   count,
                   i,
                   buffers ++ d.buffer ∷ [],
-                  list_plain kind negotiated m t n h buffers (buffers ++ d.buffer ∷ []) count i d refl room below plain ends admits refl r,
+                  list_plain kind negotiated m t n h buffers (buffers ++ d.buffer ∷ []) count i d refl room
+                      below plain ends admits refl r,
                 )
                 | inr next ↦ list_on k (count + 1) next.0 (buffers ++ d.buffer ∷ []) (omega (arith, e))
-                    (reached_step m [] buffers (buffers ++ d.buffer ∷ []) t n h count i next.0 d refl below plain next.1 admits refl r)
+                    (reached_step m [] buffers (buffers ++ d.buffer ∷ []) t n h count i next.0 d refl below
+                    plain next.1 admits refl r)
               ]
             ]
           ]
@@ -177,7 +244,8 @@ module _ (kind : TableKind) (one : HasOneTable kind) where
     fault = λ negotiated m t n h f g x y. one_list_fault kind one negotiated m t n h f g x y;
     not_both = λ negotiated m t n h f k j b x y. never_both_list kind one negotiated m t n h f k j b x y;
     some = list_has_outcome;
-    longest = λ negotiated m t n h f found front i l a w. longest_list kind one negotiated m t n h f found front i l a w;
+    longest = λ negotiated m t n h f found front i l a w. longest_list kind one negotiated m t n h f
+        found front i l a w;
   }
 
 pub split_has_one_list : HasOneList split_tables
@@ -187,18 +255,29 @@ pub packed_has_one_list : HasOneList packed_tables
 packed_has_one_list = has_one_list packed_tables packed_has_one_table
 
 -- a list is offered with one list of buffers and one entry, or has one fault, never both, and one of the two
-module _ (kind : TableKind) (one : HasOneList kind) (negotiated : Bool) (m : Memory) (t : ℕ → Descriptor) (n h : ℕ) (entry_of : ℕ → ℕ → Entry) where
-  pub one_offer : (a b : List Buffer) (e f : Entry) → ListOffers kind negotiated m t n h entry_of a e → ListOffers kind negotiated m t n h entry_of b f → (a ≡ b) × (e ≡ f)
+module _ (kind : TableKind) (one : HasOneList kind) (negotiated : Bool) (m : Memory) (t : ℕ
+    → Descriptor) (n h : ℕ) (entry_of : ℕ → ℕ → Entry) where
+  pub one_offer : (a b : List Buffer) (e f : Entry) → ListOffers kind negotiated m t n h entry_of a e
+      → ListOffers kind negotiated m t n h entry_of b f → (a ≡ b) × (e ≡ f)
   one_offer a b e f x y =
-      let same = one.list negotiated m t n h x.count y.count x.last y.last a b x.list y.list in
-      (same.buffers, x.entry_is ∙ ap (λ last. entry_of x.count last) same.last ∙ ap (λ count. entry_of count y.last) same.count ∙ sym y.entry_is)
+      let same = one.list negotiated m t n h x.count y.count x.last y.last a b x.list y.list in (
+        same.buffers,
+        x.entry_is ∙ ap (λ last. entry_of x.count last) same.last
+            ∙ ap (λ count. entry_of count y.last) same.count ∙ sym y.entry_is,
+      )
 
-  pub never_offered : (f : Fault) (a : List Buffer) (e : Entry) → ListFails kind negotiated m t n h f → ListOffers kind negotiated m t n h entry_of a e → ⊥
+  pub never_offered : (f : Fault) (a : List Buffer) (e : Entry) → ListFails kind negotiated m t n h f
+      → ListOffers kind negotiated m t n h entry_of a e → ⊥
   never_offered f a e y x = one.not_both negotiated m t n h f x.count x.last a y x.list
 
-  pub offered_or_fails : ((a : List Buffer) × (e : Entry) × ListOffers kind negotiated m t n h entry_of a e) ⊎ ((f : Fault) × ListFails kind negotiated m t n h f)
+  pub offered_or_fails : ((a : List Buffer) × (e : Entry) × ListOffers kind negotiated m t n h entry_of a e)
+      ⊎ ((f : Fault) × ListFails kind negotiated m t n h f)
   offered_or_fails =
       elim (one.some negotiated m t n h) [
-        | inl found ↦ inl (found.2, entry_of found.0 found.1, record { count = found.0; last = found.1; list = found.3; entry_is = refl })
+        | inl found ↦ inl (
+          found.2,
+          entry_of found.0 found.1,
+          record { count = found.0; last = found.1; list = found.3; entry_is = refl },
+        )
         | inr stopped ↦ inr stopped
       ]

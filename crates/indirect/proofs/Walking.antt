@@ -11,36 +11,52 @@ use Rattle.indirect.specs.declared.descriptor.Descriptor.{Descriptor}
 use Rattle.indirect.specs.Walks.{Follows, Leads, buffers_of, Reached, ComesNext, Resolves, StopsAt}
 
 -- one more member
-pub Leads-push : (t : ℕ → Descriptor) (n h i j : ℕ) (front : List ℕ) → Leads t n h front i → Follows t n i j → Leads t n h (front ++ i ∷ []) j
+pub Leads-push : (t : ℕ → Descriptor) (n h i j : ℕ) (front : List ℕ) → Leads t n h front i → Follows t n i j
+    → Leads t n h (front ++ i ∷ []) j
 Leads-push t n h i j [] l f = (l, f, refl)
 Leads-push t n h i j (x ∷ []) l f = (l.0, l.1, Leads-push t n i i j [] l.2 f)
 Leads-push t n h i j (x ∷ y ∷ front) l f = (l.0, l.1, Leads-push t n y i j (y ∷ front) l.2 f)
 
-pub buffers_of-push : (t : ℕ → Descriptor) (front : List ℕ) (i : ℕ) → buffers_of t (front ++ i ∷ []) ≡ buffers_of t front ++ (t i).buffer ∷ []
+pub buffers_of-push : (t : ℕ → Descriptor) (front : List ℕ) (i : ℕ)
+    → buffers_of t (front ++ i ∷ []) ≡ buffers_of t front ++ (t i).buffer ∷ []
 buffers_of-push t front i = map-append (λ i. (t i).buffer) front (i ∷ [])
 
 -- before the first step
-pub reached_start : (m : Memory) (before : List Buffer) (t : ℕ → Descriptor) (n h : ℕ) → Reached m before t n h 0 h before
-reached_start m before t n h = record { front = []; leads = refl; counted = refl; admitted = tt; named = sym (append-nil before) }
+pub reached_start : (m : Memory) (before : List Buffer) (t : ℕ → Descriptor) (n h : ℕ)
+    → Reached m before t n h 0 h before
+reached_start m before t n h =
+    record { front = []; leads = refl; counted = refl; admitted = tt; named = sym (append-nil before) }
 
 -- the buffer of a member behind those before it
-pub admitted_step : (m : Memory) (before buffers : List Buffer) (t : ℕ → Descriptor) (front : List ℕ) (i : ℕ) (d : Descriptor) → d ≡ t i
-    → AdmitsAll m before (buffers_of t front) → buffers ≡ before ++ buffers_of t front → Admits m buffers d.buffer
+pub admitted_step : (m : Memory) (before buffers : List Buffer) (t : ℕ → Descriptor) (front : List ℕ) (i : ℕ)
+    (d : Descriptor) → d ≡ t i
+    → AdmitsAll m before (buffers_of t front) → buffers ≡ before ++ buffers_of t front
+    → Admits m buffers d.buffer
     → AdmitsAll m before (buffers_of t (front ++ i ∷ []))
 admitted_step m before buffers t front i d e all named a =
-    rw (buffers_of-push t front i) (AdmitsAll-push m before (buffers_of t front) (t i).buffer all (rw (e, named) at a))
+    rw (buffers_of-push t front i) (AdmitsAll-push m before (buffers_of t front) (t i).buffer all
+    (rw (e, named) at a))
 
-pub named_step : (before buffers : List Buffer) (t : ℕ → Descriptor) (front : List ℕ) (i : ℕ) (d : Descriptor) → d ≡ t i
-    → buffers ≡ before ++ buffers_of t front → buffers ++ d.buffer ∷ [] ≡ before ++ buffers_of t (front ++ i ∷ [])
+pub named_step : (before buffers : List Buffer) (t : ℕ → Descriptor) (front : List ℕ) (i : ℕ) (d : Descriptor)
+    → d ≡ t i
+    → buffers ≡ before ++ buffers_of t front → buffers ++ d.buffer ∷ [] ≡ before
+    ++ buffers_of t (front ++ i ∷ [])
 named_step before buffers t front i d e named =
     rw (buffers_of-push t front i, e, named) (append_assoc before (buffers_of t front) ((t i).buffer ∷ []))
 
 -- one step further: the descriptor at the index is plain, has NEXT, and its buffer is admitted
-pub reached_step : (m : Memory) (before buffers after : List Buffer) (t : ℕ → Descriptor) (n h count i j : ℕ) (d : Descriptor)
-    → d ≡ t i → i < n → d.indirect ≡ false → d.next ≡ Some j → Admits m buffers d.buffer → after ≡ buffers ++ d.buffer ∷ []
+pub reached_step : (m : Memory) (before buffers after : List Buffer) (t : ℕ
+    → Descriptor) (n h count i j : ℕ) (d : Descriptor)
+    → d ≡ t i → i < n → d.indirect ≡ false → d.next ≡ Some j → Admits m buffers d.buffer
+    → after ≡ buffers ++ d.buffer ∷ []
     → Reached m before t n h count i buffers → Reached m before t n h (count + 1) j after
 reached_step m before buffers after t n h count i j d e below plain next a pushed r =
-    let f : Follows t n i j = record { below = below; plain = ap (λ (d : Descriptor). d.indirect) (sym e) ∙ plain; next = ap (λ (d : Descriptor). d.next) (sym e) ∙ next } in
+    let f : Follows t n i j =
+    record {
+      below = below;
+      plain = ap (λ (d : Descriptor). d.indirect) (sym e) ∙ plain;
+      next = ap (λ (d : Descriptor). d.next) (sym e) ∙ next;
+    } in
     record {
       front = r.front ++ i ∷ [];
       leads = Leads-push t n h i j r.front r.leads f;
@@ -50,8 +66,10 @@ reached_step m before buffers after t n h count i j d e below plain next a pushe
     }
 
 -- the last step: the descriptor at the index is plain, lacks NEXT, and its buffer is admitted
-pub resolves_step : (m : Memory) (before buffers after : List Buffer) (t : ℕ → Descriptor) (n h count i : ℕ) (d : Descriptor)
-    → d ≡ t i → count < n → i < n → d.indirect ≡ false → d.next ≡ None → Admits m buffers d.buffer → after ≡ buffers ++ d.buffer ∷ []
+pub resolves_step : (m : Memory) (before buffers after : List Buffer) (t : ℕ
+    → Descriptor) (n h count i : ℕ) (d : Descriptor)
+    → d ≡ t i → count < n → i < n → d.indirect ≡ false → d.next ≡ None → Admits m buffers d.buffer
+    → after ≡ buffers ++ d.buffer ∷ []
     → Reached m before t n h count i buffers → Resolves m before t n h after
 resolves_step m before buffers after t n h count i d e room below plain ends a pushed r =
     record {
@@ -66,8 +84,10 @@ resolves_step m before buffers after t n h count i d e room below plain ends a p
     }
 
 -- the buffer of the descriptor that comes next is refused
-pub refused_stops : (m : Memory) (buffers : List Buffer) (t : ℕ → Descriptor) (n count i : ℕ) (d : Descriptor) (fault : Fault)
-    → d ≡ t i → count < n → i < n → d.indirect ≡ false → Refuses m buffers d.buffer fault → StopsAt m buffers t n count i fault
+pub refused_stops : (m : Memory) (buffers : List Buffer) (t : ℕ
+    → Descriptor) (n count i : ℕ) (d : Descriptor) (fault : Fault)
+    → d ≡ t i → count < n → i < n → d.indirect ≡ false → Refuses m buffers d.buffer fault
+    → StopsAt m buffers t n count i fault
 refused_stops m buffers t n count i d fault e room below plain r = go fault (rw e at r)
   where
     comes : ComesNext n count i

@@ -48,7 +48,8 @@ is_joined kind count d = is_some d.next || (kind.alone && nat_lt 0 count)
 
 module _ (kind : TableKind) (negotiated : Bool) (m : Memory) where
   -- the descriptor d, which refers to a table, ends a list behind count members with these buffers
-  pub record EndsInTable (before : List Buffer) (count : ℕ) (d : Descriptor) (after : List Buffer) : Type 0 where
+  pub record EndsInTable (before : List Buffer) (count : ℕ) (d : Descriptor)
+      (after : List Buffer) : Type 0 where
     pub known : negotiated ≡ true
     pub apart : is_joined kind count d ≡ false
     pub table : kind.HasBuffers m d.buffer.segment.addr d.buffer.segment.len before after
@@ -78,7 +79,8 @@ module _ (kind : TableKind) (negotiated : Bool) (m : Memory) where
       pub comes : ComesNext n count last
       pub ends : EndsBy (t last).indirect before count (t last) buffers
 
-    -- the list from h has these buffers, and is given back by this entry: the one of how many members come before
+    -- the list from h has these buffers, and is given back by this entry: the one of how many members come
+    -- before
     -- its last one, and of that one's index
     pub record ListOffers (entry_of : ℕ → ℕ → Entry) (buffers : List Buffer) (entry : Entry) : Type 0 where
       pub count : ℕ
@@ -87,7 +89,8 @@ module _ (kind : TableKind) (negotiated : Bool) (m : Memory) where
       pub entry_is : entry ≡ entry_of count last
 
     -- The fault of the list from h. A front of count plain members with good buffers leads to an index, and
-    -- there it can't go on: it has n members; or the index isn't below n; or the buffer of the descriptor that
+    -- there it can't go on: it has n members; or the index isn't below n; or the buffer of the descriptor
+    -- that
     -- comes next, which is plain, is refused; or that descriptor refers to a table, which is refused.
     pub record ListFails (fault : Fault) : Type 0 where
       pub count : ℕ

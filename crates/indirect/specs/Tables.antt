@@ -30,7 +30,8 @@ pub record SplitTableResolves (m : Memory) (addr len : ℕ) (before after : List
   pub path : Resolves m before (split_table m addr) (len / 16) 0 after
 
 -- the fault of a range as a split table behind the buffers before, and the buffers that stand before it
-pub record SplitTableFails (m : Memory) (addr len : ℕ) (before : List Buffer) (fault : Fault) (after : List Buffer) : Type 0 where
+pub record SplitTableFails (m : Memory) (addr len : ℕ) (before : List Buffer) (fault : Fault)
+    (after : List Buffer) : Type 0 where
   pub no_table : ¬ IsTable m addr len → IsNoTable m addr len fault × (after ≡ before)
   pub walked : IsTable m addr len → FaultAt m before (split_table m addr) (len / 16) 0 fault after
 
@@ -42,7 +43,8 @@ pub record PackedTableResolves (m : Memory) (addr len : ℕ) (before after : Lis
   pub named : after ≡ before ++ packed_buffers m addr (len / 16)
 
 -- the buffer of the i-th descriptor of a packed table is refused, those of the descriptors before it aren't
-pub record PackedFaultAt (m : Memory) (addr n : ℕ) (before : List Buffer) (fault : Fault) (after : List Buffer) : Type 0 where
+pub record PackedFaultAt (m : Memory) (addr n : ℕ) (before : List Buffer) (fault : Fault)
+    (after : List Buffer) : Type 0 where
   pub at : ℕ
   pub below : at < n
   pub admitted : AdmitsAll m before (packed_buffers m addr at)
@@ -50,6 +52,7 @@ pub record PackedFaultAt (m : Memory) (addr n : ℕ) (before : List Buffer) (fau
   pub refused : Refuses m after (packed_buffer m (addr + 16 * at)) fault
 
 -- the fault of a range as a packed table behind the buffers before, and the buffers that stand before it
-pub record PackedTableFails (m : Memory) (addr len : ℕ) (before : List Buffer) (fault : Fault) (after : List Buffer) : Type 0 where
+pub record PackedTableFails (m : Memory) (addr len : ℕ) (before : List Buffer) (fault : Fault)
+    (after : List Buffer) : Type 0 where
   pub no_table : ¬ IsTable m addr len → IsNoTable m addr len fault × (after ≡ before)
   pub walked : IsTable m addr len → PackedFaultAt m addr (len / 16) before fault after

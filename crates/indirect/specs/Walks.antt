@@ -23,7 +23,8 @@ first_of (x ∷ members) i = x
 -- last refers to i; where there is no member, i is h
 abbrev pub Leads : (ℕ → Descriptor) → ℕ → ℕ → List ℕ → ℕ → Type 0
 Leads t n h [] i = h ≡ i
-Leads t n h (x ∷ members) i = (h ≡ x) × Follows t n x (first_of members i) × Leads t n (first_of members i) members i
+Leads t n h (x ∷ members) i = (h ≡ x) × Follows t n x (first_of members i)
+    × Leads t n (first_of members i) members i
 
 -- the buffers of some descriptors, in order
 abbrev pub buffers_of : (ℕ → Descriptor) → List ℕ → List Buffer
@@ -31,7 +32,8 @@ buffers_of t members = map (λ i. (t i).buffer) members
 
 -- a front from h leads to index i; it has count members, their buffers may stand behind those before, and
 -- with them they are the buffers so far
-pub record Reached (m : Memory) (before : List Buffer) (t : ℕ → Descriptor) (n h count i : ℕ) (buffers : List Buffer) : Type 0 where
+pub record Reached (m : Memory) (before : List Buffer) (t : ℕ → Descriptor) (n h count i : ℕ)
+    (buffers : List Buffer) : Type 0 where
   pub front : List ℕ
   pub leads : Leads t n h front i
   pub counted : length front ≡ count
@@ -45,7 +47,8 @@ pub record ComesNext (n count i : ℕ) : Type 0 where
 
 -- a path of 1 to n members from h: each but the last is plain and has NEXT, the last is plain and hasn't;
 -- its buffers may stand behind those before, and with them they are the buffers after
-pub record Resolves (m : Memory) (before : List Buffer) (t : ℕ → Descriptor) (n h : ℕ) (after : List Buffer) : Type 0 where
+pub record Resolves (m : Memory) (before : List Buffer) (t : ℕ
+    → Descriptor) (n h : ℕ) (after : List Buffer) : Type 0 where
   pub front : List ℕ
   pub last : ℕ
   pub leads : Leads t n h front last
@@ -56,7 +59,8 @@ pub record Resolves (m : Memory) (before : List Buffer) (t : ℕ → Descriptor)
   pub named : after ≡ before ++ buffers_of t (front ++ last ∷ [])
 
 -- a plain descriptor comes next, and its buffer is refused behind these
-pub record NextRefused (m : Memory) (buffers : List Buffer) (t : ℕ → Descriptor) (n count i : ℕ) (fault : Fault) : Type 0 where
+pub record NextRefused (m : Memory) (buffers : List Buffer) (t : ℕ
+    → Descriptor) (n count i : ℕ) (fault : Fault) : Type 0 where
   pub comes : ComesNext n count i
   pub plain : (t i).indirect ≡ false
   pub refused : Refuses m buffers (t i).buffer fault
@@ -83,7 +87,8 @@ StopsAt m buffers t n count i NoIndirect = ⊥
 
 -- the fault of a table walked from h behind the buffers before: a front with buffers that may stand there
 -- can't go on, and its buffers are those after
-pub record FaultAt (m : Memory) (before : List Buffer) (t : ℕ → Descriptor) (n h : ℕ) (fault : Fault) (after : List Buffer) : Type 0 where
+pub record FaultAt (m : Memory) (before : List Buffer) (t : ℕ → Descriptor) (n h : ℕ) (fault : Fault)
+    (after : List Buffer) : Type 0 where
   pub count : ℕ
   pub at : ℕ
   pub reached : Reached m before t n h count at after
@@ -92,4 +97,5 @@ pub record FaultAt (m : Memory) (before : List Buffer) (t : ℕ → Descriptor) 
 -- the walk from h behind the buffers before comes to the end of a path, or to a fault
 abbrev pub WalkHasOutcome : Memory → List Buffer → (ℕ → Descriptor) → ℕ → ℕ → Type 0
 WalkHasOutcome m before t n h =
-    ((after : List Buffer) × Resolves m before t n h after) ⊎ ((fault : Fault) × (after : List Buffer) × FaultAt m before t n h fault after)
+    ((after : List Buffer) × Resolves m before t n h after)
+    ⊎ ((fault : Fault) × (after : List Buffer) × FaultAt m before t n h fault after)

@@ -18,14 +18,16 @@ use Rattle.mmio_window.specs.Leaving.{IsLeftAt, Stops, site_at}
 use Rattle.mmio_window.specs.Queue.{IsTaken, LiesIn, entry_of, made_as, queue_kind}
 
 -- chains were served within the budget since the piece began, and this is left of it
-pub record IsInCourse {State : Type 0} (device : Device State) (budget left : Budget) (start now : Memory) (first queue : Queue) (s s' : State) : Type 0 where
+pub record IsInCourse {State : Type 0} (device : Device State) (budget left : Budget) (start now : Memory)
+    (first queue : Queue) (s s' : State) : Type 0 where
   pub piece : IsInPiece queue_kind device budget left (site_at start first s) (site_at now queue s')
   pub range : SameRange start now
   pub lies : LiesIn now queue
   pub made : made_as queue ≡ made_as first
 
 module _ {State : Type 0} (device : Device State) where
-  pub in_course_begins : (budget : Budget) (m : Memory) (queue : Queue) (s : State) → LiesIn m queue → IsInCourse device budget budget m m queue queue s s
+  pub in_course_begins : (budget : Budget) (m : Memory) (queue : Queue) (s : State) → LiesIn m queue
+      → IsInCourse device budget budget m m queue queue s s
   in_course_begins budget m queue s lies = record {
     piece = piece_begins queue_kind device budget (site_at m queue s);
     range = record { base = refl; size = refl; gaps = refl };
@@ -34,60 +36,84 @@ module _ {State : Type 0} (device : Device State) where
   }
 
   -- one more chain is taken, served and given back
-  pub in_course_goes_on : (budget left left' : Budget) (start m served m' : Memory) (first queue taken queue' : Queue) (s t t' : State) (buffers : List Buffer) (entry : Entry) (len : ℕ) (any : Bool)
-      → IsInCourse device budget left start m first queue s t → ¬ IsSpent left → left' ≡ less_chain left buffers → device.takes t ≡ true
+  pub in_course_goes_on : (budget left left' : Budget) (start m served m' : Memory)
+      (first queue taken queue' : Queue) (s t t' : State) (buffers : List Buffer) (entry : Entry)
+      (len : ℕ) (any : Bool)
+      → IsInCourse device budget left start m first queue s t → ¬ IsSpent left
+      → left' ≡ less_chain left buffers → device.takes t ≡ true
       → queue_kind.offers m queue ≡ true → queue_kind.Offers m queue buffers entry → taken ≡ queue
       → Does device m served buffers t t' len any
       → m' ≡ queue_kind.used served taken entry len any → queue' ≡ queue_kind.past taken entry
       → SameRange m served → SameRange served m' → LiesIn m' queue' → made_as queue' ≡ made_as taken
       → IsInCourse device budget left' start m' first queue' s t'
-  in_course_goes_on budget left left' start m served m' first queue taken queue' s t t' buffers entry len any h some spends takes offers offered same does used past range range' lies made = record {
-    piece = piece_goes_on queue_kind device budget left left' (site_at start first s) m served m' queue queue' t t' buffers entry len any
-        h.piece some spends takes offers offered does
-        (used ∙ ap (λ q. queue_kind.used served q entry len any) same) (past ∙ ap (λ q. queue_kind.past q entry) same);
-    range = same_trans start m m' h.range (same_trans m served m' range range');
-    lies = lies;
-    made = made ∙ ap made_as same ∙ h.made;
-  }
+  in_course_goes_on budget left left' start m served m' first queue taken queue' s t t' buffers entry len any
+      h some spends takes offers offered same does used past range range' lies made = record {
+        piece = piece_goes_on queue_kind device budget left left' (site_at start first s) m served m' queue queue'
+            t t' buffers entry len any
+            h.piece some spends takes offers offered does
+            (used ∙ ap (λ q. queue_kind.used served q entry len any) same) (past
+            ∙ ap (λ q. queue_kind.past q entry) same);
+        range = same_trans start m m' h.range (same_trans m served m' range range');
+        lies = lies;
+        made = made ∙ ap made_as same ∙ h.made;
+      }
 
   -- no chain is taken, or none is on offer
   not_taken : (t : State) (offers : Bool) → device.takes t ≡ false → (device.takes t && offers) ≡ false
   not_taken t offers e = rw e refl
 
-  not_offered : (t : State) (offers : Bool) → device.takes t ≡ true → offers ≡ false → (device.takes t && offers) ≡ false
+  not_offered : (t : State) (offers : Bool) → device.takes t ≡ true → offers ≡ false
+      → (device.takes t && offers) ≡ false
   not_offered t offers e f = rw (e, f) refl
 
-  pub stops_unwanted : (budget left : Budget) (start m : Memory) (first queue : Queue) (s t : State) → IsInCourse device budget left start m first queue s t
+  pub stops_unwanted : (budget left : Budget) (start m : Memory) (first queue : Queue) (s t : State)
+      → IsInCourse device budget left start m first queue s t
       → device.takes t ≡ false → Stops device budget (site_at start first s) (site_at m queue t) (End None)
   stops_unwanted budget left start m first queue s t h none =
-      piece_runs_out queue_kind device budget left (site_at start first s) m queue queue t h.piece (not_taken t (queue_kind.offers m queue) none) refl
+      piece_runs_out queue_kind device budget left (site_at start first s) m queue queue t h.piece
+      (not_taken t (queue_kind.offers m queue) none) refl
 
-  pub stops_spent : (budget left : Budget) (start m : Memory) (first queue last : Queue) (s t : State) → IsInCourse device budget left start m first queue s t
-      → device.takes t ≡ true → queue_kind.offers m queue ≡ false → last ≡ queue → Stops device budget (site_at start first s) (site_at m last t) (End None)
+  pub stops_spent : (budget left : Budget) (start m : Memory) (first queue last : Queue) (s t : State)
+      → IsInCourse device budget left start m first queue s t
+      → device.takes t ≡ true → queue_kind.offers m queue ≡ false → last ≡ queue
+      → Stops device budget (site_at start first s) (site_at m last t) (End None)
   stops_spent budget left start m first queue last s t h takes none same =
-      piece_runs_out queue_kind device budget left (site_at start first s) m queue last t h.piece (not_offered t (queue_kind.offers m queue) takes none) same
+      piece_runs_out queue_kind device budget left (site_at start first s) m queue last t h.piece
+      (not_offered t (queue_kind.offers m queue) takes none) same
 
   -- the chain on offer has a fault
-  pub stops_by_fault : (budget left : Budget) (start m : Memory) (first queue last : Queue) (s t : State) (fault : Fault) → IsInCourse device budget left start m first queue s t
-      → device.takes t ≡ true → queue_kind.offers m queue ≡ true → queue_kind.HasFault m queue fault → last ≡ queue_kind.stopped queue
+  pub stops_by_fault : (budget left : Budget) (start m : Memory) (first queue last : Queue) (s t : State)
+      (fault : Fault) → IsInCourse device budget left start m first queue s t
+      → device.takes t ≡ true → queue_kind.offers m queue ≡ true → queue_kind.HasFault m queue fault
+      → last ≡ queue_kind.stopped queue
       → Stops device budget (site_at start first s) (site_at m last t) (End (Some fault))
   stops_by_fault budget left start m first queue last s t fault h takes offers has same =
-      piece_runs_into queue_kind device budget left (site_at start first s) m queue last t fault h.piece (both (device.takes t) (queue_kind.offers m queue) takes offers) has same
+      piece_runs_into queue_kind device budget left (site_at start first s) m queue last t fault h.piece
+      (both (device.takes t) (queue_kind.offers m queue) takes offers) has same
 
   -- nothing is left of the budget
-  pub stops_paused : (budget left : Budget) (start m : Memory) (first queue last : Queue) (s t : State) (buffers : List Buffer) (entry : Entry) → IsInCourse device budget left start m first queue s t
-      → IsSpent left → device.takes t ≡ true → queue_kind.offers m queue ≡ true → queue_kind.Offers m queue buffers entry → last ≡ queue
+  pub stops_paused : (budget left : Budget) (start m : Memory) (first queue last : Queue) (s t : State)
+      (buffers : List Buffer) (entry : Entry) → IsInCourse device budget left start m first queue s t
+      → IsSpent left → device.takes t ≡ true → queue_kind.offers m queue ≡ true
+      → queue_kind.Offers m queue buffers entry → last ≡ queue
       → Stops device budget (site_at start first s) (site_at m last t) Pause
   stops_paused budget left start m first queue last s t buffers entry h spent takes offers offered same =
-      piece_pauses queue_kind device budget left (site_at start first s) m queue last t buffers entry h.piece spent (both (device.takes t) (queue_kind.offers m queue) takes offers) offered same
+      piece_pauses queue_kind device budget left (site_at start first s) m queue last t buffers entry h.piece
+      spent (both (device.takes t) (queue_kind.offers m queue) takes offers) offered same
 
   -- the device leaves it on offer
-  pub left_at : {E : Type 0} (Refuses : State → Memory → List Buffer → E → Type 0) (budget left : Budget) (start m m' : Memory) (first queue last : Queue) (s t t' : State) (buffers : List Buffer) (token : Token) (why : E) → IsInCourse device budget left start m first queue s t
-      → device.takes t ≡ true → queue_kind.offers m queue ≡ true → queue_kind.Offers m queue buffers (entry_of token) → IsTaken queue token → Good m buffers
+  pub left_at : {E : Type 0} (Refuses : State → Memory → List Buffer → E → Type 0) (budget left : Budget)
+      (start m m' : Memory) (first queue last : Queue) (s t t' : State) (buffers : List Buffer)
+      (token : Token) (why : E) → IsInCourse device budget left start m first queue s t
+      → device.takes t ≡ true → queue_kind.offers m queue ≡ true
+      → queue_kind.Offers m queue buffers (entry_of token) → IsTaken queue token → Good m buffers
       → Refuses t m buffers why → m' ≡ m → t' ≡ t → last ≡ queue
-      → IsLeftAt device Refuses budget (site_at start first s) (site_at m' last t') buffers (record { token = token; why = why })
-  left_at {E} Refuses budget left start m m' first queue last s t t' buffers token why h takes offers offered named good refuses unwritten kept same =
-      let here : IsLeftAt device Refuses budget (site_at start first s) (site_at m queue t) buffers (record { token = token; why = why }) = record {
+      → IsLeftAt device Refuses budget (site_at start first s) (site_at m' last t') buffers
+      (record { token = token; why = why })
+  left_at {E} Refuses budget left start m m' first queue last s t t' buffers token why h takes offers offered
+      named good refuses unwritten kept same =
+      let here : IsLeftAt device Refuses budget (site_at start first s) (site_at m queue t) buffers
+      (record { token = token; why = why }) = record {
         course = h.piece.course;
         within = h.piece.within;
         ready = both (device.takes t) (queue_kind.offers m queue) takes offers;

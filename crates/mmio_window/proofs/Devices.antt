@@ -1,4 +1,5 @@
--- A window stays that of its device: whatever is written to it and however its queues are served, its kind and the
+-- A window stays that of its device: whatever is written to it and however its queues are served, its kind
+-- and the
 -- features that it offers stay.
 use Rattle.std.proofs.Common.{◌≡◌, ◌==◌, ◌∙◌, ℕ, Bool, true, false, Option, Some, None, refl, subst, sym}
 use Rattle.std.specs.Prelude.{◌&&◌, if◌then◌else◌, nat_lt}
@@ -40,44 +41,55 @@ KeepsDevice-self : (w : WindowState) → KeepsDevice w w
 KeepsDevice-self w = record { kind = refl; offered = refl }
 
 KeepsDevice-trans : (a b c : WindowState) → KeepsDevice a b → KeepsDevice b c → KeepsDevice a c
-KeepsDevice-trans a b c first second = record { kind = second.kind ∙ first.kind; offered = second.offered ∙ first.offered }
+KeepsDevice-trans a b c first second =
+    record { kind = second.kind ∙ first.kind; offered = second.offered ∙ first.offered }
 
 KeepsDevice-at : (a b c : WindowState) → c ≡ b → KeepsDevice a b → KeepsDevice a c
 KeepsDevice-at a b c is keeps = subst (KeepsDevice a) (sym is) keeps
 
 -- ---- registers
 
-with_registers_kept : (queue : Option QueueIndex) (change : QueueRegisters → QueueRegisters) (w : WindowState) → KeepsDevice w (with_registers_in queue change w)
+with_registers_kept : (queue : Option QueueIndex) (change : QueueRegisters → QueueRegisters) (w : WindowState)
+    → KeepsDevice w (with_registers_in queue change w)
 with_registers_kept None change w = KeepsDevice-self w
 with_registers_kept (Some Queue0) change w = record { kind = refl; offered = refl }
 with_registers_kept (Some Queue1) change w = record { kind = refl; offered = refl }
 
-status_kept : (zero_written : Bool) (s : NegotiationState) (status : ℕ) → (if zero_written then fresh s.offered else record s { status = status }).offered ≡ s.offered
+status_kept : (zero_written : Bool) (s : NegotiationState) (status : ℕ)
+    → (if zero_written then fresh s.offered else record s { status = status }).offered ≡ s.offered
 status_kept true s status = refl
 status_kept false s status = refl
 
-features_kept : (stands : Bool) (s : NegotiationState) (accepted : ℕ) → (if stands then s else record s { accepted = accepted }).offered ≡ s.offered
+features_kept : (stands : Bool) (s : NegotiationState) (accepted : ℕ)
+    → (if stands then s else record s { accepted = accepted }).offered ≡ s.offered
 features_kept true s accepted = refl
 features_kept false s accepted = refl
 
-status_by_test : (zero_written : Bool) (w : WindowState) (n : NegotiationState) → n.offered ≡ w.negotiation.offered
+status_by_test : (zero_written : Bool) (w : WindowState) (n : NegotiationState)
+    → n.offered ≡ w.negotiation.offered
     → KeepsDevice w (if zero_written then reset w else record w { negotiation = n })
 status_by_test true w n same = record { kind = refl; offered = refl }
 status_by_test false w n same = record { kind = refl; offered = same }
 
-register_kept : (register : Register) (value : ℕ) (m : Memory) (w : WindowState) → KeepsDevice w (register_written register value m w)
+register_kept : (register : Register) (value : ℕ) (m : Memory) (w : WindowState)
+    → KeepsDevice w (register_written register value m w)
 register_kept register value m w =
     written_by_cases (KeepsDevice w) value m w
-    (λ (r : Register). with_registers_kept (queue_of w.kind w.queue_sel) (queue_written r value m w.negotiation) w)
-    (status_by_test (value == 0) w (with_status_written value w.negotiation) (status_kept (value == 0) w.negotiation _))
+    (λ (r : Register). with_registers_kept (queue_of w.kind w.queue_sel)
+    (queue_written r value m w.negotiation) w)
+    (status_by_test (value == 0) w (with_status_written value w.negotiation)
+    (status_kept (value == 0) w.negotiation _))
     (record {
       kind = refl;
-      offered = features_kept (has w.negotiation.status features_ok) w.negotiation (with_feature_word w.driver_features_sel value w.negotiation.accepted);
+      offered = features_kept (has w.negotiation.status features_ok) w.negotiation
+          (with_feature_word w.driver_features_sel value w.negotiation.accepted);
     })
-    (λ (device_sel driver_sel queue_sel shm_sel : ℕ) (interrupts : Interrupts). record { kind = refl; offered = refl })
+    (λ (device_sel driver_sel queue_sel shm_sel : ℕ) (interrupts : Interrupts).
+    record { kind = refl; offered = refl })
     (KeepsDevice-self w) register
 
-by_register : (register : Option Register) (value : ℕ) (m : Memory) (w : WindowState) → KeepsDevice w (option_map_or (λ r. register_written r value m w) register w)
+by_register : (register : Option Register) (value : ℕ) (m : Memory) (w : WindowState)
+    → KeepsDevice w (option_map_or (λ r. register_written r value m w) register w)
 by_register None value m w = KeepsDevice-self w
 by_register (Some register) value m w = register_kept register value m w
 
@@ -87,23 +99,28 @@ by_access true register value m w = by_register register value m w
 by_access false register value m w = KeepsDevice-self w
 
 -- a write keeps it
-pub KeepsDevice-written : (offset width value : ℕ) (m : Memory) (w : WindowState) → KeepsDevice w (written offset width value m w)
-KeepsDevice-written offset width value m w = by_access (nat_lt offset configuration_offset && width == 4) (register_at offset) value m w
+pub KeepsDevice-written : (offset width value : ℕ) (m : Memory) (w : WindowState)
+    → KeepsDevice w (written offset width value m w)
+KeepsDevice-written offset width value m w =
+    by_access (nat_lt offset configuration_offset && width == 4) (register_at offset) value m w
 
 -- ---- the device's events
 
 changed_kept : (changes ready : Bool) (w : WindowState)
-    → KeepsDevice w (if changes && ready then with_config_interrupt (with_generation_counted w) else if changes then with_generation_counted w else w)
+    → KeepsDevice w (if changes && ready then with_config_interrupt (with_generation_counted w) else if
+    changes then with_generation_counted w else w)
 changed_kept true true w = record { kind = refl; offered = refl }
 changed_kept true false w = record { kind = refl; offered = refl }
 changed_kept false ready w = KeepsDevice-self w
 
 -- a change of the configuration keeps it
 pub KeepsDevice-config_changed : (w : WindowState) → KeepsDevice w (with_config_changed w)
-KeepsDevice-config_changed w = changed_kept (configuration_changes w.kind) (has w.negotiation.status driver_ok) w
+KeepsDevice-config_changed w =
+    changed_kept (configuration_changes w.kind) (has w.negotiation.status driver_ok) w
 
 with_ring_kept : (q : ℕ) (w : WindowState) (ring : Queue) → KeepsDevice w (with_ring q w ring)
-with_ring_kept q w ring = with_registers_kept (queue_of w.kind q) (λ registers. record registers { ring = Some ring }) w
+with_ring_kept q w ring =
+    with_registers_kept (queue_of w.kind q) (λ registers. record registers { ring = Some ring }) w
 
 used_kept : (wanted : Bool) (w : WindowState) → KeepsDevice w (if wanted then with_used_interrupt w else w)
 used_kept true w = record { kind = refl; offered = refl }
@@ -114,7 +131,8 @@ ending_kept Spent w = KeepsDevice-self w
 ending_kept (Faulted fault) w = record { kind = refl; offered = refl }
 ending_kept Refused w = KeepsDevice-self w
 
-service_kept : (q : ℕ) (ending : Ending) (wanted : Bool) (w : WindowState) (last : Queue) → KeepsDevice w (after_service ending wanted (with_ring q w last))
+service_kept : (q : ℕ) (ending : Ending) (wanted : Bool) (w : WindowState) (last : Queue)
+    → KeepsDevice w (after_service ending wanted (with_ring q w last))
 service_kept q ending wanted w last =
     let ring = with_ring q w last in
     let used : WindowState = if wanted then with_used_interrupt ring else ring in
@@ -123,21 +141,35 @@ service_kept q ending wanted w last =
 
 module _ {State : Type 0} (device : Device State) (budget : Budget) (q : ℕ) where
   -- a piece of a service keeps it
-  pub KeepsDevice-served : (stage : Stage) (queue : Option Queue) (progress : Progress) (old new : Memory) (before after : WindowState) (s s' : State)
+  pub KeepsDevice-served : (stage : Stage) (queue : Option Queue) (progress : Progress) (old new : Memory)
+      (before after : WindowState) (s s' : State)
       → ServesTo stage device budget q queue progress old new before after s s' → KeepsDevice before after
-  KeepsDevice-served First None Done old new before after s s' h = KeepsDevice-at before before after h.notified.1.window (KeepsDevice-self before)
-  KeepsDevice-served First (Some queue) Done old new before after s s' h = KeepsDevice-at before _ after h.notified.window (service_kept q h.ending h.notified.wanted before h.notified.last)
+  KeepsDevice-served First None Done old new before after s s' h =
+      KeepsDevice-at before before after h.notified.1.window (KeepsDevice-self before)
+  KeepsDevice-served First (Some queue) Done old new before after s s' h =
+      KeepsDevice-at before _ after h.notified.window
+      (service_kept q h.ending h.notified.wanted before h.notified.last)
   KeepsDevice-served First None More old new before after s s' h = absurd h
-  KeepsDevice-served First (Some queue) More old new before after s s' h = KeepsDevice-at before _ after h.window (with_ring_kept q before h.last)
-  KeepsDevice-served Next None Done old new before after s s' h = KeepsDevice-at before before after h.finished.1.window (KeepsDevice-self before)
-  KeepsDevice-served Next (Some queue) Done old new before after s s' h = KeepsDevice-at before _ after h.finished.window (service_kept q h.ending h.finished.wanted before h.finished.last)
+  KeepsDevice-served First (Some queue) More old new before after s s' h =
+      KeepsDevice-at before _ after h.window (with_ring_kept q before h.last)
+  KeepsDevice-served Next None Done old new before after s s' h =
+      KeepsDevice-at before before after h.finished.1.window (KeepsDevice-self before)
+  KeepsDevice-served Next (Some queue) Done old new before after s s' h =
+      KeepsDevice-at before _ after h.finished.window
+      (service_kept q h.ending h.finished.wanted before h.finished.last)
   KeepsDevice-served Next None More old new before after s s' h = absurd h
-  KeepsDevice-served Next (Some queue) More old new before after s s' h = KeepsDevice-at before _ after h.window (with_ring_kept q before h.last)
+  KeepsDevice-served Next (Some queue) More old new before after s s' h =
+      KeepsDevice-at before _ after h.window (with_ring_kept q before h.last)
 
   -- and one that is refused
-  pub KeepsDevice-refused : (stage : Stage) (queue : Option Queue) (old new : Memory) (before after : WindowState) (s s' : State)
+  pub KeepsDevice-refused : (stage : Stage) (queue : Option Queue) (old new : Memory)
+      (before after : WindowState) (s s' : State)
       → IsRefusedAt stage device budget q queue old new before after s s' → KeepsDevice before after
-  KeepsDevice-refused First None old new before after s s' h = KeepsDevice-at before before after h.1.window (KeepsDevice-self before)
-  KeepsDevice-refused First (Some queue) old new before after s s' h = KeepsDevice-at before _ after h.window (service_kept q Refused h.wanted before h.last)
-  KeepsDevice-refused Next None old new before after s s' h = KeepsDevice-at before before after h.1.window (KeepsDevice-self before)
-  KeepsDevice-refused Next (Some queue) old new before after s s' h = KeepsDevice-at before _ after h.window (service_kept q Refused h.wanted before h.last)
+  KeepsDevice-refused First None old new before after s s' h =
+      KeepsDevice-at before before after h.1.window (KeepsDevice-self before)
+  KeepsDevice-refused First (Some queue) old new before after s s' h =
+      KeepsDevice-at before _ after h.window (service_kept q Refused h.wanted before h.last)
+  KeepsDevice-refused Next None old new before after s s' h =
+      KeepsDevice-at before before after h.1.window (KeepsDevice-self before)
+  KeepsDevice-refused Next (Some queue) old new before after s s' h =
+      KeepsDevice-at before _ after h.window (service_kept q Refused h.wanted before h.last)

@@ -25,12 +25,15 @@ use Rattle.mmio_window.proofs.Stages.{ends_at, ends_to, pauses_to, refused_to}
 module _ {State : Type 0} (device : Device State) (stage : Stage) (budget : Budget) (q : ℕ) where
   serves_at : (queue last : Queue) (left : Left) (m m' : Memory) (w : WindowState) (s s' : State)
       → LeavesQueue device stage budget (site_at m queue s) (site_at m' last s') left
-      → ServesTo stage device budget q (Some queue) (progress_of left) m m' w (shown left (with_ring q w last)) s s'
+      → ServesTo stage device budget q (Some queue) (progress_of left) m m' w
+      (shown left (with_ring q w last)) s s'
   serves_at queue last Open m m' w s s' h = pauses_to device budget q queue last m m' w s s' stage h
-  serves_at queue last (Closed fault wanted) m m' w s s' h = ends_to device budget q queue last m m' w s s' stage (ending_of fault) wanted h
+  serves_at queue last (Closed fault wanted) m m' w s s' h =
+      ends_to device budget q queue last m m' w s s' stage (ending_of fault) wanted h
 
   -- the queue that the window lends, and what it then shows
-  pub serves_to : (found : Option Queue) (queue last : Queue) (left : Left) (progress : Progress) (m m' : Memory) (w w' : WindowState) (s s' : State)
+  pub serves_to : (found : Option Queue) (queue last : Queue) (left : Left) (progress : Progress)
+      (m m' : Memory) (w w' : WindowState) (s s' : State)
       → Some queue ≡ found → progress ≡ progress_of left → w' ≡ shown left (with_ring q w last)
       → LeavesQueue device stage budget (site_at m queue s) (site_at m' last s') left
       → ServesTo stage device budget q found progress m m' w w' s s'
@@ -39,16 +42,22 @@ module _ {State : Type 0} (device : Device State) (stage : Stage) (budget : Budg
       (rw (told, shows) (serves_at queue last left m m' w s s' h))
 
   -- the same of a queue that is closed where the device left a chain on offer, since it had no memory for it
-  pub refuses_to : {E : Type 0} (Refuses : State → Memory → List Buffer → E → Type 0) (found : Option Queue) (queue stood last : Queue) (m m' m'' : Memory) (w w' : WindowState) (s s' : State)
+  pub refuses_to : {E : Type 0} (Refuses : State → Memory → List Buffer → E → Type 0) (found : Option Queue)
+      (queue stood last : Queue) (m m' m'' : Memory) (w w' : WindowState) (s s' : State)
       (buffers : List Buffer) (refused : left.Refused E) (wanted : Bool)
-      → ((s : State) (m : Memory) (buffers : List Buffer) (why : E) → Refuses s m buffers why → device.LacksMemory s (readable_of m buffers) (length (writable_of buffers)))
-      → Some queue ≡ found → RefusesAt device Refuses stage budget (site_at m queue s) (site_at m' stood s') buffers refused
-      → m'' ≡ queue_kind.closed m' stood → last ≡ queue_kind.shut stood → (IsTrue wanted ↔ queue_kind.Wants m'' stood)
+      → ((s : State) (m : Memory) (buffers : List Buffer) (why : E) → Refuses s m buffers why
+      → device.LacksMemory s (readable_of m buffers) (length (writable_of buffers)))
+      → Some queue ≡ found → RefusesAt device Refuses stage budget (site_at m queue s)
+      (site_at m' stood s') buffers refused
+      → m'' ≡ queue_kind.closed m' stood → last ≡ queue_kind.shut stood
+      → (IsTrue wanted ↔ queue_kind.Wants m'' stood)
       → w' ≡ shown (Closed None wanted) (with_ring q w last)
       → IsRefusedAt stage device budget q found m m'' w w' s s'
-  refuses_to {E} Refuses found queue stood last m m' m'' w w' s s' buffers refused wanted lacks is h closes shuts wants shows =
+  refuses_to {E} Refuses found queue stood last m m' m'' w w' s s' buffers refused wanted lacks is h closes
+      shuts wants shows =
       let left = h.left in
-      let runs : RunsWithin queue_kind device budget (site_at m (opened_at stage m queue) s) Refused (site_at m' stood s') = record {
+      let runs : RunsWithin queue_kind device budget (site_at m (opened_at stage m queue) s) Refused
+      (site_at m' stood s') = record {
         runs = record {
           chains = left.course.chains;
           at = site_at m' stood s';
@@ -65,15 +74,21 @@ module _ {State : Type 0} (device : Device State) (stage : Stage) (budget : Budg
         within = left.within;
       } in
       let ends : EndsAt stage device budget (site_at m queue s) (site_at m'' last s') Refused wanted =
-      ends_at device budget stage m queue (opened_at stage m queue) s refl (site_at m'' last s') Refused wanted (sym h.opens)
-      (piece_closes queue_kind device budget (site_at m (opened_at stage m queue) s) m' m'' stood last s' Refused wanted runs closes shuts wants) in
+      ends_at device budget stage m queue (opened_at stage m queue) s refl (site_at m'' last s') Refused
+      wanted (sym h.opens)
+      (piece_closes queue_kind device budget (site_at m (opened_at stage m queue) s) m' m'' stood last s'
+      Refused wanted runs closes shuts wants) in
       subst (λ (f : Option Queue). IsRefusedAt stage device budget q f m m'' w w' s s') is
       (rw shows (refused_to device budget q queue last m m'' w s s' stage wanted ends))
 
 -- without limits it is one service
-pub whole : {State : Type 0} (device : Device State) (budget : Budget) (q : ℕ) (found : Option Queue) (progress : Progress) (m m' : Memory) (w w' : WindowState) (s t : State)
+pub whole : {State : Type 0} (device : Device State) (budget : Budget) (q : ℕ) (found : Option Queue)
+    (progress : Progress) (m m' : Memory) (w w' : WindowState) (s t : State)
     → budget.chains ≡ None → budget.bytes ≡ None
     → BeginsTo device budget q found progress m m' w w' s t → IsNotified device q found m m' w w' s t
 whole device budget q found progress m m' w w' s t chains bytes h =
     let once = never_pauses device budget q found progress m m' w w' s t chains bytes h in
-    record { ending = once.ending; notified = notified_once device budget q found once.ending m m' w w' s t once.notified }
+    record {
+      ending = once.ending;
+      notified = notified_once device budget q found once.ending m m' w w' s t once.notified;
+    }

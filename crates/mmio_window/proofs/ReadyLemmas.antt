@@ -26,22 +26,28 @@ use Rattle.mmio_window.proofs.Writes.{written_by_cases}
 -- ---- one queue
 
 -- a write to QueueReady, by what it tests
-ready_stays : (m : Memory) (features : ℕ) (old : QueueRegisters) (stops one settled : Bool) (ring : Option Queue) → old.ring ≡ ring → IsSome ring
-    → IsSome (cond stops (record old { ring = None }) (cond (one && is_none ring && settled) (record old { ring = ring_of m features old }) old)).ring
-    → cond stops (record old { ring = None }) (cond (one && is_none ring && settled) (record old { ring = ring_of m features old }) old) ≡ old
+ready_stays : (m : Memory) (features : ℕ) (old : QueueRegisters) (stops one settled : Bool)
+    (ring : Option Queue) → old.ring ≡ ring → IsSome ring
+    → IsSome (cond stops (record old { ring = None })
+    (cond (one && is_none ring && settled) (record old { ring = ring_of m features old }) old)).ring
+    → cond stops (record old { ring = None })
+    (cond (one && is_none ring && settled) (record old { ring = ring_of m features old }) old) ≡ old
 ready_stays m features old true one settled ring e was is = cc
 ready_stays m features old false false settled ring e was is = refl
 ready_stays m features old false true settled None e was is = cc
 ready_stays m features old false true settled (Some ring) e was is = refl
 
-set_up_stays : (old set : QueueRegisters) (ring : Option Queue) → IsSome ring → cond (is_some ring) old set ≡ old
+set_up_stays : (old set : QueueRegisters) (ring : Option Queue) → IsSome ring
+    → cond (is_some ring) old set ≡ old
 set_up_stays old set None was = cc
 set_up_stays old set (Some ring) was = refl
 
-queue_stays : (register : Register) (value : ℕ) (m : Memory) (n : NegotiationState) (old : QueueRegisters) → IsSome old.ring
+queue_stays : (register : Register) (value : ℕ) (m : Memory) (n : NegotiationState) (old : QueueRegisters)
+    → IsSome old.ring
     → IsSome (queue_written register value m n old).ring → queue_written register value m n old ≡ old
 queue_stays QueueReady value m n old was is =
-    ready_stays m (negotiated_of n) old (value == 0) (value == 1) (has n.status features_ok) old.ring refl was is
+    ready_stays m (negotiated_of n) old (value == 0) (value == 1) (has n.status features_ok)
+    old.ring refl was is
 queue_stays register value m n old was is = set_up_stays old (set_up register value old) old.ring was
 
 -- ---- the window
@@ -56,7 +62,8 @@ record Stays (old new : WindowState) : Type 0 where
 Stays-self : (w : WindowState) → Stays w w
 Stays-self w = record { kind = refl; generation = refl; queue_0 = λ was is. refl; queue_1 = λ was is. refl }
 
-Stays-queue_written : (register : Register) (value : ℕ) (m : Memory) (w : WindowState) (queue : Option QueueIndex)
+Stays-queue_written : (register : Register) (value : ℕ) (m : Memory) (w : WindowState)
+    (queue : Option QueueIndex)
     → Stays w (with_registers_in queue (queue_written register value m w.negotiation) w)
 Stays-queue_written register value m w None = Stays-self w
 Stays-queue_written register value m w (Some Queue0) = record {
@@ -73,11 +80,15 @@ Stays-queue_written register value m w (Some Queue1) = record {
 }
 
 Stays-status_written : (value : ℕ) (w : WindowState) (zero_written : Bool)
-    → Stays w (cond zero_written (reset w) (record w { negotiation = with_status_written value w.negotiation }))
-Stays-status_written value w true = record { kind = refl; generation = refl; queue_0 = λ was is. cc; queue_1 = λ was is. cc }
-Stays-status_written value w false = record { kind = refl; generation = refl; queue_0 = λ was is. refl; queue_1 = λ was is. refl }
+    → Stays w (cond zero_written (reset w)
+    (record w { negotiation = with_status_written value w.negotiation }))
+Stays-status_written value w true =
+    record { kind = refl; generation = refl; queue_0 = λ was is. cc; queue_1 = λ was is. cc }
+Stays-status_written value w false =
+    record { kind = refl; generation = refl; queue_0 = λ was is. refl; queue_1 = λ was is. refl }
 
-Stays-register_written : (register : Register) (value : ℕ) (m : Memory) (w : WindowState) → Stays w (register_written register value m w)
+Stays-register_written : (register : Register) (value : ℕ) (m : Memory) (w : WindowState)
+    → Stays w (register_written register value m w)
 Stays-register_written register value m w =
     written_by_cases (Stays w) value m w
     (λ (r : Register). Stays-queue_written r value m w (queue_of w.kind w.queue_sel))
@@ -93,8 +104,10 @@ Stays-written true None value m w = Stays-self w
 Stays-written true (Some register) value m w = Stays-register_written register value m w
 Stays-written false register value m w = Stays-self w
 
-stays_by_cases : (queue queue' : Option QueueIndex) (w w' : WindowState) (old new : QueueRegisters) → Stays w w' → queue' ≡ queue
-    → registers_in queue w ≡ Some old → IsSome old.ring → registers_in queue' w' ≡ Some new → IsSome new.ring → new ≡ old
+stays_by_cases : (queue queue' : Option QueueIndex) (w w' : WindowState) (old new : QueueRegisters)
+    → Stays w w' → queue' ≡ queue
+    → registers_in queue w ≡ Some old → IsSome old.ring → registers_in queue' w' ≡ Some new
+    → IsSome new.ring → new ≡ old
 stays_by_cases None queue' w w' old new s same e was e' is = cc
 stays_by_cases (Some Queue0) queue' w w' old new s same e was e' is =
     let o : w.queue_0 ≡ old = cc in
@@ -110,17 +123,20 @@ stays_by_cases (Some Queue1) queue' w w' old new s same e was e' is =
 pub ready_queue_stays : ReadyQueueStays
 ready_queue_stays offset width value m w q old new e was e' is =
     let s = Stays-written (nat_lt offset configuration_offset && width == 4) (register_at offset) value m w in
-    stays_by_cases (queue_of w.kind q) (queue_of (written offset width value m w).kind q) w (written offset width value m w) old new s
+    stays_by_cases (queue_of w.kind q) (queue_of (written offset width value m w).kind q) w
+    (written offset width value m w) old new s
     (rw s.kind refl) e was e' is
 
 pub generation_stays : GenerationStays
 generation_stays offset width value m w =
-    (Stays-written (nat_lt offset configuration_offset && width == 4) (register_at offset) value m w).generation
+    (Stays-written (nat_lt offset configuration_offset && width == 4) (register_at offset)
+    value m w).generation
 
 -- ---- a queue that outlasts a write
 
 -- a write to a register of a queue, other than QueueReady
-queue_held : (register : Register) (value : ℕ) (m : Memory) (n : NegotiationState) (old : QueueRegisters) → stops_queues register ≡ false
+queue_held : (register : Register) (value : ℕ) (m : Memory) (n : NegotiationState) (old : QueueRegisters)
+    → stops_queues register ≡ false
     → IsSome old.ring → queue_written register value m n old ≡ old
 queue_held QueueReady value m n old stops was = cc
 queue_held register value m n old stops was = set_up_stays old (set_up register value old) old.ring was
@@ -135,37 +151,60 @@ record Holds (old new : WindowState) : Type 0 where
 Holds-self : (w : WindowState) → Holds w w
 Holds-self w = record { kind = refl; live = refl; queue_0 = λ was. refl; queue_1 = λ was. refl }
 
-Holds-queue : (register : Register) (value : ℕ) (m : Memory) (w : WindowState) (queue : Option QueueIndex) → stops_queues register ≡ false
+Holds-queue : (register : Register) (value : ℕ) (m : Memory) (w : WindowState) (queue : Option QueueIndex)
+    → stops_queues register ≡ false
     → Holds w (with_registers_in queue (queue_written register value m w.negotiation) w)
 Holds-queue register value m w None stops = Holds-self w
 Holds-queue register value m w (Some Queue0) stops =
-    record { kind = refl; live = refl; queue_0 = queue_held register value m w.negotiation w.queue_0 stops; queue_1 = λ was. refl }
+    record {
+      kind = refl;
+      live = refl;
+      queue_0 = queue_held register value m w.negotiation w.queue_0 stops;
+      queue_1 = λ was. refl;
+    }
 Holds-queue register value m w (Some Queue1) stops =
-    record { kind = refl; live = refl; queue_0 = λ was. refl; queue_1 = queue_held register value m w.negotiation w.queue_1 stops }
+    record {
+      kind = refl;
+      live = refl;
+      queue_0 = λ was. refl;
+      queue_1 = queue_held register value m w.negotiation w.queue_1 stops;
+    }
 
-live_by_test : (settled : Bool) (n : NegotiationState) (accepted : ℕ) → is_live (cond settled n (record n { accepted = accepted })) ≡ is_live n
+live_by_test : (settled : Bool) (n : NegotiationState) (accepted : ℕ)
+    → is_live (cond settled n (record n { accepted = accepted })) ≡ is_live n
 live_by_test true n accepted = refl
 live_by_test false n accepted = refl
 
-Holds-register_written : (register : Register) (value : ℕ) (m : Memory) (w : WindowState) → stops_queues register ≡ false → Holds w (register_written register value m w)
+Holds-register_written : (register : Register) (value : ℕ) (m : Memory) (w : WindowState)
+    → stops_queues register ≡ false → Holds w (register_written register value m w)
 Holds-register_written QueueReady value m w stops = cc
 Holds-register_written Status value m w stops = cc
-Holds-register_written QueueNum value m w stops = Holds-queue QueueNum value m w (queue_of w.kind w.queue_sel) refl
-Holds-register_written QueueDescLow value m w stops = Holds-queue QueueDescLow value m w (queue_of w.kind w.queue_sel) refl
-Holds-register_written QueueDescHigh value m w stops = Holds-queue QueueDescHigh value m w (queue_of w.kind w.queue_sel) refl
-Holds-register_written QueueDriverLow value m w stops = Holds-queue QueueDriverLow value m w (queue_of w.kind w.queue_sel) refl
-Holds-register_written QueueDriverHigh value m w stops = Holds-queue QueueDriverHigh value m w (queue_of w.kind w.queue_sel) refl
-Holds-register_written QueueDeviceLow value m w stops = Holds-queue QueueDeviceLow value m w (queue_of w.kind w.queue_sel) refl
-Holds-register_written QueueDeviceHigh value m w stops = Holds-queue QueueDeviceHigh value m w (queue_of w.kind w.queue_sel) refl
+Holds-register_written QueueNum value m w stops =
+    Holds-queue QueueNum value m w (queue_of w.kind w.queue_sel) refl
+Holds-register_written QueueDescLow value m w stops =
+    Holds-queue QueueDescLow value m w (queue_of w.kind w.queue_sel) refl
+Holds-register_written QueueDescHigh value m w stops =
+    Holds-queue QueueDescHigh value m w (queue_of w.kind w.queue_sel) refl
+Holds-register_written QueueDriverLow value m w stops =
+    Holds-queue QueueDriverLow value m w (queue_of w.kind w.queue_sel) refl
+Holds-register_written QueueDriverHigh value m w stops =
+    Holds-queue QueueDriverHigh value m w (queue_of w.kind w.queue_sel) refl
+Holds-register_written QueueDeviceLow value m w stops =
+    Holds-queue QueueDeviceLow value m w (queue_of w.kind w.queue_sel) refl
+Holds-register_written QueueDeviceHigh value m w stops =
+    Holds-queue QueueDeviceHigh value m w (queue_of w.kind w.queue_sel) refl
 Holds-register_written DriverFeatures value m w stops = record {
   kind = refl;
-  live = live_by_test (has w.negotiation.status features_ok) w.negotiation (with_feature_word w.driver_features_sel value w.negotiation.accepted);
+  live = live_by_test (has w.negotiation.status features_ok) w.negotiation
+      (with_feature_word w.driver_features_sel value w.negotiation.accepted);
   queue_0 = λ was. refl;
   queue_1 = λ was. refl;
 }
-Holds-register_written register value m w stops = record { kind = refl; live = refl; queue_0 = λ was. refl; queue_1 = λ was. refl }
+Holds-register_written register value m w stops =
+    record { kind = refl; live = refl; queue_0 = λ was. refl; queue_1 = λ was. refl }
 
-Holds-written : (answered : Bool) (register : Option Register) (value : ℕ) (m : Memory) (w : WindowState) → option_map_or stops_queues register false ≡ false
+Holds-written : (answered : Bool) (register : Option Register) (value : ℕ) (m : Memory) (w : WindowState)
+    → option_map_or stops_queues register false ≡ false
     → Holds w (cond answered (option_map_or (λ r. register_written r value m w) register w) w)
 Holds-written true None value m w stops = Holds-self w
 Holds-written true (Some register) value m w stops = Holds-register_written register value m w stops
@@ -174,8 +213,10 @@ Holds-written false register value m w stops = Holds-self w
 ready_held : (queue : Option QueueIndex) (w w' : WindowState) (registers : QueueRegisters) → Holds w w'
     → registers_in queue w ≡ Some registers → IsSome registers.ring → registers_in queue w' ≡ Some registers
 ready_held None w w' registers h e is = cc
-ready_held (Some Queue0) w w' registers h e is = let o : w.queue_0 ≡ registers = cc in ap Some (h.queue_0 (rw o is) ∙ o)
-ready_held (Some Queue1) w w' registers h e is = let o : w.queue_1 ≡ registers = cc in ap Some (h.queue_1 (rw o is) ∙ o)
+ready_held (Some Queue0) w w' registers h e is = let o : w.queue_0 ≡ registers = cc in
+    ap Some (h.queue_0 (rw o is) ∙ o)
+ready_held (Some Queue1) w w' registers h e is = let o : w.queue_1 ≡ registers = cc in
+    ap Some (h.queue_1 (rw o is) ∙ o)
 
 some_ring : (ring : Option Queue) (queue : Queue) → ring ≡ Some queue → IsSome ring
 some_ring None queue e = cc
@@ -186,14 +227,18 @@ served_held : (live : Bool) (queue : Option QueueIndex) (w w' : WindowState) (ri
     → cond live (option_and_then (λ registers. registers.ring) (registers_in queue w')) None ≡ Some ring
 served_held false queue w w' ring h e = absurd (cc)
 served_held true None w w' ring h e = absurd (cc)
-served_held true (Some Queue0) w w' ring h e = ap (λ (r : QueueRegisters). r.ring) (h.queue_0 (some_ring w.queue_0.ring ring e)) ∙ e
-served_held true (Some Queue1) w w' ring h e = ap (λ (r : QueueRegisters). r.ring) (h.queue_1 (some_ring w.queue_1.ring ring e)) ∙ e
+served_held true (Some Queue0) w w' ring h e =
+    ap (λ (r : QueueRegisters). r.ring) (h.queue_0 (some_ring w.queue_0.ring ring e)) ∙ e
+served_held true (Some Queue1) w w' ring h e =
+    ap (λ (r : QueueRegisters). r.ring) (h.queue_1 (some_ring w.queue_1.ring ring e)) ∙ e
 
 pub ready_queue_outlasts : ReadyQueueOutlasts
 ready_queue_outlasts offset width value m w stops =
-    let h = Holds-written (nat_lt offset configuration_offset && width == 4) (register_at offset) value m w stops in
+    let h = Holds-written (nat_lt offset configuration_offset && width == 4)
+    (register_at offset) value m w stops in
     let w' = written offset width value m w in
     record {
       ready = λ q registers e is. rw h.kind (ready_held (queue_of w.kind q) w w' registers h e is);
-      served = λ q queue e. rw (h.kind, h.live) (served_held (is_live w.negotiation) (queue_of w.kind q) w w' queue h e);
+      served = λ q queue e. rw (h.kind, h.live)
+          (served_held (is_live w.negotiation) (queue_of w.kind q) w w' queue h e);
     }

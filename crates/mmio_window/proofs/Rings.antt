@@ -23,41 +23,53 @@ pub record IsMade (m : Memory) (ring : Queue) : Type 0 where
 made_by_test : (m : Memory) (fresh : Queue) (usable : Bool) (ring : Queue) → (usable ≡ true → IsMade m fresh)
     → cond usable (Some fresh) None ≡ Some ring → IsMade m ring
 made_by_test m fresh false ring is_made made = cc
-made_by_test m fresh true ring is_made made = let same : fresh ≡ ring = cc in subst (IsMade m) same (is_made refl)
+made_by_test m fresh true ring is_made made = let same : fresh ≡ ring = cc in
+    subst (IsMade m) same (is_made refl)
 
-split_is_made : (m : Memory) (setup : Setup) (ring : Queue) → split_ring_of m setup ≡ Some ring → IsMade m ring
+split_is_made : (m : Memory) (setup : Setup) (ring : Queue)
+    → split_ring_of m setup ≡ Some ring → IsMade m ring
 split_is_made m setup ring made =
     made_by_test m (Split (new_ring setup)) (split.can_set_up m setup) ring
-    (λ usable. record { fresh = refl; lies = LiesIn-from_test m setup (split.areas_of setup.size) _ usable }) made
+    (λ usable. record { fresh = refl; lies = LiesIn-from_test m setup (split.areas_of setup.size) _ usable })
+    made
 
-packed_is_made : (m : Memory) (setup : Setup) (ring : Queue) → packed_ring_of m setup ≡ Some ring → IsMade m ring
+packed_is_made : (m : Memory) (setup : Setup) (ring : Queue)
+    → packed_ring_of m setup ≡ Some ring → IsMade m ring
 packed_is_made m setup ring made =
     made_by_test m (Packed (new_ring setup)) (packed.can_set_up m setup) ring
-    (λ usable. record { fresh = refl; lies = LiesIn-from_test m setup (packed.areas_of setup.size) _ usable }) made
+    (λ usable. record { fresh = refl; lies = LiesIn-from_test m setup (packed.areas_of setup.size) _ usable })
+    made
 
 made_by_kind : (m : Memory) (setup : Setup) (is_packed : Bool) (ring : Queue)
     → cond is_packed (packed_ring_of m setup) (split_ring_of m setup) ≡ Some ring → IsMade m ring
 made_by_kind m setup true ring made = packed_is_made m setup ring made
 made_by_kind m setup false ring made = split_is_made m setup ring made
 
-pub is_made : (m : Memory) (features : ℕ) (registers : QueueRegisters) (ring : Queue) → ring_of m features registers ≡ Some ring → IsMade m ring
-is_made m features registers ring made = made_by_kind m (setup_of features registers) (has features ring_packed) ring made
+pub is_made : (m : Memory) (features : ℕ) (registers : QueueRegisters) (ring : Queue)
+    → ring_of m features registers ≡ Some ring → IsMade m ring
+is_made m features registers ring made =
+    made_by_kind m (setup_of features registers) (has features ring_packed) ring made
 
 -- in a memory of the same range the same rings are made
-pub ring_of-same : (m m' : Memory) (features : ℕ) (registers : QueueRegisters) → SameRange m m' → ring_of m' features registers ≡ ring_of m features registers
+pub ring_of-same : (m m' : Memory) (features : ℕ) (registers : QueueRegisters) → SameRange m m'
+    → ring_of m' features registers ≡ ring_of m features registers
 ring_of-same m m' features registers same = rw (same.base, same.size, same.gaps) refl
 
 -- rings that were made alike have one setup
-same_setup : (ring served : RingState) → new_ring served.setup ≡ new_ring ring.setup → ring.setup ≡ served.setup
+same_setup : (ring served : RingState) → new_ring served.setup ≡ new_ring ring.setup
+    → ring.setup ≡ served.setup
 same_setup ring served same = sym (ap (λ (r : RingState). r.setup) same)
 
 -- a ring lies where another of its setup does, also once the memory's bytes have changed
-pub LiesIn-same : (m m' : Memory) (ring served : Queue) → SameRange m m' → made_as served ≡ made_as ring → LiesIn m ring → LiesIn m' served
+pub LiesIn-same : (m m' : Memory) (ring served : Queue) → SameRange m m' → made_as served ≡ made_as ring
+    → LiesIn m ring → LiesIn m' served
 LiesIn-same m m' (Split ring) (Split served) same e lies =
     let is : ring.setup ≡ served.setup = same_setup ring served cc in
-    LiesIn-from_SameRange m m' served.setup (split.areas_of served.setup.size) same (subst (split.LiesIn m) is lies)
+    LiesIn-from_SameRange m m' served.setup (split.areas_of served.setup.size) same
+    (subst (split.LiesIn m) is lies)
 LiesIn-same m m' (Packed ring) (Packed served) same e lies =
     let is : ring.setup ≡ served.setup = same_setup ring served cc in
-    LiesIn-from_SameRange m m' served.setup (packed.areas_of served.setup.size) same (subst (packed.LiesIn m) is lies)
+    LiesIn-from_SameRange m m' served.setup (packed.areas_of served.setup.size) same
+    (subst (packed.LiesIn m) is lies)
 LiesIn-same m m' (Split ring) (Packed served) same e lies = cc
 LiesIn-same m m' (Packed ring) (Split served) same e lies = cc

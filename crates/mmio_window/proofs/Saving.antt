@@ -24,9 +24,11 @@ use Rattle.mmio_window.proofs.Rings.{LiesIn-same, is_made}
 -- ---- a ring
 
 -- a ring that is served so far was made as it was
-made_by_test : (of : RingState → Queue) (ring : RingState) (place pending used_count : ℕ) (reached : Bool) (to : Queue)
+made_by_test : (of : RingState → Queue) (ring : RingState) (place pending used_count : ℕ)
+    (reached : Bool) (to : Queue)
     → (kept : (r : RingState) → r.setup ≡ ring.setup → made_as (of r) ≡ made_as (of ring))
-    → option_map of (cond reached (Some (record ring { place = place; pending = pending; used_count = used_count })) None) ≡ Some to
+    → option_map of (cond reached
+    (Some (record ring { place = place; pending = pending; used_count = used_count })) None) ≡ Some to
     → made_as to ≡ made_as (of ring)
 made_by_test of ring place pending used_count false to kept e = cc
 made_by_test of ring place pending used_count true to kept e =
@@ -34,16 +36,20 @@ made_by_test of ring place pending used_count true to kept e =
     let same : of served ≡ to = cc in
     sym (ap made_as same) ∙ kept served refl
 
-made_as-served_to : (reached : Reached) (ring to : Queue) → served_to reached ring ≡ Some to → made_as to ≡ made_as ring
+made_as-served_to : (reached : Reached) (ring to : Queue) → served_to reached ring ≡ Some to
+    → made_as to ≡ made_as ring
 made_as-served_to reached (Split ring) to e =
-    made_by_test Split ring reached.place reached.pending reached.used_count _ to (λ r same. ap (λ (s : Setup). Split (new_ring s)) same) e
+    made_by_test Split ring reached.place reached.pending reached.used_count _ to
+    (λ r same. ap (λ (s : Setup). Split (new_ring s)) same) e
 made_as-served_to reached (Packed ring) to e =
-    made_by_test Packed ring reached.place reached.pending reached.used_count _ to (λ r same. ap (λ (s : Setup). Packed (new_ring s)) same) e
+    made_by_test Packed ring reached.place reached.pending reached.used_count _ to
+    (λ r same. ap (λ (s : Setup). Packed (new_ring s)) same) e
 
 -- ---- a queue
 
 -- a ring that was made anew and is served so far is the queue's
-its_ring-served : (m : Memory) (n : NegotiationState) (saved : SavedQueue) (reached : Reached) (fresh : Option Queue) (ring : Queue)
+its_ring-served : (m : Memory) (n : NegotiationState) (saved : SavedQueue) (reached : Reached)
+    (fresh : Option Queue) (ring : Queue)
     → Has n.status features_ok → ring_of m (negotiated_of n) (registers_with saved None) ≡ fresh
     → option_and_then (served_to reached) fresh ≡ Some ring
     → IsRingOf m n (registers_with saved (Some ring)) ring
@@ -57,23 +63,29 @@ its_ring-served m n saved reached (Some fresh) ring settled made e =
       lies = LiesIn-same m m fresh ring (record { base = refl; size = refl; gaps = refl }) is as_made.lies;
     }
 
-its_ring-by_test : (m : Memory) (n : NegotiationState) (saved : SavedQueue) (reached : Reached) (stands : Bool) (ring : Queue)
+its_ring-by_test : (m : Memory) (n : NegotiationState) (saved : SavedQueue) (reached : Reached)
+    (stands : Bool) (ring : Queue)
     → has n.status features_ok ≡ stands
-    → cond stands (option_and_then (served_to reached) (ring_of m (negotiated_of n) (registers_with saved None))) None ≡ Some ring
+    → cond stands (option_and_then (served_to reached)
+    (ring_of m (negotiated_of n) (registers_with saved None))) None ≡ Some ring
     → IsRingOf m n (registers_with saved (Some ring)) ring
 its_ring-by_test m n saved reached false ring is e = cc
 its_ring-by_test m n saved reached true ring is e =
-    its_ring-served m n saved reached (ring_of m (negotiated_of n) (registers_with saved None)) ring (eqb-true _ _ is) refl e
+    its_ring-served m n saved reached (ring_of m (negotiated_of n) (registers_with saved None)) ring
+    (eqb-true _ _ is) refl e
 
-registers-of_ring : (m : Memory) (n : NegotiationState) (saved : SavedQueue) (reached : Reached) (found : Option Queue) (registers : QueueRegisters)
-    → ring_reached m n saved reached ≡ found → option_map (λ ring. registers_with saved (Some ring)) found ≡ Some registers
+registers-of_ring : (m : Memory) (n : NegotiationState) (saved : SavedQueue) (reached : Reached)
+    (found : Option Queue) (registers : QueueRegisters)
+    → ring_reached m n saved reached ≡ found
+    → option_map (λ ring. registers_with saved (Some ring)) found ≡ Some registers
     → HasItsRing m n registers
 registers-of_ring m n saved reached None registers is e = cc
 registers-of_ring m n saved reached (Some ring) registers is e =
     let same : registers_with saved (Some ring) ≡ registers = cc in
     subst (HasItsRing m n) same (its_ring-by_test m n saved reached (has n.status features_ok) ring refl is)
 
-registers-at : (m : Memory) (n : NegotiationState) (saved : SavedQueue) (reached : Option Reached) (registers : QueueRegisters)
+registers-at : (m : Memory) (n : NegotiationState) (saved : SavedQueue) (reached : Option Reached)
+    (registers : QueueRegisters)
     → queue_at_reached m n saved reached ≡ Some registers → HasItsRing m n registers
 registers-at m n saved None registers e =
     let same : registers_with saved None ≡ registers = cc in
@@ -82,14 +94,16 @@ registers-at m n saved (Some reached) registers e =
     registers-of_ring m n saved reached (ring_reached m n saved reached) registers refl e
 
 -- a queue that is restored has its ring
-pub HasItsRing-restored : (m : Memory) (n : NegotiationState) (saved : SavedQueue) (registers : QueueRegisters)
+pub HasItsRing-restored : (m : Memory) (n : NegotiationState) (saved : SavedQueue)
+    (registers : QueueRegisters)
     → queue_restored m n saved ≡ Some registers → HasItsRing m n registers
 HasItsRing-restored m n saved registers e = registers-at m n saved saved.reached registers e
 
 -- ---- the window
 
 -- what was saved of a window restores it, where it does so of its parts
-pub window-back : (m : Memory) (w : WindowState) (from : SavedWindow) → from ≡ saved_window w → standing w.negotiation ≡ Some w.negotiation
+pub window-back : (m : Memory) (w : WindowState) (from : SavedWindow) → from ≡ saved_window w
+    → standing w.negotiation ≡ Some w.negotiation
     → queue_restored m w.negotiation (saved_queue w.queue_0) ≡ Some w.queue_0
     → queue_restored m w.negotiation (saved_queue w.queue_1) ≡ Some w.queue_1
     → window_restored w.kind m from ≡ Some w

@@ -1,4 +1,5 @@
--- A device whose state is seen through a function as that of another device, as an image is seen as a disk: each piece
+-- A device whose state is seen through a function as that of another device, as an image is seen as a disk:
+-- each piece
 -- of a service of the one is one of the other.
 use Rattle.std.proofs.Common.{◌≡◌, ℕ, Bool, Option, Some, None, List, refl, sym, ap, subst, ◌∙◌}
 use Rattle.std.specs.Prelude.{◌&&◌}
@@ -18,7 +19,8 @@ use Rattle.mmio_window.specs.Pieces.{ServesTo}
 use Rattle.mmio_window.specs.Queue.{queue_kind}
 use Rattle.mmio_window.specs.Window.{WindowState}
 
-module _ {S T : Type 0} (device : Device S) (other : Device T) (seen : S → T) (likewise : DoesAs device other (λ s t. t ≡ seen s)) where
+module _ {S T : Type 0} (device : Device S) (other : Device T) (seen : S
+    → T) (likewise : DoesAs device other (λ s t. t ≡ seen s)) where
   -- where it stands, with the other device's state
   abbrev at : Site Queue S → Site Queue T
   at site = moved site (seen site.state)
@@ -29,37 +31,45 @@ module _ {S T : Type 0} (device : Device S) (other : Device T) (seen : S → T) 
     serves : ServesAll queue_kind other (at start) chains (at now)
     same : chains_of chains ≡ buffers
 
-  chains_seen : (start now : Site Queue S) (chains : List (Served S)) → ServesAll queue_kind device start chains now → SeenChains start now (chains_of chains)
+  chains_seen : (start now : Site Queue S) (chains : List (Served S))
+      → ServesAll queue_kind device start chains now → SeenChains start now (chains_of chains)
   chains_seen start now chains serves =
-      let served : ServedAlike queue_kind device other (λ s t. t ≡ seen s) likewise (at start) now (chains_of chains) =
-      serves_as queue_kind device other (λ s t. t ≡ seen s) likewise start now chains (seen start.state) refl serves in
+      let served : ServedAlike queue_kind device other (λ s t. t ≡ seen s) likewise (at start) now
+      (chains_of chains) =
+      serves_as queue_kind device other (λ s t. t ≡ seen s) likewise start now chains
+      (seen start.state) refl serves in
       record {
         chains = served.chains;
-        serves = subst (λ (t : T). ServesAll queue_kind other (at start) served.chains (moved now t)) served.alike served.serves;
+        serves = subst (λ (t : T). ServesAll queue_kind other (at start) served.chains (moved now t))
+            served.alike served.serves;
         same = served.same;
       }
 
-  pub course_seen : (start now : Site Queue S) → Course queue_kind device start now → Course queue_kind other (at start) (at now)
+  pub course_seen : (start now : Site Queue S) → Course queue_kind device start now
+      → Course queue_kind other (at start) (at now)
   course_seen start now c =
       let seen = chains_seen start now c.chains c.serves in
       record { chains = seen.chains; serves = seen.serves }
 
   module _ (budget : Budget) where
-    pauses_seen : (start now : Site Queue S) → Pauses queue_kind device budget start now → Pauses queue_kind other budget (at start) (at now)
+    pauses_seen : (start now : Site Queue S) → Pauses queue_kind device budget start now
+        → Pauses queue_kind other budget (at start) (at now)
     pauses_seen start now p =
         let served = chains_seen start now p.course.chains p.course.serves in
         record {
           course = record { chains = served.chains; serves = served.serves };
           within = subst (AreWithin budget) (sym served.same) p.within;
           spent = subst (λ l. IsSpent (left_after budget l)) (sym served.same) p.spent;
-          ready = ap (λ b. b && queue_kind.offers now.memory now.ring) (likewise.takes now.state (seen now.state) refl) ∙ p.ready;
+          ready = ap (λ b. b && queue_kind.offers now.memory now.ring)
+              (likewise.takes now.state (seen now.state) refl) ∙ p.ready;
           buffers = p.buffers;
           entry = p.entry;
           offered = p.offered;
         }
 
     ends_seen : (start new : Site Queue S) (ending : Ending) (wanted : Bool)
-        → EndsWithin queue_kind device budget start new ending wanted → EndsWithin queue_kind other budget (at start) (at new) ending wanted
+        → EndsWithin queue_kind device budget start new ending wanted
+        → EndsWithin queue_kind other budget (at start) (at new) ending wanted
     ends_seen start new ending wanted p =
         let runs = p.ends.runs in
         let served = chains_seen start runs.at runs.chains runs.serves in
@@ -71,9 +81,12 @@ module _ {S T : Type 0} (device : Device S) (other : Device T) (seen : S → T) 
               chains = served.chains;
               at = at runs.at;
               serves = served.serves;
-              ends = ending_as queue_kind device other (λ s t. t ≡ seen s) likewise runs.at (seen runs.at.state) ending refl runs.ends;
-              stands = ap at runs.stands ∙ ap (λ s. moved {S = S} (stop queue_kind device runs.at ending) (seen s)) here
-                  ∙ stop_as queue_kind device other (λ s t. t ≡ seen s) likewise runs.at (seen runs.at.state) ending;
+              ends = ending_as queue_kind device other (λ s t. t ≡ seen s) likewise runs.at
+                  (seen runs.at.state) ending refl runs.ends;
+              stands = ap at runs.stands
+                  ∙ ap (λ s. moved {S = S} (stop queue_kind device runs.at ending) (seen s)) here
+                  ∙ stop_as queue_kind device other (λ s t. t ≡ seen s) likewise runs.at
+                  (seen runs.at.state) ending;
             };
             closed = ap at p.ends.closed;
             wanted_is = p.ends.wanted_is;
@@ -81,56 +94,86 @@ module _ {S T : Type 0} (device : Device S) (other : Device T) (seen : S → T) 
           within = subst (AreWithin budget) (sym served.same) p.within;
         }
 
-    begins_seen : (old now : Site Queue S) → BeginsWithin queue_kind device budget old now → BeginsWithin queue_kind other budget (at old) (at now)
-    begins_seen old now p = record { opens = p.opens; pauses = pauses_seen (open_site queue_kind device old) now p.pauses }
+    begins_seen : (old now : Site Queue S) → BeginsWithin queue_kind device budget old now
+        → BeginsWithin queue_kind other budget (at old) (at now)
+    begins_seen old now p = record {
+      opens = p.opens;
+      pauses = pauses_seen (open_site queue_kind device old) now p.pauses;
+    }
 
     service_seen : (old new : Site Queue S) (ending : Ending) (wanted : Bool)
-        → IsServiceWithin queue_kind device budget old new ending wanted → IsServiceWithin queue_kind other budget (at old) (at new) ending wanted
+        → IsServiceWithin queue_kind device budget old new ending wanted
+        → IsServiceWithin queue_kind other budget (at old) (at new) ending wanted
     service_seen old new ending wanted p =
-        let served : ServedAs queue_kind device other (λ s t. t ≡ seen s) likewise (at old) new ending wanted =
-        service_as queue_kind device other (λ s t. t ≡ seen s) likewise old new (seen old.state) ending wanted refl p.service in
+        let served : ServedAs queue_kind device other (λ s t. t ≡ seen s) likewise (at old)
+        new ending wanted =
+        service_as queue_kind device other (λ s t. t ≡ seen s) likewise old new (seen old.state) ending
+        wanted refl p.service in
         record {
-          service = subst (λ (t : T). IsService queue_kind other (at old) (moved new t) ending wanted) served.alike served.service;
+          service = subst (λ (t : T). IsService queue_kind other (at old) (moved new t) ending wanted)
+              served.alike served.service;
           within = λ opens. ends_seen (open_site queue_kind device old) new ending wanted (p.within opens);
         }
 
-    pub serves_seen : (stage : Stage) (q : ℕ) (found : Option Queue) (progress : Progress) (m m' : Memory) (w w' : WindowState) (s s' : S)
-        → ServesTo stage device budget q found progress m m' w w' s s' → ServesTo stage other budget q found progress m m' w w' (seen s) (seen s')
+    pub serves_seen : (stage : Stage) (q : ℕ) (found : Option Queue) (progress : Progress) (m m' : Memory)
+        (w w' : WindowState) (s s' : S)
+        → ServesTo stage device budget q found progress m m' w w' s s'
+        → ServesTo stage other budget q found progress m m' w w' (seen s) (seen s')
     serves_seen First q None Done m m' w w' s s' h = record {
       ending = h.ending;
-      notified = (h.notified.0, record { memory = h.notified.1.memory; window = h.notified.1.window; state = ap seen h.notified.1.state });
+      notified = (
+        h.notified.0,
+        record {
+          memory = h.notified.1.memory;
+          window = h.notified.1.window;
+          state = ap seen h.notified.1.state;
+        },
+      );
     }
     serves_seen First q (Some queue) Done m m' w w' s s' h = record {
       ending = h.ending;
       notified = record {
         last = h.notified.last;
         wanted = h.notified.wanted;
-        service = service_seen (record { memory = m; ring = queue; state = s }) (record { memory = m'; ring = h.notified.last; state = s' }) h.ending h.notified.wanted h.notified.service;
+        service = service_seen (record { memory = m; ring = queue; state = s })
+            (record { memory = m'; ring = h.notified.last; state = s' }) h.ending h.notified.wanted
+            h.notified.service;
         window = h.notified.window;
       };
     }
     serves_seen First q None More m m' w w' s s' h = h
     serves_seen First q (Some queue) More m m' w w' s s' h = record {
       last = h.last;
-      begins = begins_seen (record { memory = m; ring = queue; state = s }) (record { memory = m'; ring = h.last; state = s' }) h.begins;
+      begins = begins_seen (record { memory = m; ring = queue; state = s })
+          (record { memory = m'; ring = h.last; state = s' }) h.begins;
       window = h.window;
     }
     serves_seen Next q None Done m m' w w' s s' h = record {
       ending = h.ending;
-      finished = (h.finished.0, record { memory = h.finished.1.memory; window = h.finished.1.window; state = ap seen h.finished.1.state });
+      finished = (
+        h.finished.0,
+        record {
+          memory = h.finished.1.memory;
+          window = h.finished.1.window;
+          state = ap seen h.finished.1.state;
+        },
+      );
     }
     serves_seen Next q (Some queue) Done m m' w w' s s' h = record {
       ending = h.ending;
       finished = record {
         last = h.finished.last;
         wanted = h.finished.wanted;
-        ends = ends_seen (record { memory = m; ring = queue; state = s }) (record { memory = m'; ring = h.finished.last; state = s' }) h.ending h.finished.wanted h.finished.ends;
+        ends = ends_seen (record { memory = m; ring = queue; state = s })
+            (record { memory = m'; ring = h.finished.last; state = s' }) h.ending
+            h.finished.wanted h.finished.ends;
         window = h.finished.window;
       };
     }
     serves_seen Next q None More m m' w w' s s' h = h
     serves_seen Next q (Some queue) More m m' w w' s s' h = record {
       last = h.last;
-      pauses = pauses_seen (record { memory = m; ring = queue; state = s }) (record { memory = m'; ring = h.last; state = s' }) h.pauses;
+      pauses = pauses_seen (record { memory = m; ring = queue; state = s })
+          (record { memory = m'; ring = h.last; state = s' }) h.pauses;
       window = h.window;
     }

@@ -1,4 +1,5 @@
--- Notifications of a queue: of a device that does as another does, of one whose failures didn't rise, and what
+-- Notifications of a queue: of a device that does as another does, of one whose failures didn't rise, and
+-- what
 -- one leaves that ends for want of memory.
 use Rattle.std.proofs.Common.{◌≡◌, ◌≢◌, ℕ, Bool, Option, Some, None, List, refl, sym, subst}
 use Rattle.std.specs.Prelude.{if◌then◌else◌}
@@ -12,15 +13,20 @@ use Rattle.mmio_window.specs.Serving.{Notified, ServesQueue}
 use Rattle.mmio_window.specs.Window.{WindowState, with_ring, with_used_interrupt}
 
 -- the other device is notified in the same way, and left in a like state
-pub record NotifiedAs {S T : Type 0} (other : Device T) (Alike : S → T → Type 0) (q : ℕ) (queue : Option Queue) (ending : Ending) (old new : Memory) (before after : WindowState) (s' : S) (t : T) : Type 0 where
+pub record NotifiedAs {S T : Type 0} (other : Device T) (Alike : S → T
+    → Type 0) (q : ℕ) (queue : Option Queue) (ending : Ending) (old new : Memory) (before after : WindowState)
+    (s' : S) (t : T) : Type 0 where
   pub state : T
   pub alike : Alike s' state
   pub notified : Notified other q queue ending old new before after t state
 
-module _ {S T : Type 0} (device : Device S) (other : Device T) (Alike : S → T → Type 0) (likewise : DoesAs device other Alike) where
+module _ {S T : Type 0} (device : Device S) (other : Device T) (Alike : S → T
+    → Type 0) (likewise : DoesAs device other Alike) where
   -- a notification of a device is one of each that does as it does
-  pub notified_as : (q : ℕ) (queue : Option Queue) (ending : Ending) (old new : Memory) (before after : WindowState) (s s' : S) (t : T) → Alike s t
-      → Notified device q queue ending old new before after s s' → NotifiedAs other Alike q queue ending old new before after s' t
+  pub notified_as : (q : ℕ) (queue : Option Queue) (ending : Ending) (old new : Memory)
+      (before after : WindowState) (s s' : S) (t : T) → Alike s t
+      → Notified device q queue ending old new before after s s'
+      → NotifiedAs other Alike q queue ending old new before after s' t
   notified_as q None ending old new before after s s' t alike h = record {
     state = t;
     alike = subst (λ (x : S). Alike x t) (sym h.1.state) alike;
@@ -29,7 +35,8 @@ module _ {S T : Type 0} (device : Device S) (other : Device T) (Alike : S → T 
   notified_as q (Some queue) ending old new before after s s' t alike h =
       let start : Site Queue S = record { memory = old; ring = queue; state = s } in
       let end : Site Queue S = record { memory = new; ring = h.last; state = s' } in
-      let served : ServedAs queue_kind device other Alike likewise (record { memory = old; ring = queue; state = t }) end ending h.wanted =
+      let served : ServedAs queue_kind device other Alike likewise
+      (record { memory = old; ring = queue; state = t }) end ending h.wanted =
       service_as queue_kind device other Alike likewise start end t ending h.wanted alike h.service in
       record {
         state = served.state;
@@ -40,37 +47,51 @@ module _ {S T : Type 0} (device : Device S) (other : Device T) (Alike : S → T 
 module _ {State : Type 0} (device : Device State) where
   -- a device that never lacks memory refuses nothing
   pub notified_not_refused : ((s : State) (readable : List ℕ) (w : ℕ) → device.LacksMemory s readable w → ⊥)
-      → (q : ℕ) (queue : Option Queue) (ending : Ending) (old new : Memory) (before after : WindowState) (s s' : State)
+      → (q : ℕ) (queue : Option Queue) (ending : Ending) (old new : Memory)
+      (before after : WindowState) (s s' : State)
       → Notified device q queue ending old new before after s s' → ending ≢ Refused
   notified_not_refused never q None ending old new before after s s' h e = let spent = h.0 in cc
   notified_not_refused never q (Some queue) ending old new before after s s' h e =
-      never_refused queue_kind device (record { memory = old; ring = queue; state = s }) (record { memory = new; ring = h.last; state = s' }) ending h.wanted never h.service e
+      never_refused queue_kind device (record { memory = old; ring = queue; state = s })
+      (record { memory = new; ring = h.last; state = s' }) ending h.wanted never h.service e
 
-  -- what a service leaves that ends for want of memory: the chains before are given back, their notification is
+  -- what a service leaves that ends for want of memory: the chains before are given back, their notification
+  -- is
   -- owed where it is wanted, and no reset is asked for
-  pub record RefusedServiceLeaves (q : ℕ) (queue : Queue) (old new : Memory) (before after : WindowState) (s s' : State) : Type 0 where
+  pub record RefusedServiceLeaves (q : ℕ) (queue : Queue) (old new : Memory) (before after : WindowState)
+      (s s' : State) : Type 0 where
     pub last : Queue
     pub wanted : Bool
-    pub service : IsRefusedService queue_kind device (record { memory = old; ring = queue; state = s }) (record { memory = new; ring = last; state = s' }) wanted
-    pub window : after ≡ (if wanted then with_used_interrupt (with_ring q before last) else with_ring q before last)
+    pub service : IsRefusedService queue_kind device (record { memory = old; ring = queue; state = s })
+        (record { memory = new; ring = last; state = s' }) wanted
+    pub window : after ≡ (if wanted then with_used_interrupt (with_ring q before last) else
+        with_ring q before last)
 
-  pub refused_service_leaves : (q : ℕ) (queue : Queue) (old new : Memory) (before after : WindowState) (s s' : State)
-      → ServesQueue device q queue Refused old new before after s s' → RefusedServiceLeaves q queue old new before after s s'
+  pub refused_service_leaves : (q : ℕ) (queue : Queue) (old new : Memory)
+      (before after : WindowState) (s s' : State)
+      → ServesQueue device q queue Refused old new before after s s'
+      → RefusedServiceLeaves q queue old new before after s s'
   refused_service_leaves q queue old new before after s s' h = record {
     last = h.last;
     wanted = h.wanted;
-    service = refused_service queue_kind device (record { memory = old; ring = queue; state = s }) (record { memory = new; ring = h.last; state = s' }) h.wanted h.service;
+    service = refused_service queue_kind device (record { memory = old; ring = queue; state = s })
+        (record { memory = new; ring = h.last; state = s' }) h.wanted h.service;
     window = h.window;
   }
 
-module _ {State : Type 0} (device exact : Device State) (count : State → ℕ) (is_exact : IsExactUnless device exact count) where
+module _ {State : Type 0} (device exact : Device State) (count : State
+    → ℕ) (is_exact : IsExactUnless device exact count) where
   -- where the number of failures stayed, and nothing was refused, a notification is one of the exact device
-  pub notified_exact : (q : ℕ) (queue : Option Queue) (ending : Ending) (old new : Memory) (before after : WindowState) (s s' : State) → ending ≢ Refused → count s' ≡ count s
-      → Notified device q queue ending old new before after s s' → Notified exact q queue ending old new before after s s'
+  pub notified_exact : (q : ℕ) (queue : Option Queue) (ending : Ending) (old new : Memory)
+      (before after : WindowState) (s s' : State) → ending ≢ Refused → count s' ≡ count s
+      → Notified device q queue ending old new before after s s'
+      → Notified exact q queue ending old new before after s s'
   notified_exact q None ending old new before after s s' n e h = h
   notified_exact q (Some queue) ending old new before after s s' n e h = record {
     last = h.last;
     wanted = h.wanted;
-    service = exact_service queue_kind device exact count is_exact (record { memory = old; ring = queue; state = s }) (record { memory = new; ring = h.last; state = s' }) ending h.wanted n e h.service;
+    service = exact_service queue_kind device exact count is_exact
+        (record { memory = old; ring = queue; state = s })
+        (record { memory = new; ring = h.last; state = s' }) ending h.wanted n e h.service;
     window = h.window;
   }

@@ -19,28 +19,36 @@ use Rattle.mmio_window.specs.Window.{WindowState, with_ring}
 
 -- ---- its opening
 
-module _ {State : Type 0} (device : Device State) (budget : Budget) (stage : Stage) (m : Memory) (queue opened : Queue) (s : State) (is : opened ≡ opened_at stage m queue) where
+module _ {State : Type 0} (device : Device State) (budget : Budget) (stage : Stage) (m : Memory)
+    (queue opened : Queue) (s : State) (is : opened ≡ opened_at stage m queue) where
   pub pauses_at : (now : Site Queue State) → None ≡ fault_at stage m queue
       → Pauses queue_kind device budget (record { memory = m; ring = opened; state = s }) now
       → PausesAt stage device budget (record { memory = m; ring = queue; state = s }) now
   pauses_at now none h = by_stage stage (sym none) (rw is at h)
     where
-      by_stage : (stage : Stage) → fault_at stage m queue ≡ None → Pauses queue_kind device budget (record { memory = m; ring = opened_at stage m queue; state = s }) now
+      by_stage : (stage : Stage) → fault_at stage m queue ≡ None
+          → Pauses queue_kind device budget
+          (record { memory = m; ring = opened_at stage m queue; state = s }) now
           → PausesAt stage device budget (record { memory = m; ring = queue; state = s }) now
       by_stage First opens h = record { opens = opens; pauses = h }
       by_stage Next opens h = h
 
   pub ends_at : (new : Site Queue State) (ending : Ending) (wanted : Bool) → None ≡ fault_at stage m queue
-      → EndsWithin queue_kind device budget (record { memory = m; ring = opened; state = s }) new ending wanted
+      → EndsWithin queue_kind device budget
+      (record { memory = m; ring = opened; state = s }) new ending wanted
       → EndsAt stage device budget (record { memory = m; ring = queue; state = s }) new ending wanted
   ends_at new ending wanted none h = by_stage stage none (rw is at h)
     where
-      by_stage : (stage : Stage) → None ≡ fault_at stage m queue → EndsWithin queue_kind device budget (record { memory = m; ring = opened_at stage m queue; state = s }) new ending wanted
+      by_stage : (stage : Stage) → None ≡ fault_at stage m queue
+          → EndsWithin queue_kind device budget
+          (record { memory = m; ring = opened_at stage m queue; state = s }) new ending wanted
           → EndsAt stage device budget (record { memory = m; ring = queue; state = s }) new ending wanted
       by_stage First none h = record {
         service = record {
           last = h.ends.last;
-          works = subst (λ (o : Option Fault). Works queue_kind device o (record { memory = m; ring = queue_kind.opened m queue; state = s }) ending h.ends.last) none h.ends.runs;
+          works = subst (λ (o : Option Fault). Works queue_kind device o
+              (record { memory = m; ring = queue_kind.opened m queue; state = s }) ending
+              h.ends.last) none h.ends.runs;
           closed = h.ends.closed;
           wanted_is = h.ends.wanted_is;
         };
@@ -49,46 +57,68 @@ module _ {State : Type 0} (device : Device State) (budget : Budget) (stage : Sta
       by_stage Next none h = h
 
   -- after a fault the queue is closed at once
-  pub faults_at : (new : Memory) (last : Queue) (fault : Fault) (wanted : Bool) → Some fault ≡ fault_at stage m queue
-      → new ≡ queue_kind.closed m opened → last ≡ queue_kind.shut opened → (IsTrue wanted ↔ queue_kind.Wants new opened)
-      → EndsAt stage device budget (record { memory = m; ring = queue; state = s }) (record { memory = new; ring = last; state = s }) (Faulted fault) wanted
+  pub faults_at : (new : Memory) (last : Queue) (fault : Fault) (wanted : Bool)
+      → Some fault ≡ fault_at stage m queue
+      → new ≡ queue_kind.closed m opened → last ≡ queue_kind.shut opened
+      → (IsTrue wanted ↔ queue_kind.Wants new opened)
+      → EndsAt stage device budget (record { memory = m; ring = queue; state = s })
+      (record { memory = new; ring = last; state = s }) (Faulted fault) wanted
   faults_at new last fault wanted some closes shuts wants = by_stage stage some is
     where
       by_stage : (stage : Stage) → Some fault ≡ fault_at stage m queue → opened ≡ opened_at stage m queue
-          → EndsAt stage device budget (record { memory = m; ring = queue; state = s }) (record { memory = new; ring = last; state = s }) (Faulted fault) wanted
-      by_stage First some is = fault_within queue_kind device budget m new queue opened last s fault wanted some is closes shuts wants
+          → EndsAt stage device budget (record { memory = m; ring = queue; state = s })
+          (record { memory = new; ring = last; state = s }) (Faulted fault) wanted
+      by_stage First some is = fault_within queue_kind device budget m new queue opened last s fault wanted
+          some is closes shuts wants
       by_stage Next some is = absurd (cc some)
 
 -- ---- what the window shows
 
-module _ {State : Type 0} (device : Device State) (budget : Budget) (q : ℕ) (queue last : Queue) (m m' : Memory) (w : WindowState) (s s' : State) where
+module _ {State : Type 0} (device : Device State) (budget : Budget) (q : ℕ) (queue last : Queue)
+    (m m' : Memory) (w : WindowState) (s s' : State) where
   abbrev start : Site Queue State
   start = record { memory = m; ring = queue; state = s }
 
   abbrev end : Site Queue State
   end = record { memory = m'; ring = last; state = s' }
 
-  pub pauses_to : (stage : Stage) → PausesAt stage device budget start end → ServesTo stage device budget q (Some queue) More m m' w (with_ring q w last) s s'
+  pub pauses_to : (stage : Stage) → PausesAt stage device budget start end
+      → ServesTo stage device budget q (Some queue) More m m' w (with_ring q w last) s s'
   pauses_to First h = record { last = last; begins = h; window = refl }
   pauses_to Next h = record { last = last; pauses = h; window = refl }
 
-  pub ends_to : (stage : Stage) (ending : Ending) (wanted : Bool) → EndsAt stage device budget start end ending wanted
-      → ServesTo stage device budget q (Some queue) Done m m' w (after_service ending wanted (with_ring q w last)) s s'
-  ends_to First ending wanted h = record { ending = ending; notified = record { last = last; wanted = wanted; service = h; window = refl } }
-  ends_to Next ending wanted h = record { ending = ending; finished = record { last = last; wanted = wanted; ends = h; window = refl } }
+  pub ends_to : (stage : Stage) (ending : Ending) (wanted : Bool)
+      → EndsAt stage device budget start end ending wanted
+      → ServesTo stage device budget q (Some queue) Done m m' w
+      (after_service ending wanted (with_ring q w last)) s s'
+  ends_to First ending wanted h =
+      record {
+        ending = ending;
+        notified = record { last = last; wanted = wanted; service = h; window = refl };
+      }
+  ends_to Next ending wanted h =
+      record { ending = ending; finished = record { last = last; wanted = wanted; ends = h; window = refl } }
 
   pub refused_to : (stage : Stage) (wanted : Bool) → EndsAt stage device budget start end Refused wanted
-      → IsRefusedAt stage device budget q (Some queue) m m' w (after_service Refused wanted (with_ring q w last)) s s'
+      → IsRefusedAt stage device budget q (Some queue) m m' w
+      (after_service Refused wanted (with_ring q w last)) s s'
   refused_to First wanted h = record { last = last; wanted = wanted; service = h; window = refl }
   refused_to Next wanted h = record { last = last; wanted = wanted; ends = h; window = refl }
 
 -- ---- where the count of failures stayed
 
-module _ {State : Type 0} (device exact : Device State) (count : State → ℕ) (is_exact : IsExactUnless device exact count) (budget : Budget) (old new : Site Queue State) (stood : count new.state ≡ count old.state) where
-  pub pauses_exactly : (stage : Stage) → PausesAt stage device budget old new → PausesAt stage exact budget old new
+module _ {State : Type 0} (device exact : Device State) (count : State
+    → ℕ) (is_exact : IsExactUnless device exact count) (budget : Budget) (old new : Site Queue State)
+    (stood : count new.state ≡ count old.state) where
+  pub pauses_exactly : (stage : Stage) → PausesAt stage device budget old new
+      → PausesAt stage exact budget old new
   pauses_exactly First h = begins_exact queue_kind device exact count is_exact budget old new stood h
   pauses_exactly Next h = pauses_exact queue_kind device exact count is_exact budget old new stood h
 
-  pub ends_exactly : (stage : Stage) (ending : Ending) (wanted : Bool) → ending ≢ Refused → EndsAt stage device budget old new ending wanted → EndsAt stage exact budget old new ending wanted
-  ends_exactly First ending wanted answered h = service_within_exact queue_kind device exact count is_exact budget old new ending wanted answered stood h
-  ends_exactly Next ending wanted answered h = ends_exact queue_kind device exact count is_exact budget old new ending wanted answered stood h
+  pub ends_exactly : (stage : Stage) (ending : Ending) (wanted : Bool) → ending ≢ Refused
+      → EndsAt stage device budget old new ending wanted → EndsAt stage exact budget old new ending wanted
+  ends_exactly First ending wanted answered h =
+      service_within_exact queue_kind device exact count is_exact budget old new ending
+      wanted answered stood h
+  ends_exactly Next ending wanted answered h =
+      ends_exact queue_kind device exact count is_exact budget old new ending wanted answered stood h

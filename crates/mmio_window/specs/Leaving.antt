@@ -1,4 +1,5 @@
--- How a piece of a service leaves its queue, for any device: closed, open in a pause, or open at a chain that the device
+-- How a piece of a service leaves its queue, for any device: closed, open in a pause, or open at a chain that
+-- the device
 -- leaves on offer.
 use Rattle.std.specs.Prelude.{◌≡◌, None, List, [], ◌∷◌}
 use Rattle.guest_memory.specs.Memory.{Memory}
@@ -27,18 +28,24 @@ abbrev pub site_at : {State : Type 0} → Memory → Queue → State → Site Qu
 site_at m queue state = record { memory = m; ring = queue; state = state }
 
 -- the chains of a piece
-abbrev pub Stops : {State : Type 0} → Device State → Budget → Site Queue State → Site Queue State → Stop → Type 0
+abbrev pub Stops : {State : Type 0} → Device State → Budget → Site Queue State
+    → Site Queue State → Stop → Type 0
 Stops device budget start now Pause = Pauses queue_kind device budget start now
 Stops device budget start now (End fault) = RunsWithin queue_kind device budget start (ending_of fault) now
 
 -- a piece, by how it leaves the queue
-abbrev pub LeavesQueue : {State : Type 0} → Device State → Stage → Budget → Site Queue State → Site Queue State → Left → Type 0
+abbrev pub LeavesQueue : {State : Type 0} → Device State → Stage → Budget → Site Queue State
+    → Site Queue State → Left → Type 0
 LeavesQueue device stage budget old new Open = PausesAt stage device budget old new
-LeavesQueue device stage budget old new (Closed fault wanted) = EndsAt stage device budget old new (ending_of fault) wanted
+LeavesQueue device stage budget old new (Closed fault wanted) =
+    EndsAt stage device budget old new (ending_of fault) wanted
 
--- Chains were served within the budget, and the one on offer has these buffers; the device leaves it, for a reason that
+-- Chains were served within the budget, and the one on offer has these buffers; the device leaves it, for a
+-- reason that
 -- it has then.
-pub record IsLeftAt {State E : Type 0} (device : Device State) (Refuses : State → Memory → List Buffer → E → Type 0) (budget : Budget) (start now : Site Queue State) (buffers : List Buffer) (refused : Refused E) : Type 0 where
+pub record IsLeftAt {State E : Type 0} (device : Device State) (Refuses : State → Memory → List Buffer → E
+    → Type 0) (budget : Budget) (start now : Site Queue State) (buffers : List Buffer)
+    (refused : Refused E) : Type 0 where
   pub course : Course queue_kind device start now
   pub within : AreWithin budget (chains_of course.chains)
   pub ready : IsReady queue_kind device now
@@ -48,9 +55,12 @@ pub record IsLeftAt {State E : Type 0} (device : Device State) (Refuses : State 
   pub refuses : Refuses now.state now.memory buffers refused.why
 
 -- the same of a piece, from its opening on
-pub record RefusesAt {State E : Type 0} (device : Device State) (Refuses : State → Memory → List Buffer → E → Type 0) (stage : Stage) (budget : Budget) (old new : Site Queue State) (buffers : List Buffer) (refused : Refused E) : Type 0 where
+pub record RefusesAt {State E : Type 0} (device : Device State) (Refuses : State → Memory → List Buffer → E
+    → Type 0) (stage : Stage) (budget : Budget) (old new : Site Queue State) (buffers : List Buffer)
+    (refused : Refused E) : Type 0 where
   pub opens : fault_at stage old.memory old.ring ≡ None
-  pub left : IsLeftAt device Refuses budget (record old { ring = opened_at stage old.memory old.ring }) new buffers refused
+  pub left : IsLeftAt device Refuses budget (record old { ring = opened_at stage old.memory old.ring })
+      new buffers refused
 
 -- what a window shows of a queue that is left so
 abbrev pub shown : Left → WindowState → WindowState
@@ -71,9 +81,11 @@ pub record Moment (D B : Type 0) : Type 0 where
 -- Each of some chains, one after another, keeps this.
 abbrev pub KeepsAlong : {D B : Type 0} → (D → B → D → B → Type 0) → D → B → List (Moment D B) → D → B → Type 0
 KeepsAlong Keeps d b [] d' b' = (d' ≡ d) × (b' ≡ b)
-KeepsAlong Keeps d b (m ∷ later) d' b' = Keeps d b m.device m.backend × KeepsAlong Keeps m.device m.backend later d' b'
+KeepsAlong Keeps d b (m ∷ later) d' b' = Keeps d b m.device m.backend
+    × KeepsAlong Keeps m.device m.backend later d' b'
 
 -- the same of a piece, whose chains are as many as they are
-pub record IsKept {D B : Type 0} (Keeps : D → B → D → B → Type 0) (d : D) (b : B) (d' : D) (b' : B) : Type 0 where
+pub record IsKept {D B : Type 0} (Keeps : D → B → D → B → Type 0) (d : D) (b : B) (d' : D)
+    (b' : B) : Type 0 where
   pub moments : List (Moment D B)
   pub along : KeepsAlong Keeps d b moments d' b'

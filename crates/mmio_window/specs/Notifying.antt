@@ -13,8 +13,10 @@ use Rattle.mmio_window.specs.Writing.{register_action, register_written}
 abbrev pub NextPlaceIsIgnored : Type 0
 NextPlaceIsIgnored =
     (w : WindowState) (first second : ℕ) → has (negotiated_of w.negotiation) notification_data ≡ true
-    → first % 2 ^ 16 ≡ second % 2 ^ 16 → register_action QueueNotify first w ≡ register_action QueueNotify second w
+    → first % 2 ^ 16 ≡ second % 2 ^ 16
+    → register_action QueueNotify first w ≡ register_action QueueNotify second w
 
 -- Whatever its value is, a write to QueueNotify changes no register.
 abbrev pub NotificationKeepsRegisters : Type 0
-NotificationKeepsRegisters = (w : WindowState) (value : ℕ) (m : Memory) → register_written QueueNotify value m w ≡ w
+NotificationKeepsRegisters = (w : WindowState) (value : ℕ) (m : Memory)
+    → register_written QueueNotify value m w ≡ w

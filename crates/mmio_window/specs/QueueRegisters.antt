@@ -30,15 +30,18 @@ setup_of features queue = record {
   event_idx = has features event_idx;
 }
 
--- a split ring, if its size is a power of two up to 256, and its areas are aligned and lie in the memory (2.7)
+-- a split ring, if its size is a power of two up to 256, and its areas are aligned and lie in the memory
+-- (2.7)
 abbrev pub split_ring_of : Memory → Setup → Option Queue
 split_ring_of m setup = if split.can_set_up m setup then Some (Split (new_ring setup)) else None
 
--- a packed ring, if its size is any number from 1 to 256, and its areas are aligned and lie in the memory (2.8)
+-- a packed ring, if its size is any number from 1 to 256, and its areas are aligned and lie in the memory
+-- (2.8)
 abbrev pub packed_ring_of : Memory → Setup → Option Queue
 packed_ring_of m setup = if packed.can_set_up m setup then Some (Packed (new_ring setup)) else None
 
--- the ring that a queue gets as it is made ready, at its first place: a packed one exactly where RING_PACKED was
+-- the ring that a queue gets as it is made ready, at its first place: a packed one exactly where RING_PACKED
+-- was
 -- negotiated (6)
 abbrev pub ring_of : Memory → ℕ → QueueRegisters → Option Queue
 ring_of m features queue =
@@ -50,7 +53,8 @@ ring_of m features queue =
 abbrev pub with_ready_written : ℕ → Memory → NegotiationState → QueueRegisters → QueueRegisters
 with_ready_written value m n queue =
     if value == 0 then record queue { ring = None }
-    else if value == 1 && is_none queue.ring && has n.status features_ok then record queue { ring = ring_of m (negotiated_of n) queue }
+    else if value == 1 && is_none queue.ring && has n.status features_ok then
+    record queue { ring = ring_of m (negotiated_of n) queue }
     else queue
 
 -- an address with another low half

@@ -38,12 +38,14 @@ configuration_offset = 0x100
 
 -- a read of a control register: they answer a width of 4 alone
 abbrev pub control_value : ℕ → ℕ → WindowState → ℕ
-control_value offset width w = if width == 4 then option_map_or (λ register. shown register w) (register_at offset) 0 else 0
+control_value offset width w =
+    if width == 4 then option_map_or (λ register. shown register w) (register_at offset) 0 else 0
 
 -- a read of a device's configuration, which has these bytes
 abbrev pub configured_value : ℕ → ℕ → List ℕ → ℕ
 configured_value offset width config =
-    if is_configuration_access offset width then configuration_value config (offset - configuration_offset) width else 0
+    if is_configuration_access offset width then configuration_value config
+    (offset - configuration_offset) width else 0
 
 -- a read of some width at an offset; whatever isn't answered reads 0
 abbrev pub read_value : ℕ → ℕ → List ℕ → WindowState → ℕ

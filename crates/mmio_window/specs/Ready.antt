@@ -10,7 +10,8 @@ use Rattle.mmio_window.specs.Registers.{register_at}
 use Rattle.mmio_window.specs.Window.{WindowState, queue_at, registers_of}
 use Rattle.mmio_window.specs.Writing.{written}
 
--- Whether a write to this register may stop a ready queue (4.2.2): a reset by Status does (2.4), and so does QueueReady;
+-- Whether a write to this register may stop a ready queue (4.2.2): a reset by Status does (2.4), and so does
+-- QueueReady;
 -- Status can also end the device's work otherwise (2.1.2). No other write does.
 abbrev pub stops_queues : Register → Bool
 stops_queues QueueReady = true
@@ -21,12 +22,15 @@ stops_queues register = false
 abbrev pub may_stop_queues : ℕ → Bool
 may_stop_queues offset = option_map_or stops_queues (register_at offset) false
 
--- Each queue that was ready is so with the same registers and the same ring, and one that its device may serve stays one.
+-- Each queue that was ready is so with the same registers and the same ring, and one that its device may
+-- serve stays one.
 pub record KeepsQueues (old new : WindowState) : Type 0 where
-  pub ready : (q : ℕ) (registers : QueueRegisters) → registers_of q old ≡ Some registers → IsSome registers.ring → registers_of q new ≡ Some registers
+  pub ready : (q : ℕ) (registers : QueueRegisters) → registers_of q old ≡ Some registers
+      → IsSome registers.ring → registers_of q new ≡ Some registers
   pub served : (q : ℕ) (queue : Queue) → queue_at q old ≡ Some queue → queue_at q new ≡ Some queue
 
--- No write changes the size, an address or the ring of a ready queue: it stays as it is, or it isn't ready any more.
+-- No write changes the size, an address or the ring of a ready queue: it stays as it is, or it isn't ready
+-- any more.
 abbrev pub ReadyQueueStays : Type 0
 ReadyQueueStays =
     (offset width value : ℕ) (m : Memory) (w : WindowState) (q : ℕ) (old new : QueueRegisters)
@@ -36,9 +40,11 @@ ReadyQueueStays =
 -- No write stops a ready queue but one to those two registers.
 abbrev pub ReadyQueueOutlasts : Type 0
 ReadyQueueOutlasts =
-    (offset width value : ℕ) (m : Memory) (w : WindowState) → may_stop_queues offset ≡ false → KeepsQueues w (written offset width value m w)
+    (offset width value : ℕ) (m : Memory) (w : WindowState) → may_stop_queues offset ≡ false
+    → KeepsQueues w (written offset width value m w)
 
 -- No write changes ConfigGeneration, a reset neither.
 abbrev pub GenerationStays : Type 0
 GenerationStays =
-    (offset width value : ℕ) (m : Memory) (w : WindowState) → (written offset width value m w).config_generation ≡ w.config_generation
+    (offset width value : ℕ) (m : Memory) (w : WindowState)
+    → (written offset width value m w).config_generation ≡ w.config_generation

@@ -26,8 +26,10 @@ reached_of (Packed ring) = record { place = ring.place; pending = ring.pending; 
 
 -- the queue, served so far, if any service comes so far
 abbrev pub served_to : Reached → Queue → Option Queue
-served_to reached (Split ring) = option_map Split (split.served_to reached.place reached.pending reached.used_count ring)
-served_to reached (Packed ring) = option_map Packed (packed.served_to reached.place reached.pending reached.used_count ring)
+served_to reached (Split ring) =
+    option_map Split (split.served_to reached.place reached.pending reached.used_count ring)
+served_to reached (Packed ring) =
+    option_map Packed (packed.served_to reached.place reached.pending reached.used_count ring)
 
 -- ---- the registers of a queue
 
@@ -50,10 +52,12 @@ registers_with saved ring = record {
   ring = ring;
 }
 
--- the ring that they make with the negotiated features, served so far: there is one only where FEATURES_OK stands
+-- the ring that they make with the negotiated features, served so far: there is one only where FEATURES_OK
+-- stands
 abbrev pub ring_reached : Memory → NegotiationState → SavedQueue → Reached → Option Queue
 ring_reached m n saved reached =
-    if has n.status features_ok then option_and_then (served_to reached) (ring_of m (negotiated_of n) (registers_with saved None))
+    if has n.status features_ok then option_and_then (served_to reached)
+    (ring_of m (negotiated_of n) (registers_with saved None))
     else None
 
 abbrev pub queue_at_reached : Memory → NegotiationState → SavedQueue → Option Reached → Option QueueRegisters
@@ -61,7 +65,8 @@ queue_at_reached m n saved None = Some (registers_with saved None)
 queue_at_reached m n saved (Some reached) =
     option_map (λ ring. registers_with saved (Some ring)) (ring_reached m n saved reached)
 
--- The registers as they were saved, with their ring where the queue was ready: there are none where no such ring
+-- The registers as they were saved, with their ring where the queue was ready: there are none where no such
+-- ring
 -- can be.
 abbrev pub queue_restored : Memory → NegotiationState → SavedQueue → Option QueueRegisters
 queue_restored m n saved = queue_at_reached m n saved saved.reached
@@ -88,7 +93,8 @@ abbrev pub saved_negotiation : SavedWindow → NegotiationState
 saved_negotiation saved = record { status = saved.status; offered = saved.offered; accepted = saved.accepted }
 
 -- the window of a device of this kind with this negotiation and these queues, and the rest as it was saved
-abbrev pub window_with : DeviceKind → SavedWindow → NegotiationState → QueueRegisters → QueueRegisters → WindowState
+abbrev pub window_with : DeviceKind → SavedWindow → NegotiationState → QueueRegisters
+    → QueueRegisters → WindowState
 window_with kind saved n queue_0 queue_1 = record {
   kind = kind;
   negotiation = n;
@@ -102,7 +108,8 @@ window_with kind saved n queue_0 queue_1 = record {
   config_generation = saved.config_generation;
 }
 
--- The window of a device of this kind as it was saved, over this memory. There is none where status and features can't
+-- The window of a device of this kind as it was saved, over this memory. There is none where status and
+-- features can't
 -- stand so, or a queue was ready that can't be.
 abbrev pub window_restored : DeviceKind → Memory → SavedWindow → Option WindowState
 window_restored kind m saved =

@@ -25,25 +25,32 @@ abbrev pub after_service : Ending → Bool → WindowState → WindowState
 after_service ending wanted w = after_ending ending (if wanted then with_used_interrupt w else w)
 
 -- The device serves this queue of the window, which has the number q, once; and the service ends so.
-pub record ServesQueue {State : Type 0} (device : Device State) (q : ℕ) (queue : Queue) (ending : Ending) (old new : Memory) (before after : WindowState) (s s' : State) : Type 0 where
+pub record ServesQueue {State : Type 0} (device : Device State) (q : ℕ) (queue : Queue) (ending : Ending)
+    (old new : Memory) (before after : WindowState) (s s' : State) : Type 0 where
   pub last : Queue
   pub wanted : Bool
-  pub service : IsService queue_kind device (record { memory = old; ring = queue; state = s }) (record { memory = new; ring = last; state = s' }) ending wanted
+  pub service : IsService queue_kind device (record { memory = old; ring = queue; state = s })
+      (record { memory = new; ring = last; state = s' }) ending wanted
   pub window : after ≡ after_service ending wanted (with_ring q before last)
 
 -- nothing happens
-pub record NothingHappens {State : Type 0} (old new : Memory) (before after : WindowState) (s s' : State) : Type 0 where
+pub record NothingHappens {State : Type 0} (old new : Memory) (before after : WindowState)
+    (s s' : State) : Type 0 where
   pub memory : new ≡ old
   pub window : after ≡ before
   pub state : s' ≡ s
 
 -- What a notification of the queue q does, by the queue that the device may serve: there is one where the
 -- window is live and the queue ready. Where there is none nothing happens, and no chain is on offer.
-abbrev pub Notified : {State : Type 0} → Device State → ℕ → Option Queue → Ending → Memory → Memory → WindowState → WindowState → State → State → Type 0
-Notified device q None ending old new before after s s' = (ending ≡ Spent) × NothingHappens old new before after s s'
-Notified device q (Some queue) ending old new before after s s' = ServesQueue device q queue ending old new before after s s'
+abbrev pub Notified : {State : Type 0} → Device State → ℕ → Option Queue → Ending → Memory → Memory
+    → WindowState → WindowState → State → State → Type 0
+Notified device q None ending old new before after s s' = (ending ≡ Spent)
+    × NothingHappens old new before after s s'
+Notified device q (Some queue) ending old new before after s s' =
+    ServesQueue device q queue ending old new before after s s'
 
 -- The same where nobody is told why the service ended.
-pub record IsNotified {State : Type 0} (device : Device State) (q : ℕ) (queue : Option Queue) (old new : Memory) (before after : WindowState) (s s' : State) : Type 0 where
+pub record IsNotified {State : Type 0} (device : Device State) (q : ℕ) (queue : Option Queue)
+    (old new : Memory) (before after : WindowState) (s s' : State) : Type 0 where
   pub ending : Ending
   pub notified : Notified device q queue ending old new before after s s'

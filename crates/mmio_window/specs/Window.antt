@@ -56,7 +56,8 @@ registers_in (Some Queue0) w = Some w.queue_0
 registers_in (Some Queue1) w = Some w.queue_1
 
 -- the window with a queue's registers changed, if there is one
-abbrev pub with_registers_in : Option QueueIndex → (QueueRegisters → QueueRegisters) → WindowState → WindowState
+abbrev pub with_registers_in : Option QueueIndex → (QueueRegisters → QueueRegisters)
+    → WindowState → WindowState
 with_registers_in None change w = w
 with_registers_in (Some Queue0) change w = record w { queue_0 = change w.queue_0 }
 with_registers_in (Some Queue1) change w = record w { queue_1 = change w.queue_1 }
@@ -99,10 +100,12 @@ with_reset_asked w = with_config_interrupt (record w { negotiation = with_needs_
 abbrev pub with_generation_counted : WindowState → WindowState
 with_generation_counted w = record w { config_generation = (w.config_generation + 1) % 2 ^ 32 }
 
--- The configuration changed, if it is of a kind that does: it has another generation, and a driver that is ready
+-- The configuration changed, if it is of a kind that does: it has another generation, and a driver that is
+-- ready
 -- is told (4.2.2).
 abbrev pub with_config_changed : WindowState → WindowState
 with_config_changed w =
-    if configuration_changes w.kind && has w.negotiation.status driver_ok then with_config_interrupt (with_generation_counted w)
+    if configuration_changes w.kind && has w.negotiation.status driver_ok then with_config_interrupt
+    (with_generation_counted w)
     else if configuration_changes w.kind then with_generation_counted w
     else w

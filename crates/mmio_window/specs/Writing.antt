@@ -1,4 +1,5 @@
--- Writing a window's registers (4.2.2), by cases in the order of their table, and what is left for the device to
+-- Writing a window's registers (4.2.2), by cases in the order of their table, and what is left for the device
+-- to
 -- do.
 use Rattle.std.specs.Prelude.{ℕ, ◌==◌, ◌&&◌, nat_lt, if◌then◌else◌, is_some}
 use Rattle.std.specs.Option.{option_map_or}
@@ -19,7 +20,8 @@ use Rattle.mmio_window.specs.Window.{WindowState, queue_at, reset, with_register
 
 -- the window with a register of the selected queue written
 abbrev pub with_queue_written : Register → ℕ → Memory → WindowState → WindowState
-with_queue_written register value m w = with_registers w.queue_sel (queue_written register value m w.negotiation) w
+with_queue_written register value m w =
+    with_registers w.queue_sel (queue_written register value m w.negotiation) w
 
 -- the window after a write to Status: 0 resets it (2.4)
 abbrev pub status_written : ℕ → WindowState → WindowState
@@ -30,7 +32,8 @@ status_written value w =
 -- the window after a write to a register; one that can't be written stays
 abbrev pub register_written : Register → ℕ → Memory → WindowState → WindowState
 register_written DeviceFeaturesSel value m w = record w { device_features_sel = value }
-register_written DriverFeatures value m w = record w { negotiation = with_features_written w.driver_features_sel value w.negotiation }
+register_written DriverFeatures value m w =
+    record w { negotiation = with_features_written w.driver_features_sel value w.negotiation }
 register_written DriverFeaturesSel value m w = record w { driver_features_sel = value }
 register_written QueueSel value m w = record w { queue_sel = value }
 register_written QueueNum value m w = with_queue_written QueueNum value m w
@@ -48,12 +51,14 @@ register_written _ value m w = w
 
 -- the queue that a value names in QueueNotify: with NOTIFICATION_DATA its low half does (4.2.3.3)
 abbrev pub notified_queue : ℕ → WindowState → ℕ
-notified_queue value w = if has (negotiated_of w.negotiation) notification_data then narrowed 2 value else value
+notified_queue value w = if has (negotiated_of w.negotiation) notification_data then
+    narrowed 2 value else value
 
 -- what a write to a register leaves for the device to do: a notification of a queue that is ready in a live
 -- window (2.1.2), or its part of a reset
 abbrev pub register_action : Register → ℕ → WindowState → Action
-register_action QueueNotify value w = if is_some (queue_at (notified_queue value w) w) then Notify (notified_queue value w) else None
+register_action QueueNotify value w =
+    if is_some (queue_at (notified_queue value w) w) then Notify (notified_queue value w) else None
 register_action Status value w = if value == 0 then Reset else None
 register_action _ value w = None
 
@@ -67,7 +72,8 @@ written offset width value m w =
 -- what a write to a control register leaves for the device to do
 abbrev pub control_action : ℕ → ℕ → ℕ → WindowState → Action
 control_action offset width value w =
-    if width == 4 then option_map_or (λ register. register_action register value w) (register_at offset) None else None
+    if width == 4 then option_map_or (λ register. register_action register value w)
+    (register_at offset) None else None
 
 -- what a write to the configuration does: the device has those that are answered
 abbrev pub configuration_action : ℕ → ℕ → ℕ → Action

@@ -19,6 +19,8 @@ Has-trans a b c ab bc =
     ap (bit_and a) (sym bc) ∙ sym (and_assoc c a b) ∙ ap (λ n. bit_and n c) ab ∙ bc
 
 -- bits that were chosen by a mask without these set none of these
-pub bit_and-bit_or-masked : (n mask set value : ℕ) → bit_and mask n ≡ 0 → bit_and (bit_or set (bit_and value mask)) n ≡ bit_and set n
+pub bit_and-bit_or-masked : (n mask set value : ℕ) → bit_and mask n ≡ 0
+    → bit_and (bit_or set (bit_and value mask)) n ≡ bit_and set n
 bit_and-bit_or-masked n mask set value apart =
-    and_or_apart n set (bit_and value mask) (and_assoc n value mask ∙ ap (bit_and value) apart ∙ omega (arith, and_le_r value 0))
+    and_or_apart n set (bit_and value mask) (and_assoc n value mask ∙ ap (bit_and value) apart
+    ∙ omega (arith, and_le_r value 0))

@@ -33,8 +33,10 @@ may_stand : (status value : ℕ) (a b : Bool)
     → Has (bit_or status (bit_and value (settable_if (a && b)))) features_ok
     → (IsTrue a) × (IsTrue b)
 may_stand status value true true before after = (refl, refl)
-may_stand status value true false before after = before (sym (bit_and-bit_or-masked 8 135 status value refl) ∙ after)
-may_stand status value false b before after = before (sym (bit_and-bit_or-masked 8 135 status value refl) ∙ after)
+may_stand status value true false before after =
+    before (sym (bit_and-bit_or-masked 8 135 status value refl) ∙ after)
+may_stand status value false b before after =
+    before (sym (bit_and-bit_or-masked 8 135 status value refl) ∙ after)
 
 -- no bit without a name may be set
 settable_named : (b : Bool) → bit_and (settable_if b) unnamed ≡ 0
@@ -42,21 +44,26 @@ settable_named true = refl
 settable_named false = refl
 
 -- a write to the status leaves the features settled
-pub settled_after_write : (s : NegotiationState) (value : ℕ) → IsSettled s → IsSettled (record s { status = bit_or s.status (bit_and value (settable_of s)) })
+pub settled_after_write : (s : NegotiationState) (value : ℕ) → IsSettled s
+    → IsSettled (record s { status = bit_or s.status (bit_and value (settable_of s)) })
 settled_after_write s value h =
-    let tests : Has s.status features_ok → (IsTrue (has s.offered s.accepted)) × (IsTrue (has s.accepted version_1))
+    let tests : Has s.status features_ok → (IsTrue (has s.offered s.accepted))
+    × (IsTrue (has s.accepted version_1))
     = λ set. (eqb_from _ _ (h.offered set), eqb_from _ _ (h.version_1 set)) in
     let stands = may_stand s.status value (has s.offered s.accepted) (has s.accepted version_1) tests in
     record {
       offered = λ set. eqb-true _ _ (stands set).0;
       version_1 = λ set. eqb-true _ _ (stands set).1;
-      named = bit_and-bit_or-masked unnamed (settable_of s) s.status value (settable_named (is_acceptable s)) ∙ h.named;
+      named = bit_and-bit_or-masked unnamed (settable_of s) s.status value (settable_named (is_acceptable s))
+          ∙ h.named;
     }
 
 -- the same, of the numbers that a write gives one after another
-pub settled_by_write : (status offered accepted value written new : ℕ) (s : NegotiationState) → s ≡ record { status = status; offered = offered; accepted = accepted }
+pub settled_by_write : (status offered accepted value written new : ℕ) (s : NegotiationState)
+    → s ≡ record { status = status; offered = offered; accepted = accepted }
     → IsSettled (record { status = status; offered = offered; accepted = accepted })
     → written ≡ bit_and value (settable_of s) → new ≡ bit_or status written
     → IsSettled (record { status = new; offered = offered; accepted = accepted })
 settled_by_write status offered accepted value written new s is settled masked set =
-    rw (set, masked, is) (settled_after_write (record { status = status; offered = offered; accepted = accepted }) value settled)
+    rw (set, masked, is) (settled_after_write
+    (record { status = status; offered = offered; accepted = accepted }) value settled)

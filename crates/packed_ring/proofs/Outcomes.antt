@@ -8,13 +8,19 @@ use Rattle.packed_ring.specs.Kind.{entry_of, packed_kind}
 
 pub has_at_most_one_chain : HasAtMostOneChain packed_kind
 has_at_most_one_chain = record {
-  buffers = λ m ring a b e f x y. (one_offer packed_tables packed_has_one_list ring.setup.indirect m (table_of m ring) ring.setup.size (head_of ring) _ a b e f x y).0;
-  entry = λ m ring a b e f x y. (one_offer packed_tables packed_has_one_list ring.setup.indirect m (table_of m ring) ring.setup.size (head_of ring) _ a b e f x y).1;
-  fault = λ m ring f g x y. packed_has_one_list.fault ring.setup.indirect m (table_of m ring) ring.setup.size (head_of ring) f g x y;
-  not_both = λ m ring a e f x y. never_offered packed_tables packed_has_one_list ring.setup.indirect m (table_of m ring) ring.setup.size (head_of ring) _ f a e y x;
+  buffers = λ m ring a b e f x y. (one_offer packed_tables packed_has_one_list ring.setup.indirect m
+      (table_of m ring) ring.setup.size (head_of ring) _ a b e f x y).0;
+  entry = λ m ring a b e f x y. (one_offer packed_tables packed_has_one_list ring.setup.indirect m
+      (table_of m ring) ring.setup.size (head_of ring) _ a b e f x y).1;
+  fault = λ m ring f g x y. packed_has_one_list.fault ring.setup.indirect m (table_of m ring) ring.setup.size
+      (head_of ring) f g x y;
+  not_both = λ m ring a e f x y. never_offered packed_tables packed_has_one_list ring.setup.indirect m
+      (table_of m ring) ring.setup.size (head_of ring) _ f a e y x;
 }
 
 pub has_some_chain : HasSomeChain packed_kind
 has_some_chain = record {
-  some = λ m ring. offered_or_fails packed_tables packed_has_one_list ring.setup.indirect m (table_of m ring) ring.setup.size (head_of ring) (λ count last. entry_of (id_of m (descriptor_addr ring.setup.desc last)) (count + 1));
+  some = λ m ring. offered_or_fails packed_tables packed_has_one_list ring.setup.indirect m (table_of m ring)
+      ring.setup.size (head_of ring)
+      (λ count last. entry_of (id_of m (descriptor_addr ring.setup.desc last)) (count + 1));
 }

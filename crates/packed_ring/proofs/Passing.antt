@@ -8,11 +8,14 @@ use Rattle.suppression.proofs.Sets.{packed_wants_of}
 use Rattle.chain.specs.Setup.{RingState}
 use Rattle.packed_ring.specs.Kind.{HasPassed, Wants, first_passed, opened, past}
 
-pub same_first : (ring : RingState) (length : ℕ) → ring.used_count + length ≤ 2 * ring.setup.size → first_passed (past ring length) ≡ first_passed ring
+pub same_first : (ring : RingState) (length : ℕ) → ring.used_count + length ≤ 2 * ring.setup.size
+    → first_passed (past ring length) ≡ first_passed ring
 same_first ring length most = back_from_ahead (2 * ring.setup.size) ring.place ring.used_count length most
 
-pub passes_its_places : (ring : RingState) (length place : ℕ) → ring.place < 2 * ring.setup.size → ring.used_count + length ≤ 2 * ring.setup.size
-    → HasPassed (past ring length) place ↔ (HasPassed ring place ⊎ Passed (2 * ring.setup.size) ring.place length place)
+pub passes_its_places : (ring : RingState) (length place : ℕ) → ring.place < 2 * ring.setup.size
+    → ring.used_count + length ≤ 2 * ring.setup.size
+    → HasPassed (past ring length) place
+    ↔ (HasPassed ring place ⊎ Passed (2 * ring.setup.size) ring.place length place)
 passes_its_places ring length place below most =
     let m = 2 * ring.setup.size in
     let here = ahead_of_first m ring.place ring.used_count below (omega (arith, most)) in
@@ -24,4 +27,5 @@ none_yet m ring place p = omega (arith, p.within)
 
 pub wanted_of : (m : Memory) (ring : RingState) → Wants m ring
     ↔ PackedWantsOf m ring.setup.driver ring.setup.size ring.setup.event_idx (HasPassed ring)
-wanted_of m ring = packed_wants_of m ring.setup.driver ring.setup.size ring.setup.event_idx (first_passed ring) ring.used_count
+wanted_of m ring = packed_wants_of m ring.setup.driver ring.setup.size ring.setup.event_idx
+    (first_passed ring) ring.used_count

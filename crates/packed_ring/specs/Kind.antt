@@ -31,12 +31,15 @@ entry_of id length = record { id = id; places = length }
 -- only the first has to be available
 abbrev pub Offers : Memory → RingState → List Buffer → Entry → Type 0
 Offers m ring buffers entry =
-    let entry_at : ℕ → ℕ → Entry = λ count last. entry_of (id_of m (descriptor_addr ring.setup.desc last)) (count + 1) in
-    ListOffers packed_tables ring.setup.indirect m (table_of m ring) ring.setup.size (head_of ring) entry_at buffers entry
+    let entry_at : ℕ → ℕ → Entry =
+    λ count last. entry_of (id_of m (descriptor_addr ring.setup.desc last)) (count + 1) in
+    ListOffers packed_tables ring.setup.indirect m (table_of m ring) ring.setup.size (head_of ring)
+    entry_at buffers entry
 
 -- that list has this fault
 abbrev pub HasFault : Memory → RingState → Fault → Type 0
-HasFault m ring fault = ListFails packed_tables ring.setup.indirect m (table_of m ring) ring.setup.size (head_of ring) fault
+HasFault m ring fault = ListFails packed_tables ring.setup.indirect m (table_of m ring) ring.setup.size
+    (head_of ring) fault
 
 -- the token names a list at the ring's place that fits the ring, and the service may still take it
 pub record IsTaken (ring : RingState) (token : Token) : Type 0 where
@@ -47,7 +50,11 @@ pub record IsTaken (ring : RingState) (token : Token) : Type 0 where
 
 -- the ring behind a list of so many descriptors
 abbrev pub past : RingState → ℕ → RingState
-past ring length = record ring { place = place_behind ring length; pending = ring.pending - length; used_count = ring.used_count + length }
+past ring length = record ring {
+  place = place_behind ring length;
+  pending = ring.pending - length;
+  used_count = ring.used_count + length;
+}
 
 -- the closing write: the driver is to notify of every list, so the four bytes of the device event suppression
 -- structure are 0 (2.8.10, 2.8.14)
@@ -64,7 +71,8 @@ HasPassed ring place = Passed (2 * ring.setup.size) (first_passed ring) ring.use
 
 -- the driver wants a notification of the places that the service has passed
 abbrev pub Wants : Memory → RingState → Type 0
-Wants m ring = PackedWants m ring.setup.driver ring.setup.size ring.setup.event_idx (first_passed ring) ring.used_count
+Wants m ring = PackedWants m ring.setup.driver ring.setup.size ring.setup.event_idx
+    (first_passed ring) ring.used_count
 
 -- the packed ring as a kind of ring
 abbrev pub packed_kind : Kind RingState

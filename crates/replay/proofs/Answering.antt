@@ -35,33 +35,51 @@ use Rattle.trace.proofs.Passing.{sends_same}
 -- ---- what is refused
 
 -- an event of a slot that the board lacks
-pub slot_missing : {A I : Type 0} (disk : I → Disk) (old new : BoardState I) (event : Event A) → new ≡ old → slice_get old.slots event.slot ≡ None → AnswersEvent disk old event BadSlot [] new
+pub slot_missing : {A I : Type 0} (disk : I → Disk) (old new : BoardState I) (event : Event A) → new ≡ old
+    → slice_get old.slots event.slot ≡ None → AnswersEvent disk old event BadSlot [] new
 slot_missing disk old new event same missing =
     subst (λ b. AnswersEvent disk old event BadSlot [] b) (sym same)
-    (record { answers = λ tells. answered (handles_missing old.slots (disk old.image) event [] missing); keeps = record { tells = λ tells. tells; extents = refl } })
+    (record {
+      answers = λ tells. answered (handles_missing old.slots (disk old.image) event [] missing);
+      keeps = record { tells = λ tells. tells; extents = refl };
+    })
 
-pub past_slots : {I : Type 0} (board : BoardState I) (slot : ℕ) → (slot < length board.slots → ⊥) → slice_get board.slots slot ≡ None
+pub past_slots : {I : Type 0} (board : BoardState I) (slot : ℕ) → (slot < length board.slots → ⊥)
+    → slice_get board.slots slot ≡ None
 past_slots board slot past =
     elim (slice_get_cases board.slots slot).1 [ inl there ↦ absurd (past there.1) | inr none ↦ none.1 ]
 
 -- a write of memory past its end, or before it
-outside_memory : (A : Type 0) (slots : List BoardSlot) (disk : Disk) (h : ℕ) (found : BoardSlot) (addr : ℕ) (bytes : List ℕ) → slice_get slots h ≡ Some found → ¬ Inside found.memory addr (length bytes)
-    → Answers {A = A} (seen slots disk) (record { slot = h; what = MemWrite addr bytes }) BadRange [] [] (seen slots disk)
+outside_memory : (A : Type 0) (slots : List BoardSlot) (disk : Disk) (h : ℕ) (found : BoardSlot) (addr : ℕ)
+    (bytes : List ℕ) → slice_get slots h ≡ Some found → ¬ Inside found.memory addr (length bytes)
+    → Answers {A = A} (seen slots disk) (record { slot = h; what = MemWrite addr bytes }) BadRange []
+    [] (seen slots disk)
 outside_memory A slots disk h found addr bytes here out =
     let state = state_of (bytes_of disk) found in
     let test : is_inside found.memory addr (length bytes) ≡ false =
-    elim (cases_Bool (is_inside found.memory addr (length bytes))) [ inl inside ↦ absurd (out ((is_inside-tells found.memory addr (length bytes)).0 inside)) | inr no' ↦ no' ]
+    elim (cases_Bool (is_inside found.memory addr (length bytes))) [
+      | inl inside ↦ absurd (out ((is_inside-tells found.memory addr (length bytes)).0 inside))
+      | inr no' ↦
+          no'
+    ]
     in
     record {
       written = record_of h (replies state BadRange);
       step =
-          step_there (seen slots disk) (seen slots disk) (record { slot = h; what = MemWrite addr bytes }) _ state
-          (slice_get-map (state_of (bytes_of disk)) slots h ∙ ap (λ (o : Option BoardSlot). option_map (state_of (bytes_of disk)) o) here)
+          step_there (seen slots disk) (seen slots disk)
+          (record { slot = h; what = MemWrite addr bytes }) _ state
+          (slice_get-map (state_of (bytes_of disk)) slots h
+          ∙ ap (λ (o : Option BoardSlot). option_map (state_of (bytes_of disk)) o) here)
           (record {
             outcome = replies state BadRange;
-            given = inl (record { alike = record { alike = rw test refl; image = refl }; answered = λ no'. absurd (cc); failures = refl });
+            given = inl (record {
+              alike = record { alike = rw test refl; image = refl };
+              answered = λ no'. absurd (cc);
+              failures = refl;
+            });
             recorded = refl;
-            slots = sym (sym (map-set (state_of (bytes_of disk)) slots h found) ∙ ap (λ ss. map (state_of (bytes_of disk)) ss) (set_same slots h found found here refl));
+            slots = sym (sym (map-set (state_of (bytes_of disk)) slots h found)
+                ∙ ap (λ ss. map (state_of (bytes_of disk)) ss) (set_same slots h found found here refl));
             disturbed = noted_none h disk.failures (disturbed_of slots);
             outside = refl;
           });
@@ -69,16 +87,20 @@ outside_memory A slots disk h found addr bytes here out =
       appended = refl;
     }
 
-pub range_refused : (A : Type 0) {I : Type 0} (disk : I → Disk) (old new : BoardState I) (slot addr : ℕ) (bytes : List ℕ) → new ≡ old → slot < length old.slots
-    → IsTrue false ↔ IsSomeAnd (slice_get old.slots slot) (λ found. Inside found.memory addr (length bytes)) → AnswersEvent {A = A} disk old (record { slot = slot; what = MemWrite addr bytes }) BadRange [] new
+pub range_refused : (A : Type 0) {I : Type 0} (disk : I → Disk) (old new : BoardState I) (slot addr : ℕ)
+    (bytes : List ℕ) → new ≡ old → slot < length old.slots
+    → IsTrue false ↔ IsSomeAnd (slice_get old.slots slot) (λ found. Inside found.memory addr (length bytes))
+    → AnswersEvent {A = A} disk old (record { slot = slot; what = MemWrite addr bytes }) BadRange [] new
 range_refused A disk old new slot addr bytes same there inside =
     elim (slice_get_cases old.slots slot).1 [
       | inl found ↦
           let here = found.2 in
           let out = rw here at inside in
-          subst (λ b. AnswersEvent {A = A} disk old (record { slot = slot; what = MemWrite addr bytes }) BadRange [] b) (sym same)
+          subst (λ b. AnswersEvent {A = A} disk old (record { slot = slot; what = MemWrite addr bytes })
+          BadRange [] b) (sym same)
           (record {
-            answers = λ tells. outside_memory A old.slots (disk old.image) slot found.0 addr bytes here (λ h. absurd (let wrong = out.1 h in cc));
+            answers = λ tells. outside_memory A old.slots (disk old.image) slot found.0 addr bytes here
+                (λ h. absurd (let wrong = out.1 h in cc));
             keeps = record { tells = λ t. t; extents = refl };
           })
       | inr none ↦ let past = none.0 in absurd (omega arith)
@@ -87,23 +109,34 @@ range_refused A disk old new slot addr bytes same there inside =
 -- ---- what is done
 
 -- memory that was read where it lies
-pub part_read : (A : Type 0) {I : Type 0} (disk : I → Disk) (board : BoardState I) (slot addr len : ℕ) (part : List ℕ) → IsPart board slot addr len part → AnswersEvent {A = A} disk board (record { slot = slot; what = MemRead addr len }) (Bytes part) [] board
+pub part_read : (A : Type 0) {I : Type 0} (disk : I → Disk) (board : BoardState I) (slot addr len : ℕ)
+    (part : List ℕ) → IsPart board slot addr len part
+    → AnswersEvent {A = A} disk board (record { slot = slot; what = MemRead addr len }) (Bytes part) [] board
 part_read A disk board slot addr len part it =
     let bytes = bytes_of (disk board.image) in
     let state = state_of bytes it.found in
-    let test : is_inside it.found.memory addr len ≡ true = (is_inside-tells it.found.memory addr len).1 it.inside in
+    let test : is_inside it.found.memory addr len ≡ true =
+    (is_inside-tells it.found.memory addr len).1 it.inside in
     let is = it.is in
     record {
       answers = λ tells. record {
         written = record_of slot (replies state (Bytes part));
         step =
-            step_there (seen board.slots (disk board.image)) (seen board.slots (disk board.image)) (record { slot = slot; what = MemRead addr len }) _ state
-            (slice_get-map (state_of bytes) board.slots slot ∙ ap (λ (o : Option BoardSlot). option_map (state_of bytes) o) it.here)
+            step_there (seen board.slots (disk board.image)) (seen board.slots (disk board.image))
+            (record { slot = slot; what = MemRead addr len }) _ state
+            (slice_get-map (state_of bytes) board.slots slot
+            ∙ ap (λ (o : Option BoardSlot). option_map (state_of bytes) o) it.here)
             (record {
               outcome = replies state (Bytes part);
-              given = inl (record { alike = record { alike = rw (test, is) refl; image = refl }; answered = λ no'. absurd (cc); failures = refl });
+              given = inl (record {
+                alike = record { alike = rw (test, is) refl; image = refl };
+                answered = λ no'. absurd (cc);
+                failures = refl;
+              });
               recorded = refl;
-              slots = sym (sym (map-set (state_of bytes) board.slots slot it.found) ∙ ap (λ ss. map (state_of bytes) ss) (set_same board.slots slot it.found it.found it.here refl));
+              slots = sym (sym (map-set (state_of bytes) board.slots slot it.found)
+                  ∙ ap (λ ss. map (state_of bytes) ss)
+                  (set_same board.slots slot it.found it.found it.here refl));
               disturbed = noted_none slot (disk board.image).failures (disturbed_of board.slots);
               outside = refl;
             });
@@ -114,70 +147,107 @@ part_read A disk board slot addr len part it =
     }
 
 -- bytes that were put leave all extents
-extents_put : (slots new : List BoardSlot) (h : ℕ) (memory : BoardSlot → Memory) (o : Option BoardSlot) → slice_get slots h ≡ o → IsSomeAnd o (λ found. new ≡ slice_set slots h (record found { memory = memory found })) → extents_of new ≡ extents_of slots
+extents_put : (slots new : List BoardSlot) (h : ℕ) (memory : BoardSlot → Memory) (o : Option BoardSlot)
+    → slice_get slots h ≡ o → IsSomeAnd o
+    (λ found. new ≡ slice_set slots h (record found { memory = memory found }))
+    → extents_of new ≡ extents_of slots
 extents_put slots new h memory None here is = absurd is
-extents_put slots new h memory (Some found) here is = ap extents_of is ∙ extents_of-set slots h found (record found { memory = memory found }) here refl
+extents_put slots new h memory (Some found) here is = ap extents_of is
+    ∙ extents_of-set slots h found (record found { memory = memory found }) here refl
 
-pub bytes_written : (A : Type 0) {I : Type 0} (disk : I → Disk) (old new : BoardState I) (slot addr : ℕ) (bytes : List ℕ) → new.image ≡ old.image
-    → (Tells (disk old.image) → Answers {A = A} (world_of disk old) (record { slot = slot; what = MemWrite addr bytes }) Done [] [] (world_of disk new))
-    → IsSomeAnd (slice_get old.slots slot) (λ found. new.slots ≡ slice_set old.slots slot (record found { memory = put found.memory addr bytes })) → AnswersEvent {A = A} disk old (record { slot = slot; what = MemWrite addr bytes }) Done [] new
+pub bytes_written : (A : Type 0) {I : Type 0} (disk : I → Disk) (old new : BoardState I) (slot addr : ℕ)
+    (bytes : List ℕ) → new.image ≡ old.image
+    → (Tells (disk old.image)
+    → Answers {A = A} (world_of disk old) (record { slot = slot; what = MemWrite addr bytes }) Done [] []
+    (world_of disk new))
+    → IsSomeAnd (slice_get old.slots slot) (λ found. new.slots
+    ≡ slice_set old.slots slot (record found { memory = put found.memory addr bytes }))
+    → AnswersEvent {A = A} disk old (record { slot = slot; what = MemWrite addr bytes }) Done [] new
 bytes_written A disk old new slot addr bytes image answers is = record {
   answers = answers;
-  keeps = record { tells = λ tells. rw image tells; extents = extents_put old.slots new.slots slot (λ found. put found.memory addr bytes) (slice_get old.slots slot) refl is };
+  keeps = record {
+    tells = λ tells. rw image tells;
+    extents = extents_put old.slots new.slots slot (λ found. put found.memory addr bytes)
+        (slice_get old.slots slot) refl is;
+  };
 }
 
 -- ---- the record
 
 -- the interrupt words of a slot that is seen in a state, and of one that isn't there
-state_words : (bytes : List ℕ) (o : Option BoardSlot) (state : SlotState) → option_map (state_of bytes) o ≡ Some state → words_of o ≡ (block_irq state, console_irq state)
+state_words : (bytes : List ℕ) (o : Option BoardSlot) (state : SlotState)
+    → option_map (state_of bytes) o ≡ Some state → words_of o ≡ (block_irq state, console_irq state)
 state_words bytes None state is = absurd cc
-state_words bytes (Some slot) state is = let same : state_of bytes slot ≡ state = cc is in ap (λ (s : SlotState). (block_irq s, console_irq s)) same
+state_words bytes (Some slot) state is = let same : state_of bytes slot ≡ state = cc is in
+    ap (λ (s : SlotState). (block_irq s, console_irq s)) same
 
-no_words : (bytes : List ℕ) (o : Option BoardSlot) → option_map (state_of bytes) o ≡ None → words_of o ≡ (0, 0)
+no_words : (bytes : List ℕ) (o : Option BoardSlot) → option_map (state_of bytes) o ≡ None
+    → words_of o ≡ (0, 0)
 no_words bytes None is = refl
 no_words bytes (Some slot) is = absurd cc
 
 -- the record of an event has the words that its slot has afterwards
-told_at : {A : Type 0} (old : World) (event : Event A) (written : Record A) (slots : List BoardSlot) (disk : Disk) (o : Option SlotState) → slice_get old.slots event.slot ≡ o
-    → MatchOption o (MissingStep old event.slot written (seen slots disk)) (λ s. SlotStep old event.slot s event.what written (seen slots disk)) → written ≡ entry_of event.slot written.reply written.output (words_of (slice_get slots event.slot))
+told_at : {A : Type 0} (old : World) (event : Event A) (written : Record A) (slots : List BoardSlot)
+    (disk : Disk) (o : Option SlotState) → slice_get old.slots event.slot ≡ o
+    → MatchOption o (MissingStep old event.slot written (seen slots disk))
+    (λ s. SlotStep old event.slot s event.what written (seen slots disk))
+    → written ≡ entry_of event.slot written.reply written.output (words_of (slice_get slots event.slot))
 told_at old event written slots disk None missing step =
-    let none : slice_get (map (state_of (bytes_of disk)) slots) event.slot ≡ None = ap (λ (w : World). slice_get w.slots event.slot) step.same ∙ missing in
-    let words = no_words (bytes_of disk) (slice_get slots event.slot) (sym (slice_get-map (state_of (bytes_of disk)) slots event.slot) ∙ none) in
+    let none : slice_get (map (state_of (bytes_of disk)) slots) event.slot ≡ None =
+    ap (λ (w : World). slice_get w.slots event.slot) step.same ∙ missing in
+    let words = no_words (bytes_of disk) (slice_get slots event.slot)
+    (sym (slice_get-map (state_of (bytes_of disk)) slots event.slot) ∙ none) in
     let is = step.recorded in
     rw (words, is) refl
 told_at old event written slots disk (Some s) here step =
-    let there : slice_get (map (state_of (bytes_of disk)) slots) event.slot ≡ Some step.outcome.state = ap (λ ss. slice_get ss event.slot) step.slots ∙ get_set old.slots event.slot s step.outcome.state here in
-    let words = state_words (bytes_of disk) (slice_get slots event.slot) step.outcome.state (sym (slice_get-map (state_of (bytes_of disk)) slots event.slot) ∙ there) in
+    let there : slice_get (map (state_of (bytes_of disk)) slots) event.slot ≡ Some step.outcome.state =
+    ap (λ ss. slice_get ss event.slot) step.slots
+    ∙ get_set old.slots event.slot s step.outcome.state here in
+    let words = state_words (bytes_of disk) (slice_get slots event.slot) step.outcome.state
+    (sym (slice_get-map (state_of (bytes_of disk)) slots event.slot) ∙ there) in
     let is = step.recorded in
     rw (words, is) refl
 
-entry_told : {A I : Type 0} (disk : I → Disk) (old new : BoardState I) (event : Event A) (reply : Reply A) (out : List ℕ) (a : Answers (world_of disk old) event reply [] out (world_of disk new)) → a.written ≡ entry_of event.slot reply out (words_of (slice_get new.slots event.slot))
+entry_told : {A I : Type 0} (disk : I → Disk) (old new : BoardState I) (event : Event A) (reply : Reply A)
+    (out : List ℕ) (a : Answers (world_of disk old) event reply [] out (world_of disk new))
+    → a.written ≡ entry_of event.slot reply out (words_of (slice_get new.slots event.slot))
 entry_told disk old new event reply out a =
-    let whole = told_at (world_of disk old) event a.written new.slots (disk new.image) (slice_get (world_of disk old).slots event.slot) refl a.step in
-    whole ∙ ap (λ r. entry_of event.slot r a.written.output (words_of (slice_get new.slots event.slot))) a.replied ∙ ap (λ (o : List ℕ). entry_of event.slot reply o (words_of (slice_get new.slots event.slot))) (sym a.appended)
+    let whole = told_at (world_of disk old) event a.written new.slots (disk new.image)
+    (slice_get (world_of disk old).slots event.slot) refl a.step in
+    whole ∙ ap (λ r. entry_of event.slot r a.written.output (words_of (slice_get new.slots event.slot)))
+    a.replied ∙ ap (λ (o : List ℕ). entry_of event.slot reply o
+    (words_of (slice_get new.slots event.slot))) (sym a.appended)
 
 one_line : {A : Type 0} (entry : Record A) → ended (record_line entry) ≡ records_text (entry ∷ [])
 unfolding joined
 one_line entry = sym (append-nil (ended (record_line entry)))
 
 -- an event was answered, and the text of its record sent
-pub event_run : {A I : Type 0} (disk : I → Disk) (old new : BoardState I) (event : Event A) (reply : Reply A) (out : List ℕ) (words : ℕ × ℕ) (a b s t : Option (List ℕ)) → AnswersEvent disk old event reply out new → words ≡ words_of (slice_get new.slots event.slot)
-    → Sends a b s (ended (record_line (entry_of event.slot reply out words))) t → SendsRun disk old new (event ∷ []) a b s t
+pub event_run : {A I : Type 0} (disk : I → Disk) (old new : BoardState I) (event : Event A) (reply : Reply A)
+    (out : List ℕ) (words : ℕ × ℕ) (a b s t : Option (List ℕ)) → AnswersEvent disk old event reply out new
+    → words ≡ words_of (slice_get new.slots event.slot)
+    → Sends a b s (ended (record_line (entry_of event.slot reply out words))) t
+    → SendsRun disk old new (event ∷ []) a b s t
 event_run {A} disk old new event reply out words a b s t it is sent =
     let entry : Record A = entry_of event.slot reply out words in
     record {
       records = entry ∷ [];
       run = λ tells.
           let answers = it.answers tells in
-          let same : answers.written ≡ entry = entry_told disk old new event reply out answers ∙ ap (λ ws. entry_of event.slot reply out ws) (sym is) in
-          subst (λ (w : Record A). IsRun (world_of disk old) (world_of disk new) (event ∷ []) [] (w ∷ [])) same (step_run (world_of disk old) (world_of disk new) event answers.written [] answers.step);
+          let same : answers.written ≡ entry = entry_told disk old new event reply out answers
+          ∙ ap (λ ws. entry_of event.slot reply out ws) (sym is) in
+          subst (λ (w : Record A). IsRun (world_of disk old) (world_of disk new) (event ∷ []) [] (w ∷ []))
+          same (step_run (world_of disk old) (world_of disk new) event answers.written [] answers.step);
       tells = it.keeps.tells;
       extents = it.keeps.extents;
       sent = sends_same a b s t _ _ (one_line entry) sent;
     }
 
-pub parsed_run : {A I : Type 0} (disk : I → Disk) (parsed : ParsedEvent A) (old new : BoardState I) (reply : Reply A) (out : List ℕ) (words : ℕ × ℕ) (a b s t : Option (List ℕ)) → AnswersParsed disk parsed old reply out new → words ≡ words_of (slice_get new.slots parsed.event.slot)
-    → Sends a b s (ended (record_line (entry_of parsed.event.slot reply out words))) t → RunsParsed parsed (SendsOne disk old new a b s t)
+pub parsed_run : {A I : Type 0} (disk : I → Disk) (parsed : ParsedEvent A) (old new : BoardState I)
+    (reply : Reply A) (out : List ℕ) (words : ℕ × ℕ) (a b s t : Option (List ℕ))
+    → AnswersParsed disk parsed old reply out new → words ≡ words_of (slice_get new.slots parsed.event.slot)
+    → Sends a b s (ended (record_line (entry_of parsed.event.slot reply out words))) t
+    → RunsParsed parsed (SendsOne disk old new a b s t)
 parsed_run disk parsed old new reply out words a b s t it is sent = record {
   event = it.event;
   fields = it.fields;
@@ -186,8 +256,12 @@ parsed_run disk parsed old new reply out words a b s t it is sent = record {
 }
 
 -- the same of a read of memory, whose bytes were put where they lie
-pub read_run : {A I : Type 0} (disk : I → Disk) (parsed : ParsedEvent A) (board : BoardState I) (addr len : ℕ) (part : List ℕ) (words : ℕ × ℕ) (a b s t : Option (List ℕ)) → IsFineParsed parsed → parsed.event.what ≡ MemRead addr len → IsPart board parsed.event.slot addr len part
-    → words ≡ words_of (slice_get board.slots parsed.event.slot) → Sends a b s (ended (read_line parsed.event.slot part words)) t → RunsParsed parsed (SendsOne disk board board a b s t)
+pub read_run : {A I : Type 0} (disk : I → Disk) (parsed : ParsedEvent A) (board : BoardState I) (addr len : ℕ)
+    (part : List ℕ) (words : ℕ × ℕ) (a b s t : Option (List ℕ)) → IsFineParsed parsed
+    → parsed.event.what ≡ MemRead addr len → IsPart board parsed.event.slot addr len part
+    → words ≡ words_of (slice_get board.slots parsed.event.slot)
+    → Sends a b s (ended (read_line parsed.event.slot part words)) t
+    → RunsParsed parsed (SendsOne disk board board a b s t)
 unfolding read_line record_line
 read_run {A} disk parsed board addr len part words a b s t fine is it same sent =
     let event : Event A = record { slot = parsed.event.slot; what = MemRead addr len } in
@@ -196,5 +270,6 @@ read_run {A} disk parsed board addr len part words a b s t fine is it same sent 
       event = event;
       fields = rw is refl;
       fine = record { fits = record { slot = fine.slot; what = plain.range }; printable = tt };
-      run = event_run disk board board event (Bytes part) [] words a b s t (part_read A disk board parsed.event.slot addr len part it) same sent;
+      run = event_run disk board board event (Bytes part) [] words a b s t
+          (part_read A disk board parsed.event.slot addr len part it) same sent;
     }

@@ -44,12 +44,16 @@ one_told : (f : Option InFlight) → is_none (operation_in f) ≡ is_none f
 one_told None = refl
 one_told (Some here) = refl
 
-none_told : (o : Option HostedState) → is_none (option_and_then (λ (s : HostedState). operation_in s.flight) o) ≡ is_none (option_and_then (λ (s : HostedState). s.flight) o)
+none_told : (o : Option HostedState)
+    → is_none (option_and_then (λ (s : HostedState). operation_in s.flight) o)
+    ≡ is_none (option_and_then (λ (s : HostedState). s.flight) o)
 none_told None = refl
 none_told (Some state) = one_told state.flight
 
-pub begins_by : (verdict : Option Verdict) (slots : List HostedState) (h : ℕ) (found : Option Operation) (none : Bool) → verdict ≡ None
-    → found ≡ option_and_then (λ (s : HostedState). operation_in s.flight) (slice_get slots h) → none ≡ is_none found → none ≡ begins verdict (flight_at slots h)
+pub begins_by : (verdict : Option Verdict) (slots : List HostedState) (h : ℕ) (found : Option Operation)
+    (none : Bool) → verdict ≡ None
+    → found ≡ option_and_then (λ (s : HostedState). operation_in s.flight) (slice_get slots h)
+    → none ≡ is_none found → none ≡ begins verdict (flight_at slots h)
 begins_by None slots h found none is told test = test ∙ ap is_none told ∙ none_told (slice_get slots h)
 begins_by (Some v) slots h found none is told test = absurd cc
 
@@ -61,27 +65,37 @@ nothing_begins (Some here) = refl
 -- ---- what is answered
 
 -- a call that puts nothing out
-pub taken_quietly : {A : Type 0} (old new : List HostedState) (event : Event A) (reply : Reply A) → TakesQuietly old event.slot event.what reply new → HostsEvent old event reply [] new
-taken_quietly old new event reply it = record { block = it.block; console = it.console; takes = it.takes None [] }
+pub taken_quietly : {A : Type 0} (old new : List HostedState) (event : Event A) (reply : Reply A)
+    → TakesQuietly old event.slot event.what reply new → HostsEvent old event reply [] new
+taken_quietly old new event reply it =
+    record { block = it.block; console = it.console; takes = it.takes None [] }
 
 -- a range of memory that isn't there, of a slot that is there and of one that isn't
-pub range_missing : {A : Type 0} (old new : List HostedState) (event : Event A) (count : ℕ) → event.slot < count → count ≡ length new → new ≡ old
-    → TakesQuietly old event.slot event.what (out_of_range event.slot (length old)) new → HostsEvent old event BadRange [] new
+pub range_missing : {A : Type 0} (old new : List HostedState) (event : Event A) (count : ℕ)
+    → event.slot < count → count ≡ length new → new ≡ old
+    → TakesQuietly old event.slot event.what (out_of_range event.slot (length old)) new
+    → HostsEvent old event BadRange [] new
 range_missing old new event count below same kept it =
-    let test : nat_lt event.slot (length old) ≡ true = lt-ltb event.slot (length old) (omega (arith, same, ap length kept)) in
+    let test : nat_lt event.slot (length old) ≡ true =
+    lt-ltb event.slot (length old) (omega (arith, same, ap length kept)) in
     taken_quietly old new event BadRange (rw test at it)
 
-pub slot_missing : {A : Type 0} (old new : List HostedState) (event : Event A) (count : ℕ) → count ≤ event.slot → count ≡ length new → new ≡ old
-    → TakesQuietly old event.slot event.what (out_of_range event.slot (length old)) new → HostsEvent old event BadSlot [] new
+pub slot_missing : {A : Type 0} (old new : List HostedState) (event : Event A) (count : ℕ)
+    → count ≤ event.slot → count ≡ length new → new ≡ old
+    → TakesQuietly old event.slot event.what (out_of_range event.slot (length old)) new
+    → HostsEvent old event BadSlot [] new
 slot_missing old new event count past same kept it =
-    let test : nat_lt event.slot (length old) ≡ false = le-ltb event.slot (length old) (omega (arith, same, ap length kept)) in
+    let test : nat_lt event.slot (length old) ≡ false =
+    le-ltb event.slot (length old) (omega (arith, same, ap length kept)) in
     taken_quietly old new event BadSlot (rw test at it)
 
 pub past_slots : (slots : List HostedState) (h : ℕ) → (h < length slots → ⊥) → slice_get slots h ≡ None
-past_slots slots h past = elim (cases_lt h (length slots)) [ inl below ↦ absurd (past below) | inr le ↦ slice_get_past slots h le ]
+past_slots slots h past =
+    elim (cases_lt h (length slots)) [ inl below ↦ absurd (past below) | inr le ↦ slice_get_past slots h le ]
 
 -- a slot that isn't there
-pub hosts_missing : {A : Type 0} (old new : List HostedState) (event : Event A) → new ≡ old → slice_get old event.slot ≡ None → HostsEvent old event BadSlot [] new
+pub hosts_missing : {A : Type 0} (old new : List HostedState) (event : Event A) → new ≡ old
+    → slice_get old event.slot ≡ None → HostsEvent old event BadSlot [] new
 hosts_missing {A} old new event same missing =
     subst (λ (b : List HostedState). HostsEvent old event BadSlot [] b) (sym same)
     (record { block = 0; console = 0; takes = calls_missing old event.slot event.what None [] missing })
@@ -89,17 +103,22 @@ hosts_missing {A} old new event same missing =
 -- ---- one event
 
 -- the words of a call are those that its slot has afterwards
-words_told_at : {A : Type 0} (old : List HostedState) (h : ℕ) (call : HostedCall A) (told : Told A) (new : List HostedState) (o : Option HostedState) → slice_get old h ≡ o
-    → MatchOption o (CallsNone old told new) (λ state. CallsSlot old h state call told new) → (told.block_irq, told.console_irq) ≡ words_at (slice_get new h)
+words_told_at : {A : Type 0} (old : List HostedState) (h : ℕ) (call : HostedCall A) (told : Told A)
+    (new : List HostedState) (o : Option HostedState) → slice_get old h ≡ o
+    → MatchOption o (CallsNone old told new) (λ state. CallsSlot old h state call told new)
+    → (told.block_irq, told.console_irq) ≡ words_at (slice_get new h)
 words_told_at old h call told new None missing calls =
     let gone : slice_get new h ≡ None = ap (λ (s : List HostedState). slice_get s h) calls.same ∙ missing in
     rw (gone, calls.told_is) refl
 words_told_at old h call told new (Some state) here calls =
     let there : slice_get new h ≡ Some calls.outcome.state
-    = ap (λ (s : List HostedState). slice_get s h) calls.slots ∙ get_set old h state calls.outcome.state here in
+    = ap (λ (s : List HostedState). slice_get s h) calls.slots
+    ∙ get_set old h state calls.outcome.state here in
     rw (there, calls.told_is) refl
 
-words_told : {A : Type 0} (old : List HostedState) (h : ℕ) (call : HostedCall A) (told : Told A) (new : List HostedState) → Calls old h call told new → (told.block_irq, told.console_irq) ≡ words_at (slice_get new h)
+words_told : {A : Type 0} (old : List HostedState) (h : ℕ) (call : HostedCall A) (told : Told A)
+    (new : List HostedState) → Calls old h call told new
+    → (told.block_irq, told.console_irq) ≡ words_at (slice_get new h)
 words_told old h call told new calls = words_told_at old h call told new (slice_get old h) refl calls
 
 one_line : (l : List ℕ) → ended l ≡ joined (l ∷ [])
@@ -107,18 +126,29 @@ unfolding joined
 one_line l = sym (append-nil (ended l))
 
 -- an event was answered, and the text of its record sent, with the operation that began
-hosted_run : {A : Type 0} (old new : List HostedState) (event : Event A) (reply : Reply A) (out : List ℕ) (words : ℕ × ℕ) (asked : Option (Operation × List Segment)) (a b c s t u : Option (List ℕ))
-    → HostsEvent old event reply out new → words ≡ words_at (slice_get new event.slot) → asked ≡ asked_by event.slot event.what old new
-    → Sends a b s (line (record_fields (entry_of event.slot reply out words)) ++ 32 ∷ []) t → Sends b c t (asked_field asked ++ 10 ∷ []) u
+hosted_run : {A : Type 0} (old new : List HostedState) (event : Event A) (reply : Reply A) (out : List ℕ)
+    (words : ℕ × ℕ) (asked : Option (Operation × List Segment)) (a b c s t u : Option (List ℕ))
+    → HostsEvent old event reply out new → words ≡ words_at (slice_get new event.slot)
+    → asked ≡ asked_by event.slot event.what old new
+    → Sends a b s (line (record_fields (entry_of event.slot reply out words)) ++ 32 ∷ []) t
+    → Sends b c t (asked_field asked ++ 10 ∷ []) u
     → SendsOneHosted old new a c s u event
 hosted_run {A} old new event reply out words asked a b c s t u it same begun front last =
     let takes = it.takes in
     let call : HostedCall A = called event.what in
-    let told : Told A = record { reply = reply; output = takes.output; block_irq = it.block; console_irq = it.console } in
+    let told : Told A = record {
+      reply = reply;
+      output = takes.output;
+      block_irq = it.block;
+      console_irq = it.console;
+    } in
     let move : HostedMove A = record { slot = event.slot; call = call; told = told; after = new } in
-    let all_words : words ≡ (it.block, it.console) = same ∙ sym (words_told old event.slot call told new takes.calls) in
-    let entry : entry_of event.slot reply out words ≡ record_of_move move = rw (all_words, takes.appended) refl in
-    let whole : (line (record_fields (entry_of event.slot reply out words)) ++ 32 ∷ []) ++ (asked_field asked ++ 10 ∷ []) ≡ moves_text old (move ∷ [])
+    let all_words : words ≡ (it.block, it.console) = same
+    ∙ sym (words_told old event.slot call told new takes.calls) in
+    let entry : entry_of event.slot reply out words ≡ record_of_move move =
+    rw (all_words, takes.appended) refl in
+    let whole : (line (record_fields (entry_of event.slot reply out words)) ++ 32 ∷ [])
+    ++ (asked_field asked ++ 10 ∷ []) ≡ moves_text old (move ∷ [])
     = asked_is (entry_of event.slot reply out words) asked
     ∙ ap (λ (r : Record A). ended (asked_line r asked)) entry
     ∙ ap (λ (o : Option (Operation × List Segment)). ended (asked_line (record_of_move move) o)) begun
@@ -131,10 +161,14 @@ hosted_run {A} old new event reply out words asked a b c s t u it same begun fro
     }
 
 -- the event that was said was answered
-pub parsed_hosted : {A : Type 0} (parsed : ParsedEvent A) (old new : List HostedState) (reply : Reply A) (out : List ℕ) (words : ℕ × ℕ) (next : Bool) (asked : Option (Operation × List Segment)) (a b c s t u : Option (List ℕ))
+pub parsed_hosted : {A : Type 0} (parsed : ParsedEvent A) (old new : List HostedState) (reply : Reply A)
+    (out : List ℕ) (words : ℕ × ℕ) (next : Bool) (asked : Option (Operation × List Segment))
+    (a b c s t u : Option (List ℕ))
     → HostsParsed parsed old reply out new → words ≡ words_at (slice_get new parsed.event.slot)
-    → next ≡ begins (verdict_in parsed.event.what) (flight_at old parsed.event.slot) → asked ≡ told_of_flight (if next then flight_at new parsed.event.slot else None)
-    → Sends a b s (line (record_fields (entry_of parsed.event.slot reply out words)) ++ 32 ∷ []) t → Sends b c t (asked_field asked ++ 10 ∷ []) u
+    → next ≡ begins (verdict_in parsed.event.what) (flight_at old parsed.event.slot)
+    → asked ≡ told_of_flight (if next then flight_at new parsed.event.slot else None)
+    → Sends a b s (line (record_fields (entry_of parsed.event.slot reply out words)) ++ 32 ∷ []) t
+    → Sends b c t (asked_field asked ++ 10 ∷ []) u
     → RunsParsed parsed (SendsOneHosted old new a c s u)
 parsed_hosted parsed old new reply out words next asked a b c s t u it same test begun front last =
     let event = it.event in
@@ -144,33 +178,43 @@ parsed_hosted parsed old new reply out words next asked a b c s t u it same test
       event = event;
       fields = it.fields;
       fine = it.fine;
-      run = hosted_run old new event reply out words asked a b c s t u it.answered (rw it.slot same) asks (rw it.slot front) last;
+      run = hosted_run old new event reply out words asked a b c s t u it.answered (rw it.slot same) asks
+          (rw it.slot front) last;
     }
 
 -- memory that was read where it lies
-pub read_hosted : {A : Type 0} (parsed : ParsedEvent A) (board : List HostedState) (addr len : ℕ) (part : List ℕ) (words : ℕ × ℕ) (a b c s t u : Option (List ℕ))
-    → IsFineParsed parsed → parsed.event.what ≡ MemRead addr len → IsHostedPart board parsed.event.slot addr len part → words ≡ words_at (slice_get board parsed.event.slot)
-    → Sends a b s (read_line parsed.event.slot part words ++ 32 ∷ []) t → Sends b c t (asked_field None ++ 10 ∷ []) u
+pub read_hosted : {A : Type 0} (parsed : ParsedEvent A) (board : List HostedState) (addr len : ℕ)
+    (part : List ℕ) (words : ℕ × ℕ) (a b c s t u : Option (List ℕ))
+    → IsFineParsed parsed → parsed.event.what ≡ MemRead addr len
+    → IsHostedPart board parsed.event.slot addr len part
+    → words ≡ words_at (slice_get board parsed.event.slot)
+    → Sends a b s (read_line parsed.event.slot part words ++ 32 ∷ []) t
+    → Sends b c t (asked_field None ++ 10 ∷ []) u
     → RunsParsed parsed (SendsOneHosted board board a c s u)
 unfolding read_line
 read_hosted {A} parsed board addr len part words a b c s t u fine is it same front last =
     let event : Event A = record { slot = parsed.event.slot; what = MemRead addr len } in
     let plain = rw is at fine.what in
-    let quiet : TakesQuietly board parsed.event.slot (MemRead addr len) (Bytes part) board = was_read A board parsed.event.slot it.memory addr len part it.here it.inside it.is in
+    let quiet : TakesQuietly board parsed.event.slot (MemRead addr len) (Bytes part) board =
+    was_read A board parsed.event.slot it.memory addr len part it.here it.inside it.is in
     record {
       event = event;
       fields = rw is refl;
       fine = record { fits = record { slot = fine.slot; what = plain.range }; printable = tt };
-      run = hosted_run board board event (Bytes part) [] words None a b c s t u (taken_quietly board board event (Bytes part) quiet) same (sym (nothing_begins (flight_at board parsed.event.slot))) front last;
+      run = hosted_run board board event (Bytes part) [] words None a b c s t u
+          (taken_quietly board board event (Bytes part) quiet) same
+          (sym (nothing_begins (flight_at board parsed.event.slot))) front last;
     }
 
 -- ---- one event after another
 
 -- a run over some events, with the events last
-abbrev pub SendsAllHosted : {A : Type 0} → List HostedState → List HostedState → Option (List ℕ) → Option (List ℕ) → Option (List ℕ) → Option (List ℕ) → List (Event A) → Type 0
+abbrev pub SendsAllHosted : {A : Type 0} → List HostedState → List HostedState → Option (List ℕ)
+    → Option (List ℕ) → Option (List ℕ) → Option (List ℕ) → List (Event A) → Type 0
 SendsAllHosted old new a b s t events = SendsHosted old new events a b s t
 
-pub hosts_none : {A : Type 0} (board : List HostedState) (a s : Option (List ℕ)) → SendsAllHosted {A = A} board board a a s s []
+pub hosts_none : {A : Type 0} (board : List HostedState) (a s : Option (List ℕ))
+    → SendsAllHosted {A = A} board board a a s s []
 hosts_none board a s = record {
   moves = [];
   line = refl;
@@ -178,75 +222,101 @@ hosts_none board a s = record {
   sent = sends_same a a s s [] _ (sym joined_none) (sends_none a s);
 }
 
-line_joined : {A : Type 0} (old mid new : List HostedState) (xs ys : List (HostedMove A)) → IsHostedLine old xs mid → IsHostedLine mid ys new → IsHostedLine old (xs ++ ys) new
+line_joined : {A : Type 0} (old mid new : List HostedState) (xs ys : List (HostedMove A))
+    → IsHostedLine old xs mid → IsHostedLine mid ys new → IsHostedLine old (xs ++ ys) new
 line_joined old mid new [] ys p q = subst (λ (b : List HostedState). IsHostedLine b ys new) p q
 line_joined old mid new (x ∷ xs) ys p q = (p.0, line_joined x.after mid new xs ys p.1 q)
 
-lines_joined : {A : Type 0} (old mid : List HostedState) (xs ys : List (HostedMove A)) → IsHostedLine old xs mid → move_lines old (xs ++ ys) ≡ move_lines old xs ++ move_lines mid ys
+lines_joined : {A : Type 0} (old mid : List HostedState) (xs ys : List (HostedMove A))
+    → IsHostedLine old xs mid → move_lines old (xs ++ ys) ≡ move_lines old xs ++ move_lines mid ys
 lines_joined old mid [] ys p = ap (λ (b : List HostedState). move_lines b ys) (sym p)
-lines_joined old mid (x ∷ xs) ys p = ap (λ (ls : List (List ℕ)). move_line old x ∷ ls) (lines_joined x.after mid xs ys p.1)
+lines_joined old mid (x ∷ xs) ys p =
+    ap (λ (ls : List (List ℕ)). move_line old x ∷ ls) (lines_joined x.after mid xs ys p.1)
 
-pub hosts_one_more : {A : Type 0} (old mid new : List HostedState) (events : List (Event A)) (event : Event A) (a b c s t u : Option (List ℕ))
-    → SendsAllHosted old mid a b s t events → SendsOneHosted mid new b c t u event → SendsAllHosted old new a c s u (events ++ event ∷ [])
+pub hosts_one_more : {A : Type 0} (old mid new : List HostedState) (events : List (Event A)) (event : Event A)
+    (a b c s t u : Option (List ℕ))
+    → SendsAllHosted old mid a b s t events → SendsOneHosted mid new b c t u event
+    → SendsAllHosted old new a c s u (events ++ event ∷ [])
 hosts_one_more old mid new events event a b c s t u p q = record {
   moves = p.moves ++ q.moves;
   line = line_joined old mid new p.moves q.moves p.line q.line;
   calls = record {
-    slots = map-append (λ move. move.slot) p.moves q.moves ∙ rw (p.calls.slots, q.calls.slots) (sym (map-append (λ e. e.slot) events (event ∷ [])));
-    calls = map-append (λ move. move.call) p.moves q.moves ∙ rw (p.calls.calls, q.calls.calls) (sym (map-append (λ e. called e.what) events (event ∷ [])));
+    slots = map-append (λ move. move.slot) p.moves q.moves
+        ∙ rw (p.calls.slots, q.calls.slots) (sym (map-append (λ e. e.slot) events (event ∷ [])));
+    calls = map-append (λ move. move.call) p.moves q.moves
+        ∙ rw (p.calls.calls, q.calls.calls) (sym (map-append (λ e. called e.what) events (event ∷ [])));
   };
   sent =
-      sends_same a c s u _ _ (sym (joined_append (move_lines old p.moves) (move_lines mid q.moves)) ∙ ap joined (sym (lines_joined old mid p.moves q.moves p.line)))
+      sends_same a c s u _ _ (sym (joined_append (move_lines old p.moves) (move_lines mid q.moves))
+      ∙ ap joined (sym (lines_joined old mid p.moves q.moves p.line)))
       (sends_more a b c s t u _ _ p.sent q.sent);
 }
 
 -- ---- a new board
 
-recorded_hosted : {A I : Type 0} (slots : List SlotSpec) (board after : List HostedState) (image : I) (events : List (Event A)) (a b s : Option (List ℕ)) (Output : List ℕ → Type 0) → board ≡ map hosted_opened slots
-    → SendsHosted board after events a b (Some []) s → ((text : List ℕ) → Sends a b (Some []) text s → Output text) → RecordedHosted slots events image image Output
+recorded_hosted : {A I : Type 0} (slots : List SlotSpec) (board after : List HostedState) (image : I)
+    (events : List (Event A)) (a b s : Option (List ℕ)) (Output : List ℕ → Type 0)
+    → board ≡ map hosted_opened slots
+    → SendsHosted board after events a b (Some []) s
+    → ((text : List ℕ) → Sends a b (Some []) text s → Output text)
+    → RecordedHosted slots events image image Output
 recorded_hosted slots board after image events a b s Output new run out = record {
   moves = run.moves;
   last = after;
   line = subst (λ (old : List HostedState). IsHostedLine old run.moves after) new run.line;
   calls = run.calls;
   image = refl;
-  output = subst (λ (old : List HostedState). Output (moves_text old run.moves)) new (out (moves_text board run.moves) run.sent);
+  output = subst (λ (old : List HostedState). Output (moves_text old run.moves)) new
+      (out (moves_text board run.moves) run.sent);
 }
 
 -- what waited was written
-pub hosted_flushed : {A : Type 0} (old new : List HostedState) (events : List (Event A)) (a b c t u w : Option (List ℕ)) → w ≡ Some [] → SendsHosted old new events a b w t → Sends b c t [] u → SendsHosted old new events a c (Some []) u
+pub hosted_flushed : {A : Type 0} (old new : List HostedState) (events : List (Event A))
+    (a b c t u w : Option (List ℕ)) → w ≡ Some [] → SendsHosted old new events a b w t → Sends b c t [] u
+    → SendsHosted old new events a c (Some []) u
 hosted_flushed old new events a b c t u w start p q = record {
   moves = p.moves;
   line = p.line;
   calls = p.calls;
   sent =
       subst (λ (s : Option (List ℕ)). Sends a c s (moves_text old p.moves) u) start
-      (sends_same a c w u (moves_text old p.moves ++ []) (moves_text old p.moves) (append-nil (moves_text old p.moves)) (sends_more a b c w t u (moves_text old p.moves) [] p.sent q));
+      (sends_same a c w u (moves_text old p.moves ++ []) (moves_text old p.moves)
+      (append-nil (moves_text old p.moves))
+      (sends_more a b c w t u (moves_text old p.moves) [] p.sent q));
 }
 
 -- all of the text went out
-pub hosted_all_out : {A I : Type 0} (slots : List SlotSpec) (board after : List HostedState) (image : I) (events : List (Event A)) (a b u : Option (List ℕ)) → board ≡ map hosted_opened slots → u ≡ Some []
+pub hosted_all_out : {A I : Type 0} (slots : List SlotSpec) (board after : List HostedState) (image : I)
+    (events : List (Event A)) (a b u : Option (List ℕ)) → board ≡ map hosted_opened slots → u ≡ Some []
     → SendsHosted board after events a b (Some []) u → RecordedHosted slots events image image (Appends a b)
 hosted_all_out slots board after image events a b u new whole run =
     recorded_hosted slots board after image events a b (Some []) (Appends a b) new
     (subst (λ (s : Option (List ℕ)). SendsHosted board after events a b (Some []) s) whole run) (sent_all a b)
 
 -- the writer failed
-pub hosted_front_out : {A I : Type 0} (disk : I → Disk) (slots : List SlotSpec) (board after : List HostedState) (image : I) (events : List (Event A)) (a b u : Option (List ℕ)) → board ≡ map hosted_opened slots → u ≡ None
-    → SendsHosted board after events a b (Some []) u → RecordedFront Hosted disk slots events image image (AppendsFront a b)
+pub hosted_front_out : {A I : Type 0} (disk : I → Disk) (slots : List SlotSpec)
+    (board after : List HostedState) (image : I) (events : List (Event A)) (a b u : Option (List ℕ))
+    → board ≡ map hosted_opened slots → u ≡ None
+    → SendsHosted board after events a b (Some []) u
+    → RecordedFront Hosted disk slots events image image (AppendsFront a b)
 hosted_front_out disk slots board after image events a b u new broken run = record {
   done = length events;
   recorded =
       recorded_hosted slots board after image (take (length events) events) a b None (AppendsFront a b) new
-      (subst (λ (s : Option (List ℕ)). SendsHosted board after (take (length events) events) a b (Some []) s) broken
-      (subst (λ (es : List (Event _)). SendsHosted board after es a b (Some []) u) (sym (take_all (length events) events (omega arith))) run))
+      (subst (λ (s : Option (List ℕ)). SendsHosted board after (take (length events) events) a b
+      (Some []) s) broken
+      (subst (λ (es : List (Event _)). SendsHosted board after es a b (Some []) u)
+      (sym (take_all (length events) events (omega arith))) run))
       (sent_front a b);
 }
 
 -- nothing was run, and nothing written
-pub hosted_none_out : {A I : Type 0} (disk : I → Disk) (slots : List SlotSpec) (board : List HostedState) (image : I) (events : List (Event A)) (a b : Option (List ℕ)) → board ≡ map hosted_opened slots → Keeps a b
+pub hosted_none_out : {A I : Type 0} (disk : I → Disk) (slots : List SlotSpec) (board : List HostedState)
+    (image : I) (events : List (Event A)) (a b : Option (List ℕ))
+    → board ≡ map hosted_opened slots → Keeps a b
     → RecordedFront Hosted disk slots events image image (λ _. Keeps a b)
 hosted_none_out disk slots board image events a b new same = record {
   done = 0;
-  recorded = recorded_hosted slots board board image [] a a (Some []) (λ _. Keeps a b) new (hosts_none board a (Some [])) (λ _ _. same);
+  recorded = recorded_hosted slots board board image [] a a (Some []) (λ _. Keeps a b) new
+      (hosts_none board a (Some [])) (λ _ _. same);
 }

@@ -14,8 +14,10 @@ use Rattle.replay.specs.Limits.{IsSmallMemory, asked_of_board, most_memory, no_m
 
 -- ---- the loop that asks for no memory in place of a large one
 
-pub one_more : {X : Type 0} (f : X → X) (xs ys : List X) (i : ℕ) (d new : X) → i < length xs → length ys ≡ length xs
-    → ys ≡ map f (take i xs) ++ drop i xs → new ≡ f (get_or ys i d) → slice_set ys i new ≡ map f (take (i + 1) xs) ++ drop (i + 1) xs
+pub one_more : {X : Type 0} (f : X → X) (xs ys : List X) (i : ℕ) (d new : X) → i < length xs
+    → length ys ≡ length xs
+    → ys ≡ map f (take i xs) ++ drop i xs → new ≡ f (get_or ys i d)
+    → slice_set ys i new ≡ map f (take (i + 1) xs) ++ drop (i + 1) xs
 one_more {X} f xs ys i d new below same is written =
     let within : i < length ys = omega (arith, below, same) in
     ap (λ (x : X). slice_set ys i x) written
@@ -28,7 +30,8 @@ module _ (version : ℕ) where
   asked_small : (spec : SlotSpec) → IsSmallMemory version spec → asked_of_board version spec ≡ spec
   asked_small spec small = rw (le-ltb (most_memory version) (size_of spec.regions) small) refl
 
-  asked_large : (spec : SlotSpec) → most_memory version < size_of spec.regions → (asked_of_board version spec).regions ≡ no_memory
+  asked_large : (spec : SlotSpec) → most_memory version < size_of spec.regions
+      → (asked_of_board version spec).regions ≡ no_memory
   asked_large spec large =
       let test : nat_lt (most_memory version) (size_of spec.regions) ≡ true = grind (arith, large) in
       rw test refl
@@ -40,31 +43,47 @@ module _ (version : ℕ) where
       let least = first.size.own.least in
       omega (arith, least)
 
-  small_or_none : (spec : SlotSpec) → AreGood (asked_of_board version spec).regions → (most_memory version < size_of spec.regions) ⊎ (size_of spec.regions ≤ most_memory version) → IsSmallMemory version spec
+  small_or_none : (spec : SlotSpec) → AreGood (asked_of_board version spec).regions
+      → (most_memory version < size_of spec.regions) ⊎ (size_of spec.regions ≤ most_memory version)
+      → IsSmallMemory version spec
   small_or_none spec good (inl large) = absurd (none_good (subst AreGood (asked_large spec large) good))
   small_or_none spec good (inr small) = small
 
   -- slots of which the board is asked for good memories
-  pub all_small : (slots : List SlotSpec) → ((i : ℕ) (spec : SlotSpec) → slice_get (map (asked_of_board version) slots) i ≡ Some spec → AreGood spec.regions) → All (IsSmallMemory version) slots
+  pub all_small : (slots : List SlotSpec)
+      → ((i : ℕ) (spec : SlotSpec) → slice_get (map (asked_of_board version) slots) i ≡ Some spec
+      → AreGood spec.regions) → All (IsSmallMemory version) slots
   all_small slots good = λ k d below.
-      let there : slice_get (map (asked_of_board version) slots) k ≡ Some (asked_of_board version (get_or slots k d))
-      = slice_get-map (asked_of_board version) slots k ∙ ap (option_map (asked_of_board version)) (slice_get-get_or slots k d below) in
-      small_or_none (get_or slots k d) (good k (asked_of_board version (get_or slots k d)) there) (cases_lt (most_memory version) (size_of (get_or slots k d).regions))
+      let there : slice_get (map (asked_of_board version) slots) k
+      ≡ Some (asked_of_board version (get_or slots k d))
+      = slice_get-map (asked_of_board version) slots k
+      ∙ ap (option_map (asked_of_board version)) (slice_get-get_or slots k d below) in
+      small_or_none (get_or slots k d) (good k (asked_of_board version (get_or slots k d)) there)
+      (cases_lt (most_memory version) (size_of (get_or slots k d).regions))
 
-  pub all_asked : (slots : List SlotSpec) → All (IsSmallMemory version) slots → map (asked_of_board version) slots ≡ slots
+  pub all_asked : (slots : List SlotSpec) → All (IsSmallMemory version) slots
+      → map (asked_of_board version) slots ≡ slots
   all_asked [] small = refl
   all_asked (spec ∷ slots) small =
-      rw (asked_small spec (small 0 spec (omega arith)), all_asked slots (λ k d below. small (suc k) d (omega (arith, below)))) refl
+      rw (
+        asked_small spec (small 0 spec (omega arith)),
+        all_asked slots (λ k d below. small (suc k) d (omega (arith, below))),
+      ) refl
 
 -- Slots that are asked for as a trace is, of which what was asked for is taken.
-module _ (version : ℕ) (Taken : List SlotSpec → Type 0) (good : (slots : List SlotSpec) (i : ℕ) (spec : SlotSpec) → Taken slots → slice_get slots i ≡ Some spec → AreGood spec.regions) (slots asked : List SlotSpec) (same : asked ≡ map (asked_of_board version) slots) where
+module _ (version : ℕ) (Taken : List SlotSpec
+    → Type 0) (good : (slots : List SlotSpec) (i : ℕ) (spec : SlotSpec) → Taken slots
+    → slice_get slots i ≡ Some spec → AreGood spec.regions) (slots asked : List SlotSpec)
+    (same : asked ≡ map (asked_of_board version) slots) where
   taken_small : Taken asked → All (IsSmallMemory version) slots
-  taken_small taken = all_small version slots (λ i spec there. good (map (asked_of_board version) slots) i spec (subst Taken same taken) there)
+  taken_small taken = all_small version slots (λ i spec there. good (map (asked_of_board version) slots) i
+      spec (subst Taken same taken) there)
 
   as_described : Taken asked → asked ≡ slots
   as_described taken = same ∙ all_asked version slots (taken_small taken)
 
-  pub small_of : {V E : Type 0} (result : Result V E) → OnOk result (Taken asked) → OnOk result (All (IsSmallMemory version) slots)
+  pub small_of : {V E : Type 0} (result : Result V E) → OnOk result (Taken asked)
+      → OnOk result (All (IsSmallMemory version) slots)
   small_of (Ok v) taken = taken_small taken
   small_of (Err e) taken = tt
 
@@ -73,36 +92,57 @@ module _ (version : ℕ) (Taken : List SlotSpec → Type 0) (good : (slots : Lis
   taken_of (Err e) taken = tt
 
   -- what is said of a board of the slots that were asked for is said of one of those that are described
-  pub made_of : {V E : Type 0} (Made : V → List SlotSpec → Type 0) (result : Result V E) → OnOk result (Taken asked) → IfOk result (λ v. Made v asked) → IfOk result (λ v. Made v slots)
+  pub made_of : {V E : Type 0} (Made : V → List SlotSpec → Type 0) (result : Result V E)
+      → OnOk result (Taken asked) → IfOk result (λ v. Made v asked) → IfOk result (λ v. Made v slots)
   made_of Made (Ok v) taken made = subst (λ (s : List SlotSpec). Made v s) (as_described taken) made
   made_of Made (Err e) taken made = tt
 
 -- ---- over an image
 
-accepted_good : (sectors cache : ℕ) (slots : List SlotSpec) (i : ℕ) (spec : SlotSpec) → IsAccepted sectors slots cache → slice_get slots i ≡ Some spec → AreGood spec.regions
-accepted_good sectors cache slots i spec accepted there = (accepted.slots_good.each i spec (slice_get_within slots i spec there) there).memory
+accepted_good : (sectors cache : ℕ) (slots : List SlotSpec) (i : ℕ) (spec : SlotSpec)
+    → IsAccepted sectors slots cache → slice_get slots i ≡ Some spec → AreGood spec.regions
+accepted_good sectors cache slots i spec accepted there =
+    (accepted.slots_good.each i spec (slice_get_within slots i spec there) there).memory
 
-module _ (version sectors cache : ℕ) (slots asked : List SlotSpec) (same : asked ≡ map (asked_of_board version) slots) where
-  pub small_when : {V E : Type 0} (result : Result V E) → OnOk result (IsAccepted sectors asked cache) → OnOk result (All (IsSmallMemory version) slots)
-  small_when result accepted = small_of version (λ s. IsAccepted sectors s cache) (accepted_good sectors cache) slots asked same result accepted
+module _ (version sectors cache : ℕ) (slots asked : List SlotSpec)
+    (same : asked ≡ map (asked_of_board version) slots) where
+  pub small_when : {V E : Type 0} (result : Result V E) → OnOk result (IsAccepted sectors asked cache)
+      → OnOk result (All (IsSmallMemory version) slots)
+  small_when result accepted =
+      small_of version (λ s. IsAccepted sectors s cache) (accepted_good sectors cache) slots asked
+      same result accepted
 
-  pub accepted_when : {V E : Type 0} (result : Result V E) → OnOk result (IsAccepted sectors asked cache) → OnOk result (IsAccepted sectors slots cache)
-  accepted_when result accepted = taken_of version (λ s. IsAccepted sectors s cache) (accepted_good sectors cache) slots asked same result accepted
+  pub accepted_when : {V E : Type 0} (result : Result V E) → OnOk result (IsAccepted sectors asked cache)
+      → OnOk result (IsAccepted sectors slots cache)
+  accepted_when result accepted =
+      taken_of version (λ s. IsAccepted sectors s cache) (accepted_good sectors cache) slots asked
+      same result accepted
 
-  pub made_when : {V E : Type 0} (Made : V → List SlotSpec → Type 0) (result : Result V E) → OnOk result (IsAccepted sectors asked cache) → IfOk result (λ v. Made v asked) → IfOk result (λ v. Made v slots)
-  made_when Made result accepted made = made_of version (λ s. IsAccepted sectors s cache) (accepted_good sectors cache) slots asked same Made result accepted made
+  pub made_when : {V E : Type 0} (Made : V → List SlotSpec → Type 0) (result : Result V E)
+      → OnOk result (IsAccepted sectors asked cache) → IfOk result (λ v. Made v asked)
+      → IfOk result (λ v. Made v slots)
+  made_when Made result accepted made =
+      made_of version (λ s. IsAccepted sectors s cache) (accepted_good sectors cache) slots asked same Made
+      result accepted made
 
 -- ---- where the host serves the disks
 
-hosted_good : (slots : List SlotSpec) (i : ℕ) (spec : SlotSpec) → AreGoodHosted slots → slice_get slots i ≡ Some spec → AreGood spec.regions
+hosted_good : (slots : List SlotSpec) (i : ℕ) (spec : SlotSpec) → AreGoodHosted slots
+    → slice_get slots i ≡ Some spec → AreGood spec.regions
 hosted_good slots i spec good there = (good.each i spec (slice_get_within slots i spec there) there).memory
 
 module _ (version : ℕ) (slots asked : List SlotSpec) (same : asked ≡ map (asked_of_board version) slots) where
-  pub hosted_small_when : {V E : Type 0} (result : Result V E) → OnOk result (AreGoodHosted asked) → OnOk result (All (IsSmallMemory version) slots)
-  hosted_small_when result accepted = small_of version AreGoodHosted hosted_good slots asked same result accepted
+  pub hosted_small_when : {V E : Type 0} (result : Result V E) → OnOk result (AreGoodHosted asked)
+      → OnOk result (All (IsSmallMemory version) slots)
+  hosted_small_when result accepted =
+      small_of version AreGoodHosted hosted_good slots asked same result accepted
 
-  pub hosted_accepted_when : {V E : Type 0} (result : Result V E) → OnOk result (AreGoodHosted asked) → OnOk result (AreGoodHosted slots)
-  hosted_accepted_when result accepted = taken_of version AreGoodHosted hosted_good slots asked same result accepted
+  pub hosted_accepted_when : {V E : Type 0} (result : Result V E) → OnOk result (AreGoodHosted asked)
+      → OnOk result (AreGoodHosted slots)
+  hosted_accepted_when result accepted =
+      taken_of version AreGoodHosted hosted_good slots asked same result accepted
 
-  pub hosted_made_when : {V E : Type 0} (Made : V → List SlotSpec → Type 0) (result : Result V E) → OnOk result (AreGoodHosted asked) → IfOk result (λ v. Made v asked) → IfOk result (λ v. Made v slots)
-  hosted_made_when Made result accepted made = made_of version AreGoodHosted hosted_good slots asked same Made result accepted made
+  pub hosted_made_when : {V E : Type 0} (Made : V → List SlotSpec → Type 0) (result : Result V E)
+      → OnOk result (AreGoodHosted asked) → IfOk result (λ v. Made v asked) → IfOk result (λ v. Made v slots)
+  hosted_made_when Made result accepted made =
+      made_of version AreGoodHosted hosted_good slots asked same Made result accepted made

@@ -31,14 +31,24 @@ alone events = record { version = 3; disks = Cached 0; slots = []; events = even
 alone_fits : {A : Type 0} (events : List (Event A)) → All IsFine events → Fits (alone events)
 alone_fits events fine = record {
   range = record { disks = omega arith; slots = All-nil SlotInRange; events = λ k d lt. (fine k d lt).fits };
-  printable = record { version = inr (inr refl); disks = tt; slots = All-nil (IsPrintableSlot 3); events = λ k d lt. (fine k d lt).printable; words = λ k d lt. word_of_3 (word_for (get_or events k d).what) };
+  printable = record {
+    version = inr (inr refl);
+    disks = tt;
+    slots = All-nil (IsPrintableSlot 3);
+    events = λ k d lt. (fine k d lt).printable;
+    words =
+        λ k d lt. word_of_3 (word_for (get_or events k d).what);
+  };
 }
 
 -- lines are those of one list of events
-pub one_text : {A : Type 0} (ds es : List (Event A)) (lines : List ℕ) → AreLinesOf ds lines → AreLinesOf es lines → ds ≡ es
+pub one_text : {A : Type 0} (ds es : List (Event A)) (lines : List ℕ) → AreLinesOf ds lines
+    → AreLinesOf es lines → ds ≡ es
 one_text ds es lines hd he =
-    let same = ap (λ (x : List ℕ). (front_text 3 (Cached 0) ++ joined []) ++ x) (sym hd.spelled ∙ he.spelled) in
-    ap (λ c. c.events) (one_trace (alone ds) (alone es) (alone_fits ds hd.fine) (alone_fits es he.fine) (sym (text_is (alone ds)) ∙ same ∙ text_is (alone es)))
+    let same = ap (λ (x : List ℕ). (front_text 3 (Cached 0) ++ joined [])
+    ++ x) (sym hd.spelled ∙ he.spelled) in
+    ap (λ c. c.events) (one_trace (alone ds) (alone es) (alone_fits ds hd.fine) (alone_fits es he.fine)
+    (sym (text_is (alone ds)) ∙ same ∙ text_is (alone es)))
 
 -- ---- the line of an event
 
@@ -46,15 +56,18 @@ above : {A : Type 0} (e : Event A) → IsFine e → Above 10 (event_line e)
 above e fine = (entered_event 3 e fine (word_of_3 (word_for e.what))).entry.unbroken
 
 -- lines cut after the first
-first_cut : (l : List ℕ) (ls : List (List ℕ)) → Above 10 l → lines_of (joined (l ∷ ls)) ≡ l ∷ lines_of (joined ls)
+first_cut : (l : List ℕ) (ls : List (List ℕ)) → Above 10 l
+    → lines_of (joined (l ∷ ls)) ≡ l ∷ lines_of (joined ls)
 first_cut l ls h = ap lines_of (joined_append (l ∷ []) ls) ∙ lines_of-joined (l ∷ []) (joined ls) (h, tt)
 
 -- it is refused in no way: it would be a fault of a text of two such lines
-refused_not : {A : Type 0} (e : Event A) (fault : FaultKind) → IsFine e → fault ≢ kind.NoMemory → RefusesLine 3 true (event_line e) fault → ⊥
+refused_not : {A : Type 0} (e : Event A) (fault : FaultKind) → IsFine e → fault ≢ kind.NoMemory
+    → RefusesLine 3 true (event_line e) fault → ⊥
 refused_not {A} e fault fine known h =
     let one : Content A = alone (e ∷ []) in
     let two : Content A = alone (e ∷ e ∷ []) in
-    let all : All IsFine (e ∷ e ∷ []) = All-cons IsFine e (e ∷ []) fine (All-cons IsFine e [] fine (All-nil IsFine)) in
+    let all : All IsFine (e ∷ e ∷ []) =
+    All-cons IsFine e (e ∷ []) fine (All-cons IsFine e [] fine (All-nil IsFine)) in
     let rest : List ℕ = joined (event_line e ∷ []) in
     let so : Sofar (text two) one 4 rest = record {
       spelled = ap joined (push_event one e) ∙ joined_append (trace_lines one) (event_line e ∷ []);
@@ -62,9 +75,11 @@ refused_not {A} e fault fine known h =
       count = refl;
     } in
     no_fault (text two) two 4 fault (alone_fits (e ∷ e ∷ []) all) refl
-    (is_refused (text two) one 4 rest so true (event_line e) (joined []) fault (first_cut (event_line e) [] (above e fine)) (λ _. omega arith) (λ no'. absurd cc) h known)
+    (is_refused (text two) one 4 rest so true (event_line e) (joined []) fault
+    (first_cut (event_line e) [] (above e fine)) (λ _. omega arith) (λ no'. absurd cc) h known)
 
-never_refused : {A : Type 0} (e : Event A) → IsFine e → (fault : FaultKind) → RefusesLine 3 true (event_line e) fault → ⊥
+never_refused : {A : Type 0} (e : Event A) → IsFine e → (fault : FaultKind)
+    → RefusesLine 3 true (event_line e) fault → ⊥
 never_refused e fine kind.Cut h = refused_not e kind.Cut fine (λ is. cc) h
 never_refused e fine kind.Header h = refused_not e kind.Header fine (λ is. cc) h
 never_refused e fine kind.Word h = refused_not e kind.Word fine (λ is. cc) h
@@ -77,7 +92,8 @@ never_refused e fine kind.NoMemory h = h.refused
 
 -- ---- the next line
 
-begins_at : {A : Type 0} (left : List (Event A)) (rest : List ℕ) → AreLinesOf left rest → length rest ≢ 0 → BeginsWithEvent rest
+begins_at : {A : Type 0} (left : List (Event A)) (rest : List ℕ) → AreLinesOf left rest → length rest ≢ 0
+    → BeginsWithEvent rest
 unfolding joined
 begins_at [] rest more some = absurd (some (ap length more.spelled))
 begins_at (e ∷ left) rest more some =
@@ -90,30 +106,42 @@ begins_at (e ∷ left) rest more some =
     }
 
 -- what was taken off is the first of the events, and the others are left
-record IsNext {A : Type 0} (e : Event A) (left : List (Event A)) (parsed : ParsedEvent A) (after : List ℕ) : Type 0 where
+record IsNext {A : Type 0} (e : Event A) (left : List (Event A)) (parsed : ParsedEvent A)
+    (after : List ℕ) : Type 0 where
   fields : event_fields e ≡ parsed_fields parsed
   fine : IsFine e
   more : AreLinesOf left after
 
-next_is : {A : Type 0} (e : Event A) (left : List (Event A)) (rest : List ℕ) (parsed : ParsedEvent A) (after : List ℕ) → AreLinesOf (e ∷ left) rest → TakesEvent rest parsed after → IsNext e left parsed after
+next_is : {A : Type 0} (e : Event A) (left : List (Event A)) (rest : List ℕ) (parsed : ParsedEvent A)
+    (after : List ℕ) → AreLinesOf (e ∷ left) rest → TakesEvent rest parsed after → IsNext e left parsed after
 unfolding joined
 next_is e left rest parsed after more takes =
     let fine = more.fine 0 e (omega arith) in
     let cut = ap lines_of more.spelled ∙ first_cut (event_line e) (map event_line left) (above e fine) in
-    let same : takes.line ≡ event_line e = ap (λ (ls : List (List ℕ)). get_or ls 0 []) (sym takes.lines ∙ cut) in
+    let same : takes.line ≡ event_line e =
+    ap (λ (ls : List (List ℕ)). get_or ls 0 []) (sym takes.lines ∙ cut) in
     let whole : event_line e ++ 10 ∷ after ≡ event_line e ++ 10 ∷ joined (map event_line left) =
-    ap (λ (l : List ℕ). l ++ 10 ∷ after) (sym same) ∙ sym takes.ended ∙ more.spelled ∙ append_assoc (event_line e) (10 ∷ []) (joined (map event_line left)) in
+    ap (λ (l : List ℕ). l ++ 10 ∷ after) (sym same) ∙ sym takes.ended ∙ more.spelled
+    ∙ append_assoc (event_line e) (10 ∷ []) (joined (map event_line left)) in
     record {
       fields = sym (cut_event e fine) ∙ ap fields_of (sym same) ∙ takes.fields;
       fine = fine;
-      more = record { fine = λ k d lt. more.fine (suc k) d (omega arith); spelled = ap (drop 1) (append_cancel_left (event_line e) (10 ∷ after) (10 ∷ joined (map event_line left)) whole) };
+      more = record {
+        fine = λ k d lt. more.fine (suc k) d (omega arith);
+        spelled = ap (drop 1) (append_cancel_left (event_line e) (10 ∷ after)
+            (10 ∷ joined (map event_line left)) whole);
+      };
     }
 
-none_taken : {A : Type 0} (rest : List ℕ) (parsed : ParsedEvent A) (after : List ℕ) → TakesEvent rest parsed after → rest ≡ [] → ⊥
-none_taken rest parsed after takes none = omega (arith, ap length (sym none ∙ takes.ended), length-append takes.line (10 ∷ after))
+none_taken : {A : Type 0} (rest : List ℕ) (parsed : ParsedEvent A) (after : List ℕ)
+    → TakesEvent rest parsed after → rest ≡ [] → ⊥
+none_taken rest parsed after takes none =
+    omega (arith, ap length (sym none ∙ takes.ended), length-append takes.line (10 ∷ after))
 
 -- there is room for its bytes
-fits_at : {A : Type 0} (left : List (Event A)) (room : ℕ) (rest : List ℕ) (parsed : ParsedEvent A) (after : List ℕ) → AreLinesOf left rest → HaveRoom room left → TakesEvent rest parsed after → parsed_len parsed ≤ room
+fits_at : {A : Type 0} (left : List (Event A)) (room : ℕ) (rest : List ℕ) (parsed : ParsedEvent A)
+    (after : List ℕ) → AreLinesOf left rest → HaveRoom room left → TakesEvent rest parsed after
+    → parsed_len parsed ≤ room
 unfolding joined
 fits_at [] room rest parsed after more fit takes = absurd (none_taken rest parsed after takes more.spelled)
 fits_at {A} (e ∷ left) room rest parsed after more fit takes =
@@ -127,7 +155,8 @@ fits_at {A} (e ∷ left) room rest parsed after more fit takes =
 -- ---- the run so far
 
 -- the first of the events are run, of which this holds, and the lines of the others are left
-pub record RunSofar (A : Type 0) (lines : List ℕ) (room : ℕ) (rest : List ℕ) (Run : List (Event A) → Type 0) : Type 0 where
+pub record RunSofar (A : Type 0) (lines : List ℕ) (room : ℕ) (rest : List ℕ) (Run : List (Event A)
+    → Type 0) : Type 0 where
   pub done : List (Event A)
   pub left : List (Event A)
   pub whole : AreLinesOf (done ++ left) lines
@@ -135,11 +164,13 @@ pub record RunSofar (A : Type 0) (lines : List ℕ) (room : ℕ) (rest : List �
   pub fit : HaveRoom room left
   pub run : Run done
 
-pub run_none : (A : Type 0) (lines : List ℕ) (room : ℕ) (Run : List (Event A) → Type 0) → AreEventLines A room lines → Run [] → RunSofar A lines room lines Run
+pub run_none : (A : Type 0) (lines : List ℕ) (room : ℕ) (Run : List (Event A) → Type 0)
+    → AreEventLines A room lines → Run [] → RunSofar A lines room lines Run
 run_none A lines room Run h none =
     record { done = []; left = h.events; whole = h.lines_of; more = h.lines_of; fit = h.fit; run = none }
 
-module _ (A : Type 0) (lines : List ℕ) (room : ℕ) (rest : List ℕ) (Run : List (Event A) → Type 0) (so : RunSofar A lines room rest Run) where
+module _ (A : Type 0) (lines : List ℕ) (room : ℕ) (rest : List ℕ) (Run : List (Event A)
+    → Type 0) (so : RunSofar A lines room rest Run) where
   pub begins : length rest ≢ 0 → BeginsWithEvent rest
   begins some = begins_at so.left rest so.more some
 
@@ -147,37 +178,55 @@ module _ (A : Type 0) (lines : List ℕ) (room : ℕ) (rest : List ℕ) (Run : L
   fits parsed after takes = fits_at so.left room rest parsed after so.more so.fit takes
 
 -- one event more
-more_at : (A : Type 0) (lines : List ℕ) (room : ℕ) (rest : List ℕ) (parsed : ParsedEvent A) (after : List ℕ) (done left : List (Event A)) (Old New : List (Event A) → Type 0) (One : Event A → Type 0)
-    → AreLinesOf (done ++ left) lines → AreLinesOf left rest → HaveRoom room left → Old done → TakesEvent rest parsed after → RunsParsed parsed One
-    → ((es : List (Event A)) (e : Event A) → Old es → One e → New (es ++ e ∷ [])) → RunSofar A lines room after New
+more_at : (A : Type 0) (lines : List ℕ) (room : ℕ) (rest : List ℕ) (parsed : ParsedEvent A) (after : List ℕ)
+    (done left : List (Event A)) (Old New : List (Event A) → Type 0) (One : Event A → Type 0)
+    → AreLinesOf (done ++ left) lines → AreLinesOf left rest → HaveRoom room left → Old done
+    → TakesEvent rest parsed after → RunsParsed parsed One
+    → ((es : List (Event A)) (e : Event A) → Old es → One e → New (es ++ e ∷ []))
+    → RunSofar A lines room after New
 unfolding joined
-more_at A lines room rest parsed after done [] Old New One whole more fit run takes it join = absurd (none_taken rest parsed after takes more.spelled)
+more_at A lines room rest parsed after done [] Old New One whole more fit run takes it join =
+    absurd (none_taken rest parsed after takes more.spelled)
 more_at A lines room rest parsed after done (e ∷ left) Old New One whole more fit run takes it join =
     let next = next_is e left rest parsed after more takes in
     let same = same_event_fields it.event e it.fine next.fine (it.fields ∙ sym next.fields) in
     record {
       done = done ++ e ∷ [];
       left = left;
-      whole = subst (λ (es : List (Event A)). AreLinesOf es lines) (sym (append_assoc done (e ∷ []) left)) whole;
+      whole = subst (λ (es : List (Event A)). AreLinesOf es lines)
+          (sym (append_assoc done (e ∷ []) left)) whole;
       more = next.more;
       fit = λ k d lt. fit (suc k) d (omega arith);
       run = join done e run (subst One same it.run);
     }
 
-pub run_more : (A : Type 0) (lines : List ℕ) (room : ℕ) (rest after : List ℕ) (Old New : List (Event A) → Type 0) (One : Event A → Type 0)
-    → RunSofar A lines room rest Old → RunsLine A rest after One → ((es : List (Event A)) (e : Event A) → Old es → One e → New (es ++ e ∷ [])) → RunSofar A lines room after New
+pub run_more : (A : Type 0) (lines : List ℕ) (room : ℕ) (rest after : List ℕ) (Old New : List (Event A)
+    → Type 0) (One : Event A → Type 0)
+    → RunSofar A lines room rest Old → RunsLine A rest after One
+    → ((es : List (Event A)) (e : Event A) → Old es → One e → New (es ++ e ∷ []))
+    → RunSofar A lines room after New
 run_more A lines room rest after Old New One so it join =
-    more_at A lines room rest it.parsed after so.done so.left Old New One so.whole so.more so.fit so.run it.taken it.ran join
+    more_at A lines room rest it.parsed after so.done so.left Old New One so.whole so.more so.fit so.run
+    it.taken it.ran join
 
 -- no line is left
-all_at : (A : Type 0) (lines : List ℕ) (rest : List ℕ) (done left events : List (Event A)) (Run : List (Event A) → Type 0)
-    → AreLinesOf (done ++ left) lines → AreLinesOf left rest → Run done → length rest ≡ 0 → AreLinesOf events lines → Run events
+all_at : (A : Type 0) (lines : List ℕ) (rest : List ℕ) (done left events : List (Event A))
+    (Run : List (Event A) → Type 0)
+    → AreLinesOf (done ++ left) lines → AreLinesOf left rest → Run done → length rest ≡ 0
+    → AreLinesOf events lines → Run events
 unfolding joined
 all_at A lines rest done [] events Run whole more run none are =
     subst Run (sym (append-nil done) ∙ one_text (done ++ []) events lines whole are) run
 all_at A lines rest done (e ∷ left) events Run whole more run none are =
-    absurd (omega (arith, ap length more.spelled, length-append (ended (event_line e)) (joined (map event_line left)), length-append (event_line e) (10 ∷ [])))
+    absurd (omega (
+      arith,
+      ap length more.spelled,
+      length-append (ended (event_line e)) (joined (map event_line left)),
+      length-append (event_line e) (10 ∷ []),
+    ))
 
-pub run_all : (A : Type 0) (lines : List ℕ) (room : ℕ) (rest : List ℕ) (events : List (Event A)) (Run : List (Event A) → Type 0)
+pub run_all : (A : Type 0) (lines : List ℕ) (room : ℕ) (rest : List ℕ) (events : List (Event A))
+    (Run : List (Event A) → Type 0)
     → RunSofar A lines room rest Run → length rest ≡ 0 → AreLinesOf events lines → Run events
-run_all A lines room rest events Run so none are = all_at A lines rest so.done so.left events Run so.whole so.more so.run none are
+run_all A lines room rest events Run so none are =
+    all_at A lines rest so.done so.left events Run so.whole so.more so.run none are

@@ -24,22 +24,28 @@ use Rattle.replay.specs.OneSlot.{IsMachine, machine, with_extent, with_missing}
 -- ---- the image
 
 -- bytes by their parts: before, in and after an extent
-parts : (bytes : List ℕ) (from size : ℕ) → bytes ≡ take from bytes ++ (take size (drop from bytes) ++ drop (from + size) bytes)
+parts : (bytes : List ℕ) (from size : ℕ) → bytes ≡ take from bytes
+    ++ (take size (drop from bytes) ++ drop (from + size) bytes)
 parts bytes from size =
     sym (take-append-drop from bytes)
-    ∙ ap (λ (rest : List ℕ). take from bytes ++ rest) (sym (take-append-drop size (drop from bytes)) ∙ ap (λ (rest : List ℕ). take size (drop from bytes) ++ rest) (drop-drop size from bytes))
+    ∙ ap (λ (rest : List ℕ). take from bytes ++ rest) (sym (take-append-drop size (drop from bytes))
+    ∙ ap (λ (rest : List ℕ). take size (drop from bytes) ++ rest) (drop-drop size from bytes))
 
 -- an extent has no sector before it, and none after it
 none_before : (extent : Extent) → IsApart extent (record { start = 0; count = extent.start })
 none_before extent sector = grind (arith, nat_tests)
 
-none_after : (extent : Extent) (count : ℕ) → IsApart extent (record { start = extent.start + extent.count; count = count })
+none_after : (extent : Extent) (count : ℕ)
+    → IsApart extent (record { start = extent.start + extent.count; count = count })
 none_after extent count sector = grind (arith, nat_tests)
 
-before : (extent : Extent) (old new : List ℕ) → outside_of (extent ∷ []) new ≡ outside_of (extent ∷ []) old → take (512 * extent.start) new ≡ take (512 * extent.start) old
-before extent old new same = extent_apart extent (record { start = 0; count = extent.start }) (none_before extent) new old same
+before : (extent : Extent) (old new : List ℕ) → outside_of (extent ∷ []) new ≡ outside_of (extent ∷ []) old
+    → take (512 * extent.start) new ≡ take (512 * extent.start) old
+before extent old new same =
+    extent_apart extent (record { start = 0; count = extent.start }) (none_before extent) new old same
 
-after : (extent : Extent) (old new : List ℕ) → outside_of (extent ∷ []) new ≡ outside_of (extent ∷ []) old → drop (512 * (extent.start + extent.count)) new ≡ drop (512 * (extent.start + extent.count)) old
+after : (extent : Extent) (old new : List ℕ) → outside_of (extent ∷ []) new ≡ outside_of (extent ∷ []) old
+    → drop (512 * (extent.start + extent.count)) new ≡ drop (512 * (extent.start + extent.count)) old
 after extent old new same =
     let end : ℕ = extent.start + extent.count in
     let count : ℕ = length new + length old in
@@ -48,13 +54,16 @@ after extent old new same =
     ∙ take_all (512 * count) (drop (512 * end) old) (omega (arith, length-drop (512 * end) old)))
 
 -- where the bytes outside an extent stay, those before it and after it do
-pub around : (extent : Extent) (old new : List ℕ) → outside_of (extent ∷ []) new ≡ outside_of (extent ∷ []) old → new ≡ with_extent old extent (extent_of new extent.start extent.count)
+pub around : (extent : Extent) (old new : List ℕ)
+    → outside_of (extent ∷ []) new ≡ outside_of (extent ∷ []) old
+    → new ≡ with_extent old extent (extent_of new extent.start extent.count)
 around extent old new same =
     let from : ℕ = 512 * extent.start in
     let size : ℕ = 512 * extent.count in
     let end : from + size ≡ 512 * (extent.start + extent.count) = omega arith in
     parts new from size
-    ∙ ap (λ (front : List ℕ). front ++ (take size (drop from new) ++ drop (from + size) new)) (before extent old new same)
+    ∙ ap (λ (front : List ℕ). front ++ (take size (drop from new) ++ drop (from + size) new))
+    (before extent old new same)
     ∙ ap (λ k. take from old ++ (take size (drop from new) ++ drop k new)) end
     ∙ ap (λ (back : List ℕ). take from old ++ (take size (drop from new) ++ back)) (after extent old new same)
 
@@ -76,22 +85,32 @@ length_set (x ∷ slots) zero s = refl
 length_set (x ∷ slots) (suc h) s = ap suc (length_set slots h s)
 
 -- a step leaves as many slots as there were
-as_many_at : {A : Type 0} (old : World) (event : Event A) (written : Record A) (new : World) (o : Option SlotState) → MatchOption o (MissingStep old event.slot written new) (λ s. SlotStep old event.slot s event.what written new) → length new.slots ≡ length old.slots
+as_many_at : {A : Type 0} (old : World) (event : Event A) (written : Record A) (new : World)
+    (o : Option SlotState) → MatchOption o (MissingStep old event.slot written new)
+    (λ s. SlotStep old event.slot s event.what written new) → length new.slots ≡ length old.slots
 as_many_at old event written new None step = ap (λ (w : World). length w.slots) step.same
-as_many_at old event written new (Some s) step = ap (λ (slots : List SlotState). length slots) step.slots ∙ length_set old.slots event.slot step.outcome.state
+as_many_at old event written new (Some s) step = ap (λ (slots : List SlotState). length slots) step.slots
+    ∙ length_set old.slots event.slot step.outcome.state
 
 -- an event of another slot finds none
-missed : {A : Type 0} (old : World) (event : Event A) (written : Record A) (after : World) → IsOne old.slots → event.slot ≢ 0 → Step old event written after → written ≡ bad_slot event.slot
+missed : {A : Type 0} (old : World) (event : Event A) (written : Record A) (after : World) → IsOne old.slots
+    → event.slot ≢ 0 → Step old event written after → written ≡ bad_slot event.slot
 missed old event written after one other step =
     let none : slice_get old.slots event.slot ≡ None = nothing_at old.slots event.slot one other in
-    let taken : MissingStep old event.slot written after = subst (λ (o : Option SlotState). MatchOption o (MissingStep old event.slot written after) (λ s. SlotStep old event.slot s event.what written after)) none step in
+    let taken : MissingStep old event.slot written after =
+    subst (λ (o : Option SlotState). MatchOption o (MissingStep old event.slot written after)
+    (λ s. SlotStep old event.slot s event.what written after)) none step in
     taken.recorded
 
 -- the records of a line, by those of slot 0
-pub told : {A : Type 0} (old : World) (moves : List (Move A)) (new : World) → IsOne old.slots → IsLine old moves new → records_of moves ≡ with_missing (events_of moves) (own_records 0 (records_of moves))
+pub told : {A : Type 0} (old : World) (moves : List (Move A)) (new : World) → IsOne old.slots
+    → IsLine old moves new → records_of moves
+    ≡ with_missing (events_of moves) (own_records 0 (records_of moves))
 told old [] new one line = refl
 told old (move ∷ moves) new one line =
-    let many : IsOne move.after.slots = as_many_at old move.event move.written move.after (slice_get old.slots move.event.slot) line.0 ∙ one in
+    let many : IsOne move.after.slots =
+    as_many_at old move.event move.written move.after (slice_get old.slots move.event.slot) line.0
+    ∙ one in
     let rest = told move.after moves new many line.1 in
     let same = recorded_slot old move.event move.written move.after line.0 in
     elim (eqb_tells move.event.slot 0) [
@@ -100,33 +119,45 @@ told old (move ∷ moves) new one line =
           rw (is.0, tested) (ap (λ ws. move.written ∷ ws) rest)
       | inr is ↦
           let tested : eqb move.written.slot 0 ≡ false = rw same is.0 in
-          rw (is.0, tested) (ap (λ w. w ∷ records_of moves) (missed old move.event move.written move.after one is.1 line.0) ∙ ap (λ ws. bad_slot move.event.slot ∷ ws) rest)
+          rw (is.0, tested) (ap (λ w. w ∷ records_of moves)
+          (missed old move.event move.written move.after one is.1 line.0)
+          ∙ ap (λ ws. bad_slot move.event.slot ∷ ws) rest)
     ]
 
 -- ---- a run
 
 -- the one slot that is left of a board of one
-last_state : (last : List BoardSlot) (bytes : List ℕ) (extent : Extent) (state : SlotState) → extents_of last ≡ extent ∷ [] → slice_get (map (state_of bytes) last) 0 ≡ Some state → extent_of bytes extent.start extent.count ≡ state.extent
+last_state : (last : List BoardSlot) (bytes : List ℕ) (extent : Extent) (state : SlotState)
+    → extents_of last ≡ extent ∷ [] → slice_get (map (state_of bytes) last) 0 ≡ Some state
+    → extent_of bytes extent.start extent.count ≡ state.extent
 last_state [] bytes extent state there is = absurd cc
 last_state (slot ∷ slots) bytes extent state there is =
     let place : slot.extent ≡ extent = cc there in
     let first : state_of bytes slot ≡ state = cc is in
     ap (λ (e : Extent). extent_of bytes e.start e.count) (sym place) ∙ ap (λ (s : SlotState). s.extent) first
 
-pub one_slot : {A : Type 0} (spec : SlotSpec) (old new : Disk) (last : List BoardSlot) (events : List (Event A)) (records : List (Record A)) → IsRun (seen (map opened (spec ∷ [])) old) (seen last new) events [] records → extents_of last ≡ spec.extent ∷ [] → new.failures ≡ old.failures → HadMemory 0 records → IsMachine spec (bytes_of old) (bytes_of new) events records
+pub one_slot : {A : Type 0} (spec : SlotSpec) (old new : Disk) (last : List BoardSlot)
+    (events : List (Event A)) (records : List (Record A))
+    → IsRun (seen (map opened (spec ∷ [])) old) (seen last new) events [] records
+    → extents_of last ≡ spec.extent ∷ [] → new.failures ≡ old.failures → HadMemory 0 records
+    → IsMachine spec (bytes_of old) (bytes_of new) events records
 one_slot {A} spec old new last events records run place stood had =
     let first : World = seen (map opened (spec ∷ [])) old in
     let state = machine spec (bytes_of old) in
     let quiet : IsQuiet 0 first run.moves = run.quiet stood 0 (subst (HadMemory 0) run.records_are had) in
     let alone : RunsAlone 0 state run.moves (seen last new) = run.alone 0 quiet state refl in
-    let stayed : outside_of (extents_of last) (bytes_of new) ≡ outside_of (spec.extent ∷ []) (bytes_of old) = line_outside first run.moves (seen last new) run.line in
+    let stayed : outside_of (extents_of last) (bytes_of new) ≡ outside_of (spec.extent ∷ []) (bytes_of old) =
+    line_outside first run.moves (seen last new) run.line in
     let same = ap (λ es. outside_of es (bytes_of new)) (sym place) ∙ stayed in
     let extent_is = last_state last (bytes_of new) spec.extent alone.last place alone.state_after in
     let own : List (Record A) = own_records 0 (records_of run.moves) in
     record {
       own = own;
       last = alone.last;
-      ran = subst (λ (es : List (Event A)). RunsOnItsOwn 0 state (own_events 0 es) own alone.last) run.events_are alone.own;
-      told = run.records_are ∙ (told first run.moves (seen last new) refl run.line ∙ ap (λ (es : List (Event A)). with_missing es own) run.events_are);
-      image = around spec.extent (bytes_of old) (bytes_of new) same ∙ ap (with_extent (bytes_of old) spec.extent) extent_is;
+      ran = subst (λ (es : List (Event A)). RunsOnItsOwn 0 state (own_events 0 es) own alone.last)
+          run.events_are alone.own;
+      told = run.records_are ∙ (told first run.moves (seen last new) refl run.line
+          ∙ ap (λ (es : List (Event A)). with_missing es own) run.events_are);
+      image = around spec.extent (bytes_of old) (bytes_of new) same
+          ∙ ap (with_extent (bytes_of old) spec.extent) extent_is;
     }

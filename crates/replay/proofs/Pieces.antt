@@ -23,7 +23,8 @@ use Rattle.trace.proofs.Printed.{joined_append, joined_none}
 use Rattle.replay.proofs.RunLemmas.{runs_on}
 
 -- a run over some events, with the events last
-abbrev pub SendsAll : {A I : Type 0} → (I → Disk) → BoardState I → BoardState I → Option (List ℕ) → Option (List ℕ) → Option (List ℕ) → Option (List ℕ) → List (Event A) → Type 0
+abbrev pub SendsAll : {A I : Type 0} → (I → Disk) → BoardState I → BoardState I → Option (List ℕ)
+    → Option (List ℕ) → Option (List ℕ) → Option (List ℕ) → List (Event A) → Type 0
 SendsAll disk old new a b s t events = SendsRun disk old new events a b s t
 
 -- no event, no record
@@ -31,7 +32,8 @@ empty_run : {A : Type 0} (w : World) → IsRun {A = A} w w [] [] []
 empty_run w = run_of w w [] [] [] (record { moves = []; line = refl; events_are = refl; records_are = refl })
 
 -- a run whose records come behind others
-behind : {A : Type 0} (old new : World) (events : List (Event A)) (front records : List (Record A)) → IsRun old new events [] records → IsRun old new events front (front ++ records)
+behind : {A : Type 0} (old new : World) (events : List (Event A)) (front records : List (Record A))
+    → IsRun old new events [] records → IsRun old new events front (front ++ records)
 behind old new events front records run = record {
   moves = run.moves;
   line = run.line;
@@ -42,10 +44,13 @@ behind old new events front records run = record {
   quiet = run.quiet;
 }
 
-text_append : {A : Type 0} (xs ys : List (Record A)) → records_text xs ++ records_text ys ≡ records_text (xs ++ ys)
-text_append xs ys = sym (joined_append (map record_line xs) (map record_line ys)) ∙ ap joined (sym (map-append record_line xs ys))
+text_append : {A : Type 0} (xs ys : List (Record A)) → records_text xs
+    ++ records_text ys ≡ records_text (xs ++ ys)
+text_append xs ys = sym (joined_append (map record_line xs) (map record_line ys))
+    ∙ ap joined (sym (map-append record_line xs ys))
 
-pub sends_no_run : {A I : Type 0} (disk : I → Disk) (board : BoardState I) (a s : Option (List ℕ)) → SendsRun {A = A} disk board board [] a a s s
+pub sends_no_run : {A I : Type 0} (disk : I → Disk) (board : BoardState I) (a s : Option (List ℕ))
+    → SendsRun {A = A} disk board board [] a a s s
 sends_no_run {A} disk board a s = record {
   records = [];
   run = λ tells. empty_run (world_of disk board);
@@ -55,33 +60,50 @@ sends_no_run {A} disk board a s = record {
 }
 
 -- two runs, one after the other
-pub sends_runs : {A I : Type 0} (disk : I → Disk) (old mid new : BoardState I) (events more : List (Event A)) (a b c s t u : Option (List ℕ)) → SendsRun disk old mid events a b s t → SendsRun disk mid new more b c t u → SendsRun disk old new (events ++ more) a c s u
+pub sends_runs : {A I : Type 0} (disk : I → Disk) (old mid new : BoardState I) (events more : List (Event A))
+    (a b c s t u : Option (List ℕ)) → SendsRun disk old mid events a b s t
+    → SendsRun disk mid new more b c t u → SendsRun disk old new (events ++ more) a c s u
 sends_runs disk old mid new events more a b c s t u p q = record {
   records = p.records ++ q.records;
-  run = λ tells. runs_join (world_of disk old) (world_of disk mid) (world_of disk new) events more [] p.records (p.records ++ q.records) (p.run tells) (behind (world_of disk mid) (world_of disk new) more p.records q.records (q.run (p.tells tells)));
+  run = λ tells. runs_join (world_of disk old) (world_of disk mid) (world_of disk new) events more []
+      p.records (p.records ++ q.records) (p.run tells)
+      (behind (world_of disk mid) (world_of disk new) more p.records q.records (q.run (p.tells tells)));
   tells = λ tells. q.tells (p.tells tells);
   extents = q.extents ∙ p.extents;
   sent = sends_same a c s u _ _ (text_append p.records q.records) (sends_more a b c s t u _ _ p.sent q.sent);
 }
 
 -- one event more
-pub sends_one_more : {A I : Type 0} (disk : I → Disk) (old mid new : BoardState I) (events : List (Event A)) (event : Event A) (a b c s t u : Option (List ℕ)) → SendsAll disk old mid a b s t events → SendsOne disk mid new b c t u event → SendsAll disk old new a c s u (events ++ event ∷ [])
-sends_one_more disk old mid new events event a b c s t u p q = sends_runs disk old mid new events (event ∷ []) a b c s t u p q
+pub sends_one_more : {A I : Type 0} (disk : I → Disk) (old mid new : BoardState I) (events : List (Event A))
+    (event : Event A) (a b c s t u : Option (List ℕ)) → SendsAll disk old mid a b s t events
+    → SendsOne disk mid new b c t u event → SendsAll disk old new a c s u (events ++ event ∷ [])
+sends_one_more disk old mid new events event a b c s t u p q =
+    sends_runs disk old mid new events (event ∷ []) a b c s t u p q
 
 -- the same events by another name
-pub sends_run_of : {A I : Type 0} (disk : I → Disk) (old new : BoardState I) (events others : List (Event A)) (a b s t : Option (List ℕ)) → events ≡ others → SendsRun disk old new events a b s t → SendsRun disk old new others a b s t
-sends_run_of disk old new events others a b s t same p = subst (λ (es : List (Event _)). SendsRun disk old new es a b s t) same p
+pub sends_run_of : {A I : Type 0} (disk : I → Disk) (old new : BoardState I) (events others : List (Event A))
+    (a b s t : Option (List ℕ)) → events ≡ others → SendsRun disk old new events a b s t
+    → SendsRun disk old new others a b s t
+sends_run_of disk old new events others a b s t same p =
+    subst (λ (es : List (Event _)). SendsRun disk old new es a b s t) same p
 
 -- the run of a new board, with what became of its text
-recorded : {A I : Type 0} (disk : I → Disk) (slots : List SlotSpec) (board after : BoardState I) (image : I) (events : List (Event A)) (a b s : Option (List ℕ)) (Output : List ℕ → Type 0) → board.slots ≡ map opened slots → image ≡ after.image → SendsRun disk board after events a b (Some []) s → ((text : List ℕ) → Sends a b (Some []) text s → Output text) → Recorded disk slots events board.image image Output
+recorded : {A I : Type 0} (disk : I → Disk) (slots : List SlotSpec) (board after : BoardState I) (image : I)
+    (events : List (Event A)) (a b s : Option (List ℕ)) (Output : List ℕ → Type 0)
+    → board.slots ≡ map opened slots → image ≡ after.image → SendsRun disk board after events a b (Some []) s
+    → ((text : List ℕ) → Sends a b (Some []) text s → Output text)
+    → Recorded disk slots events board.image image Output
 recorded disk slots board after image events a b s Output new kept run out = record {
   records = run.records;
-  ran = λ tells. runs_on disk slots board after image events events [] run.records new refl kept refl run.extents (run.tells tells) (run.run tells);
+  ran = λ tells. runs_on disk slots board after image events events [] run.records new refl kept refl
+      run.extents (run.tells tells) (run.run tells);
   output = out (records_text run.records) run.sent;
 }
 
 -- what waited was written
-pub sends_flushed : {A I : Type 0} (disk : I → Disk) (old new : BoardState I) (events : List (Event A)) (a b c t u w : Option (List ℕ)) → w ≡ Some [] → SendsRun disk old new events a b w t → Sends b c t [] u → SendsRun disk old new events a c (Some []) u
+pub sends_flushed : {A I : Type 0} (disk : I → Disk) (old new : BoardState I) (events : List (Event A))
+    (a b c t u w : Option (List ℕ)) → w ≡ Some [] → SendsRun disk old new events a b w t → Sends b c t [] u
+    → SendsRun disk old new events a c (Some []) u
 sends_flushed disk old new events a b c t u w start p q = record {
   records = p.records;
   run = p.run;
@@ -89,34 +111,51 @@ sends_flushed disk old new events a b c t u w start p q = record {
   extents = p.extents;
   sent =
       subst (λ (s : Option (List ℕ)). Sends a c s (records_text p.records) u) start
-      (sends_same a c w u (records_text p.records ++ []) (records_text p.records) (append-nil (records_text p.records)) (sends_more a b c w t u (records_text p.records) [] p.sent q));
+      (sends_same a c w u (records_text p.records ++ []) (records_text p.records)
+      (append-nil (records_text p.records))
+      (sends_more a b c w t u (records_text p.records) [] p.sent q));
 }
 
 -- all of the text went out
-pub all_out : {A I : Type 0} (disk : I → Disk) (slots : List SlotSpec) (board after : BoardState I) (image : I) (events : List (Event A)) (a b u : Option (List ℕ)) → board.slots ≡ map opened slots → image ≡ after.image → u ≡ Some [] → SendsRun disk board after events a b (Some []) u → Recorded disk slots events board.image image (Appends a b)
+pub all_out : {A I : Type 0} (disk : I → Disk) (slots : List SlotSpec) (board after : BoardState I)
+    (image : I) (events : List (Event A)) (a b u : Option (List ℕ)) → board.slots ≡ map opened slots
+    → image ≡ after.image → u ≡ Some [] → SendsRun disk board after events a b (Some []) u
+    → Recorded disk slots events board.image image (Appends a b)
 all_out disk slots board after image events a b u new kept whole run =
     recorded disk slots board after image events a b (Some []) (Appends a b) new kept
-    (subst (λ (s : Option (List ℕ)). SendsRun disk board after events a b (Some []) s) whole run) (sent_all a b)
+    (subst (λ (s : Option (List ℕ)). SendsRun disk board after events a b (Some []) s) whole
+    run) (sent_all a b)
 
 -- the writer failed
-pub front_out : {A I : Type 0} (capacity : ℕ) (disk : I → Disk) (slots : List SlotSpec) (board after : BoardState I) (image : I) (events : List (Event A)) (a b u : Option (List ℕ)) → board.slots ≡ map opened slots → image ≡ after.image → u ≡ None → SendsRun disk board after events a b (Some []) u → RecordedFront (Cached capacity) disk slots events board.image image (AppendsFront a b)
+pub front_out : {A I : Type 0} (capacity : ℕ) (disk : I → Disk) (slots : List SlotSpec)
+    (board after : BoardState I) (image : I) (events : List (Event A)) (a b u : Option (List ℕ))
+    → board.slots ≡ map opened slots → image ≡ after.image → u ≡ None
+    → SendsRun disk board after events a b (Some []) u
+    → RecordedFront (Cached capacity) disk slots events board.image image (AppendsFront a b)
 front_out capacity disk slots board after image events a b u new kept broken run = record {
   done = length events;
   recorded =
       recorded disk slots board after image (take (length events) events) a b None (AppendsFront a b) new kept
-      (subst (λ (s : Option (List ℕ)). SendsRun disk board after (take (length events) events) a b (Some []) s) broken
-      (sends_run_of disk board after events (take (length events) events) a b (Some []) u (sym (take_all (length events) events (omega arith))) run))
+      (subst (λ (s : Option (List ℕ)). SendsRun disk board after (take (length events) events) a b
+      (Some []) s) broken
+      (sends_run_of disk board after events (take (length events) events) a b (Some []) u
+      (sym (take_all (length events) events (omega arith))) run))
       (sent_front a b);
 }
 
 -- nothing was run, and nothing written
-pub none_out : {A I : Type 0} (capacity : ℕ) (disk : I → Disk) (slots : List SlotSpec) (board : BoardState I) (image : I) (events : List (Event A)) (a b : Option (List ℕ)) → board.slots ≡ map opened slots → image ≡ board.image → Keeps a b → RecordedFront (Cached capacity) disk slots events board.image image (λ _. Keeps a b)
+pub none_out : {A I : Type 0} (capacity : ℕ) (disk : I → Disk) (slots : List SlotSpec) (board : BoardState I)
+    (image : I) (events : List (Event A)) (a b : Option (List ℕ)) → board.slots ≡ map opened slots
+    → image ≡ board.image → Keeps a b
+    → RecordedFront (Cached capacity) disk slots events board.image image (λ _. Keeps a b)
 none_out capacity disk slots board image events a b new kept same = record {
   done = 0;
-  recorded = recorded disk slots board board image [] a a (Some []) (λ _. Keeps a b) new kept (sends_no_run disk board a (Some [])) (λ _ _. same);
+  recorded = recorded disk slots board board image [] a a (Some []) (λ _. Keeps a b) new kept
+      (sends_no_run disk board a (Some [])) (λ _ _. same);
 }
 
 -- a flushed buffer whose writer has not failed is empty
-pub flushed_whole : (u : Option (List ℕ)) (broken : Bool) → (u ≡ Some []) ⊎ (u ≡ None) → IsTrue broken ↔ (u ≡ None) → broken ≡ false → u ≡ Some []
+pub flushed_whole : (u : Option (List ℕ)) (broken : Bool) → (u ≡ Some []) ⊎ (u ≡ None) → IsTrue broken
+    ↔ (u ≡ None) → broken ≡ false → u ≡ Some []
 flushed_whole u broken (inl whole) means no' = whole
 flushed_whole u broken (inr gone) means no' = absurd (let yes = means.1 gone in cc)

@@ -20,7 +20,9 @@ use Rattle.trace.specs.Text.{disks_word}
 use Rattle.trace.specs.Words.{IsWordOf}
 use Rattle.replay.specs.Replay.{AcceptsBy, AfterRun, HasTooMany, Plays, RefusesBoard, RefusesBoardOf, RefusesBy, Replays, front}
 
-replays : {A I : Type 0} (disk : I → Disk) (input old new : Option (List ℕ)) (before after : I) (outcome : Result (Unit {0}) ReplayFault) → Plays A disk input old new before after outcome → Replays A disk input old new before after outcome
+replays : {A I : Type 0} (disk : I → Disk) (input old new : Option (List ℕ)) (before after : I)
+    (outcome : Result (Unit {0}) ReplayFault) → Plays A disk input old new before after outcome
+    → Replays A disk input old new before after outcome
 replays disk input old new before after (Ok done) plays = plays
 replays disk input old new before after (Err Read) plays = absurd plays.ended
 replays disk input old new before after (Err (Trace fault)) plays = absurd plays.ended
@@ -30,10 +32,13 @@ replays disk input old new before after (Err Write) plays = plays
 replays disk input old new before after (Err NoMemory) plays = plays
 
 -- The board of the slots that were validated, and what came of the lines of their events.
-pub played : {A I : Type 0} (disk : I → Disk) (text : List ℕ) (old new : Option (List ℕ)) (before after : I) (outcome : Result (Unit {0}) ReplayFault) (j : Validation) (disks : Disks) (slots : List SlotSpec)
+pub played : {A I : Type 0} (disk : I → Disk) (text : List ℕ) (old new : Option (List ℕ)) (before after : I)
+    (outcome : Result (Unit {0}) ReplayFault) (j : Validation) (disks : Disks) (slots : List SlotSpec)
     → IsValidated A text j → j.disks ≡ disks → slots ≡ j.slots
-    → (¬ HasTooMany (front A j.version disks slots)) → All (IsSmallMemory j.version) slots → AcceptsBy disks (disk before).sector_count slots
-    → ((events : List (Event A)) → AreLinesOf events j.events → AfterRun disks disk slots events before after old new outcome)
+    → (¬ HasTooMany (front A j.version disks slots)) → All (IsSmallMemory j.version) slots
+    → AcceptsBy disks (disk before).sector_count slots
+    → ((events : List (Event A)) → AreLinesOf events j.events
+    → AfterRun disks disk slots events before after old new outcome)
     → Replays A disk (Some text) old new before after outcome
 played {A} {I} disk text old new before after outcome j disks slots is kind same few small accepted ended =
     let described : slots ≡ is.trace.slots = same ∙ sym is.slots in
@@ -46,41 +51,63 @@ played {A} {I} disk text old new before after outcome j disks slots is kind same
         version = sym is.version ∙ many.version;
         many = subst (λ (s : List SlotSpec). 16 < length s) (sym described) many.many;
       });
-      small = subst (λ (v : ℕ). All (IsSmallMemory v) is.trace.slots) (sym is.version) (subst (λ (s : List SlotSpec). All (IsSmallMemory j.version) s) described small);
-      accepted = subst (λ (s : List SlotSpec). AcceptsBy is.trace.disks (disk before).sector_count s) described
+      small = subst (λ (v : ℕ). All (IsSmallMemory v) is.trace.slots) (sym is.version)
+          (subst (λ (s : List SlotSpec). All (IsSmallMemory j.version) s) described small);
+      accepted = subst (λ (s : List SlotSpec). AcceptsBy is.trace.disks
+          (disk before).sector_count s) described
           (subst (λ (d : Disks). AcceptsBy d (disk before).sector_count slots) placed accepted);
-      ended = subst (λ (s : List SlotSpec). AfterRun is.trace.disks disk s is.trace.events before after old new outcome) described
-          (subst (λ (d : Disks). AfterRun d disk slots is.trace.events before after old new outcome) placed run);
+      ended = subst (λ (s : List SlotSpec). AfterRun is.trace.disks disk s is.trace.events before after old
+          new outcome) described
+          (subst (λ (d : Disks). AfterRun d disk slots is.trace.events before after old new
+          outcome) placed run);
     })
 
 -- a trace whose disks the host serves is of version 3
-pub few_hosted : {A : Type 0} (text : List ℕ) (j : Validation) (slots : List SlotSpec) → IsValidated A text j → j.disks ≡ Hosted → ¬ HasTooMany (front A j.version Hosted slots)
+pub few_hosted : {A : Type 0} (text : List ℕ) (j : Validation) (slots : List SlotSpec) → IsValidated A text j
+    → j.disks ≡ Hosted → ¬ HasTooMany (front A j.version Hosted slots)
 few_hosted text j slots is kind many =
-    let three : 3 ≤ is.trace.version = subst (λ (d : Disks). IsWordOf is.trace.version (disks_word d)) (is.disks ∙ kind) is.read.printable.disks in
+    let three : 3 ≤ is.trace.version =
+    subst (λ (d : Disks). IsWordOf is.trace.version (disks_word d)) (is.disks
+    ∙ kind) is.read.printable.disks in
     omega (arith, is.version, many.version)
 
 -- the same over an image
-pub played_over : {A I : Type 0} (disk : I → Disk) (text : List ℕ) (old new : Option (List ℕ)) (before after : I) (outcome : Result (Unit {0}) ReplayFault) (j : Validation) (capacity : ℕ) (slots : List SlotSpec) (board : BoardState I)
-    → IsValidated A text j → j.disks ≡ Cached capacity → slots ≡ j.slots → board ≡ record { slots = map opened slots; image = before }
-    → (¬ HasTooMany (front A j.version (Cached capacity) slots)) → All (IsSmallMemory j.version) slots → IsAccepted (disk before).sector_count slots capacity
-    → ((specs : List SlotSpec) (events : List (Event A)) → board.slots ≡ map opened specs → AreLinesOf events j.events → AfterRun (Cached capacity) disk specs events board.image after old new outcome)
+pub played_over : {A I : Type 0} (disk : I → Disk) (text : List ℕ) (old new : Option (List ℕ))
+    (before after : I) (outcome : Result (Unit {0}) ReplayFault) (j : Validation) (capacity : ℕ)
+    (slots : List SlotSpec) (board : BoardState I)
+    → IsValidated A text j → j.disks ≡ Cached capacity → slots ≡ j.slots
+    → board ≡ record { slots = map opened slots; image = before }
+    → (¬ HasTooMany (front A j.version (Cached capacity) slots)) → All (IsSmallMemory j.version) slots
+    → IsAccepted (disk before).sector_count slots capacity
+    → ((specs : List SlotSpec) (events : List (Event A)) → board.slots ≡ map opened specs
+    → AreLinesOf events j.events
+    → AfterRun (Cached capacity) disk specs events board.image after old new outcome)
     → Replays A disk (Some text) old new before after outcome
-played_over {A} {I} disk text old new before after outcome j capacity slots board is kind same made few small accepted ended =
+played_over {A} {I} disk text old new before after outcome j capacity slots board is kind same made few
+    small accepted ended =
     played disk text old new before after outcome j (Cached capacity) slots is kind same few small accepted
-    (λ events are. subst (λ (b : BoardState I). AfterRun (Cached capacity) disk slots events b.image after old new outcome) made
+    (λ events are. subst (λ (b : BoardState I). AfterRun (Cached capacity) disk slots events b.image after
+    old new outcome) made
     (ended slots events (ap (λ (b : BoardState I). b.slots) made) are))
 
 -- and on a board whose disks the host serves
-pub played_hosted : {A I : Type 0} (disk : I → Disk) (text : List ℕ) (old new : Option (List ℕ)) (before after : I) (outcome : Result (Unit {0}) ReplayFault) (j : Validation) (slots : List SlotSpec) (board : List HostedState)
-    → IsValidated A text j → j.disks ≡ Hosted → slots ≡ j.slots → board ≡ map hosted_opened slots → All (IsSmallMemory j.version) slots → AreGoodHosted slots
-    → ((specs : List SlotSpec) (events : List (Event A)) → board ≡ map hosted_opened specs → AreLinesOf events j.events → AfterRun Hosted disk specs events before after old new outcome)
+pub played_hosted : {A I : Type 0} (disk : I → Disk) (text : List ℕ) (old new : Option (List ℕ))
+    (before after : I) (outcome : Result (Unit {0}) ReplayFault) (j : Validation) (slots : List SlotSpec)
+    (board : List HostedState)
+    → IsValidated A text j → j.disks ≡ Hosted → slots ≡ j.slots → board ≡ map hosted_opened slots
+    → All (IsSmallMemory j.version) slots → AreGoodHosted slots
+    → ((specs : List SlotSpec) (events : List (Event A)) → board ≡ map hosted_opened specs
+    → AreLinesOf events j.events → AfterRun Hosted disk specs events before after old new outcome)
     → Replays A disk (Some text) old new before after outcome
 played_hosted disk text old new before after outcome j slots board is kind same made small accepted ended =
-    played disk text old new before after outcome j Hosted slots is kind same (few_hosted text j slots is kind) small accepted (λ events are. ended slots events made are)
+    played disk text old new before after outcome j Hosted slots is kind same
+    (few_hosted text j slots is kind) small accepted (λ events are. ended slots events made are)
 
 -- there is no board for the slots that were validated
-pub refused_board : {A I : Type 0} (disk : I → Disk) (text : List ℕ) (old : Option (List ℕ)) (before after : I) (fault : BoardFault) (j : Validation) (disks : Disks) (slots : List SlotSpec)
-    → IsValidated A text j → j.disks ≡ disks → slots ≡ j.slots → after ≡ before → RefusesBoardOf (disk before).sector_count (front A j.version disks slots) fault
+pub refused_board : {A I : Type 0} (disk : I → Disk) (text : List ℕ) (old : Option (List ℕ))
+    (before after : I) (fault : BoardFault) (j : Validation) (disks : Disks) (slots : List SlotSpec)
+    → IsValidated A text j → j.disks ≡ disks → slots ≡ j.slots → after ≡ before
+    → RefusesBoardOf (disk before).sector_count (front A j.version disks slots) fault
     → RefusesBoard A disk (Some text) old old before after fault
 refused_board disk text old before after fault j disks slots is kind same image refused =
     let described : slots ≡ is.trace.slots = same ∙ sym is.slots in
@@ -92,14 +119,23 @@ refused_board disk text old before after fault j disks slots is kind same image 
       read = is.read;
       refused = elim refused [
         | inl many ↦ inl (
-          record { version = is.version ∙ many.0.version; many = subst (λ (s : List SlotSpec). 16 < length s) described many.0.many },
+          record {
+            version = is.version ∙ many.0.version;
+            many = subst (λ (s : List SlotSpec). 16 < length s) described many.0.many;
+          },
           many.1,
         )
         | inr own ↦ inr (
-          λ many. own.0 (record { version = sym is.version ∙ many.version; many = subst (λ (s : List SlotSpec). 16 < length s) (sym described) many.many }),
-          subst (λ (s : List SlotSpec). RefusesBy is.trace.disks sectors (map (asked_of_board is.trace.version) s) fault) described
-              (subst (λ (d : Disks). RefusesBy d sectors (map (asked_of_board is.trace.version) slots) fault) placed
-              (subst (λ (v : ℕ). RefusesBy disks sectors (map (asked_of_board v) slots) fault) (sym is.version) own.1)),
+          λ many. own.0 (record {
+            version = sym is.version ∙ many.version;
+            many = subst (λ (s : List SlotSpec). 16 < length s) (sym described) many.many;
+          }),
+          subst (λ (s : List SlotSpec). RefusesBy is.trace.disks sectors
+              (map (asked_of_board is.trace.version) s) fault) described
+              (subst (λ (d : Disks). RefusesBy d sectors (map (asked_of_board is.trace.version) slots) fault)
+              placed
+              (subst (λ (v : ℕ). RefusesBy disks sectors (map (asked_of_board v) slots) fault)
+              (sym is.version) own.1)),
         )
       ];
     }

@@ -12,13 +12,21 @@ use Rattle.replay.specs.OneSlot.{IsMachine}
 use Rattle.replay.specs.Replay.{RunsOn}
 use Rattle.replay.proofs.OneSlotLemmas.{one_slot}
 
-one_of : {A : Type 0} (slots : List SlotSpec) (old new : Disk) (last : List BoardSlot) (events : List (Event A)) (records : List (Record A)) → IsRun (seen (map opened slots) old) (seen last new) events [] records → extents_of last ≡ extents_of (map opened slots) → (spec : SlotSpec) → slots ≡ spec ∷ [] → new.failures ≡ old.failures → HadMemory 0 records → IsMachine spec (bytes_of old) (bytes_of new) events records
+one_of : {A : Type 0} (slots : List SlotSpec) (old new : Disk) (last : List BoardSlot)
+    (events : List (Event A)) (records : List (Record A))
+    → IsRun (seen (map opened slots) old) (seen last new) events [] records
+    → extents_of last ≡ extents_of (map opened slots) → (spec : SlotSpec) → slots ≡ spec ∷ []
+    → new.failures ≡ old.failures → HadMemory 0 records
+    → IsMachine spec (bytes_of old) (bytes_of new) events records
 one_of slots old new last events records run extents spec one stood had =
     one_slot spec old new last events records
-    (subst (λ (specs : List SlotSpec). IsRun (seen (map opened specs) old) (seen last new) events [] records) one run)
+    (subst (λ (specs : List SlotSpec). IsRun (seen (map opened specs) old) (seen last new) events
+    [] records) one run)
     (extents ∙ ap (λ (specs : List SlotSpec). extents_of (map opened specs)) one) stood had
 
-runs : {A : Type 0} (slots : List SlotSpec) (old new : Disk) (last : List BoardSlot) (events : List (Event A)) (records : List (Record A)) → IsRun (seen (map opened slots) old) (seen last new) events [] records → extents_of last ≡ extents_of (map opened slots) → Tells new → RunsOn slots old new events records
+runs : {A : Type 0} (slots : List SlotSpec) (old new : Disk) (last : List BoardSlot) (events : List (Event A))
+    (records : List (Record A)) → IsRun (seen (map opened slots) old) (seen last new) events [] records
+    → extents_of last ≡ extents_of (map opened slots) → Tells new → RunsOn slots old new events records
 runs slots old new last events records run extents tells = record {
   last = last;
   run = run;
@@ -28,11 +36,19 @@ runs slots old new last events records run extents tells = record {
 }
 
 -- the run of a board that was new, with no record before it
-pub runs_on : {A I : Type 0} (disk : I → Disk) (slots : List SlotSpec) (board after : BoardState I) (image : I) (events done : List (Event A)) (before records : List (Record A)) → board.slots ≡ map opened slots → before ≡ [] → image ≡ after.image → events ≡ done → extents_of after.slots ≡ extents_of board.slots → Tells (disk after.image) → IsRun (world_of disk board) (world_of disk after) events before records → RunsOn slots (disk board.image) (disk image) done records
+pub runs_on : {A I : Type 0} (disk : I → Disk) (slots : List SlotSpec) (board after : BoardState I)
+    (image : I) (events done : List (Event A)) (before records : List (Record A))
+    → board.slots ≡ map opened slots → before ≡ [] → image ≡ after.image → events ≡ done
+    → extents_of after.slots ≡ extents_of board.slots → Tells (disk after.image)
+    → IsRun (world_of disk board) (world_of disk after) events before records
+    → RunsOn slots (disk board.image) (disk image) done records
 runs_on disk slots board after image events done before records new none kept same extents tells run =
     rw kept
     (runs slots (disk board.image) (disk after.image) after.slots done records
-    (subst (λ (es : List (Event _)). IsRun (seen (map opened slots) (disk board.image)) (seen after.slots (disk after.image)) es [] records) same
-    (subst (λ (rs : List (Record _)). IsRun (seen (map opened slots) (disk board.image)) (seen after.slots (disk after.image)) events rs records) none
-    (subst (λ (bs : List BoardSlot). IsRun (seen bs (disk board.image)) (seen after.slots (disk after.image)) events before records) new run)))
+    (subst (λ (es : List (Event _)). IsRun (seen (map opened slots) (disk board.image))
+    (seen after.slots (disk after.image)) es [] records) same
+    (subst (λ (rs : List (Record _)). IsRun (seen (map opened slots) (disk board.image))
+    (seen after.slots (disk after.image)) events rs records) none
+    (subst (λ (bs : List BoardSlot). IsRun (seen bs (disk board.image)) (seen after.slots (disk after.image))
+    events before records) new run)))
     (extents ∙ ap extents_of new) tells)

@@ -1,4 +1,5 @@
--- A trace whose disks the host serves: its events are calls of a board, and the text says of each what it was told and
+-- A trace whose disks the host serves: its events are calls of a board, and the text says of each what it was
+-- told and
 -- what the host is then asked to do.
 use Rattle.std.specs.Prelude.{◌≡◌, ℕ, Bool, true, is_none, if◌then◌else◌, Option, None, Some, List, [], ◌∷◌, map}
 use Rattle.std.specs.List.{slice_get}
@@ -33,7 +34,8 @@ pub record AreCallsOf {A : Type 0} (moves : List (HostedMove A)) (events : List 
 abbrev pub flight_at : List HostedState → ℕ → Option InFlight
 flight_at slots h = option_and_then (λ state. state.flight) (slice_get slots h)
 
--- What is in flight behind an event began with it where nothing was in flight before it, or where it completed that.
+-- What is in flight behind an event began with it where nothing was in flight before it, or where it
+-- completed that.
 abbrev pub begins : Option Verdict → Option InFlight → Bool
 begins (Some verdict) before = true
 begins None before = is_none before
@@ -44,7 +46,8 @@ told_of_flight None = None
 told_of_flight (Some here) = Some (here.flight.operation, here.runs)
 
 -- the operation that began with an event of slot h, from the states before it and after it
-abbrev pub asked_by : {A : Type 0} → ℕ → EventKind A → List HostedState → List HostedState → Option (Operation × List Segment)
+abbrev pub asked_by : {A : Type 0} → ℕ → EventKind A → List HostedState → List HostedState
+    → Option (Operation × List Segment)
 asked_by h what old new =
     told_of_flight (if begins (verdict_in what) (flight_at old h) then flight_at new h else None)
 
@@ -71,7 +74,8 @@ moves_text old moves = joined (move_lines old moves)
 
 -- ---- a run
 
--- The board takes the calls of these events, and the text of what they are told is added to what waits for the writer.
+-- The board takes the calls of these events, and the text of what they are told is added to what waits for
+-- the writer.
 pub record SendsHosted {A : Type 0} (old new : List HostedState) (events : List (Event A))
     (before after waiting waiting' : Option (List ℕ)) : Type 0 where
   pub moves : List (HostedMove A)
@@ -79,7 +83,8 @@ pub record SendsHosted {A : Type 0} (old new : List HostedState) (events : List 
   pub calls : AreCallsOf moves events
   pub sent : Sends before after waiting (moves_text old moves) waiting'
 
--- A new board of these slots takes the calls of these events, and this holds of the text of what they are told. The
+-- A new board of these slots takes the calls of these events, and this holds of the text of what they are
+-- told. The
 -- image has no part in it.
 pub record RecordedHosted {A I : Type 0} (slots : List SlotSpec) (events : List (Event A)) (before after : I)
     (Output : List ℕ → Type 0) : Type 0 where

@@ -18,4 +18,5 @@ no_memory = record { base = 0; len = 0 } ∷ []
 
 -- what a board is asked for: of a larger memory none, so that the board refuses its size
 abbrev pub asked_of_board : ℕ → SlotSpec → SlotSpec
-asked_of_board version spec = if nat_lt (most_memory version) (size_of spec.regions) then record spec { regions = no_memory } else spec
+asked_of_board version spec =
+    if nat_lt (most_memory version) (size_of spec.regions) then record spec { regions = no_memory } else spec

@@ -22,12 +22,14 @@ with_missing (event ∷ rest) own =
 
 -- bytes of an image with new ones in place of an extent's; those before it and after it are as they were
 abbrev pub with_extent : List ℕ → Extent → List ℕ → List ℕ
-with_extent bytes extent new = take (512 * extent.start) bytes ++ (new ++ drop (512 * (extent.start + extent.count)) bytes)
+with_extent bytes extent new = take (512 * extent.start) bytes
+    ++ (new ++ drop (512 * (extent.start + extent.count)) bytes)
 
 -- The board of this one slot did what the machine does with the events of slot 0: the records are the
 -- machine's, with those of slots that aren't there among them, and the image holds the machine's extent
 -- within the bytes that stood around it.
-pub record IsMachine {A : Type 0} (spec : SlotSpec) (before after : List ℕ) (events : List (Event A)) (records : List (Record A)) : Type 0 where
+pub record IsMachine {A : Type 0} (spec : SlotSpec) (before after : List ℕ) (events : List (Event A))
+    (records : List (Record A)) : Type 0 where
   pub own : List (Record A)
   pub last : SlotState
   pub ran : RunsOnItsOwn 0 (machine spec before) (own_events 0 events) own last

@@ -11,7 +11,8 @@ use Rattle.trace.specs.Sends.{Sends}
 
 -- A run from one board to another over these events; the text of its records is added to what waits for
 -- the writer.
-pub record SendsRun {A I : Type 0} (disk : I → Disk) (old new : BoardState I) (events : List (Event A)) (before after waiting waiting' : Option (List ℕ)) : Type 0 where
+pub record SendsRun {A I : Type 0} (disk : I → Disk) (old new : BoardState I) (events : List (Event A))
+    (before after waiting waiting' : Option (List ℕ)) : Type 0 where
   pub records : List (Record A)
   pub run : Tells (disk old.image) → IsRun (world_of disk old) (world_of disk new) events [] records
   pub tells : Tells (disk old.image) → Tells (disk new.image)

@@ -28,41 +28,53 @@ use Rattle.trace.specs.Text.{Content}
 
 -- A run over these events on a new board of these slots, which found the image so and left it so. A
 -- board of one slot that met no refusal did what the one-slot machine does.
-pub record RunsOn {A : Type 0} (slots : List SlotSpec) (old new : Disk) (events : List (Event A)) (records : List (Record A)) : Type 0 where
+pub record RunsOn {A : Type 0} (slots : List SlotSpec) (old new : Disk) (events : List (Event A))
+    (records : List (Record A)) : Type 0 where
   pub last : List BoardSlot
   pub run : IsRun (seen (map opened slots) old) (seen last new) events [] records
   pub extents : extents_of last ≡ extents_of (map opened slots)
   pub tells : Tells new
-  pub one : (spec : SlotSpec) → slots ≡ spec ∷ [] → new.failures ≡ old.failures → HadMemory 0 records → IsMachine spec (bytes_of old) (bytes_of new) events records
+  pub one : (spec : SlotSpec) → slots ≡ spec ∷ [] → new.failures ≡ old.failures → HadMemory 0 records
+      → IsMachine spec (bytes_of old) (bytes_of new) events records
 
 -- The records of such a run, of whose text this holds.
-pub record Recorded {A I : Type 0} (disk : I → Disk) (slots : List SlotSpec) (events : List (Event A)) (before after : I) (Output : List ℕ → Type 0) : Type 0 where
+pub record Recorded {A I : Type 0} (disk : I → Disk) (slots : List SlotSpec) (events : List (Event A))
+    (before after : I) (Output : List ℕ → Type 0) : Type 0 where
   pub records : List (Record A)
   pub ran : Tells (disk before) → RunsOn slots (disk before) (disk after) events records
   pub output : Output (records_text records)
 
 -- a run on the board of a trace, by where its disks are
-abbrev pub RecordedBy : {A I : Type 0} → Disks → (I → Disk) → List SlotSpec → List (Event A) → I → I → (List ℕ → Type 0) → Type 0
-RecordedBy (Cached capacity) disk slots events before after Output = Recorded disk slots events before after Output
+abbrev pub RecordedBy : {A I : Type 0} → Disks → (I → Disk) → List SlotSpec → List (Event A) → I → I
+    → (List ℕ → Type 0) → Type 0
+RecordedBy (Cached capacity) disk slots events before after Output =
+    Recorded disk slots events before after Output
 RecordedBy Hosted disk slots events before after Output = RecordedHosted slots events before after Output
 
 -- the same over the first of the events, which may be none or all of them
-pub record RecordedFront {A I : Type 0} (disks : Disks) (disk : I → Disk) (slots : List SlotSpec) (events : List (Event A)) (before after : I) (Output : List ℕ → Type 0) : Type 0 where
+pub record RecordedFront {A I : Type 0} (disks : Disks) (disk : I → Disk) (slots : List SlotSpec)
+    (events : List (Event A)) (before after : I) (Output : List ℕ → Type 0) : Type 0 where
   pub done : ℕ
   pub recorded : RecordedBy disks disk slots (take done events) before after Output
 
 -- the run stopped before one of the events
-pub record StopsAt {A I : Type 0} (disks : Disks) (disk : I → Disk) (slots : List SlotSpec) (events : List (Event A)) (before after : I) (done : ℕ) (Output : List ℕ → Type 0) : Type 0 where
+pub record StopsAt {A I : Type 0} (disks : Disks) (disk : I → Disk) (slots : List SlotSpec)
+    (events : List (Event A)) (before after : I) (done : ℕ) (Output : List ℕ → Type 0) : Type 0 where
   pub some_left : done < length events
   pub recorded : RecordedBy disks disk slots (take done events) before after Output
 
 -- What comes of the events, where there is a board for them: the text of the records is written, or
 -- nothing where there is no memory for it, or at most its front where the writer fails.
-abbrev pub AfterRun : {A I : Type 0} → Disks → (I → Disk) → List SlotSpec → List (Event A) → I → I → Option (List ℕ) → Option (List ℕ) → Result (Unit {0}) ReplayFault → Type 0
-AfterRun disks disk slots events before after old new (Ok _) = RecordedBy disks disk slots events before after (Appends old new)
-AfterRun disks disk slots events before after old new (Err (Run done)) = StopsAt disks disk slots events before after done (Appends old new)
-AfterRun disks disk slots events before after old new (Err Write) = RecordedFront disks disk slots events before after (AppendsFront old new)
-AfterRun disks disk slots events before after old new (Err NoMemory) = RecordedFront disks disk slots events before after (λ _. Keeps old new)
+abbrev pub AfterRun : {A I : Type 0} → Disks → (I → Disk) → List SlotSpec → List (Event A) → I → I
+    → Option (List ℕ) → Option (List ℕ) → Result (Unit {0}) ReplayFault → Type 0
+AfterRun disks disk slots events before after old new (Ok _) =
+    RecordedBy disks disk slots events before after (Appends old new)
+AfterRun disks disk slots events before after old new (Err (Run done)) =
+    StopsAt disks disk slots events before after done (Appends old new)
+AfterRun disks disk slots events before after old new (Err Write) =
+    RecordedFront disks disk slots events before after (AppendsFront old new)
+AfterRun disks disk slots events before after old new (Err NoMemory) =
+    RecordedFront disks disk slots events before after (λ _. Keeps old new)
 AfterRun disks disk slots events before after old new (Err _) = ⊥
 
 -- what a trace has before its events
@@ -74,13 +86,15 @@ pub record HasTooMany {A : Type 0} (trace : Content A) : Type 0 where
   pub version : trace.version ≡ 1
   pub many : 16 < length trace.slots
 
--- a trace that a later version takes as its own does: it hasn't too many slots, and where the later version admits larger
+-- a trace that a later version takes as its own does: it hasn't too many slots, and where the later version
+-- admits larger
 -- memories, none is too large for its own
 pub record IsAdmittedUntil {A : Type 0} (version : ℕ) (trace : Content A) : Type 0 where
   pub few : ¬ HasTooMany trace
   pub small : trace.version < 3 → 3 ≤ version → All (IsSmallMemory trace.version) trace.slots
 
--- which slots there may be on the board of a trace, and why it is refused, by where its disks are: over an image of so
+-- which slots there may be on the board of a trace, and why it is refused, by where its disks are: over an
+-- image of so
 -- many sectors, or each on a disk of its own
 abbrev pub AcceptsBy : Disks → ℕ → List SlotSpec → Type 0
 AcceptsBy (Cached capacity) sectors slots = IsAccepted sectors slots capacity
@@ -90,14 +104,18 @@ abbrev pub RefusesBy : Disks → ℕ → List SlotSpec → BoardFault → Type 0
 RefusesBy (Cached capacity) sectors slots fault = Refuses sectors slots capacity fault
 RefusesBy Hosted sectors slots fault = RefusesHosted slots fault
 
--- Why there is no board for a trace: it has too many slots for its version, before any of them is looked at; else it
+-- Why there is no board for a trace: it has too many slots for its version, before any of them is looked at;
+-- else it
 -- is the fault of the board that is asked for.
 abbrev pub RefusesBoardOf : {A : Type 0} → ℕ → Content A → BoardFault → Type 0
 RefusesBoardOf sectors trace fault =
-    (HasTooMany trace × (fault ≡ TooManySlots)) ⊎ ((¬ HasTooMany trace) × RefusesBy trace.disks sectors (map (asked_of_board trace.version) trace.slots) fault)
+    (HasTooMany trace × (fault ≡ TooManySlots))
+    ⊎ ((¬ HasTooMany trace) × RefusesBy trace.disks sectors
+    (map (asked_of_board trace.version) trace.slots) fault)
 
 -- the trace was read, there is a board for it, and this came of its events
-pub record Plays {I : Type 0} (A : Type 0) (disk : I → Disk) (input old new : Option (List ℕ)) (before after : I) (outcome : Result (Unit {0}) ReplayFault) : Type 0 where
+pub record Plays {I : Type 0} (A : Type 0) (disk : I → Disk) (input old new : Option (List ℕ))
+    (before after : I) (outcome : Result (Unit {0}) ReplayFault) : Type 0 where
   pub trace : Content A
   pub read : IfSome input (λ bytes. IsTraceOf bytes trace)
   pub few : ¬ HasTooMany trace
@@ -111,12 +129,14 @@ pub record IsUntouched {I : Type 0} (old new : Option (List ℕ)) (before after 
   pub image : after ≡ before
 
 -- the input was refused
-pub record RefusesTrace {I : Type 0} (A : Type 0) (input old new : Option (List ℕ)) (before after : I) (fault : TraceFault) : Type 0 where
+pub record RefusesTrace {I : Type 0} (A : Type 0) (input old new : Option (List ℕ)) (before after : I)
+    (fault : TraceFault) : Type 0 where
   pub untouched : IsUntouched old new before after
   pub fault_is : IfSome input (λ bytes. IsTraceFault A bytes fault)
 
 -- the trace was read, and its board was refused
-pub record RefusesBoard {I : Type 0} (A : Type 0) (disk : I → Disk) (input old new : Option (List ℕ)) (before after : I) (fault : BoardFault) : Type 0 where
+pub record RefusesBoard {I : Type 0} (A : Type 0) (disk : I → Disk) (input old new : Option (List ℕ))
+    (before after : I) (fault : BoardFault) : Type 0 where
   pub untouched : IsUntouched old new before after
   pub trace : Content A
   pub read : IfSome input (λ bytes. IsTraceOf bytes trace)
@@ -124,11 +144,14 @@ pub record RefusesBoard {I : Type 0} (A : Type 0) (disk : I → Disk) (input old
 
 -- What a replay comes to, from the bytes that its reader told and those that its writer held before and
 -- holds after, with the image as it was handed in and as it is handed back.
-abbrev pub Replays : {I : Type 0} → Type 0 → (I → Disk) → Option (List ℕ) → Option (List ℕ) → Option (List ℕ) → I → I → Result (Unit {0}) ReplayFault → Type 0
+abbrev pub Replays : {I : Type 0} → Type 0 → (I → Disk) → Option (List ℕ) → Option (List ℕ) → Option (List ℕ)
+    → I → I → Result (Unit {0}) ReplayFault → Type 0
 Replays A disk input old new before after (Ok done) = Plays A disk input old new before after (Ok done)
 Replays A disk input old new before after (Err Read) = IsUntouched old new before after
-Replays A disk input old new before after (Err (Trace fault)) = RefusesTrace A input old new before after fault
-Replays A disk input old new before after (Err (Board fault)) = RefusesBoard A disk input old new before after fault
+Replays A disk input old new before after (Err (Trace fault)) =
+    RefusesTrace A input old new before after fault
+Replays A disk input old new before after (Err (Board fault)) =
+    RefusesBoard A disk input old new before after fault
 Replays A disk input old new before after (Err fault) = Plays A disk input old new before after (Err fault)
 
 -- what is left of the input: nothing, but where the reader failed or there was no memory to gather it

@@ -38,12 +38,14 @@ pub record KeepsTelling {I : Type 0} (disk : I → Disk) (old new : BoardState I
   pub extents : extents_of new.slots ≡ extents_of old.slots
 
 -- a board answered an event of a slot
-pub record AnswersEvent {A I : Type 0} (disk : I → Disk) (old : BoardState I) (event : Event A) (reply : Reply A) (out : List ℕ) (new : BoardState I) : Type 0 where
+pub record AnswersEvent {A I : Type 0} (disk : I → Disk) (old : BoardState I) (event : Event A)
+    (reply : Reply A) (out : List ℕ) (new : BoardState I) : Type 0 where
   pub answers : Tells (disk old.image) → Answers (world_of disk old) event reply [] out (world_of disk new)
   pub keeps : KeepsTelling disk old new
 
 -- it answered the event that was said
-pub record AnswersParsed {A I : Type 0} (disk : I → Disk) (parsed : ParsedEvent A) (old : BoardState I) (reply : Reply A) (out : List ℕ) (new : BoardState I) : Type 0 where
+pub record AnswersParsed {A I : Type 0} (disk : I → Disk) (parsed : ParsedEvent A) (old : BoardState I)
+    (reply : Reply A) (out : List ℕ) (new : BoardState I) : Type 0 where
   pub event : Event A
   pub slot : event.slot ≡ parsed.event.slot
   pub fields : event_fields event ≡ parsed_fields parsed
@@ -58,15 +60,20 @@ pub record RunsParsed {A : Type 0} (parsed : ParsedEvent A) (Run : Event A → T
   pub run : Run event
 
 -- an event is run, and the text of its record sent
-abbrev pub SendsOne : {A I : Type 0} → (I → Disk) → BoardState I → BoardState I → Option (List ℕ) → Option (List ℕ) → Option (List ℕ) → Option (List ℕ) → Event A → Type 0
-SendsOne disk old new before after waiting waiting' event = SendsRun disk old new (event ∷ []) before after waiting waiting'
+abbrev pub SendsOne : {A I : Type 0} → (I → Disk) → BoardState I → BoardState I → Option (List ℕ)
+    → Option (List ℕ) → Option (List ℕ) → Option (List ℕ) → Event A → Type 0
+SendsOne disk old new before after waiting waiting' event =
+    SendsRun disk old new (event ∷ []) before after waiting waiting'
 
-abbrev pub SendsOneHosted : {A : Type 0} → List HostedState → List HostedState → Option (List ℕ) → Option (List ℕ) → Option (List ℕ) → Option (List ℕ) → Event A → Type 0
-SendsOneHosted old new before after waiting waiting' event = SendsHosted old new (event ∷ []) before after waiting waiting'
+abbrev pub SendsOneHosted : {A : Type 0} → List HostedState → List HostedState → Option (List ℕ)
+    → Option (List ℕ) → Option (List ℕ) → Option (List ℕ) → Event A → Type 0
+SendsOneHosted old new before after waiting waiting' event =
+    SendsHosted old new (event ∷ []) before after waiting waiting'
 
 -- the bytes of the event that the first of these lines says have room
 abbrev pub HasRoomFor : Type 0 → List ℕ → ℕ → Type 0
-HasRoomFor A lines room = (parsed : ParsedEvent A) (after : List ℕ) → TakesEvent lines parsed after → parsed_len parsed ≤ room
+HasRoomFor A lines room = (parsed : ParsedEvent A) (after : List ℕ) → TakesEvent lines parsed after
+    → parsed_len parsed ≤ room
 
 -- that event was taken off and run
 pub record RunsLine (A : Type 0) (lines rest : List ℕ) (Run : Event A → Type 0) : Type 0 where
@@ -89,13 +96,15 @@ words_at None = (0, 0)
 words_at (Some state) = words_of_state state
 
 -- it answered an event of a slot
-pub record HostsEvent {A : Type 0} (old : List HostedState) (event : Event A) (reply : Reply A) (out : List ℕ) (new : List HostedState) : Type 0 where
+pub record HostsEvent {A : Type 0} (old : List HostedState) (event : Event A) (reply : Reply A) (out : List ℕ)
+    (new : List HostedState) : Type 0 where
   pub block : ℕ
   pub console : ℕ
   pub takes : TakesCall old event.slot event.what None reply block console [] out new
 
 -- it answered the event that was said
-pub record HostsParsed {A : Type 0} (parsed : ParsedEvent A) (old : List HostedState) (reply : Reply A) (out : List ℕ) (new : List HostedState) : Type 0 where
+pub record HostsParsed {A : Type 0} (parsed : ParsedEvent A) (old : List HostedState) (reply : Reply A)
+    (out : List ℕ) (new : List HostedState) : Type 0 where
   pub event : Event A
   pub slot : event.slot ≡ parsed.event.slot
   pub fields : event_fields event ≡ parsed_fields parsed

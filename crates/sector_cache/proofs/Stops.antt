@@ -17,11 +17,13 @@ differs_none start end bytes = record { before = refl; behind = refl }
 pub differs_nowhere : (old new : List ℕ) → DiffersWithin 0 0 old new → new ≡ old
 differs_nowhere old new d = d.behind
 
-pub differs_more : (start end : ℕ) (a b c : List ℕ) → DiffersWithin start end a b → DiffersWithin start end b c → DiffersWithin start end a c
+pub differs_more : (start end : ℕ) (a b c : List ℕ) → DiffersWithin start end a b
+    → DiffersWithin start end b c → DiffersWithin start end a c
 differs_more start end a b c p q = record { before = q.before ∙ p.before; behind = q.behind ∙ p.behind }
 
 -- a wider range
-pub differs_wider : (start end from to : ℕ) (old new : List ℕ) → start ≤ from → to ≤ end → DiffersWithin from to old new → DiffersWithin start end old new
+pub differs_wider : (start end from to : ℕ) (old new : List ℕ) → start ≤ from → to ≤ end
+    → DiffersWithin from to old new → DiffersWithin start end old new
 differs_wider start end from to old new before behind d = record {
   before = sym (take-take start from new before) ∙ ap (take start) d.before ∙ take-take start from old before;
   behind =
@@ -33,15 +35,19 @@ differs_wider start end from to old new before behind d = record {
 }
 
 -- a write of a sector
-pub differs_sector : (bytes : List ℕ) (sector : ℕ) (new : List ℕ) → 512 * (sector + 1) ≤ length bytes → length new ≡ 512 → DiffersWithin (512 * sector) (512 * (sector + 1)) bytes (with_sector bytes sector new)
+pub differs_sector : (bytes : List ℕ) (sector : ℕ) (new : List ℕ) → 512 * (sector + 1) ≤ length bytes
+    → length new ≡ 512 → DiffersWithin (512 * sector) (512 * (sector + 1)) bytes
+    (with_sector bytes sector new)
 differs_sector bytes sector new inside whole =
     let front = take (512 * sector) bytes in
     let rest = drop (512 * (sector + 1)) bytes in
-    let front_long : length front ≡ 512 * sector = length-take-le (512 * sector) bytes (omega (arith, inside)) in
+    let front_long : length front ≡ 512 * sector =
+    length-take-le (512 * sector) bytes (omega (arith, inside)) in
     record {
       before = take_at front (new ++ rest) (512 * sector) front_long;
       behind =
-          ap (λ n. drop n (with_sector bytes sector new)) (let e : 512 * (sector + 1) ≡ 512 * sector + 512 = omega arith in e)
+          ap (λ n. drop n (with_sector bytes sector new)) (let e : 512 * (sector + 1)
+          ≡ 512 * sector + 512 = omega arith in e)
           ∙ sym (drop-drop 512 (512 * sector) (with_sector bytes sector new))
           ∙ ap (drop 512) (drop_at front (new ++ rest) (512 * sector) front_long)
           ∙ drop_at new rest 512 whole;
@@ -53,7 +59,8 @@ pub differs_sectors : (bytes : List ℕ) (first : ℕ) (new : List ℕ) → 512 
 differs_sectors bytes first new inside =
     let front = take (512 * first) bytes in
     let rest = drop (512 * first + length new) bytes in
-    let front_long : length front ≡ 512 * first = length-take-le (512 * first) bytes (omega (arith, inside)) in
+    let front_long : length front ≡ 512 * first =
+    length-take-le (512 * first) bytes (omega (arith, inside)) in
     record {
       before = take_at front (new ++ rest) (512 * first) front_long;
       behind =
@@ -63,14 +70,18 @@ differs_sectors bytes first new inside =
     }
 
 -- an extent that is apart from the range
-pub extent_apart : (start end first count : ℕ) (old new : List ℕ) → DiffersWithin start end old new → (512 * (first + count) ≤ start) ⊎ (end ≤ 512 * first) → extent_of new first count ≡ extent_of old first count
+pub extent_apart : (start end first count : ℕ) (old new : List ℕ) → DiffersWithin start end old new
+    → (512 * (first + count) ≤ start) ⊎ (end ≤ 512 * first)
+    → extent_of new first count ≡ extent_of old first count
 extent_apart start end first count old new d (inl before) =
-    let wider = differs_wider (512 * first + 512 * count) end start end old new (omega (arith, before)) (omega arith) d in
+    let wider = differs_wider (512 * first + 512 * count) end start end old new
+    (omega (arith, before)) (omega arith) d in
     sym (drop-take (512 * first) (512 * count) new)
     ∙ ap (drop (512 * first)) wider.before
     ∙ drop-take (512 * first) (512 * count) old
 extent_apart start end first count old new d (inr behind) =
-    ap (take (512 * count)) (differs_wider start (512 * first) start end old new (omega arith) behind d).behind
+    ap (take (512 * count)) (differs_wider start (512 * first) start end old new
+    (omega arith) behind d).behind
 
 -- Bytes that differ in some sectors.
 
@@ -80,13 +91,15 @@ module _ (sectors : List ℕ) where
 
   pub differs_in_more : (a b c : List ℕ) → DiffersInSectors sectors a b → DiffersInSectors sectors b c
       → DiffersInSectors sectors a c
-  differs_in_more a b c p q = record { others = λ sector other. q.others sector other ∙ p.others sector other }
+  differs_in_more a b c p q =
+      record { others = λ sector other. q.others sector other ∙ p.others sector other }
 
   -- of more sectors
   pub differs_in_wider : (wider : List ℕ) → ((sector : ℕ) → Contains sectors sector → Contains wider sector)
       → (old new : List ℕ)
       → DiffersInSectors sectors old new → DiffersInSectors wider old new
-  differs_in_wider wider all old new d = record { others = λ sector other. d.others sector (λ here. other (all sector here)) }
+  differs_in_wider wider all old new d =
+      record { others = λ sector other. d.others sector (λ here. other (all sector here)) }
 
   -- the range is one of them
   pub differs_in_one : (sector : ℕ) → Contains sectors sector → (old new : List ℕ)
@@ -96,10 +109,12 @@ module _ (sectors : List ℕ) where
       same : (other : ℕ) → ¬ Contains sectors other → sector_of new other ≡ sector_of old other
       same other unlisted =
           elim (cases_lt other sector) [
-            | inl before ↦ extent_apart (512 * sector) (512 * (sector + 1)) other 1 old new d (inl (omega (arith, before)))
+            | inl before ↦ extent_apart (512 * sector) (512 * (sector + 1)) other 1 old new d
+                (inl (omega (arith, before)))
             | inr from ↦
                 elim (cases_lt sector other) [
-                  | inl behind ↦ extent_apart (512 * sector) (512 * (sector + 1)) other 1 old new d (inr (omega (arith, behind)))
+                  | inl behind ↦ extent_apart (512 * sector) (512 * (sector + 1)) other 1 old new d
+                      (inr (omega (arith, behind)))
                   | inr upto ↦
                       let here : sector ≡ other = omega (arith, from, upto) in
                       absurd (unlisted (subst (λ s. Contains sectors s) here listed))
@@ -107,21 +122,25 @@ module _ (sectors : List ℕ) where
           ]
 
   -- the range is a run of them
-  pub differs_in_run : (first n size : ℕ) → size ≡ 512 * n → ((k : ℕ) → k < n → Contains sectors (first + k)) → (old new : List ℕ)
+  pub differs_in_run : (first n size : ℕ) → size ≡ 512 * n → ((k : ℕ) → k < n → Contains sectors (first + k))
+      → (old new : List ℕ)
       → DiffersWithin (512 * first) (512 * first + size) old new → DiffersInSectors sectors old new
   differs_in_run first n size whole listed old new d = record { others = same }
     where
       same : (other : ℕ) → ¬ Contains sectors other → sector_of new other ≡ sector_of old other
       same other unlisted =
           elim (cases_lt other first) [
-            | inl before ↦ extent_apart (512 * first) (512 * first + size) other 1 old new d (inl (omega (arith, before)))
+            | inl before ↦ extent_apart (512 * first) (512 * first + size) other 1 old new d
+                (inl (omega (arith, before)))
             | inr from ↦
                 elim (cases_lt other (first + n)) [
                   | inl below ↦
                       let here : first + (other - first) ≡ other = omega (arith, from) in
-                      absurd (unlisted (subst (λ s. Contains sectors s) here (listed (other - first) (omega (arith, from, below)))))
+                      absurd (unlisted (subst (λ s. Contains sectors s) here
+                      (listed (other - first) (omega (arith, from, below)))))
                   | inr behind ↦
-                      extent_apart (512 * first) (512 * first + size) other 1 old new d (inr (omega (arith, behind, whole)))
+                      extent_apart (512 * first) (512 * first + size) other 1 old new d
+                      (inr (omega (arith, behind, whole)))
                 ]
           ]
 
@@ -134,7 +153,8 @@ fronts_same old new (suc n) each =
     let more : 512 * suc n ≡ 512 * n + 512 = omega arith in
     ap (λ k. take k new) more
     ∙ take-add (512 * n) 512 new
-    ∙ ap (λ front. front ++ sector_of new n) (fronts_same old new n (λ sector below. each sector (omega (arith, below))))
+    ∙ ap (λ front. front ++ sector_of new n)
+    (fronts_same old new n (λ sector below. each sector (omega (arith, below))))
     ∙ ap (λ rest. take (512 * n) old ++ rest) (each n (omega arith))
     ∙ sym (take-add (512 * n) 512 old)
     ∙ ap (λ k. take k old) (sym more)
@@ -169,7 +189,8 @@ differs_in_range start end sectors inside old new d = record {
 
 -- What is touched, as seen of what may differ there as well.
 
-module _ {Differs Wider : List ℕ → List ℕ → Type 0} (widen : (old new : List ℕ) → Differs old new → Wider old new) where
+module _ {Differs Wider : List ℕ → List ℕ → Type 0} (widen : (old new : List ℕ) → Differs old new
+    → Wider old new) where
   cut_as : (a : List ℕ → Type 0) (left : List ℕ) → IsCutBy Differs a left → IsCutBy Wider a left
   cut_as a left cut = record { whole = cut.whole; may = cut.may; within = widen cut.whole left cut.within }
 
@@ -179,7 +200,8 @@ module _ {Differs Wider : List ℕ → List ℕ → Type 0} (widen : (old new : 
     later = h.later;
     keeps = h.keeps;
     now = λ left may. cut_as a left (h.now left may);
-    between = λ since left past. ⊎_elim (λ sooner. inl sooner) (λ cut. inr (cut_as a left cut)) (h.between since left past);
+    between = λ since left past. ⊎_elim (λ sooner. inl sooner) (λ cut. inr (cut_as a left cut))
+        (h.between since left past);
   }
 
 -- No call, and what touches nothing.
@@ -199,7 +221,8 @@ module _ (Differs : List ℕ → List ℕ → Type 0) (same : (bytes : List ℕ)
 
   pub touches_nothing_by : {t u : ℕ} {a b : List ℕ → Type 0} {p q : ℕ → List ℕ → Type 0}
       → Touches 0 0 t u a b p q → TouchesBy Differs t u a b p q
-  touches_nothing_by h = touches_as (λ old new d. subst (λ bytes. Differs old bytes) (sym (differs_nowhere old new d)) (same old)) h
+  touches_nothing_by h = touches_as
+      (λ old new d. subst (λ bytes. Differs old bytes) (sym (differs_nowhere old new d)) (same old)) h
 
   begun : {t u : ℕ} {a b : List ℕ → Type 0} {p q : ℕ → List ℕ → Type 0} (since : ℕ) (left : List ℕ)
       → TouchesBy Differs t u a b p q → BeginsAt a p since → q since left → IsCutBy Differs a left
@@ -207,7 +230,8 @@ module _ (Differs : List ℕ → List ℕ → Type 0) (same : (bytes : List ℕ)
       ⊎_elim (λ sooner. cut_none_by a left (begins left sooner)) (λ cut. cut) (h.between since left past)
 
   -- Where a stop could leave these bytes alone it leaves them but for what may differ.
-  pub known_by : {t u : ℕ} {a b : List ℕ → Type 0} {p q : ℕ → List ℕ → Type 0} (since : ℕ) (bytes left : List ℕ)
+  pub known_by : {t u : ℕ} {a b : List ℕ → Type 0} {p q : ℕ → List ℕ
+      → Type 0} (since : ℕ) (bytes left : List ℕ)
       → TouchesBy Differs t u a b p q → BeginsAt a p since → Only bytes a → q since left → Differs bytes left
   known_by {t} {u} {a} {b} {p} {q} since bytes left h begins only past =
       let cut : IsCutBy Differs a left = begun since left h begins past in
@@ -229,19 +253,25 @@ module _ (Differs : List ℕ → List ℕ → Type 0) (same : (bytes : List ℕ)
 
 -- One call after another.
 
-module _ (Differs : List ℕ → List ℕ → Type 0) (on : (a b c : List ℕ) → Differs a b → Differs b c → Differs a c) where
+module _ (Differs : List ℕ → List ℕ → Type 0) (on : (a b c : List ℕ) → Differs a b → Differs b c
+    → Differs a c) where
   cut_more_by : (a b : List ℕ → Type 0) → ((left : List ℕ) → b left → IsCutBy Differs a left)
       → (left : List ℕ) → IsCutBy Differs b left → IsCutBy Differs a left
   cut_more_by a b before left cut =
       let first = before cut.whole cut.may in
-      record { whole = first.whole; may = first.may; within = on first.whole cut.whole left first.within cut.within }
+      record {
+        whole = first.whole;
+        may = first.may;
+        within = on first.whole cut.whole left first.within cut.within;
+      }
 
   -- one more
   pub touches_more_by : {t u v : ℕ} {a b c : List ℕ → Type 0} {p q r : ℕ → List ℕ → Type 0}
       → TouchesBy Differs t u a b p q → TouchesBy Differs u v b c q r → TouchesBy Differs t v a c p r
   touches_more_by {t} {u} {v} {a} {b} {c} {p} {q} {r} before after = record {
     later = omega (arith, before.later, after.later);
-    keeps = λ since left reached past. after.keeps since left (omega (arith, reached, before.later)) (before.keeps since left reached past);
+    keeps = λ since left reached past. after.keeps since left (omega (arith, reached, before.later))
+        (before.keeps since left reached past);
     now = λ left may. cut_more_by a b before.now left (after.now left may);
     between = λ since left past. ⊎_elim (λ sooner. before.between since left sooner)
         (λ cut. inr (cut_more_by a b before.now left cut)) (after.between since left past);
@@ -261,19 +291,27 @@ module _ (start end : ℕ) where
   touches_more before after = touches_more_by (DiffersWithin start end) (differs_more start end) before after
 
   -- as seen of a wider range
-  pub touches_wider : {from to t u : ℕ} {a b : List ℕ → Type 0} {p q : ℕ → List ℕ → Type 0} → start ≤ from → to ≤ end → Touches from to t u a b p q → Touches start end t u a b p q
-  touches_wider {from} {to} before behind h = touches_as (λ old new d. differs_wider start end from to old new before behind d) h
+  pub touches_wider : {from to t u : ℕ} {a b : List ℕ → Type 0} {p q : ℕ → List ℕ → Type 0} → start ≤ from
+      → to ≤ end → Touches from to t u a b p q → Touches start end t u a b p q
+  touches_wider {from} {to} before behind h =
+      touches_as (λ old new d. differs_wider start end from to old new before behind d) h
 
   -- what touches nothing, as seen of any range
-  pub touches_anywhere : {t u : ℕ} {a b : List ℕ → Type 0} {p q : ℕ → List ℕ → Type 0} → Touches 0 0 t u a b p q → Touches start end t u a b p q
+  pub touches_anywhere : {t u : ℕ} {a b : List ℕ → Type 0} {p q : ℕ → List ℕ → Type 0}
+      → Touches 0 0 t u a b p q → Touches start end t u a b p q
   touches_anywhere h = touches_nothing_by (DiffersWithin start end) (differs_none start end) h
 
   -- an image of which a stop leaves these bytes, and which keeps no record
-  pub touches_plain : (old new : List ℕ) → DiffersWithin start end old new → Touches start end 0 0 (λ left. left ≡ old) (λ left. left ≡ new) (λ _ _. ⊤) (λ _ _. ⊤)
+  pub touches_plain : (old new : List ℕ) → DiffersWithin start end old new
+      → Touches start end 0 0 (λ left. left ≡ old) (λ left. left ≡ new) (λ _ _. ⊤) (λ _ _. ⊤)
   touches_plain old new within = record {
     later = omega arith;
     keeps = λ since left reached past. tt;
-    now = λ left is. record { whole = old; may = refl; within = subst (DiffersWithin start end old) (sym is) within };
+    now = λ left is. record {
+      whole = old;
+      may = refl;
+      within = subst (DiffersWithin start end old) (sym is) within;
+    };
     between = λ since left past. inl tt;
   }
 
@@ -287,24 +325,35 @@ module _ (start end : ℕ) where
   }
 
   -- where a stop could leave these bytes alone, and where the disk is clean
-  pub known_beside : {t u : ℕ} {a b : List ℕ → Type 0} {p q : ℕ → List ℕ → Type 0} (since : ℕ) (bytes left : List ℕ) → Touches start end t u a b p q → BeginsAt a p since → Only bytes a → q since left → DiffersWithin start end bytes left
+  pub known_beside : {t u : ℕ} {a b : List ℕ → Type 0} {p q : ℕ → List ℕ
+      → Type 0} (since : ℕ) (bytes left : List ℕ) → Touches start end t u a b p q → BeginsAt a p since
+      → Only bytes a → q since left → DiffersWithin start end bytes left
   known_beside since bytes left h begins only past = known_by (DiffersWithin start end)
       (differs_none start end) since bytes left h begins only past
 
-  pub contents_beside : {t u : ℕ} {a b : List ℕ → Type 0} {p q : ℕ → List ℕ → Type 0} (disk : Disk) (since : ℕ) (left : List ℕ) → Touches start end t u a b p q → BeginsAt a p since
-      → ((whole : List ℕ) → a whole → LeavesContents disk whole) → disk.dirty ≡ false → q since left → IfSome disk.contents (λ bytes. DiffersWithin start end bytes left)
+  pub contents_beside : {t u : ℕ} {a b : List ℕ → Type 0} {p q : ℕ → List ℕ
+      → Type 0} (disk : Disk) (since : ℕ) (left : List ℕ) → Touches start end t u a b p q → BeginsAt a p since
+      → ((whole : List ℕ) → a whole → LeavesContents disk whole) → disk.dirty ≡ false → q since left
+      → IfSome disk.contents (λ bytes. DiffersWithin start end bytes left)
   contents_beside disk since left h begins durable clean past = contents_by (DiffersWithin start end)
       (differs_none start end) disk since left h begins durable clean past
 
 -- such an image after a write of a sector
-pub touches_plain_sector : (sector : ℕ) (from old new : List ℕ) → new ≡ with_sector old sector from → 512 * (sector + 1) ≤ length old → length from ≡ 512 → Touches (512 * sector) (512 * (sector + 1)) 0 0 (λ left. left ≡ old) (λ left. left ≡ new) (λ _ _. ⊤) (λ _ _. ⊤)
+pub touches_plain_sector : (sector : ℕ) (from old new : List ℕ) → new ≡ with_sector old sector from
+    → 512 * (sector + 1) ≤ length old → length from ≡ 512
+    → Touches (512 * sector) (512 * (sector + 1)) 0 0 (λ left. left ≡ old) (λ left. left ≡ new)
+    (λ _ _. ⊤) (λ _ _. ⊤)
 touches_plain_sector sector from old new is inside whole =
-    touches_plain (512 * sector) (512 * (sector + 1)) old new (subst (DiffersWithin (512 * sector) (512 * (sector + 1)) old) (sym is) (differs_sector old sector from inside whole))
+    touches_plain (512 * sector) (512 * (sector + 1)) old new
+    (subst (DiffersWithin (512 * sector) (512 * (sector + 1)) old) (sym is)
+    (differs_sector old sector from inside whole))
 
 -- and after a write of sectors in place
 pub touches_plain_sectors : (first : ℕ) (from old new : List ℕ) → new ≡ with_sectors old first from
     → 512 * first + length from ≤ length old
-    → Touches (512 * first) (512 * first + length from) 0 0 (λ left. left ≡ old) (λ left. left ≡ new) (λ _ _. ⊤) (λ _ _. ⊤)
+    → Touches (512 * first) (512 * first + length from) 0 0 (λ left. left ≡ old) (λ left. left ≡ new)
+    (λ _ _. ⊤) (λ _ _. ⊤)
 touches_plain_sectors first from old new is inside =
     touches_plain (512 * first) (512 * first + length from) old new
-    (subst (DiffersWithin (512 * first) (512 * first + length from) old) (sym is) (differs_sectors old first from inside))
+    (subst (DiffersWithin (512 * first) (512 * first + length from) old) (sym is)
+    (differs_sectors old first from inside))

@@ -37,7 +37,8 @@ HasSector (Some held) sector bytes = bytes ≡ sector_of held sector
 
 -- A write of a sector that the file has: some 512 bytes stand in it, those that were written where it
 -- succeeded, and no other byte is different.
-pub record IsSectorPut {E : Type 0} (sector : ℕ) (from : List ℕ) (result : Result (Unit {0}) E) (old new : List ℕ) : Type 0 where
+pub record IsSectorPut {E : Type 0} (sector : ℕ) (from : List ℕ) (result : Result (Unit {0}) E)
+    (old new : List ℕ) : Type 0 where
   pub left : List ℕ
   pub long : length left ≡ 512
   pub whole : OnOk result (left ≡ from)

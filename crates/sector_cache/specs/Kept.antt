@@ -7,7 +7,8 @@ use Rattle.sector_cache.specs.Disk.{Disk, IsSectorContents}
 pub record IsCoherent (disk : Disk) (kept : LruCache ℕ (List ℕ)) : Type 0 where
   pub contents : (entry : ℕ × List ℕ) → Contains kept.entries entry → IsSectorContents disk entry.0 entry.1
 
--- these bytes of a sector come first, and where no more may be kept the last, the least recently used, gives way
+-- these bytes of a sector come first, and where no more may be kept the last, the least recently used, gives
+-- way
 abbrev pub with_first : ℕ → List ℕ → LruCache ℕ (List ℕ) → LruCache ℕ (List ℕ)
 with_first sector bytes kept = lru_cache ((sector, bytes) ∷ take (kept.cap - 1) kept.entries) kept.cap
 

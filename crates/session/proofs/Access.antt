@@ -31,32 +31,42 @@ use Rattle.session.specs.Restoring.{restore_response, told_of}
 use Rattle.session.proofs.Places.{not_true, stays}
 use Rattle.session.proofs.Turns.{begun}
 
-found_at : (slots : List BoardSlot) (h : ℕ) → h < length slots → (found : BoardSlot) × (slice_get slots h ≡ Some found)
+found_at : (slots : List BoardSlot) (h : ℕ) → h < length slots → (found : BoardSlot)
+    × (slice_get slots h ≡ Some found)
 found_at [] h fits = absurd (omega (arith, fits))
 found_at (s ∷ slots) zero fits = (s, refl)
 found_at (s ∷ slots) (suc h) fits = found_at slots h (omega (arith, fits))
 
-given_at : {A : Type 0} (state : SlotState) (what : EventKind A) (before after : Health) (outcome : Outcome A) (reply : Reply A) (output : List ℕ)
-    → outcome.reply ≡ reply → outcome.output ≡ output → MayGive state what before after outcome → MayGive state what before after (record { state = outcome.state; reply = reply; output = output })
+given_at : {A : Type 0} (state : SlotState) (what : EventKind A) (before after : Health) (outcome : Outcome A)
+    (reply : Reply A) (output : List ℕ)
+    → outcome.reply ≡ reply → outcome.output ≡ output → MayGive state what before after outcome
+    → MayGive state what before after (record { state = outcome.state; reply = reply; output = output })
 given_at state what before after outcome reply output p q h = rw (← p, ← q) h
 
 -- an event that asks for no service is answered in its first turn
-pub answered_turn : {A : Type 0} (old new : World) (event : Event A) (budget : Budget) (reply : Reply A) (state : SlotState) (out out' : List ℕ)
-    → slice_get old.slots event.slot ≡ Some state → asked event.what state ≡ None → (answers : Answers old event reply out out' new)
-    → TakesTurn (Begins event.what budget) old event.slot (turn.Answered reply) answers.written.block_irq answers.written.console_irq out out' new
+pub answered_turn : {A : Type 0} (old new : World) (event : Event A) (budget : Budget) (reply : Reply A)
+    (state : SlotState) (out out' : List ℕ)
+    → slice_get old.slots event.slot ≡ Some state → asked event.what state ≡ None
+    → (answers : Answers old event reply out out' new)
+    → TakesTurn (Begins event.what budget) old event.slot (turn.Answered reply) answers.written.block_irq
+    answers.written.console_irq out out' new
 answered_turn {A} old new event budget reply state out out' here none answers =
     let written = answers.written in
     let step : SlotStep old event.slot state event.what written new =
-    subst (λ (o : Option SlotState). MatchOption o (MissingStep old event.slot written new) (λ s. SlotStep old event.slot s event.what written new)) here answers.step in
-    let said : step.outcome.reply ≡ reply = sym (ap (λ (w : Record A). w.reply) step.recorded) ∙ answers.replied in
-    let put_out : step.outcome.output ≡ written.output = sym (ap (λ (w : Record A). w.output) step.recorded) in
+    subst (λ (o : Option SlotState). MatchOption o (MissingStep old event.slot written new)
+    (λ s. SlotStep old event.slot s event.what written new)) here answers.step in
+    let said : step.outcome.reply ≡ reply = sym (ap (λ (w : Record A). w.reply) step.recorded)
+    ∙ answers.replied in
+    let put_out : step.outcome.output ≡ written.output =
+    sym (ap (λ (w : Record A). w.output) step.recorded) in
     record {
       output = written.output;
       taken = record {
         state = state;
         there = here;
         after = step.outcome.state;
-        comes = rw none (given_at state event.what old.health new.health step.outcome reply written.output said put_out step.given);
+        comes = rw none (given_at state event.what old.health new.health step.outcome reply written.output
+            said put_out step.given);
         block_is = ap (λ (w : Record A). w.block_irq) step.recorded;
         console_is = ap (λ (w : Record A). w.console_irq) step.recorded;
         slots = step.slots;
@@ -69,14 +79,19 @@ answered_turn {A} old new event budget reply state out out' here none answers =
 -- and so is one whose range doesn't lie in the memory
 refused_turn : (A : Type 0) (old : World) (h addr : ℕ) (bytes : List ℕ) (budget : Budget) (state : SlotState)
     → slice_get old.slots h ≡ Some state → is_inside state.memory addr (length bytes) ≡ false
-    → TakesTurn (Begins {A = A} (MemWrite addr bytes) budget) old h (turn.Answered BadRange) (block_irq state) (console_irq state) [] [] old
+    → TakesTurn (Begins {A = A} (MemWrite addr bytes) budget) old h (turn.Answered BadRange) (block_irq state)
+    (console_irq state) [] [] old
 refused_turn A old h addr bytes budget state here outside = record {
   output = [];
   taken = record {
     state = state;
     there = here;
     after = state;
-    comes = inl (record { alike = record { alike = rw outside refl; image = refl }; answered = λ is. absurd (cc); failures = refl });
+    comes = inl (record {
+      alike = record { alike = rw outside refl; image = refl };
+      answered = λ is. absurd (cc);
+      failures = refl;
+    });
     block_is = refl;
     console_is = refl;
     slots = sym (stays old.slots h state here);
@@ -86,66 +101,101 @@ refused_turn A old h addr bytes budget state here outside = record {
   appended = refl;
 }
 
-module _ (A : Type 0) {I : Type 0} (disk : I → Disk) (old : PacedState I) (board : BoardState I) (h addr : ℕ) (bytes : List ℕ) where
+module _ (A : Type 0) {I : Type 0} (disk : I → Disk) (old : PacedState I) (board : BoardState I) (h addr : ℕ)
+    (bytes : List ℕ) where
   -- the event of the write
   abbrev write : Event A
   write = record { slot = h; what = MemWrite addr bytes }
 
-  same : slice_get old.paused h ≡ Some None → ◌≡◌ {A = PacedState I} (record old { board = board }) (record { board = board; paused = slice_set old.paused h None; budget = old.budget })
+  same : slice_get old.paused h ≡ Some None
+      → ◌≡◌ {A = PacedState I} (record old { board = board })
+      (record { board = board; paused = slice_set old.paused h None; budget = old.budget })
   same waits = rw (stays old.paused h None waits) refl
 
-  seen_at : (found : BoardSlot) → slice_get old.board.slots h ≡ Some found → slice_get (world_of disk old.board).slots h ≡ Some (state_of (bytes_of (disk old.board.image)) found)
-  seen_at found here = slice_get-map (state_of (bytes_of (disk old.board.image))) old.board.slots h ∙ ap (λ (o : Option BoardSlot). option_map (state_of (bytes_of (disk old.board.image))) o) here
+  seen_at : (found : BoardSlot) → slice_get old.board.slots h ≡ Some found
+      → slice_get (world_of disk old.board).slots h ≡ Some (state_of (bytes_of (disk old.board.image)) found)
+  seen_at found here = slice_get-map (state_of (bytes_of (disk old.board.image))) old.board.slots h
+      ∙ ap (λ (o : Option BoardSlot). option_map (state_of (bytes_of (disk old.board.image))) o) here
 
   -- an event that asks for no service, and puts nothing out
-  pub answered : (what : EventKind A) (reply : Reply A) → ((state : SlotState) → asked what state ≡ None) → slice_get old.paused h ≡ Some None → h < length old.board.slots
+  pub answered : (what : EventKind A) (reply : Reply A) → ((state : SlotState) → asked what state ≡ None)
+      → slice_get old.paused h ≡ Some None → h < length old.board.slots
       → Answers (world_of disk old.board) (record { slot = h; what = what }) reply [] [] (world_of disk board)
-      → Responds old.budget (paced_world disk old) (Handle (record { slot = h; what = what })) (Answered reply) [] [] (paced_world disk (record old { board = board }))
+      → Responds old.budget (paced_world disk old) (Handle (record { slot = h; what = what }))
+      (Answered reply) [] [] (paced_world disk (record old { board = board }))
   answered what reply none waits fits answers =
       let found = found_at old.board.slots h fits in
       let event : Event A = record { slot = h; what = what } in
-      begun disk old board h (turn.Answered reply) _ _ [] [] (Answered reply) event (record old { board = board }) refl waits
-      (answered_turn (world_of disk old.board) (world_of disk board) event old.budget reply _ [] [] (seen_at found.0 found.1) (none _) answers) refl (same waits)
+      begun disk old board h (turn.Answered reply) _ _ [] [] (Answered reply) event
+      (record old { board = board }) refl waits
+      (answered_turn (world_of disk old.board) (world_of disk board) event old.budget reply _ [] []
+      (seen_at found.0 found.1) (none _) answers) refl (same waits)
 
-  pub wrote : slice_get old.paused h ≡ Some None → h < length old.board.slots → Answers (world_of disk old.board) write Done [] [] (world_of disk board)
-      → Responds old.budget (paced_world disk old) (Handle write) (Answered Done) [] [] (paced_world disk (record old { board = board }))
+  pub wrote : slice_get old.paused h ≡ Some None → h < length old.board.slots
+      → Answers (world_of disk old.board) write Done [] [] (world_of disk board)
+      → Responds old.budget (paced_world disk old) (Handle write) (Answered Done) [] []
+      (paced_world disk (record old { board = board }))
   wrote waits fits answers = answered (MemWrite addr bytes) Done (λ state. refl) waits fits answers
 
-  pub not_written : slice_get old.paused h ≡ Some None → h < length old.board.slots → (IsSomeAnd (slice_get old.board.slots h) (λ found. Inside found.memory addr (length bytes)) → ⊥) → board ≡ old.board
-      → Responds old.budget (paced_world disk old) (Handle write) (Answered BadRange) [] [] (paced_world disk (record old { board = board }))
+  pub not_written : slice_get old.paused h ≡ Some None → h < length old.board.slots
+      → (IsSomeAnd (slice_get old.board.slots h) (λ found. Inside found.memory addr (length bytes)) → ⊥)
+      → board ≡ old.board
+      → Responds old.budget (paced_world disk old) (Handle write) (Answered BadRange) [] []
+      (paced_world disk (record old { board = board }))
   not_written waits fits outside is =
       let found = found_at old.board.slots h fits in
-      let test : is_inside found.0.memory addr (length bytes) ≡ false = not_true _ (λ held. outside (rw found.1 ((is_inside-tells found.0.memory addr (length bytes)).0 held))) in
+      let test : is_inside found.0.memory addr (length bytes) ≡ false =
+      not_true _ (λ held. outside
+      (rw found.1 ((is_inside-tells found.0.memory addr (length bytes)).0 held))) in
       let state = state_of (bytes_of (disk old.board.image)) found.0 in
-      begun disk old board h (turn.Answered BadRange) (block_irq state) (console_irq state) [] [] (Answered BadRange) write (record old { board = board }) refl waits
-      (rw is (refused_turn A (world_of disk old.board) h addr bytes old.budget state (seen_at found.0 found.1) test)) refl (same waits)
+      begun disk old board h (turn.Answered BadRange) (block_irq state) (console_irq state) [] []
+      (Answered BadRange) write (record old { board = board }) refl waits
+      (rw is (refused_turn A (world_of disk old.board) h addr bytes old.budget state (seen_at found.0 found.1)
+      test)) refl (same waits)
 
 -- each slot keeps its extent, and every other slot all
-written_extents : (slots slots' : List BoardSlot) (h addr : ℕ) (bytes : List ℕ) (o : Option BoardSlot) → slice_get slots h ≡ o
-    → IsSomeAnd o (λ found. slots' ≡ slice_set slots h (record found { memory = put found.memory addr bytes })) → (extents_of slots' ≡ extents_of slots) × KeepsOthers h slots slots'
+written_extents : (slots slots' : List BoardSlot) (h addr : ℕ) (bytes : List ℕ) (o : Option BoardSlot)
+    → slice_get slots h ≡ o
+    → IsSomeAnd o (λ found. slots'
+    ≡ slice_set slots h (record found { memory = put found.memory addr bytes }))
+    → (extents_of slots' ≡ extents_of slots) × KeepsOthers h slots slots'
 written_extents slots slots' h addr bytes None here is = absurd is
-written_extents slots slots' h addr bytes (Some found) here is = rw is (extents_of-set slots h found _ here refl, λ other differ. others_kept slots h _ other differ)
+written_extents slots slots' h addr bytes (Some found) here is =
+    rw is (extents_of-set slots h found _ here refl, λ other differ. others_kept slots h _ other differ)
 
 pub keeps : {I : Type 0} (old new : BoardState I) (h addr : ℕ) (bytes : List ℕ) (done : Bool)
-    → OnTrue done (IsSomeAnd (slice_get old.slots h) (λ found. new.slots ≡ slice_set old.slots h (record found { memory = put found.memory addr bytes })))
-    → OnFalse done (new ≡ old) → (extents_of new.slots ≡ extents_of old.slots) × KeepsOthers h old.slots new.slots
-keeps old new h addr bytes true is kept = written_extents old.slots new.slots h addr bytes (slice_get old.slots h) refl is
+    → OnTrue done (IsSomeAnd (slice_get old.slots h) (λ found. new.slots
+    ≡ slice_set old.slots h (record found { memory = put found.memory addr bytes })))
+    → OnFalse done (new ≡ old) → (extents_of new.slots ≡ extents_of old.slots)
+    × KeepsOthers h old.slots new.slots
+keeps old new h addr bytes true is kept =
+    written_extents old.slots new.slots h addr bytes (slice_get old.slots h) refl is
 keeps old new h addr bytes false is kept = rw kept (refl, λ other differ. refl)
 
 -- ---- a restore
 
 module _ (r : Option (Result (Unit {0}) RestoreFault)) where
-  pub restored : (A : Type 0) {I : Type 0} (disk : I → Disk) (old : PacedState I) (board : BoardState I) (h : ℕ) (bytes : List ℕ) → (IsSome r ↔ (h < length old.board.slots))
-      → IfSome r (λ d. Answers {A = A} (world_of disk old.board) (record { slot = h; what = Restore bytes }) (restore_reply d) [] [] (world_of disk board))
+  pub restored : (A : Type 0) {I : Type 0} (disk : I → Disk) (old : PacedState I) (board : BoardState I)
+      (h : ℕ) (bytes : List ℕ) → (IsSome r ↔ (h < length old.board.slots))
+      → IfSome r (λ d. Answers {A = A} (world_of disk old.board) (record { slot = h; what = Restore bytes })
+      (restore_reply d) [] [] (world_of disk board))
       → slice_get old.paused h ≡ Some None → h < length old.board.slots
-      → Responds {A = A} old.budget (paced_world disk old) (Handle (record { slot = h; what = Restore bytes })) (restore_response (told_of r)) [] [] (paced_world disk (record old { board = board }))
+      → Responds {A = A} old.budget (paced_world disk old)
+      (Handle (record { slot = h; what = Restore bytes })) (restore_response (told_of r)) [] []
+      (paced_world disk (record old { board = board }))
   restored A disk old board h bytes there answers waits fits = restored_at r refl
     where
       restored_at : (o : Option (Result (Unit {0}) RestoreFault)) → r ≡ o
-          → Responds {A = A} old.budget (paced_world disk old) (Handle (record { slot = h; what = Restore bytes })) (restore_response (told_of o)) [] [] (paced_world disk (record old { board = board }))
+          → Responds {A = A} old.budget (paced_world disk old)
+          (Handle (record { slot = h; what = Restore bytes })) (restore_response (told_of o)) [] []
+          (paced_world disk (record old { board = board }))
       restored_at None is = let some = there.1 fits in absurd (cc)
-      restored_at (Some (Ok done)) is = answered A disk old board h 0 bytes (Restore bytes) Done (λ state. refl) waits fits (rw is at answers)
-      restored_at (Some (Err why)) is = answered A disk old board h 0 bytes (Restore bytes) BadState (λ state. refl) waits fits (rw is at answers)
+      restored_at (Some (Ok done)) is =
+          answered A disk old board h 0 bytes (Restore bytes) Done (λ state. refl) waits
+          fits (rw is at answers)
+      restored_at (Some (Err why)) is =
+          answered A disk old board h 0 bytes (Restore bytes) BadState (λ state. refl) waits
+          fits (rw is at answers)
 
 pub taken_told : (r : Option (Result (Unit {0}) RestoreFault)) → IsSomeAnd r IsOk → IsOk (told_of r)
 taken_told None ok = absurd ok

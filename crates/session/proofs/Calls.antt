@@ -26,33 +26,41 @@ use Rattle.session.proofs.Places.{stays}
 
 -- ---- a call of a slot that isn't there, or that is busy
 
-pub called_past : {A : Type 0} (s : SessionState) (call : Call A) → length s.paused ≤ slot_in call → IsCall s call (Answered BadSlot) s
+pub called_past : {A : Type 0} (s : SessionState) (call : Call A) → length s.paused ≤ slot_in call
+    → IsCall s call (Answered BadSlot) s
 called_past s call past = rw (slice_get_past s.paused (slot_in call) past) (refl, refl)
 
-busy_at : (o : Option (Option Pause)) → (option_and_then (λ (here : Option Pause). here) o ≡ None → ⊥) → (pause : Pause) × (o ≡ Some (Some pause))
+busy_at : (o : Option (Option Pause)) → (option_and_then (λ (here : Option Pause). here) o ≡ None → ⊥)
+    → (pause : Pause) × (o ≡ Some (Some pause))
 busy_at None busy = absurd (busy refl)
 busy_at (Some None) busy = absurd (busy refl)
 busy_at (Some (Some pause)) busy = (pause, refl)
 
-pub called_busy : {A : Type 0} (s : SessionState) (event : Event A) → (IsIdle event.slot s → ⊥) → IsCall s (Handle event) Busy s
+pub called_busy : {A : Type 0} (s : SessionState) (event : Event A) → (IsIdle event.slot s → ⊥)
+    → IsCall s (Handle event) Busy s
 called_busy s event busy = rw ((busy_at (slice_get s.paused event.slot) busy).1) (refl, refl)
 
 -- ---- an event that asks for no service, as a call
 
-state_there : (s : SessionState) (h : ℕ) → h < length s.slots → (state : SlotState) × (slice_get (world_of s).slots h ≡ Some state)
+state_there : (s : SessionState) (h : ℕ) → h < length s.slots → (state : SlotState)
+    × (slice_get (world_of s).slots h ≡ Some state)
 state_there s h fits = found_state s.slots h fits
   where
-    found_state : (slots : List BoardSlot) (k : ℕ) → k < length slots → (state : SlotState) × (slice_get (map (state_of s.image) slots) k ≡ Some state)
+    found_state : (slots : List BoardSlot) (k : ℕ) → k < length slots → (state : SlotState)
+        × (slice_get (map (state_of s.image) slots) k ≡ Some state)
     found_state [] k few = absurd (omega (arith, few))
     found_state (one ∷ slots) zero few = (state_of s.image one, refl)
     found_state (one ∷ slots) (suc k) few = found_state slots k (omega (arith, few))
 
 -- where nothing of its slot is paused
-pub idle_step_call : {A : Type 0} (s new : SessionState) (event : Event A) (reply : Reply A) → slice_get s.paused event.slot ≡ Some None → event.slot < length s.slots
-    → ((state : SlotState) → asked event.what state ≡ None) → IsStep s event reply new → ComesTo (Handle event) (Some None) s (Answered reply) new
+pub idle_step_call : {A : Type 0} (s new : SessionState) (event : Event A) (reply : Reply A)
+    → slice_get s.paused event.slot ≡ Some None → event.slot < length s.slots
+    → ((state : SlotState) → asked event.what state ≡ None) → IsStep s event reply new
+    → ComesTo (Handle event) (Some None) s (Answered reply) new
 idle_step_call {A} s new event reply is fits asks step =
     let found = state_there s event.slot fits in
-    let t = answered_turn (world_of s) (world_of new) event s.budget reply found.0 _ _ found.1 (asks found.0) step.answers in
+    let t = answered_turn (world_of s) (world_of new) event s.budget reply found.0 _ _ found.1
+    (asks found.0) step.answers in
     record {
       turn = record {
         turn = turn.Answered reply;
@@ -74,38 +82,62 @@ idle_step_call {A} s new event reply is fits asks step =
       limited = λ is. absurd (cc (is));
     }
 
-step_call_at : {A : Type 0} (s new : SessionState) (event : Event A) (reply : Reply A) (o : Option (Option Pause)) → slice_get s.paused event.slot ≡ o → option_and_then (λ (here : Option Pause). here) o ≡ None → length s.paused ≡ length s.slots
-    → ((state : SlotState) → asked event.what state ≡ None) → IsStep s event reply new → ComesTo (Handle event) o s (Answered reply) new
+step_call_at : {A : Type 0} (s new : SessionState) (event : Event A) (reply : Reply A)
+    (o : Option (Option Pause)) → slice_get s.paused event.slot ≡ o
+    → option_and_then (λ (here : Option Pause). here) o ≡ None → length s.paused ≡ length s.slots
+    → ((state : SlotState) → asked event.what state ≡ None) → IsStep s event reply new
+    → ComesTo (Handle event) o s (Answered reply) new
 step_call_at {A} s new event reply None is idle many asks step =
     let past : length s.slots ≤ event.slot = grind (arith, many, slice_get_cases s.paused event.slot) in
-    let bad : reply ≡ BadSlot = step.bad_slot.1 past in (ap (λ (a : Reply A). Answered a) bad, step.bad_slot_keeps bad)
+    let bad : reply ≡ BadSlot = step.bad_slot.1 past in
+    (ap (λ (a : Reply A). Answered a) bad, step.bad_slot_keeps bad)
 step_call_at s new event reply (Some None) is idle many asks step =
     idle_step_call s new event reply is (rw (← many) (slice_get_within s.paused event.slot None is)) asks step
 step_call_at s new event reply (Some (Some pause)) is idle many asks step = absurd (cc (idle))
 
-pub call_of_step : {A : Type 0} (s new : SessionState) (event : Event A) (reply : Reply A) → IsIdle event.slot s → length s.paused ≡ length s.slots → ((state : SlotState) → asked event.what state ≡ None) → IsStep s event reply new → IsCall s (Handle event) (Answered reply) new
-call_of_step s new event reply idle many asks step = step_call_at s new event reply (slice_get s.paused event.slot) refl idle many asks step
+pub call_of_step : {A : Type 0} (s new : SessionState) (event : Event A) (reply : Reply A)
+    → IsIdle event.slot s → length s.paused ≡ length s.slots
+    → ((state : SlotState) → asked event.what state ≡ None) → IsStep s event reply new
+    → IsCall s (Handle event) (Answered reply) new
+call_of_step s new event reply idle many asks step =
+    step_call_at s new event reply (slice_get s.paused event.slot) refl idle many asks step
 
 -- what a range that isn't in the memory is answered
-pub refused_whole : {A : Type 0} (s : SessionState) (event : Event A) (inside : Bool) → IsStep s event (if inside then BadRange else BadSlot) s → IsWhole s event (refusing_response (if inside then refusal.BadRange else refusal.BadSlot)) s
+pub refused_whole : {A : Type 0} (s : SessionState) (event : Event A) (inside : Bool)
+    → IsStep s event (if inside then BadRange else BadSlot) s
+    → IsWhole s event (refusing_response (if inside then refusal.BadRange else refusal.BadSlot)) s
 refused_whole s _ true step = step
 refused_whole s _ false step = step
 
-pub refused_call : {A : Type 0} (s : SessionState) (event : Event A) (inside : Bool) → IsIdle event.slot s → length s.paused ≡ length s.slots → ((state : SlotState) → asked event.what state ≡ None) → IsStep s event (if inside then BadRange else BadSlot) s
+pub refused_call : {A : Type 0} (s : SessionState) (event : Event A) (inside : Bool) → IsIdle event.slot s
+    → length s.paused ≡ length s.slots → ((state : SlotState) → asked event.what state ≡ None)
+    → IsStep s event (if inside then BadRange else BadSlot) s
     → IsCall s (Handle event) (refusing_response (if inside then refusal.BadRange else refusal.BadSlot)) s
 refused_call s event true idle many asks step = call_of_step s s event BadRange idle many asks step
 refused_call s event false idle many asks step = call_of_step s s event BadSlot idle many asks step
 
 -- ---- how many slots may be paused
 
-as_many_paused : {A : Type 0} (budget : Budget) (call : Call A) (o : Option (Option Pause)) (old new : PacedWorld) (response : Response A) (output : List ℕ) (block console : ℕ)
-    → paced.ComesTo budget call o old response output block console new → length new.paused ≡ length old.paused
-as_many_paused budget (Handle _) None old new response output block console comes = ap (λ (w : PacedWorld). length w.paused) comes.1.same
-as_many_paused budget (GoOn slot) None old new response output block console comes = ap (λ (w : PacedWorld). length w.paused) comes.1.same
-as_many_paused budget (Handle begun) (Some None) old new response output block console comes = ap length comes.paused ∙ length-set old.paused begun.slot (paused_by comes.turn)
-as_many_paused budget (Handle _) (Some (Some pause)) old new response output block console comes = ap (λ (w : PacedWorld). length w.paused) comes.1.same
-as_many_paused budget (GoOn slot) (Some None) old new response output block console comes = ap (λ (w : PacedWorld). length w.paused) comes.1.same
-as_many_paused budget (GoOn slot) (Some (Some pause)) old new response output block console comes = ap length comes.paused ∙ length-set old.paused slot (paused_by comes.turn)
+as_many_paused : {A : Type 0} (budget : Budget) (call : Call A) (o : Option (Option Pause))
+    (old new : PacedWorld) (response : Response A) (output : List ℕ) (block console : ℕ)
+    → paced.ComesTo budget call o old response output block console new
+    → length new.paused ≡ length old.paused
+as_many_paused budget (Handle _) None old new response output block console comes =
+    ap (λ (w : PacedWorld). length w.paused) comes.1.same
+as_many_paused budget (GoOn slot) None old new response output block console comes =
+    ap (λ (w : PacedWorld). length w.paused) comes.1.same
+as_many_paused budget (Handle begun) (Some None) old new response output block console comes =
+    ap length comes.paused ∙ length-set old.paused begun.slot (paused_by comes.turn)
+as_many_paused budget (Handle _) (Some (Some pause)) old new response output block console comes =
+    ap (λ (w : PacedWorld). length w.paused) comes.1.same
+as_many_paused budget (GoOn slot) (Some None) old new response output block console comes =
+    ap (λ (w : PacedWorld). length w.paused) comes.1.same
+as_many_paused budget (GoOn slot) (Some (Some pause)) old new response output block console comes =
+    ap length comes.paused ∙ length-set old.paused slot (paused_by comes.turn)
 
-pub responded_paused : {A : Type 0} (budget : Budget) (call : Call A) (old new : PacedWorld) (response : Response A) (before after : List ℕ) → Responds budget old call response before after new → length new.paused ≡ length old.paused
-responded_paused budget call old new response before after r = as_many_paused budget call (slice_get old.paused (slot_in call)) old new response r.output r.block r.console r.comes
+pub responded_paused : {A : Type 0} (budget : Budget) (call : Call A) (old new : PacedWorld)
+    (response : Response A) (before after : List ℕ) → Responds budget old call response before after new
+    → length new.paused ≡ length old.paused
+responded_paused budget call old new response before after r =
+    as_many_paused budget call (slice_get old.paused (slot_in call)) old new response r.output
+    r.block r.console r.comes

@@ -30,7 +30,8 @@ use Rattle.session.proofs.HostedLaws.{came_to, told_none}
 
 -- ---- a slot that is there is never said to be missing
 
-finished_done : {A : Type 0} (task : Task) (state : SlotState) (before after : Health) (outcome : Outcome A) → Finishes task state before after outcome → outcome.reply ≡ Done
+finished_done : {A : Type 0} (task : Task) (state : SlotState) (before after : Health) (outcome : Outcome A)
+    → Finishes task state before after outcome → outcome.reply ≡ Done
 finished_done {A} Nothing state before after outcome f = ap (λ (o : Outcome A). o.reply) f.alike
 finished_done {A} ServeBlock state before after outcome f = ap (λ (o : Outcome A). o.reply) f.is
 finished_done {A} ServeReceive state before after outcome f = ap (λ (o : Outcome A). o.reply) f.is
@@ -38,7 +39,9 @@ finished_done {A} ServeTransmit state before after outcome f = ap (λ (o : Outco
 finished_done {A} (PutOut byte) state before after outcome f = ap (λ (o : Outcome A). o.reply) f.alike
 
 -- it is cut short where it puts something out and has no memory, or is done
-cut_to : {A : Type 0} (task : Task) (state : SlotState) (before after : Health) (outcome : Outcome A) → IsCutShort task state before after outcome → (outcome.reply ≡ Done) ⊎ ((outcome.reply ≡ NoMemory) × IsPuttingOut task)
+cut_to : {A : Type 0} (task : Task) (state : SlotState) (before after : Health) (outcome : Outcome A)
+    → IsCutShort task state before after outcome → (outcome.reply ≡ Done)
+    ⊎ ((outcome.reply ≡ NoMemory) × IsPuttingOut task)
 cut_to Nothing state before after outcome f = absurd f
 cut_to {A} ServeBlock state before after outcome f = inl (ap (λ (o : Outcome A). o.reply) f.service.is)
 cut_to ServeReceive state before after outcome f = absurd f
@@ -49,37 +52,62 @@ cut_to {A} (PutOut byte) state before after outcome f = inr (ap (λ (o : Outcome
 abbrev Fair : {A : Type 0} → SlotState → EventKind A → Reply A → Type 0
 Fair state what reply = (reply ≢ BadSlot) × (reply ≡ NoMemory → HasNoRead what → MayPutOut state what)
 
-fair_done : {A : Type 0} (state : SlotState) (what : EventKind A) (reply : Reply A) → reply ≡ Done → Fair state what reply
+fair_done : {A : Type 0} (state : SlotState) (what : EventKind A) (reply : Reply A) → reply ≡ Done
+    → Fair state what reply
 fair_done state what reply is = (λ no. absurd (cc), λ no any. absurd (cc))
 
-read_fair : {A : Type 0} (state : SlotState) (addr len : ℕ) (reply : Reply A) (bytes : List ℕ) (inside : Bool) → reply ≡ (if inside then replies {A = A} state (Bytes bytes) else replies state BadRange).reply → Fair {A = A} state (MemRead addr len) reply
+read_fair : {A : Type 0} (state : SlotState) (addr len : ℕ) (reply : Reply A) (bytes : List ℕ) (inside : Bool)
+    → reply ≡ (if inside then replies {A = A} state (Bytes bytes) else replies state BadRange).reply
+    → Fair {A = A} state (MemRead addr len) reply
 read_fair state addr len reply bytes true is = (λ no. absurd (cc), λ no any. absurd any)
 read_fair state addr len reply bytes false is = (λ no. absurd (cc), λ no any. absurd any)
 
-write_fair : {A : Type 0} (state after : SlotState) (what : EventKind A) (reply : Reply A) (inside : Bool) → reply ≡ (if inside then replies {A = A} after Done else replies state BadRange).reply → Fair state what reply
+write_fair : {A : Type 0} (state after : SlotState) (what : EventKind A) (reply : Reply A) (inside : Bool)
+    → reply ≡ (if inside then replies {A = A} after Done else replies state BadRange).reply
+    → Fair state what reply
 write_fair state after what reply true is = (λ no. absurd (cc), λ no any. absurd (cc))
 write_fair state after what reply false is = (λ no. absurd (cc), λ no any. absurd (cc))
 
-cut_fair : {A : Type 0} (state : SlotState) (window : DeviceKind) (offset width value : ℕ) (reply : Reply A) → (reply ≡ Done) ⊎ ((reply ≡ NoMemory) × IsPuttingOut (task_at window offset width value state)) → Fair state (Write window offset width value) reply
-cut_fair state window offset width value reply (inl is) = fair_done state (Write window offset width value) reply is
-cut_fair state window offset width value reply (inr is) = let none = is.0 in (λ no. absurd (cc), λ no any. is.1)
+cut_fair : {A : Type 0} (state : SlotState) (window : DeviceKind) (offset width value : ℕ) (reply : Reply A)
+    → (reply ≡ Done) ⊎ ((reply ≡ NoMemory) × IsPuttingOut (task_at window offset width value state))
+    → Fair state (Write window offset width value) reply
+cut_fair state window offset width value reply (inl is) =
+    fair_done state (Write window offset width value) reply is
+cut_fair state window offset width value reply (inr is) = let none = is.0 in
+    (λ no. absurd (cc), λ no any. is.1)
 
-restore_fair : {A : Type 0} (state : SlotState) (bytes : List ℕ) (outcome : Outcome A) → IsRestoring state bytes outcome → Fair state (Restore bytes) outcome.reply
-restore_fair {A} state bytes outcome (inl taken) = fair_done state (Restore bytes) outcome.reply (ap (λ (o : Outcome A). o.reply) taken.1)
-restore_fair {A} state bytes outcome (inr refused) = let is = ap (λ (o : Outcome A). o.reply) refused.1 in (λ no. absurd (cc), λ no any. absurd (cc))
+restore_fair : {A : Type 0} (state : SlotState) (bytes : List ℕ) (outcome : Outcome A)
+    → IsRestoring state bytes outcome → Fair state (Restore bytes) outcome.reply
+restore_fair {A} state bytes outcome (inl taken) =
+    fair_done state (Restore bytes) outcome.reply (ap (λ (o : Outcome A). o.reply) taken.1)
+restore_fair {A} state bytes outcome (inr refused) = let is = ap (λ (o : Outcome A). o.reply) refused.1 in
+    (λ no. absurd (cc), λ no any. absurd (cc))
 
-given_fair : {A : Type 0} (state : SlotState) (what : EventKind A) (old new : Health) (outcome : Outcome A) → MayGive state what old new outcome → Fair state what outcome.reply
-given_fair {A} state (Read window offset width) old new outcome (inl served) = let is = ap (λ (o : Outcome A). o.reply) served.alike.alike in (λ no. absurd (cc), λ no any. absurd (cc))
-given_fair state (Write window offset width value) old new outcome (inl served) = fair_done state (Write window offset width value) outcome.reply (finished_done _ _ old new outcome served.alike)
-given_fair {A} state (MemRead addr len) old new outcome (inl served) = read_fair state addr len outcome.reply _ _ (ap (λ (o : Outcome A). o.reply) served.alike.alike)
-given_fair {A} state (MemWrite addr bytes) old new outcome (inl served) = write_fair state _ (MemWrite addr bytes) outcome.reply _ (ap (λ (o : Outcome A). o.reply) served.alike.alike)
-given_fair {A} state (Input bytes) old new outcome (inl served) = let is = ap (λ (o : Outcome A). o.reply) served.alike.is in (λ no. absurd (cc), λ no any. absurd (cc))
-given_fair {A} state (Resize cols rows) old new outcome (inl served) = fair_done state (Resize cols rows) outcome.reply (ap (λ (o : Outcome A). o.reply) served.alike.alike)
-given_fair state (Restore bytes) old new outcome (inl served) = restore_fair state bytes outcome served.alike.alike
-given_fair {A} state (Complete verdict) old new outcome (inl served) = let is = ap (λ (o : Outcome A). o.reply) served.alike.alike in (λ no. absurd (cc), λ no any. absurd (cc))
+given_fair : {A : Type 0} (state : SlotState) (what : EventKind A) (old new : Health) (outcome : Outcome A)
+    → MayGive state what old new outcome → Fair state what outcome.reply
+given_fair {A} state (Read window offset width) old new outcome (inl served) = let is =
+    ap (λ (o : Outcome A). o.reply) served.alike.alike in (λ no. absurd (cc), λ no any. absurd (cc))
+given_fair state (Write window offset width value) old new outcome (inl served) =
+    fair_done state (Write window offset width value) outcome.reply
+    (finished_done _ _ old new outcome served.alike)
+given_fair {A} state (MemRead addr len) old new outcome (inl served) =
+    read_fair state addr len outcome.reply _ _ (ap (λ (o : Outcome A). o.reply) served.alike.alike)
+given_fair {A} state (MemWrite addr bytes) old new outcome (inl served) =
+    write_fair state _ (MemWrite addr bytes) outcome.reply _
+    (ap (λ (o : Outcome A). o.reply) served.alike.alike)
+given_fair {A} state (Input bytes) old new outcome (inl served) = let is =
+    ap (λ (o : Outcome A). o.reply) served.alike.is in (λ no. absurd (cc), λ no any. absurd (cc))
+given_fair {A} state (Resize cols rows) old new outcome (inl served) =
+    fair_done state (Resize cols rows) outcome.reply (ap (λ (o : Outcome A). o.reply) served.alike.alike)
+given_fair state (Restore bytes) old new outcome (inl served) =
+    restore_fair state bytes outcome served.alike.alike
+given_fair {A} state (Complete verdict) old new outcome (inl served) = let is =
+    ap (λ (o : Outcome A). o.reply) served.alike.alike in (λ no. absurd (cc), λ no any. absurd (cc))
 given_fair state (Read window offset width) old new outcome (inr never) = absurd never
-given_fair state (Write window offset width value) old new outcome (inr cut) = cut_fair state window offset width value outcome.reply (cut_to _ _ old new outcome cut)
-given_fair {A} state (MemRead addr len) old new outcome (inr unread) = let is = ap (λ (o : Outcome A). o.reply) unread.unchanged in (λ no. absurd (cc), λ no any. absurd any)
+given_fair state (Write window offset width value) old new outcome (inr cut) =
+    cut_fair state window offset width value outcome.reply (cut_to _ _ old new outcome cut)
+given_fair {A} state (MemRead addr len) old new outcome (inr unread) = let is =
+    ap (λ (o : Outcome A). o.reply) unread.unchanged in (λ no. absurd (cc), λ no any. absurd any)
 given_fair state (MemWrite addr bytes) old new outcome (inr never) = absurd never
 given_fair state (Input bytes) old new outcome (inr never) = absurd never
 given_fair state (Resize cols rows) old new outcome (inr never) = absurd never
@@ -89,16 +117,27 @@ given_fair state (Complete verdict) old new outcome (inr never) = absurd never
 -- ---- and so with a disk that the host serves
 
 -- what an own call is told: Busy where it waits, and else a reply
-record IsFair {A : Type 0} (old : HostedState) (what : EventKind A) (flight : Option InFlight) (reply : Reply A) : Type 0 where
+record IsFair {A : Type 0} (old : HostedState) (what : EventKind A) (flight : Option InFlight)
+    (reply : Reply A) : Type 0 where
   there : reply ≢ BadSlot
   room : reply ≡ NoMemory → HasNoRead what → MayPutOut old.slot what
   busy : reply ≡ Busy → (is_some flight && must_wait what) ≡ true
   waits : (is_some flight && must_wait what) ≡ true → reply ≡ Busy
 
-hosted_done_fair : {A : Type 0} (old : HostedState) (what : EventKind A) (flight : Option InFlight) (reply : Reply A) → (is_some flight && must_wait what) ≡ false → reply ≡ Done → IsFair old what flight reply
-hosted_done_fair old what flight reply free is = record { there = λ no. absurd (cc); room = λ no any. absurd (cc); busy = λ no. absurd (cc); waits = λ no. absurd (cc) }
+hosted_done_fair : {A : Type 0} (old : HostedState) (what : EventKind A) (flight : Option InFlight)
+    (reply : Reply A) → (is_some flight && must_wait what) ≡ false → reply ≡ Done
+    → IsFair old what flight reply
+hosted_done_fair old what flight reply free is =
+    record {
+      there = λ no. absurd (cc);
+      room = λ no any. absurd (cc);
+      busy = λ no. absurd (cc);
+      waits = λ no. absurd (cc);
+    }
 
-beside_fair : {A : Type 0} (old : HostedState) (what : EventKind A) (flight : Option InFlight) (outcome : HostedOutcome A) → (is_some flight && must_wait what) ≡ false → IsBesideDisk old what outcome → IsFair old what flight outcome.reply
+beside_fair : {A : Type 0} (old : HostedState) (what : EventKind A) (flight : Option InFlight)
+    (outcome : HostedOutcome A) → (is_some flight && must_wait what) ≡ false → IsBesideDisk old what outcome
+    → IsFair old what flight outcome.reply
 beside_fair old what flight outcome free h =
     let fair = given_fair old.slot what at_rest at_rest _ h.given in
     record {
@@ -108,33 +147,46 @@ beside_fair old what flight outcome free h =
       waits = λ no. absurd (cc);
     }
 
-rest_fair : {A : Type 0} (old : HostedState) (what : EventKind A) (outcome : HostedOutcome A) (rings : Bool) → GivesAtRest rings old what outcome → IsFair old what None outcome.reply
-rest_fair {A} old what outcome true gives = hosted_done_fair old what None outcome.reply refl (ap (λ (o : HostedOutcome A). o.reply) gives.1)
+rest_fair : {A : Type 0} (old : HostedState) (what : EventKind A) (outcome : HostedOutcome A) (rings : Bool)
+    → GivesAtRest rings old what outcome → IsFair old what None outcome.reply
+rest_fair {A} old what outcome true gives =
+    hosted_done_fair old what None outcome.reply refl (ap (λ (o : HostedOutcome A). o.reply) gives.1)
 rest_fair old what outcome false gives = beside_fair old what None outcome refl gives
 
-flying_fair : {A : Type 0} (old : HostedState) (what : EventKind A) (here : InFlight) (outcome : HostedOutcome A) (rings : Bool) → must_wait what ≡ false → GivesInFlight rings old what outcome → IsFair old what (Some here) outcome.reply
-flying_fair {A} old what here outcome true free gives = hosted_done_fair old what (Some here) outcome.reply free (ap (λ (o : HostedOutcome A). o.reply) gives)
+flying_fair : {A : Type 0} (old : HostedState) (what : EventKind A) (here : InFlight)
+    (outcome : HostedOutcome A) (rings : Bool) → must_wait what ≡ false → GivesInFlight rings old what outcome
+    → IsFair old what (Some here) outcome.reply
+flying_fair {A} old what here outcome true free gives =
+    hosted_done_fair old what (Some here) outcome.reply free (ap (λ (o : HostedOutcome A). o.reply) gives)
 flying_fair old what here outcome false free gives = beside_fair old what (Some here) outcome free gives
 
-waiting_fair : {A : Type 0} (old : HostedState) (what : EventKind A) (here : InFlight) (outcome : HostedOutcome A) (waits : Bool) → must_wait what ≡ waits → WaitsOrGives waits old what outcome → IsFair old what (Some here) outcome.reply
+waiting_fair : {A : Type 0} (old : HostedState) (what : EventKind A) (here : InFlight)
+    (outcome : HostedOutcome A) (waits : Bool) → must_wait what ≡ waits → WaitsOrGives waits old what outcome
+    → IsFair old what (Some here) outcome.reply
 waiting_fair {A} old what here outcome true is gives =
     let told = ap (λ (o : HostedOutcome A). o.reply) gives in
     record { there = λ no. absurd (cc); room = λ no any. absurd (cc); busy = λ busy. is; waits = λ yes. told }
-waiting_fair old what here outcome false is gives = flying_fair old what here outcome (notifies_block what old.slot) is gives
+waiting_fair old what here outcome false is gives =
+    flying_fair old what here outcome (notifies_block what old.slot) is gives
 
-own_fair : {A : Type 0} (old : HostedState) (what : EventKind A) (outcome : HostedOutcome A) (flight : Option InFlight) → OwnGives flight old what outcome → IsFair old what flight outcome.reply
+own_fair : {A : Type 0} (old : HostedState) (what : EventKind A) (outcome : HostedOutcome A)
+    (flight : Option InFlight) → OwnGives flight old what outcome → IsFair old what flight outcome.reply
 own_fair old what outcome None gives = rest_fair old what outcome (notifies_block what old.slot) gives
 own_fair old what outcome (Some here) gives = waiting_fair old what here outcome (must_wait what) refl gives
 
 -- ---- a call of a session
 
 -- what each refusal of an own call says
-pub record IsExact {A : Type 0} (slots : List HostedState) (h : ℕ) (what : EventKind A) (reply : Reply A) : Type 0 where
+pub record IsExact {A : Type 0} (slots : List HostedState) (h : ℕ) (what : EventKind A)
+    (reply : Reply A) : Type 0 where
   pub bad_slot : (reply ≡ BadSlot) ↔ (length slots ≤ h)
   pub busy : (reply ≡ Busy) ↔ HoldsUp slots h what
-  pub no_room : reply ≡ NoMemory → HasNoRead what → IsSomeAnd (slice_get slots h) (λ found. MayPutOut found.slot what)
+  pub no_room : reply ≡ NoMemory → HasNoRead what
+      → IsSomeAnd (slice_get slots h) (λ found. MayPutOut found.slot what)
 
-exact_from : {A : Type 0} (old new : HostedSessionState) (h : ℕ) (what : EventKind A) (reply : Reply A) (o : Option HostedState) → IsOwn what → slice_get old.slots h ≡ o → IsHostedCall old h what reply new → IsExact old.slots h what reply
+exact_from : {A : Type 0} (old new : HostedSessionState) (h : ℕ) (what : EventKind A) (reply : Reply A)
+    (o : Option HostedState) → IsOwn what → slice_get old.slots h ≡ o → IsHostedCall old h what reply new
+    → IsExact old.slots h what reply
 exact_from old new h what reply None own here is =
     let told = told_none old new h what reply here is in
     let past : length old.slots ≤ h = grind (arith, slice_get_cases old.slots h) in
@@ -145,7 +197,9 @@ exact_from old new h what reply None own here is =
     }
 exact_from {A} old new h what reply (Some state) own here is =
     let came = came_to old new h what reply state here is in
-    let fair : IsFair state what state.flight reply = subst (λ (r : Reply A). IsFair state what state.flight r) (sym came.replied) (own_fair state what came.outcome state.flight (own_next state what came.outcome own came.next)) in
+    let fair : IsFair state what state.flight reply =
+    subst (λ (r : Reply A). IsFair state what state.flight r) (sym came.replied)
+    (own_fair state what came.outcome state.flight (own_next state what came.outcome own came.next)) in
     let below = slice_get_within old.slots h state here in
     record {
       bad_slot = (λ no. absurd (fair.there no), λ past. absurd (omega (arith, below, past)));
@@ -153,7 +207,8 @@ exact_from {A} old new h what reply (Some state) own here is =
       no_room = λ none any. rw here (fair.room none any);
     }
 
-pub exact : {A : Type 0} (old new : HostedSessionState) (h : ℕ) (what : EventKind A) (reply : Reply A) → IsOwn what → IsHostedCall old h what reply new → IsExact old.slots h what reply
+pub exact : {A : Type 0} (old new : HostedSessionState) (h : ℕ) (what : EventKind A) (reply : Reply A)
+    → IsOwn what → IsHostedCall old h what reply new → IsExact old.slots h what reply
 exact old new h what reply own is = exact_from old new h what reply (slice_get old.slots h) own refl is
 
 -- and of a completion
@@ -161,11 +216,18 @@ pub record IsExactCompletion {A : Type 0} (slots : List HostedState) (h : ℕ) (
   pub bad_slot : (reply ≡ BadSlot) ↔ (length slots ≤ h)
   pub idle : (reply ≡ Idle) ↔ IsAtRest slots h
 
-completed_from : {A : Type 0} (slots : List HostedState) (h : ℕ) (state : HostedState) (verdict : Verdict) (outcome : HostedOutcome A) (flight : Option InFlight) → CompletionGives flight state verdict outcome → (outcome.reply ≢ BadSlot) × ((outcome.reply ≡ Idle) ↔ (flight ≡ None))
-completed_from {A} slots h state verdict outcome None gives = let told = ap (λ (o : HostedOutcome A). o.reply) gives in (λ no. absurd (cc), (λ is. refl, λ is. told))
-completed_from {A} slots h state verdict outcome (Some here) gives = let told = ap (λ (o : HostedOutcome A). o.reply) gives.1 in (λ no. absurd (cc), (λ is. absurd (cc), λ is. absurd (cc)))
+completed_from : {A : Type 0} (slots : List HostedState) (h : ℕ) (state : HostedState) (verdict : Verdict)
+    (outcome : HostedOutcome A) (flight : Option InFlight) → CompletionGives flight state verdict outcome
+    → (outcome.reply ≢ BadSlot) × ((outcome.reply ≡ Idle) ↔ (flight ≡ None))
+completed_from {A} slots h state verdict outcome None gives = let told =
+    ap (λ (o : HostedOutcome A). o.reply) gives in (λ no. absurd (cc), (λ is. refl, λ is. told))
+completed_from {A} slots h state verdict outcome (Some here) gives = let told =
+    ap (λ (o : HostedOutcome A). o.reply) gives.1 in
+    (λ no. absurd (cc), (λ is. absurd (cc), λ is. absurd (cc)))
 
-exact_completion_from : {A : Type 0} (old new : HostedSessionState) (h : ℕ) (verdict : Verdict) (reply : Reply A) (o : Option HostedState) → slice_get old.slots h ≡ o → IsHostedCall old h (Complete verdict) reply new → IsExactCompletion old.slots h reply
+exact_completion_from : {A : Type 0} (old new : HostedSessionState) (h : ℕ) (verdict : Verdict)
+    (reply : Reply A) (o : Option HostedState) → slice_get old.slots h ≡ o
+    → IsHostedCall old h (Complete verdict) reply new → IsExactCompletion old.slots h reply
 exact_completion_from old new h verdict reply None here is =
     let told = told_none old new h (Complete verdict) reply here is in
     let past : length old.slots ≤ h = grind (arith, slice_get_cases old.slots h) in
@@ -179,8 +241,10 @@ exact_completion_from {A} old new h verdict reply (Some state) here is =
       idle = rw here (λ yes. fair.1.0 (sym came.replied ∙ yes), λ none. came.replied ∙ fair.1.1 none);
     }
 
-pub exact_completion : {A : Type 0} (old new : HostedSessionState) (h : ℕ) (verdict : Verdict) (reply : Reply A) → IsHostedCall old h (Complete verdict) reply new → IsExactCompletion old.slots h reply
-exact_completion old new h verdict reply is = exact_completion_from old new h verdict reply (slice_get old.slots h) refl is
+pub exact_completion : {A : Type 0} (old new : HostedSessionState) (h : ℕ) (verdict : Verdict)
+    (reply : Reply A) → IsHostedCall old h (Complete verdict) reply new → IsExactCompletion old.slots h reply
+exact_completion old new h verdict reply is =
+    exact_completion_from old new h verdict reply (slice_get old.slots h) refl is
 
 -- ---- and what a call answers
 
@@ -224,13 +288,20 @@ is_err : {T : Type 0} (r : Result T Refusal) (why : Refusal) → refused r ≡ S
 is_err (Ok value) why is = absurd (cc)
 is_err (Err w) why is = ap (λ x. Err x) (same_Some w why is)
 
-pub refused_only : {A T : Type 0} (told : Reply A) (r : Result T Refusal) (why : Refusal) (P : Type 0) → refusal_in told ≡ refused r → (told ≡ hosted_refusing why → P) → IsErrOf r why → P
-refused_only {A} {T} told r why P same says is = says (telling told why (same ∙ ap (λ (x : Result T Refusal). refused x) is))
+pub refused_only : {A T : Type 0} (told : Reply A) (r : Result T Refusal) (why : Refusal) (P : Type 0)
+    → refusal_in told ≡ refused r → (told ≡ hosted_refusing why → P) → IsErrOf r why → P
+refused_only {A} {T} told r why P same says is =
+    says (telling told why (same ∙ ap (λ (x : Result T Refusal). refused x) is))
 
-pub refused_where : {A T : Type 0} (told : Reply A) (r : Result T Refusal) (why : Refusal) (P : Type 0) → refusal_in told ≡ refused r → (told ≡ hosted_refusing why) ↔ P → IsErrOf r why ↔ P
-refused_where {A} told r why P same when =
-    (refused_only told r why P same when.0, λ p. is_err r why (sym same ∙ (ap (λ (t : Reply A). refusal_in t) (when.1 p) ∙ refusing_in A why)))
+pub refused_where : {A T : Type 0} (told : Reply A) (r : Result T Refusal) (why : Refusal) (P : Type 0)
+    → refusal_in told ≡ refused r → (told ≡ hosted_refusing why) ↔ P → IsErrOf r why ↔ P
+refused_where {A} told r why P same when = (
+  refused_only told r why P same when.0,
+  λ p. is_err r why (sym same
+      ∙ (ap (λ (t : Reply A). refusal_in t) (when.1 p) ∙ refusing_in A why)),
+)
 
-pub served_in : {A : Type 0} (told : Reply A) (r : Result HostedProgress Refusal) → told ≡ hosted_served r → refusal_in told ≡ refused r
+pub served_in : {A : Type 0} (told : Reply A) (r : Result HostedProgress Refusal) → told ≡ hosted_served r
+    → refusal_in told ≡ refused r
 served_in told (Ok progress) is = rw is refl
 served_in {A} told (Err why) is = rw is (refusing_in A why)

@@ -25,20 +25,29 @@ use Rattle.session.proofs.HostedSteps.{quiet}
 use Rattle.session.proofs.Waiting.{rebuilt}
 
 -- what a call for a slot that is there comes to
-pub record Came {A : Type 0} (h : ℕ) (state : HostedState) (event : EventKind A) (reply : Reply A) (old new : HostedSessionState) : Type 0 where
+pub record Came {A : Type 0} (h : ℕ) (state : HostedState) (event : EventKind A) (reply : Reply A)
+    (old new : HostedSessionState) : Type 0 where
   pub outcome : HostedOutcome A
   pub next : IsHostedNext state event outcome
   pub replied : reply ≡ outcome.reply
   pub slots : new.slots ≡ slice_set old.slots h outcome.state
   pub behind : (waiting_at h new.outputs).bytes ≡ (waiting_at h old.outputs).bytes ++ outcome.output
 
-pub came_to : {A : Type 0} (old new : HostedSessionState) (h : ℕ) (event : EventKind A) (reply : Reply A) (state : HostedState) → slice_get old.slots h ≡ Some state → IsHostedCall old h event reply new → Came h state event reply old new
+pub came_to : {A : Type 0} (old new : HostedSessionState) (h : ℕ) (event : EventKind A) (reply : Reply A)
+    (state : HostedState) → slice_get old.slots h ≡ Some state → IsHostedCall old h event reply new
+    → Came h state event reply old new
 came_to {A} old new h event reply state here is =
     let waits = waiting_at h old.outputs in
     let call : HostedCall A = record { event = event; limit = Some waits.limit; waiting = waits.bytes } in
-    let told : Told A = record { reply = reply; output = is.takes.output; block_irq = is.block; console_irq = is.console } in
+    let told : Told A = record {
+      reply = reply;
+      output = is.takes.output;
+      block_irq = is.block;
+      console_irq = is.console;
+    } in
     let calls : CallsSlot old.slots h state call told new.slots =
-    subst (λ (o : Option HostedState). MatchOption o (CallsNone old.slots told new.slots) (λ s. CallsSlot old.slots h s call told new.slots)) here is.takes.calls in
+    subst (λ (o : Option HostedState). MatchOption o (CallsNone old.slots told new.slots)
+    (λ s. CallsSlot old.slots h s call told new.slots)) here is.takes.calls in
     record {
       outcome = calls.outcome;
       next = calls.next.next;
@@ -49,27 +58,43 @@ came_to {A} old new h event reply state here is =
 
 -- ---- what is in flight
 
-flies_at : {A : Type 0} (old new : HostedSessionState) (h : ℕ) (what : EventKind A) (reply : Reply A) (flying : InFlight) (o : Option HostedState) → IsOwn what → slice_get old.slots h ≡ o → IsHostedCall old h what reply new
+flies_at : {A : Type 0} (old new : HostedSessionState) (h : ℕ) (what : EventKind A) (reply : Reply A)
+    (flying : InFlight) (o : Option HostedState) → IsOwn what → slice_get old.slots h ≡ o
+    → IsHostedCall old h what reply new
     → option_and_then (λ (s : HostedState). s.flight) o ≡ Some flying → flight_at h new ≡ Some flying
 flies_at old new h what reply flying None own here is flies = absurd (cc)
 flies_at old new h what reply flying (Some state) own here is flies =
     let came = came_to old new h what reply state here is in
-    ap (λ (slots : List HostedState). option_and_then (λ (s : HostedState). s.flight) (slice_get slots h)) came.slots
-    ∙ (ap (λ (o : Option HostedState). option_and_then (λ (s : HostedState). s.flight) o) (get_set old.slots h state came.outcome.state here)
+    ap (λ (slots : List HostedState). option_and_then (λ (s : HostedState). s.flight)
+    (slice_get slots h)) came.slots
+    ∙ (ap (λ (o : Option HostedState). option_and_then (λ (s : HostedState). s.flight) o)
+    (get_set old.slots h state came.outcome.state here)
     ∙ outlasts state flying what came.outcome own flies came.next)
 
-pub flies_on : {A : Type 0} (old new : HostedSessionState) (h : ℕ) (what : EventKind A) (reply : Reply A) (flying : InFlight) → IsOwn what → IsHostedCall old h what reply new → flight_at h old ≡ Some flying → flight_at h new ≡ Some flying
-flies_on old new h what reply flying own is flies = flies_at old new h what reply flying (slice_get old.slots h) own refl is flies
+pub flies_on : {A : Type 0} (old new : HostedSessionState) (h : ℕ) (what : EventKind A) (reply : Reply A)
+    (flying : InFlight) → IsOwn what → IsHostedCall old h what reply new → flight_at h old ≡ Some flying
+    → flight_at h new ≡ Some flying
+flies_on old new h what reply flying own is flies =
+    flies_at old new h what reply flying (slice_get old.slots h) own refl is flies
 
 -- ---- what waits
 
 -- a slot that isn't there is told so
-pub told_none : {A : Type 0} (old new : HostedSessionState) (h : ℕ) (event : EventKind A) (reply : Reply A) → slice_get old.slots h ≡ None → IsHostedCall old h event reply new → reply ≡ BadSlot
+pub told_none : {A : Type 0} (old new : HostedSessionState) (h : ℕ) (event : EventKind A) (reply : Reply A)
+    → slice_get old.slots h ≡ None → IsHostedCall old h event reply new → reply ≡ BadSlot
 told_none {A} old new h event reply here is =
     let waits = waiting_at h old.outputs in
-    let told : Told A = record { reply = reply; output = is.takes.output; block_irq = is.block; console_irq = is.console } in
+    let told : Told A = record {
+      reply = reply;
+      output = is.takes.output;
+      block_irq = is.block;
+      console_irq = is.console;
+    } in
     let calls : CallsNone old.slots told new.slots =
-    subst (λ (o : Option HostedState). MatchOption o (CallsNone old.slots told new.slots) (λ s. CallsSlot old.slots h s (record { event = event; limit = Some waits.limit; waiting = waits.bytes }) told new.slots)) here is.takes.calls in
+    subst (λ (o : Option HostedState). MatchOption o (CallsNone old.slots told new.slots)
+    (λ s. CallsSlot old.slots h s
+    (record { event = event; limit = Some waits.limit; waiting = waits.bytes }) told new.slots))
+    here is.takes.calls in
     ap (λ (t : Told A). t.reply) calls.told_is
 
 -- a reply that says that nothing was done
@@ -91,55 +116,78 @@ which reply.BadState stalls = absurd stalls
 which reply.NoMemory stalls = absurd stalls
 
 -- where it is told nothing is put out
-beside_told : {A : Type 0} (old : HostedState) (what : EventKind A) (outcome : HostedOutcome A) → IsBesideDisk old what outcome → (outcome.reply ≡ Busy) ⊎ (outcome.reply ≡ Idle) → outcome.output ≡ []
+beside_told : {A : Type 0} (old : HostedState) (what : EventKind A) (outcome : HostedOutcome A)
+    → IsBesideDisk old what outcome → (outcome.reply ≡ Busy) ⊎ (outcome.reply ≡ Idle) → outcome.output ≡ []
 beside_told old what outcome h (inl is) = absurd ((untied old.slot what at_rest at_rest _ h.given).free is)
 beside_told old what outcome h (inr is) = (untied old.slot what at_rest at_rest _ h.given).silent is
 
-beside_silent : {A : Type 0} (old : HostedState) (what : EventKind A) (outcome : HostedOutcome A) → IsBesideDisk old what outcome → Stalls outcome.reply → outcome.output ≡ []
+beside_silent : {A : Type 0} (old : HostedState) (what : EventKind A) (outcome : HostedOutcome A)
+    → IsBesideDisk old what outcome → Stalls outcome.reply → outcome.output ≡ []
 beside_silent old what outcome h stalls = beside_told old what outcome h (which outcome.reply stalls)
 
-rest_silent : {A : Type 0} (old : HostedState) (what : EventKind A) (outcome : HostedOutcome A) (rings : Bool) → GivesAtRest rings old what outcome → Stalls outcome.reply → outcome.output ≡ []
+rest_silent : {A : Type 0} (old : HostedState) (what : EventKind A) (outcome : HostedOutcome A) (rings : Bool)
+    → GivesAtRest rings old what outcome → Stalls outcome.reply → outcome.output ≡ []
 rest_silent {A} old what outcome true gives stalls = ap (λ (o : HostedOutcome A). o.output) gives.1
 rest_silent old what outcome false gives stalls = beside_silent old what outcome gives stalls
 
-passing_silent : {A : Type 0} (old : HostedState) (what : EventKind A) (outcome : HostedOutcome A) (rings : Bool) → GivesInFlight rings old what outcome → Stalls outcome.reply → outcome.output ≡ []
+passing_silent : {A : Type 0} (old : HostedState) (what : EventKind A) (outcome : HostedOutcome A)
+    (rings : Bool) → GivesInFlight rings old what outcome → Stalls outcome.reply → outcome.output ≡ []
 passing_silent {A} old what outcome true gives stalls = ap (λ (o : HostedOutcome A). o.output) gives
 passing_silent old what outcome false gives stalls = beside_silent old what outcome gives stalls
 
-waiting_silent : {A : Type 0} (old : HostedState) (what : EventKind A) (outcome : HostedOutcome A) (waits : Bool) → WaitsOrGives waits old what outcome → Stalls outcome.reply → outcome.output ≡ []
+waiting_silent : {A : Type 0} (old : HostedState) (what : EventKind A) (outcome : HostedOutcome A)
+    (waits : Bool) → WaitsOrGives waits old what outcome → Stalls outcome.reply → outcome.output ≡ []
 waiting_silent {A} old what outcome true gives stalls = ap (λ (o : HostedOutcome A). o.output) gives
-waiting_silent old what outcome false gives stalls = passing_silent old what outcome (notifies_block what old.slot) gives stalls
+waiting_silent old what outcome false gives stalls =
+    passing_silent old what outcome (notifies_block what old.slot) gives stalls
 
-own_silent : {A : Type 0} (old : HostedState) (what : EventKind A) (outcome : HostedOutcome A) (flight : Option InFlight) → OwnGives flight old what outcome → Stalls outcome.reply → outcome.output ≡ []
-own_silent old what outcome None gives stalls = rest_silent old what outcome (notifies_block what old.slot) gives stalls
-own_silent old what outcome (Some here) gives stalls = waiting_silent old what outcome (must_wait what) gives stalls
+own_silent : {A : Type 0} (old : HostedState) (what : EventKind A) (outcome : HostedOutcome A)
+    (flight : Option InFlight) → OwnGives flight old what outcome → Stalls outcome.reply → outcome.output ≡ []
+own_silent old what outcome None gives stalls =
+    rest_silent old what outcome (notifies_block what old.slot) gives stalls
+own_silent old what outcome (Some here) gives stalls =
+    waiting_silent old what outcome (must_wait what) gives stalls
 
-completed_silent : {A : Type 0} (old : HostedState) (verdict : Verdict) (outcome : HostedOutcome A) (flight : Option InFlight) → CompletionGives flight old verdict outcome → outcome.output ≡ []
+completed_silent : {A : Type 0} (old : HostedState) (verdict : Verdict) (outcome : HostedOutcome A)
+    (flight : Option InFlight) → CompletionGives flight old verdict outcome → outcome.output ≡ []
 completed_silent {A} old verdict outcome None gives = ap (λ (o : HostedOutcome A). o.output) gives
 completed_silent {A} old verdict outcome (Some here) gives = ap (λ (o : HostedOutcome A). o.output) gives.1
 
-silent_by : {A : Type 0} (v : Option Verdict) (old : HostedState) (event : EventKind A) (outcome : HostedOutcome A) → CompletesOrGives v old event outcome → Stalls outcome.reply → outcome.output ≡ []
+silent_by : {A : Type 0} (v : Option Verdict) (old : HostedState) (event : EventKind A)
+    (outcome : HostedOutcome A) → CompletesOrGives v old event outcome → Stalls outcome.reply
+    → outcome.output ≡ []
 silent_by None old event outcome next stalls = own_silent old event outcome old.flight next stalls
 silent_by (Some verdict) old event outcome next stalls = completed_silent old verdict outcome old.flight next
 
-next_silent : {A : Type 0} (old : HostedState) (event : EventKind A) (outcome : HostedOutcome A) → IsHostedNext old event outcome → Stalls outcome.reply → outcome.output ≡ []
+next_silent : {A : Type 0} (old : HostedState) (event : EventKind A) (outcome : HostedOutcome A)
+    → IsHostedNext old event outcome → Stalls outcome.reply → outcome.output ≡ []
 next_silent old event outcome next stalls = silent_by (verdict_in event) old event outcome next stalls
 
 same_waiting : (old new : Waiting) → new.bytes ≡ old.bytes → new.limit ≡ old.limit → new ≡ old
 same_waiting old new bytes limit = rebuilt new.bytes old.bytes new.limit old.limit bytes limit
 
-output_stays : {A : Type 0} (old new : HostedSessionState) (h : ℕ) (event : EventKind A) (reply : Reply A) (state : HostedState) → slice_get old.slots h ≡ Some state → IsHostedCall old h event reply new → Stalls reply → (slot : ℕ)
-    → ((eqb slot h ≡ true) × (slot ≡ h)) ⊎ ((eqb slot h ≡ false) × (slot ≢ h)) → waiting_at slot new.outputs ≡ waiting_at slot old.outputs
+output_stays : {A : Type 0} (old new : HostedSessionState) (h : ℕ) (event : EventKind A) (reply : Reply A)
+    (state : HostedState) → slice_get old.slots h ≡ Some state → IsHostedCall old h event reply new
+    → Stalls reply → (slot : ℕ)
+    → ((eqb slot h ≡ true) × (slot ≡ h)) ⊎ ((eqb slot h ≡ false) × (slot ≢ h))
+    → waiting_at slot new.outputs ≡ waiting_at slot old.outputs
 output_stays {A} old new h event reply state here is stalls slot (inl same) =
     let came = came_to old new h event reply state here is in
-    let silent : came.outcome.output ≡ [] = next_silent state event came.outcome came.next (subst (λ (r : Reply A). Stalls r) came.replied stalls) in
+    let silent : came.outcome.output ≡ [] =
+    next_silent state event came.outcome came.next
+    (subst (λ (r : Reply A). Stalls r) came.replied stalls) in
     let bytes : (waiting_at h new.outputs).bytes ≡ (waiting_at h old.outputs).bytes =
-    came.behind ∙ (ap (λ (b : List ℕ). (waiting_at h old.outputs).bytes ++ b) silent ∙ append-nil (waiting_at h old.outputs).bytes) in
-    subst (λ (k : ℕ). waiting_at k new.outputs ≡ waiting_at k old.outputs) (sym same.1) (same_waiting (waiting_at h old.outputs) (waiting_at h new.outputs) bytes (is.limits h))
-output_stays old new h event reply state here is stalls slot (inr differ) = ap (λ (o : Option Waiting). unwrap_or o (none_waiting 0)) (is.outputs slot differ.1)
+    came.behind ∙ (ap (λ (b : List ℕ). (waiting_at h old.outputs).bytes ++ b) silent
+    ∙ append-nil (waiting_at h old.outputs).bytes) in
+    subst (λ (k : ℕ). waiting_at k new.outputs ≡ waiting_at k old.outputs) (sym same.1)
+    (same_waiting (waiting_at h old.outputs) (waiting_at h new.outputs) bytes (is.limits h))
+output_stays old new h event reply state here is stalls slot (inr differ) =
+    ap (λ (o : Option Waiting). unwrap_or o (none_waiting 0)) (is.outputs slot differ.1)
 
-busy_from : {A : Type 0} (old new : HostedSessionState) (h : ℕ) (what : EventKind A) (o : Option HostedState) → slice_get old.slots h ≡ o → IsHostedCall old h what Busy new → IsKept old new × (must_wait what ≡ true)
-busy_from {A} old new h what None here is = let told : ◌≡◌ {A = Reply A} Busy BadSlot = told_none old new h what Busy here is in absurd (cc)
+busy_from : {A : Type 0} (old new : HostedSessionState) (h : ℕ) (what : EventKind A) (o : Option HostedState)
+    → slice_get old.slots h ≡ o → IsHostedCall old h what Busy new → IsKept old new × (must_wait what ≡ true)
+busy_from {A} old new h what None here is = let told : ◌≡◌ {A = Reply A} Busy BadSlot =
+    told_none old new h what Busy here is in absurd (cc)
 busy_from old new h what (Some state) here is =
     let came = came_to old new h what Busy state here is in
     let stays = busy_stays state what came.outcome came.next (sym came.replied) in (
@@ -150,29 +198,37 @@ busy_from old new h what (Some state) here is =
       stays.1,
     )
 
-pub busy_keeps : {A : Type 0} (old new : HostedSessionState) (h : ℕ) (what : EventKind A) → IsHostedCall old h what Busy new → IsKept old new × (must_wait what ≡ true)
+pub busy_keeps : {A : Type 0} (old new : HostedSessionState) (h : ℕ) (what : EventKind A)
+    → IsHostedCall old h what Busy new → IsKept old new × (must_wait what ≡ true)
 busy_keeps old new h what is = busy_from old new h what (slice_get old.slots h) refl is
 
-idle_from : {A : Type 0} (old new : HostedSessionState) (h : ℕ) (event : EventKind A) (o : Option HostedState) → slice_get old.slots h ≡ o → IsHostedCall old h event Idle new → IsKept old new
-idle_from {A} old new h event None here is = let told : ◌≡◌ {A = Reply A} Idle BadSlot = told_none old new h event Idle here is in absurd (cc)
+idle_from : {A : Type 0} (old new : HostedSessionState) (h : ℕ) (event : EventKind A) (o : Option HostedState)
+    → slice_get old.slots h ≡ o → IsHostedCall old h event Idle new → IsKept old new
+idle_from {A} old new h event None here is = let told : ◌≡◌ {A = Reply A} Idle BadSlot =
+    told_none old new h event Idle here is in absurd (cc)
 idle_from old new h event (Some state) here is =
     let came = came_to old new h event Idle state here is in
     record {
-      slots = came.slots ∙ set_same old.slots h state came.outcome.state here (idle_stays state event came.outcome came.next (sym came.replied));
+      slots = came.slots ∙ set_same old.slots h state came.outcome.state here
+          (idle_stays state event came.outcome came.next (sym came.replied));
       outputs = λ slot. output_stays old new h event Idle state here is tt slot (eqb_tells slot h);
     }
 
-pub idle_keeps : {A : Type 0} (old new : HostedSessionState) (h : ℕ) (event : EventKind A) → IsHostedCall old h event Idle new → IsKept old new
+pub idle_keeps : {A : Type 0} (old new : HostedSessionState) (h : ℕ) (event : EventKind A)
+    → IsHostedCall old h event Idle new → IsKept old new
 idle_keeps old new h event is = idle_from old new h event (slice_get old.slots h) refl is
 
 -- ---- a write in place
 
-pub hosted_in_place : (A : Type 0) (old : HostedSessionState) (h addr : ℕ) (found : HostedState) (bytes : List ℕ) → slice_get old.slots h ≡ Some found → Inside found.slot.memory addr (length bytes)
+pub hosted_in_place : (A : Type 0) (old : HostedSessionState) (h addr : ℕ) (found : HostedState)
+    (bytes : List ℕ) → slice_get old.slots h ≡ Some found → Inside found.slot.memory addr (length bytes)
     → IsHostedCall {A = A} old h (MemWrite addr bytes) Done (with_hosted_bytes h addr old bytes)
 hosted_in_place A old h addr found bytes here inside =
     let memory : Memory = found.slot.memory in
     let new = with_bytes addr found bytes in
     let fits = (is_inside-tells memory addr (length bytes)).1 inside in
     let writes = was_written A old.slots h found new addr bytes true here (sym fits) refl _ in
-    subst (λ (o : Option HostedState). IsHostedCall {A = A} old h (MemWrite addr bytes) Done (record old { slots = put_back h o addr bytes old.slots })) (sym here)
-    (quiet old.slots (slice_set old.slots h new) old.outputs h (MemWrite addr bytes) Done writes (λ other differ. others_stay old.slots h new other differ))
+    subst (λ (o : Option HostedState). IsHostedCall {A = A} old h (MemWrite addr bytes) Done
+    (record old { slots = put_back h o addr bytes old.slots })) (sym here)
+    (quiet old.slots (slice_set old.slots h new) old.outputs h (MemWrite addr bytes) Done writes
+    (λ other differ. others_stay old.slots h new other differ))

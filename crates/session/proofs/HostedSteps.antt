@@ -36,26 +36,32 @@ hosted_shown slots outputs = record { slots = slots; outputs = outputs }
 
 -- ---- a call of the board
 
-waits_so : (outputs : List Waiting) (h : ℕ) (queue : Waiting) → slice_get outputs h ≡ Some queue → waiting_at h outputs ≡ queue
+waits_so : (outputs : List Waiting) (h : ℕ) (queue : Waiting) → slice_get outputs h ≡ Some queue
+    → waiting_at h outputs ≡ queue
 waits_so outputs h queue here = ap (λ (o : Option Waiting). unwrap_or o (none_waiting 0)) here
 
 -- by the slot's own outlet
-pub came : {A : Type 0} (slots new : List HostedState) (outputs : List Waiting) (h : ℕ) (event : EventKind A) (reply : Reply A) (block console : ℕ) (queue later : Waiting) → slice_get outputs h ≡ Some queue
-    → TakesCall slots h event (Some queue.limit) reply block console queue.bytes later.bytes new → KeepsOtherGuests h slots new → later.limit ≡ queue.limit
+pub came : {A : Type 0} (slots new : List HostedState) (outputs : List Waiting) (h : ℕ) (event : EventKind A)
+    (reply : Reply A) (block console : ℕ) (queue later : Waiting) → slice_get outputs h ≡ Some queue
+    → TakesCall slots h event (Some queue.limit) reply block console queue.bytes later.bytes new
+    → KeepsOtherGuests h slots new → later.limit ≡ queue.limit
     → IsHostedCall (hosted_shown slots outputs) h event reply (hosted_shown new (slice_set outputs h later))
 came slots new outputs h event reply block console queue later here takes others limit = record {
   block = block;
   console = console;
   takes =
-      subst (λ (w : Waiting). TakesCall slots h event (Some w.limit) reply block console w.bytes (waiting_at h (slice_set outputs h later)).bytes new) (sym (waits_so outputs h queue here))
-      (subst (λ (w : Waiting). TakesCall slots h event (Some queue.limit) reply block console queue.bytes w.bytes new) (sym (set_there outputs h later (slice_get_within outputs h queue here))) takes);
+      subst (λ (w : Waiting). TakesCall slots h event (Some w.limit) reply block console w.bytes
+      (waiting_at h (slice_set outputs h later)).bytes new) (sym (waits_so outputs h queue here))
+      (subst (λ (w : Waiting). TakesCall slots h event (Some queue.limit) reply block console queue.bytes
+      w.bytes new) (sym (set_there outputs h later (slice_get_within outputs h queue here))) takes);
   others = others;
   outputs = others_output outputs h later;
   limits = limits_set outputs h queue later here limit;
 }
 
 -- one that puts nothing out
-pub quiet : {A : Type 0} (slots new : List HostedState) (outputs : List Waiting) (h : ℕ) (event : EventKind A) (reply : Reply A) → TakesQuietly slots h event reply new → KeepsOtherGuests h slots new
+pub quiet : {A : Type 0} (slots new : List HostedState) (outputs : List Waiting) (h : ℕ) (event : EventKind A)
+    (reply : Reply A) → TakesQuietly slots h event reply new → KeepsOtherGuests h slots new
     → IsHostedCall (hosted_shown slots outputs) h event reply (hosted_shown new outputs)
 quiet slots new outputs h event reply takes others = record {
   block = takes.block;
@@ -67,25 +73,39 @@ quiet slots new outputs h event reply takes others = record {
 }
 
 -- and one for a slot that isn't there
-pub no_such_slot : {A : Type 0} (slots : List HostedState) (outputs : List Waiting) (h : ℕ) (event : EventKind A) → length slots ≤ h → IsHostedCall (hosted_shown slots outputs) h event BadSlot (hosted_shown slots outputs)
+pub no_such_slot : {A : Type 0} (slots : List HostedState) (outputs : List Waiting) (h : ℕ)
+    (event : EventKind A) → length slots ≤ h
+    → IsHostedCall (hosted_shown slots outputs) h event BadSlot (hosted_shown slots outputs)
 no_such_slot {A} slots outputs h event past =
     quiet slots slots outputs h event BadSlot
-    (record { block = 0; console = 0; takes = λ limit waiting. calls_missing {A = A} slots h event limit waiting (slice_get_past slots h past) })
+    (record {
+      block = 0;
+      console = 0;
+      takes = λ limit waiting. calls_missing {A = A} slots h event limit waiting
+          (slice_get_past slots h past);
+    })
     (λ other differ. refl)
 
 -- ---- how many slots there are
 
-many_at : {A : Type 0} (slots : List HostedState) (h : ℕ) (call : HostedCall A) (told : Told A) (new : List HostedState) (o : Option HostedState) → MatchOption o (CallsNone slots told new) (λ s. CallsSlot slots h s call told new) → length new ≡ length slots
+many_at : {A : Type 0} (slots : List HostedState) (h : ℕ) (call : HostedCall A) (told : Told A)
+    (new : List HostedState) (o : Option HostedState)
+    → MatchOption o (CallsNone slots told new) (λ s. CallsSlot slots h s call told new)
+    → length new ≡ length slots
 many_at slots h call told new None calls = ap (λ (s : List HostedState). length s) calls.same
-many_at slots h call told new (Some state) calls = ap (λ (s : List HostedState). length s) calls.slots ∙ length-set slots h calls.outcome.state
+many_at slots h call told new (Some state) calls = ap (λ (s : List HostedState). length s) calls.slots
+    ∙ length-set slots h calls.outcome.state
 
-pub as_many_slots : {A : Type 0} (slots : List HostedState) (h : ℕ) (event : EventKind A) (limit : Option ℕ) (reply : Reply A) (block console : ℕ) (waiting left : List ℕ) (new : List HostedState)
+pub as_many_slots : {A : Type 0} (slots : List HostedState) (h : ℕ) (event : EventKind A) (limit : Option ℕ)
+    (reply : Reply A) (block console : ℕ) (waiting left : List ℕ) (new : List HostedState)
     → TakesCall slots h event limit reply block console waiting left new → length new ≡ length slots
-as_many_slots slots h event limit reply block console waiting left new takes = many_at slots h _ _ new (slice_get slots h) takes.calls
+as_many_slots slots h event limit reply block console waiting left new takes =
+    many_at slots h _ _ new (slice_get slots h) takes.calls
 
 -- ---- which replies a call may get
 
-rings_write : {A : Type 0} (what : EventKind A) (state : SlotState) → notifies_block what state ≡ true → Suits what Done
+rings_write : {A : Type 0} (what : EventKind A) (state : SlotState)
+    → notifies_block what state ≡ true → Suits what Done
 rings_write (Write window offset width value) state is = tt
 rings_write (Read window offset width) state is = absurd (cc)
 rings_write (MemRead addr len) state is = absurd (cc)
@@ -105,10 +125,12 @@ waits_write (Resize cols rows) is = absurd (cc)
 waits_write (Restore bytes) is = tt
 waits_write (Complete verdict) is = absurd (cc)
 
-told_suits : {A : Type 0} (what : EventKind A) (reply told : Reply A) → reply ≡ told → SuitsHosted what told → SuitsHosted what reply
+told_suits : {A : Type 0} (what : EventKind A) (reply told : Reply A) → reply ≡ told → SuitsHosted what told
+    → SuitsHosted what reply
 told_suits {A} what reply told is suits = subst (λ (r : Reply A). SuitsHosted what r) (sym is) suits
 
-suits_too : {A : Type 0} (what : EventKind A) (r : Reply A) → (r ≡ Busy → ⊥) → Suits what r → SuitsHosted what r
+suits_too : {A : Type 0} (what : EventKind A) (r : Reply A) → (r ≡ Busy → ⊥) → Suits what r
+    → SuitsHosted what r
 suits_too what (reply.Value n) free suits = suits
 suits_too what reply.Done free suits = suits
 suits_too what (reply.Bytes bytes) free suits = suits
@@ -120,68 +142,106 @@ suits_too what reply.NoMemory free suits = suits
 suits_too what reply.Busy free suits = absurd (free refl)
 suits_too what reply.Idle free suits = suits
 
-beside_suits : {A : Type 0} (old : HostedState) (what : EventKind A) (outcome : HostedOutcome A) → IsBesideDisk old what outcome → SuitsHosted what outcome.reply
+beside_suits : {A : Type 0} (old : HostedState) (what : EventKind A) (outcome : HostedOutcome A)
+    → IsBesideDisk old what outcome → SuitsHosted what outcome.reply
 beside_suits old what outcome h =
-    suits_too what outcome.reply (untied old.slot what at_rest at_rest _ h.given).free (given_suits old.slot what at_rest at_rest _ h.given)
+    suits_too what outcome.reply (untied old.slot what at_rest at_rest _ h.given).free
+    (given_suits old.slot what at_rest at_rest _ h.given)
 
-rest_suits : {A : Type 0} (old : HostedState) (what : EventKind A) (outcome : HostedOutcome A) (b : Bool) → notifies_block what old.slot ≡ b → GivesAtRest b old what outcome → SuitsHosted what outcome.reply
-rest_suits {A} old what outcome true is gives = told_suits what outcome.reply Done (ap (λ (o : HostedOutcome A). o.reply) gives.1) (rings_write what old.slot is)
+rest_suits : {A : Type 0} (old : HostedState) (what : EventKind A) (outcome : HostedOutcome A) (b : Bool)
+    → notifies_block what old.slot ≡ b → GivesAtRest b old what outcome → SuitsHosted what outcome.reply
+rest_suits {A} old what outcome true is gives =
+    told_suits what outcome.reply Done (ap (λ (o : HostedOutcome A). o.reply) gives.1)
+    (rings_write what old.slot is)
 rest_suits old what outcome false is gives = beside_suits old what outcome gives
 
-flying_suits : {A : Type 0} (old : HostedState) (what : EventKind A) (outcome : HostedOutcome A) (b : Bool) → notifies_block what old.slot ≡ b → GivesInFlight b old what outcome → SuitsHosted what outcome.reply
-flying_suits {A} old what outcome true is gives = told_suits what outcome.reply Done (ap (λ (o : HostedOutcome A). o.reply) gives) (rings_write what old.slot is)
+flying_suits : {A : Type 0} (old : HostedState) (what : EventKind A) (outcome : HostedOutcome A) (b : Bool)
+    → notifies_block what old.slot ≡ b → GivesInFlight b old what outcome → SuitsHosted what outcome.reply
+flying_suits {A} old what outcome true is gives =
+    told_suits what outcome.reply Done (ap (λ (o : HostedOutcome A). o.reply) gives)
+    (rings_write what old.slot is)
 flying_suits old what outcome false is gives = beside_suits old what outcome gives
 
-waiting_suits : {A : Type 0} (old : HostedState) (what : EventKind A) (outcome : HostedOutcome A) (b : Bool) → must_wait what ≡ b → WaitsOrGives b old what outcome → SuitsHosted what outcome.reply
-waiting_suits {A} old what outcome true is gives = told_suits what outcome.reply Busy (ap (λ (o : HostedOutcome A). o.reply) gives) (waits_write what is)
-waiting_suits old what outcome false is gives = flying_suits old what outcome (notifies_block what old.slot) refl gives
+waiting_suits : {A : Type 0} (old : HostedState) (what : EventKind A) (outcome : HostedOutcome A) (b : Bool)
+    → must_wait what ≡ b → WaitsOrGives b old what outcome → SuitsHosted what outcome.reply
+waiting_suits {A} old what outcome true is gives =
+    told_suits what outcome.reply Busy (ap (λ (o : HostedOutcome A). o.reply) gives) (waits_write what is)
+waiting_suits old what outcome false is gives =
+    flying_suits old what outcome (notifies_block what old.slot) refl gives
 
-own_suits : {A : Type 0} (old : HostedState) (what : EventKind A) (outcome : HostedOutcome A) (flight : Option InFlight) → OwnGives flight old what outcome → SuitsHosted what outcome.reply
+own_suits : {A : Type 0} (old : HostedState) (what : EventKind A) (outcome : HostedOutcome A)
+    (flight : Option InFlight) → OwnGives flight old what outcome → SuitsHosted what outcome.reply
 own_suits old what outcome None gives = rest_suits old what outcome (notifies_block what old.slot) refl gives
 own_suits old what outcome (Some here) gives = waiting_suits old what outcome (must_wait what) refl gives
 
-completed_suits : {A : Type 0} (old : HostedState) (verdict : Verdict) (outcome : HostedOutcome A) (flight : Option InFlight) → CompletionGives flight old verdict outcome → SuitsCompletion outcome.reply
-completed_suits {A} old verdict outcome None gives = subst (λ (r : Reply A). SuitsCompletion r) (sym (ap (λ (o : HostedOutcome A). o.reply) gives)) tt
-completed_suits {A} old verdict outcome (Some here) gives = subst (λ (r : Reply A). SuitsCompletion r) (sym (ap (λ (o : HostedOutcome A). o.reply) gives.1)) tt
+completed_suits : {A : Type 0} (old : HostedState) (verdict : Verdict) (outcome : HostedOutcome A)
+    (flight : Option InFlight) → CompletionGives flight old verdict outcome → SuitsCompletion outcome.reply
+completed_suits {A} old verdict outcome None gives =
+    subst (λ (r : Reply A). SuitsCompletion r) (sym (ap (λ (o : HostedOutcome A). o.reply) gives)) tt
+completed_suits {A} old verdict outcome (Some here) gives =
+    subst (λ (r : Reply A). SuitsCompletion r) (sym (ap (λ (o : HostedOutcome A). o.reply) gives.1)) tt
 
-own_at : {A : Type 0} (slots : List HostedState) (h : ℕ) (what : EventKind A) (limit : Option ℕ) (waiting : List ℕ) (told : Told A) (new : List HostedState) (o : Option HostedState) → IsOwn what
-    → MatchOption o (CallsNone slots told new) (λ s. CallsSlot slots h s (record { event = what; limit = limit; waiting = waiting }) told new) → SuitsHosted what told.reply
-own_at {A} slots h what limit waiting told new None own calls = told_suits what told.reply BadSlot (ap (λ (t : Told A). t.reply) calls.told_is) tt
+own_at : {A : Type 0} (slots : List HostedState) (h : ℕ) (what : EventKind A) (limit : Option ℕ)
+    (waiting : List ℕ) (told : Told A) (new : List HostedState) (o : Option HostedState) → IsOwn what
+    → MatchOption o (CallsNone slots told new)
+    (λ s. CallsSlot slots h s (record { event = what; limit = limit; waiting = waiting }) told new)
+    → SuitsHosted what told.reply
+own_at {A} slots h what limit waiting told new None own calls =
+    told_suits what told.reply BadSlot (ap (λ (t : Told A). t.reply) calls.told_is) tt
 own_at {A} slots h what limit waiting told new (Some state) own calls =
-    told_suits what told.reply calls.outcome.reply (ap (λ (t : Told A). t.reply) calls.told_is) (own_suits state what calls.outcome state.flight (own_next state what calls.outcome own calls.next.next))
+    told_suits what told.reply calls.outcome.reply (ap (λ (t : Told A). t.reply) calls.told_is)
+    (own_suits state what calls.outcome state.flight
+    (own_next state what calls.outcome own calls.next.next))
 
-pub suits_hosted : {A : Type 0} (slots : List HostedState) (h : ℕ) (what : EventKind A) (limit : Option ℕ) (reply : Reply A) (block console : ℕ) (waiting left : List ℕ) (new : List HostedState) → IsOwn what
+pub suits_hosted : {A : Type 0} (slots : List HostedState) (h : ℕ) (what : EventKind A) (limit : Option ℕ)
+    (reply : Reply A) (block console : ℕ) (waiting left : List ℕ) (new : List HostedState) → IsOwn what
     → TakesCall slots h what limit reply block console waiting left new → SuitsHosted what reply
-suits_hosted slots h what limit reply block console waiting left new own takes = own_at slots h what limit waiting _ new (slice_get slots h) own takes.calls
+suits_hosted slots h what limit reply block console waiting left new own takes =
+    own_at slots h what limit waiting _ new (slice_get slots h) own takes.calls
 
-completed_at : {A : Type 0} (slots : List HostedState) (h : ℕ) (verdict : Verdict) (limit : Option ℕ) (waiting : List ℕ) (told : Told A) (new : List HostedState) (o : Option HostedState)
-    → MatchOption o (CallsNone slots told new) (λ s. CallsSlot slots h s (record { event = Complete verdict; limit = limit; waiting = waiting }) told new) → SuitsCompletion told.reply
-completed_at {A} slots h verdict limit waiting told new None calls = subst (λ (r : Reply A). SuitsCompletion r) (sym (ap (λ (t : Told A). t.reply) calls.told_is)) tt
+completed_at : {A : Type 0} (slots : List HostedState) (h : ℕ) (verdict : Verdict) (limit : Option ℕ)
+    (waiting : List ℕ) (told : Told A) (new : List HostedState) (o : Option HostedState)
+    → MatchOption o (CallsNone slots told new)
+    (λ s. CallsSlot slots h s (record { event = Complete verdict; limit = limit; waiting = waiting }) told
+    new) → SuitsCompletion told.reply
+completed_at {A} slots h verdict limit waiting told new None calls =
+    subst (λ (r : Reply A). SuitsCompletion r) (sym (ap (λ (t : Told A). t.reply) calls.told_is)) tt
 completed_at {A} slots h verdict limit waiting told new (Some state) calls =
-    subst (λ (r : Reply A). SuitsCompletion r) (sym (ap (λ (t : Told A). t.reply) calls.told_is)) (completed_suits state verdict calls.outcome state.flight calls.next.next)
+    subst (λ (r : Reply A). SuitsCompletion r) (sym (ap (λ (t : Told A). t.reply) calls.told_is))
+    (completed_suits state verdict calls.outcome state.flight calls.next.next)
 
-pub suits_completion : {A : Type 0} (slots : List HostedState) (h : ℕ) (verdict : Verdict) (limit : Option ℕ) (reply : Reply A) (block console : ℕ) (waiting left : List ℕ) (new : List HostedState)
+pub suits_completion : {A : Type 0} (slots : List HostedState) (h : ℕ) (verdict : Verdict) (limit : Option ℕ)
+    (reply : Reply A) (block console : ℕ) (waiting left : List ℕ) (new : List HostedState)
     → TakesCall slots h (Complete verdict) limit reply block console waiting left new → SuitsCompletion reply
-suits_completion slots h verdict limit reply block console waiting left new takes = completed_at slots h verdict limit waiting _ new (slice_get slots h) takes.calls
+suits_completion slots h verdict limit reply block console waiting left new takes =
+    completed_at slots h verdict limit waiting _ new (slice_get slots h) takes.calls
 
 -- ---- what a write or a completion is answered
 
 -- ---- what is typed
 
-pub typed_call : (A : Type 0) (slots new : List HostedState) (outputs : List Waiting) (h : ℕ) (bytes : List ℕ) (taken : Option ℕ) → IfSome taken (λ n. TakesQuietly {A = A} slots h (Input bytes) (Took n) new)
-    → KeepsOtherGuests h slots new → (IsSome taken → h < length slots) × (h < length slots → IsSome taken) → IfNone taken (new ≡ slots) → (result : Result ℕ Refusal) → result ≡ typed_or taken
-    → IsHostedCall {A = A} (hosted_shown slots outputs) h (Input bytes) (hosted_typed result) (hosted_shown new outputs)
+pub typed_call : (A : Type 0) (slots new : List HostedState) (outputs : List Waiting) (h : ℕ) (bytes : List ℕ)
+    (taken : Option ℕ) → IfSome taken (λ n. TakesQuietly {A = A} slots h (Input bytes) (Took n) new)
+    → KeepsOtherGuests h slots new → (IsSome taken → h < length slots) × (h < length slots → IsSome taken)
+    → IfNone taken (new ≡ slots) → (result : Result ℕ Refusal) → result ≡ typed_or taken
+    → IsHostedCall {A = A} (hosted_shown slots outputs) h (Input bytes) (hosted_typed result)
+    (hosted_shown new outputs)
 typed_call A slots new outputs h bytes None takes others there missing result is =
     let past : length slots ≤ h = grind (arith, there.1) in
     rw (is, missing) (no_such_slot {A = A} slots outputs h (Input bytes) past)
 typed_call A slots new outputs h bytes (Some n) takes others there missing result is =
     rw is (quiet slots new outputs h (Input bytes) (Took n) takes others)
 
-pub typed_many : (A : Type 0) (slots new : List HostedState) (h : ℕ) (bytes : List ℕ) (taken : Option ℕ) → IfSome taken (λ n. TakesQuietly {A = A} slots h (Input bytes) (Took n) new) → IfNone taken (new ≡ slots) → length new ≡ length slots
+pub typed_many : (A : Type 0) (slots new : List HostedState) (h : ℕ) (bytes : List ℕ) (taken : Option ℕ)
+    → IfSome taken (λ n. TakesQuietly {A = A} slots h (Input bytes) (Took n) new) → IfNone taken (new ≡ slots)
+    → length new ≡ length slots
 typed_many A slots new h bytes None takes missing = ap (λ (s : List HostedState). length s) missing
-typed_many A slots new h bytes (Some n) takes missing = as_many_slots slots h (Input bytes) None (Took n) takes.block takes.console [] [] new (takes.takes None [])
+typed_many A slots new h bytes (Some n) takes missing =
+    as_many_slots slots h (Input bytes) None (Took n) takes.block takes.console [] [] new
+    (takes.takes None [])
 
-pub typed_missing : (count h : ℕ) (taken : Option ℕ) (result : Result ℕ Refusal) → (IsSome taken → h < count) × (h < count → IsSome taken) → result ≡ typed_or taken → IsErrOf result refusal.BadSlot ↔ (count ≤ h)
+pub typed_missing : (count h : ℕ) (taken : Option ℕ) (result : Result ℕ Refusal) → (IsSome taken → h < count)
+    × (h < count → IsSome taken) → result ≡ typed_or taken → IsErrOf result refusal.BadSlot ↔ (count ≤ h)
 typed_missing count h None result there is =
     let past : count ≤ h = grind (arith, there.1) in
     (λ yes. past, λ yes. is)

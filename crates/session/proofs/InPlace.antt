@@ -24,29 +24,38 @@ use Rattle.session.proofs.Calls.{idle_step_call}
 use Rattle.session.proofs.Ranges.{was_written}
 
 -- nothing is noted of it
-unmet : (A : Type 0) (noted : Bool) (failures : ℕ) → noted ≡ (noted || met_refusal {A = A} Done failures failures)
+unmet : (A : Type 0) (noted : Bool) (failures : ℕ)
+    → noted ≡ (noted || met_refusal {A = A} Done failures failures)
 unmet A true failures = refl
 unmet A false failures = grind (arith, nat_tests)
 
 -- bytes stand in a slot's memory, in which their range lies: the event of their write is answered
-answers : (A : Type 0) (slots : List BoardSlot) (disk : Disk) (h : ℕ) (found : BoardSlot) (addr : ℕ) (bytes : List ℕ) →
+answers : (A : Type 0) (slots : List BoardSlot) (disk : Disk) (h : ℕ) (found : BoardSlot)
+    (addr : ℕ) (bytes : List ℕ) →
     slice_get slots h ≡ Some found → Inside found.memory addr (length bytes) →
     Answers {A = A} (seen slots disk) (record { slot = h; what = MemWrite addr bytes }) Done [] []
     (seen (slice_set slots h (record found { memory = put found.memory addr bytes })) disk)
 answers A slots disk h found addr bytes here inside =
     let new : BoardSlot = record found { memory = put found.memory addr bytes } in
-    let test : is_inside found.memory addr (length bytes) ≡ true = (is_inside-tells found.memory addr (length bytes)).1 inside in
+    let test : is_inside found.memory addr (length bytes) ≡ true =
+    (is_inside-tells found.memory addr (length bytes)).1 inside in
     record {
       written = _;
       step =
-          step_there (seen slots disk) (seen (slice_set slots h new) disk) _ _ (state_of (bytes_of disk) found)
+          step_there (seen slots disk) (seen (slice_set slots h new) disk) _ _
+          (state_of (bytes_of disk) found)
           (slice_get-map (state_of (bytes_of disk)) slots h ∙ rw here refl)
           (record {
             outcome = record { state = state_of (bytes_of disk) new; reply = Done; output = [] };
-            given = inl (record { alike = record { alike = rw test refl; image = refl }; answered = λ no. absurd (cc); failures = refl });
+            given = inl (record {
+              alike = record { alike = rw test refl; image = refl };
+              answered = λ no. absurd (cc);
+              failures = refl;
+            });
             recorded = refl;
             slots = map-set (state_of (bytes_of disk)) slots h new;
-            disturbed = noted_set slots h found new (met_refusal {A = A} Done disk.failures disk.failures) here (unmet A found.disturbed disk.failures);
+            disturbed = noted_set slots h found new (met_refusal {A = A} Done disk.failures disk.failures)
+                here (unmet A found.disturbed disk.failures);
             outside = ap (λ es. outside_of es (bytes_of disk)) (extents_of-set slots h found new here refl);
           });
       replied = refl;
@@ -55,16 +64,20 @@ answers A slots disk h found addr bytes here inside =
 
 pub in_place : (A : Type 0) (old : SessionState) (slot addr : ℕ) (found : BoardSlot) (bytes : List ℕ) →
     slice_get old.slots slot ≡ Some found → Inside found.memory addr (length bytes) →
-    IsStep {A = A} old (record { slot = slot; what = MemWrite addr bytes }) Done (with_memory slot found (put found.memory addr bytes) old)
+    IsStep {A = A} old (record { slot = slot; what = MemWrite addr bytes }) Done
+    (with_memory slot found (put found.memory addr bytes) old)
 in_place A old slot addr found bytes here inside =
-    was_written A old.slots (slice_set old.slots slot (record found { memory = put found.memory addr bytes })) old.image old.image old.dirty old.dirty old.outputs old.paused old.budget slot addr bytes
+    was_written A old.slots (slice_set old.slots slot (record found { memory = put found.memory addr bytes }))
+    old.image old.image old.dirty old.dirty old.outputs old.paused old.budget slot addr bytes
     (answers A old.slots (disk_of old) slot found addr bytes here inside) (rw here refl) refl
 
 -- as many bytes as there are, put from the first place on, are all that there is
 put_all : (old new : List ℕ) → length new ≡ length old → put_at old 0 new ≡ new
 put_all old new same =
-    ap (λ (rest : List ℕ). take (length old) (take 0 old ++ new ++ rest)) (drop_all (0 + length new) old (omega (arith, same)))
-    ∙ (ap (λ (bs : List ℕ). take (length old) bs) (append-nil new) ∙ take_all (length old) new (omega (arith, same)))
+    ap (λ (rest : List ℕ). take (length old) (take 0 old ++ new ++ rest))
+    (drop_all (0 + length new) old (omega (arith, same)))
+    ∙ (ap (λ (bs : List ℕ). take (length old) bs) (append-nil new)
+    ∙ take_all (length old) new (omega (arith, same)))
 
 put_whole : (memory : Memory) (bytes : List ℕ) → memory.gaps ≡ [] → length bytes ≡ length memory.bytes
     → put memory memory.base bytes ≡ record memory { bytes = bytes }
@@ -76,25 +89,36 @@ put_whole memory bytes one same =
 -- what is left of bytes that were lent
 pub in_place_lent : (A : Type 0) (old : SessionState) (slot addr : ℕ) (found : BoardSlot) (bytes : List ℕ) →
     slice_get old.slots slot ≡ Some found → Inside found.memory addr (length bytes) →
-    IsStep {A = A} old (record { slot = slot; what = MemWrite addr bytes }) Done (with_slot_bytes slot addr old bytes)
+    IsStep {A = A} old (record { slot = slot; what = MemWrite addr bytes }) Done
+    (with_slot_bytes slot addr old bytes)
 in_place_lent A old slot addr found bytes here inside =
-    subst (λ (o : Option BoardSlot). IsStep {A = A} old (record { slot = slot; what = MemWrite addr bytes }) Done (record old { slots = put_back slot o addr bytes old.slots }))
+    subst (λ (o : Option BoardSlot). IsStep {A = A} old (record { slot = slot; what = MemWrite addr bytes })
+    Done (record old { slots = put_back slot o addr bytes old.slots }))
     (sym here)
     (in_place A old slot addr found bytes here inside)
 
 pub in_place_whole : (A : Type 0) (old : SessionState) (slot : ℕ) (found : BoardSlot) (bytes : List ℕ) →
-    slice_get old.slots slot ≡ Some found → found.memory.gaps ≡ [] → length bytes ≡ length found.memory.bytes →
-    IsStep {A = A} old (record { slot = slot; what = MemWrite found.memory.base bytes }) Done (with_memory slot found (record found.memory { bytes = bytes }) old)
+    slice_get old.slots slot ≡ Some found → found.memory.gaps ≡ []
+    → length bytes ≡ length found.memory.bytes →
+    IsStep {A = A} old (record { slot = slot; what = MemWrite found.memory.base bytes }) Done
+    (with_memory slot found (record found.memory { bytes = bytes }) old)
 in_place_whole A old slot found bytes here one same =
-    subst (λ (memory : Memory). IsStep {A = A} old (record { slot = slot; what = MemWrite found.memory.base bytes }) Done (with_memory slot found memory old))
+    subst (λ (memory : Memory). IsStep {A = A} old
+    (record { slot = slot; what = MemWrite found.memory.base bytes }) Done
+    (with_memory slot found memory old))
     (put_whole found.memory bytes one same)
-    (in_place A old slot found.memory.base found bytes here (whole_inside found.memory (length bytes) one same))
+    (in_place A old slot found.memory.base found bytes here
+    (whole_inside found.memory (length bytes) one same))
 
 -- ---- as a call
 
 pub in_place_call : (A : Type 0) (old : SessionState) (slot addr : ℕ) (found : BoardSlot) (bytes : List ℕ) →
-    slice_get old.slots slot ≡ Some found → Inside found.memory addr (length bytes) → slice_get old.paused slot ≡ Some None →
-    IsCall {A = A} old (Handle (record { slot = slot; what = MemWrite addr bytes })) (Answered Done) (with_slot_bytes slot addr old bytes)
+    slice_get old.slots slot ≡ Some found → Inside found.memory addr (length bytes)
+    → slice_get old.paused slot ≡ Some None →
+    IsCall {A = A} old (Handle (record { slot = slot; what = MemWrite addr bytes })) (Answered Done)
+    (with_slot_bytes slot addr old bytes)
 in_place_call A old slot addr found bytes here inside idle =
-    rw idle (idle_step_call {A = A} old (with_slot_bytes slot addr old bytes) (record { slot = slot; what = MemWrite addr bytes }) Done idle (slice_get_within old.slots slot found here) (λ state. refl)
+    rw idle (idle_step_call {A = A} old (with_slot_bytes slot addr old bytes)
+    (record { slot = slot; what = MemWrite addr bytes }) Done idle
+    (slice_get_within old.slots slot found here) (λ state. refl)
     (in_place_lent A old slot addr found bytes here inside))

@@ -21,23 +21,32 @@ use Rattle.session.proofs.Alone.{see_alike}
 use Rattle.session.proofs.PacedCourses.{never_pauses}
 
 -- a guest's part of an image is all of the image that is its own
-front_of_part : (image : List ℕ) (start count : ℕ) → extent_of (extent_of image start count) 0 count ≡ extent_of image start count
+front_of_part : (image : List ℕ) (start count : ℕ) → extent_of (extent_of image start count) 0 count
+    ≡ extent_of image start count
 front_of_part image start count =
-    take_all (512 * count) (take (512 * count) (drop (512 * start) image)) (omega (arith, length-take (512 * count) (drop (512 * start) image)))
+    take_all (512 * count) (take (512 * count) (drop (512 * start) image))
+    (omega (arith, length-take (512 * count) (drop (512 * start) image)))
 
 -- the guest's state is what it is alone
-same_state : (guest : GuestSpec) (image : List ℕ) → state_of (part_of_image guest image) (opened (at_front guest).slot) ≡ state_of image (opened guest.slot)
+same_state : (guest : GuestSpec) (image : List ℕ)
+    → state_of (part_of_image guest image) (opened (at_front guest).slot) ≡ state_of image (opened guest.slot)
 same_state guest image =
-    ap (λ (bytes : List ℕ). record (state_of image (opened guest.slot)) { extent = bytes }) (front_of_part image guest.slot.extent.start guest.slot.extent.count)
+    ap (λ (bytes : List ℕ). record (state_of image (opened guest.slot)) { extent = bytes })
+    (front_of_part image guest.slot.extent.start guest.slot.extent.count)
 
-there_in : (guests : List GuestSpec) (g : ℕ) (guest : GuestSpec) (image : List ℕ) (budget : Budget) → slice_get guests g ≡ Some guest → slice_get (world_of (new_session guests image budget)).slots g ≡ Some (state_of image (opened guest.slot))
+there_in : (guests : List GuestSpec) (g : ℕ) (guest : GuestSpec) (image : List ℕ) (budget : Budget)
+    → slice_get guests g ≡ Some guest → slice_get (world_of (new_session guests image budget)).slots g
+    ≡ Some (state_of image (opened guest.slot))
 there_in [] g guest image budget here = absurd (cc)
-there_in (one ∷ guests) zero guest image budget here = ap (λ (s : GuestSpec). Some (state_of image (opened s.slot))) (same_Some one guest here)
+there_in (one ∷ guests) zero guest image budget here =
+    ap (λ (s : GuestSpec). Some (state_of image (opened s.slot))) (same_Some one guest here)
 there_in (one ∷ guests) (suc g) guest image budget here = there_in guests g guest image budget here
 
-waits_at : (guests : List GuestSpec) (g : ℕ) (guest : GuestSpec) → slice_get guests g ≡ Some guest → slice_get (map (λ (s : GuestSpec). none_waiting s.outlet) guests) g ≡ Some (none_waiting guest.outlet)
+waits_at : (guests : List GuestSpec) (g : ℕ) (guest : GuestSpec) → slice_get guests g ≡ Some guest
+    → slice_get (map (λ (s : GuestSpec). none_waiting s.outlet) guests) g ≡ Some (none_waiting guest.outlet)
 waits_at [] g guest here = absurd (cc)
-waits_at (one ∷ guests) zero guest here = ap (λ (s : GuestSpec). Some (none_waiting s.outlet)) (same_Some one guest here)
+waits_at (one ∷ guests) zero guest here =
+    ap (λ (s : GuestSpec). Some (none_waiting s.outlet)) (same_Some one guest here)
 waits_at (one ∷ guests) (suc g) guest here = waits_at guests g guest here
 
 -- nothing of it is paused
@@ -45,75 +54,109 @@ idle_in : (n g : ℕ) → g < n → slice_get (replicate {A = Option Pause} n No
 idle_in n g few =
     let paused = replicate {A = Option Pause} n None in
     let found = slice_get-some paused g (rw (length-replicate {A = Option Pause} n None) few) in
-    found.1 ∙ ap (λ (p : Option Pause). Some p) (sym (get_or_from_slice_get paused g found.0 None found.1) ∙ get_or-replicate n g None None few)
+    found.1 ∙ ap (λ (p : Option Pause). Some p) (sym (get_or_from_slice_get paused g found.0 None found.1)
+    ∙ get_or-replicate n g None None few)
 
 -- so it sees what it would see alone
-pub made_alone : {A : Type 0} (g : ℕ) (guests : List GuestSpec) (guest : GuestSpec) (image : List ℕ) (budget budget' : Budget) (steps more : List (SessionStep A)) (new last : SessionState) → slice_get guests g ≡ Some guest →
-    IsCourse (new_session guests image budget) steps new → IsCourse (new_session_alone guest image budget') more last → NeverPauses g steps → NeverPauses 0 more → own_askings 0 more ≡ own_askings g steps → SeeAlike g steps new 0 more last
+pub made_alone : {A : Type 0} (g : ℕ) (guests : List GuestSpec) (guest : GuestSpec) (image : List ℕ)
+    (budget budget' : Budget) (steps more : List (SessionStep A)) (new last : SessionState)
+    → slice_get guests g ≡ Some guest →
+    IsCourse (new_session guests image budget) steps new
+    → IsCourse (new_session_alone guest image budget') more last → NeverPauses g steps
+    → NeverPauses 0 more → own_askings 0 more ≡ own_askings g steps → SeeAlike g steps new 0 more last
 made_alone g guests guest image budget budget' steps more new last here x y never never' askings =
     let waits = waits_at guests g guest here in
-    see_alike g 0 (new_session guests image budget) new (new_session_alone guest image budget') last steps more (state_of image (opened guest.slot)) x y never never'
+    see_alike g 0 (new_session guests image budget) new (new_session_alone guest image budget') last steps
+    more (state_of image (opened guest.slot)) x y never never'
     (idle_in (length guests) g (slice_get_within guests g guest here)) (idle_in 1 0 (omega arith))
     (there_in guests g guest image budget here) (ap (λ (s : SlotState). Some s) (same_state guest image))
     (sym (ap (λ (o : Option Waiting). (unwrap_or o (none_waiting 0)).bytes) waits))
     (sym (ap (λ (o : Option Waiting). (unwrap_or o (none_waiting 0)).limit) waits)) askings
 
 -- and without a budget none of its services pauses
-pub made_alone_unlimited : {A : Type 0} (g : ℕ) (guests : List GuestSpec) (guest : GuestSpec) (image : List ℕ) (budget budget' : Budget) (steps more : List (SessionStep A)) (new last : SessionState) → slice_get guests g ≡ Some guest →
-    IsCourse (new_session guests image budget) steps new → IsCourse (new_session_alone guest image budget') more last → (HasLimit budget → ⊥) → (HasLimit budget' → ⊥) → own_askings 0 more ≡ own_askings g steps → SeeAlike g steps new 0 more last
-made_alone_unlimited g guests guest image budget budget' steps more new last here x y unlimited unlimited' askings =
+pub made_alone_unlimited : {A : Type 0} (g : ℕ) (guests : List GuestSpec) (guest : GuestSpec) (image : List ℕ)
+    (budget budget' : Budget) (steps more : List (SessionStep A)) (new last : SessionState)
+    → slice_get guests g ≡ Some guest →
+    IsCourse (new_session guests image budget) steps new
+    → IsCourse (new_session_alone guest image budget') more last → (HasLimit budget → ⊥)
+    → (HasLimit budget' → ⊥) → own_askings 0 more ≡ own_askings g steps → SeeAlike g steps new 0 more last
+made_alone_unlimited g guests guest image budget budget' steps more new last here x y unlimited
+    unlimited' askings =
     made_alone g guests guest image budget budget' steps more new last here x y
-    (never_pauses g (new_session guests image budget) new steps x unlimited (idle_in (length guests) g (slice_get_within guests g guest here)))
-    (never_pauses 0 (new_session_alone guest image budget') last more y unlimited' (idle_in 1 0 (omega arith))) askings
+    (never_pauses g (new_session guests image budget) new steps x unlimited
+    (idle_in (length guests) g (slice_get_within guests g guest here)))
+    (never_pauses 0 (new_session_alone guest image budget') last more y unlimited'
+    (idle_in 1 0 (omega arith))) askings
 
 -- ---- and there is such a session
 
-part_len : (count start len : ℕ) (n m : ℕ) → start + count ≤ len / 512 → m ≡ len - 512 * start → n ≡ min (512 * count) m → n ≡ 512 * count
+part_len : (count start len : ℕ) (n m : ℕ) → start + count ≤ len / 512 → m ≡ len - 512 * start
+    → n ≡ min (512 * count) m → n ≡ 512 * count
 part_len count start len n m fits rest is = omega (arith, fits, rest, is)
 
 part_sectors : (n count : ℕ) → n ≡ 512 * count → 0 + count ≤ n / 512
 part_sectors n count is = omega (arith, is)
 
 -- the part of an image has the extent's sectors
-has_sectors : (guest : GuestSpec) (image : List ℕ) → guest.slot.extent.start + guest.slot.extent.count ≤ length image / 512 → 0 + guest.slot.extent.count ≤ length (part_of_image guest image) / 512
+has_sectors : (guest : GuestSpec) (image : List ℕ)
+    → guest.slot.extent.start + guest.slot.extent.count ≤ length image / 512
+    → 0 + guest.slot.extent.count ≤ length (part_of_image guest image) / 512
 has_sectors guest image fits =
     let start = guest.slot.extent.start in
     let count = guest.slot.extent.count in
     part_sectors (length (part_of_image guest image)) count
-    (part_len count start (length image) (length (part_of_image guest image)) (length (drop (512 * start) image)) fits
+    (part_len count start (length image) (length (part_of_image guest image))
+    (length (drop (512 * start) image)) fits
     (length-drop (512 * start) image) (length-take (512 * count) (drop (512 * start) image)))
 
-outlet_at : (guests : List GuestSpec) (g : ℕ) (guest : GuestSpec) → slice_get guests g ≡ Some guest → AreOutlets guests → guest.outlet ≤ 2 ^ 24
+outlet_at : (guests : List GuestSpec) (g : ℕ) (guest : GuestSpec) → slice_get guests g ≡ Some guest
+    → AreOutlets guests → guest.outlet ≤ 2 ^ 24
 outlet_at guests g guest here all =
-    subst (λ (s : GuestSpec). s.outlet ≤ 2 ^ 24) (get_or_from_slice_get guests g guest guest here) (all g guest (slice_get_within guests g guest here))
+    subst (λ (s : GuestSpec). s.outlet ≤ 2 ^ 24) (get_or_from_slice_get guests g guest guest here)
+    (all g guest (slice_get_within guests g guest here))
 
 only_outlet : (guest : GuestSpec) → guest.outlet ≤ 2 ^ 24 → AreOutlets (at_front guest ∷ [])
 only_outlet guest fits zero d few = fits
 only_outlet guest fits (suc k) d few = absurd (omega (arith, few))
 
-slot_at : (guests : List GuestSpec) (g : ℕ) (guest : GuestSpec) → slice_get guests g ≡ Some guest → slice_get (slots_of guests) g ≡ Some guest.slot
+slot_at : (guests : List GuestSpec) (g : ℕ) (guest : GuestSpec) → slice_get guests g ≡ Some guest
+    → slice_get (slots_of guests) g ≡ Some guest.slot
 slot_at [] g guest here = absurd (cc)
 slot_at (one ∷ guests) zero guest here = ap (λ (s : GuestSpec). Some s.slot) (same_Some one guest here)
 slot_at (one ∷ guests) (suc g) guest here = slot_at guests g guest here
 
-good_alone : (guest : GuestSpec) (image : List ℕ) (earlier : List SlotSpec) → IsGoodSlot (length image / 512) earlier guest.slot → IsGoodSlot (length (part_of_image guest image) / 512) [] (at_front guest).slot
-good_alone guest image earlier good = record { memory = good.memory; within = has_sectors guest image good.within; apart = λ k d fits. absurd (omega (arith, fits)) }
+good_alone : (guest : GuestSpec) (image : List ℕ) (earlier : List SlotSpec)
+    → IsGoodSlot (length image / 512) earlier guest.slot
+    → IsGoodSlot (length (part_of_image guest image) / 512) [] (at_front guest).slot
+good_alone guest image earlier good =
+    record {
+      memory = good.memory;
+      within = has_sectors guest image good.within;
+      apart = λ k d fits. absurd (omega (arith, fits));
+    }
 
-only_one : (sectors : ℕ) (spec : SlotSpec) → IsGoodSlot sectors [] spec → (i : ℕ) (other : SlotSpec) → i < 1 → slice_get (spec ∷ []) i ≡ Some other → IsGoodSlot sectors (take i (spec ∷ [])) other
-only_one sectors spec good zero other few here = subst (λ (s : SlotSpec). IsGoodSlot sectors [] s) (same_Some spec other here) good
+only_one : (sectors : ℕ) (spec : SlotSpec) → IsGoodSlot sectors [] spec → (i : ℕ) (other : SlotSpec) → i < 1
+    → slice_get (spec ∷ []) i ≡ Some other → IsGoodSlot sectors (take i (spec ∷ [])) other
+only_one sectors spec good zero other few here =
+    subst (λ (s : SlotSpec). IsGoodSlot sectors [] s) (same_Some spec other here) good
 only_one sectors spec good (suc i) other few here = absurd (omega (arith, few))
 
-pub accepted_alone : (g cache : ℕ) (guests : List GuestSpec) (guest : GuestSpec) (image : List ℕ) → slice_get guests g ≡ Some guest → AreOutlets guests → IsAccepted (length image / 512) (slots_of guests) cache →
-    AreOutlets (at_front guest ∷ []) × IsAccepted (length (part_of_image guest image) / 512) (slots_of (at_front guest ∷ [])) cache
+pub accepted_alone : (g cache : ℕ) (guests : List GuestSpec) (guest : GuestSpec) (image : List ℕ)
+    → slice_get guests g ≡ Some guest → AreOutlets guests
+    → IsAccepted (length image / 512) (slots_of guests) cache →
+    AreOutlets (at_front guest ∷ [])
+    × IsAccepted (length (part_of_image guest image) / 512) (slots_of (at_front guest ∷ [])) cache
 accepted_alone g cache guests guest image here outlets accepted =
     let found = slot_at guests g guest here in
-    let good = accepted.slots_good.each g guest.slot (slice_get_within (slots_of guests) g guest.slot found) found in (
+    let good = accepted.slots_good.each g guest.slot
+    (slice_get_within (slots_of guests) g guest.slot found) found in (
       only_outlet guest (outlet_at guests g guest here outlets),
       record {
         slots_good = record {
           some = omega arith;
           few = omega arith;
-          each = only_one (length (part_of_image guest image) / 512) (at_front guest).slot (good_alone guest image (take g (slots_of guests)) good);
+          each = only_one (length (part_of_image guest image) / 512) (at_front guest).slot
+              (good_alone guest image (take g (slots_of guests)) good);
         };
         capacity = accepted.capacity;
       },

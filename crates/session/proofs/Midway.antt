@@ -47,86 +47,122 @@ module _ {State : Type 0} (device : Device State) (q : ℕ) where
     pub there : queue_at q before ≡ Some queue
     pub paused : IsPaused device q queue old new before after s s'
 
-  first_at : (budget : Budget) (found : Option Queue) (m0 m1 : Memory) (w0 w1 : WindowState) (s0 s1 : State) → queue_at q w0 ≡ found → BeginsTo device budget q found progress.More m0 m1 w0 w1 s0 s1 → OnItsWay m0 m1 w0 w1 s0 s1
+  first_at : (budget : Budget) (found : Option Queue) (m0 m1 : Memory) (w0 w1 : WindowState) (s0 s1 : State)
+      → queue_at q w0 ≡ found → BeginsTo device budget q found progress.More m0 m1 w0 w1 s0 s1
+      → OnItsWay m0 m1 w0 w1 s0 s1
   first_at budget None m0 m1 w0 w1 s0 s1 is h = absurd h
-  first_at budget (Some queue) m0 m1 w0 w1 s0 s1 is h = record { queue = queue; there = is; paused = pauses_first device budget q queue m0 m1 w0 w1 s0 s1 h }
+  first_at budget (Some queue) m0 m1 w0 w1 s0 s1 is h =
+      record { queue = queue; there = is; paused = pauses_first device budget q queue m0 m1 w0 w1 s0 s1 h }
 
-  pub first : (budget : Budget) (m0 m1 : Memory) (w0 w1 : WindowState) (s0 s1 : State) → BeginsTo device budget q (queue_at q w0) progress.More m0 m1 w0 w1 s0 s1 → OnItsWay m0 m1 w0 w1 s0 s1
+  pub first : (budget : Budget) (m0 m1 : Memory) (w0 w1 : WindowState) (s0 s1 : State)
+      → BeginsTo device budget q (queue_at q w0) progress.More m0 m1 w0 w1 s0 s1 → OnItsWay m0 m1 w0 w1 s0 s1
   first budget m0 m1 w0 w1 s0 s1 h = first_at budget (queue_at q w0) m0 m1 w0 w1 s0 s1 refl h
 
   -- the queue that goes on is the one that stands open
-  open_now : (m0 m1 : Memory) (w0 w1 : WindowState) (s0 s1 : State) → (way : OnItsWay m0 m1 w0 w1 s0 s1) → queue_at q w1 ≡ Some way.paused.last
-  open_now m0 m1 w0 w1 s0 s1 way = ap (λ w. queue_at q w) way.paused.window ∙ queue_stands_open q w0 way.queue way.paused.last way.there
+  open_now : (m0 m1 : Memory) (w0 w1 : WindowState) (s0 s1 : State) → (way : OnItsWay m0 m1 w0 w1 s0 s1)
+      → queue_at q w1 ≡ Some way.paused.last
+  open_now m0 m1 w0 w1 s0 s1 way = ap (λ w. queue_at q w) way.paused.window
+      ∙ queue_stands_open q w0 way.queue way.paused.last way.there
 
-  pub again : (budget : Budget) (m0 m1 m2 : Memory) (w0 w1 w2 : WindowState) (s0 s1 s2 : State) → OnItsWay m0 m1 w0 w1 s0 s1 → GoesOnTo device budget q (queue_at q w1) progress.More m1 m2 w1 w2 s1 s2 → OnItsWay m0 m2 w0 w2 s0 s2
+  pub again : (budget : Budget) (m0 m1 m2 : Memory) (w0 w1 w2 : WindowState) (s0 s1 s2 : State)
+      → OnItsWay m0 m1 w0 w1 s0 s1 → GoesOnTo device budget q (queue_at q w1) progress.More m1 m2 w1 w2 s1 s2
+      → OnItsWay m0 m2 w0 w2 s0 s2
   again budget m0 m1 m2 w0 w1 w2 s0 s1 s2 way h = record {
     queue = way.queue;
     there = way.there;
     paused =
         pauses_again device budget q way.queue m0 m1 m2 w0 w1 w2 s0 s1 s2 way.paused
-        (subst (λ (f : Option Queue). GoesOnTo device budget q f progress.More m1 m2 w1 w2 s1 s2) (open_now m0 m1 w0 w1 s0 s1 way) h);
+        (subst (λ (f : Option Queue). GoesOnTo device budget q f progress.More m1 m2 w1 w2 s1 s2)
+        (open_now m0 m1 w0 w1 s0 s1 way) h);
   }
 
   -- At its end it is one service.
-  pub ended : (budget : Budget) (m0 m1 m2 : Memory) (w0 w1 w2 : WindowState) (s0 s1 s2 : State) → OnItsWay m0 m1 w0 w1 s0 s1 → GoesOnTo device budget q (queue_at q w1) progress.Done m1 m2 w1 w2 s1 s2 → IsNotified device q (queue_at q w0) m0 m2 w0 w2 s0 s2
+  pub ended : (budget : Budget) (m0 m1 m2 : Memory) (w0 w1 w2 : WindowState) (s0 s1 s2 : State)
+      → OnItsWay m0 m1 w0 w1 s0 s1 → GoesOnTo device budget q (queue_at q w1) progress.Done m1 m2 w1 w2 s1 s2
+      → IsNotified device q (queue_at q w0) m0 m2 w0 w2 s0 s2
   ended budget m0 m1 m2 w0 w1 w2 s0 s1 s2 way h =
       let f : IsFinishedWithin device budget q (Some way.paused.last) m1 m2 w1 w2 s1 s2 =
-      subst (λ (f : Option Queue). GoesOnTo device budget q f progress.Done m1 m2 w1 w2 s1 s2) (open_now m0 m1 w0 w1 s0 s1 way) h in
+      subst (λ (f : Option Queue). GoesOnTo device budget q f progress.Done m1 m2 w1 w2 s1 s2)
+      (open_now m0 m1 w0 w1 s0 s1 way) h in
       record {
         ending = f.ending;
         notified =
-            subst (λ (found : Option Queue). Notified device q found f.ending m0 m2 w0 w2 s0 s2) (sym way.there)
-            (paused_to_end device budget q way.queue f.ending m0 m1 m2 w0 w1 w2 s0 s1 s2 way.paused f.finished);
+            subst (λ (found : Option Queue). Notified device q found f.ending m0 m2 w0 w2 s0
+            s2) (sym way.there)
+            (paused_to_end device budget q way.queue f.ending m0 m1 m2 w0 w1 w2 s0 s1 s2
+            way.paused f.finished);
       }
 
 -- ---- the block device, from its image at rest
 
 pub record BlockWay (mid now : SlotState) (out : List ℕ) : Type 0 where
   pub health : Health
-  pub way : OnItsWay (exact_device (device_of mid)) 0 mid.memory now.memory mid.block now.block (disk_with mid.extent at_rest) (disk_with now.extent health)
+  pub way : OnItsWay (exact_device (device_of mid)) 0 mid.memory now.memory mid.block now.block
+      (disk_with mid.extent at_rest) (disk_with now.extent health)
   pub is : now ≡ record mid { memory = now.memory; extent = now.extent; block = now.block }
   pub size : sectors_of now.extent ≡ sectors_of mid.extent
   pub silent : out ≡ []
 
-same_device : (a b : SlotState) → sectors_of a.extent ≡ sectors_of b.extent → a.read_only ≡ b.read_only → a.identity ≡ b.identity → device_of a ≡ device_of b
+same_device : (a b : SlotState) → sectors_of a.extent ≡ sectors_of b.extent → a.read_only ≡ b.read_only
+    → a.identity ≡ b.identity → device_of a ≡ device_of b
 same_device a b x y z = rw (x, y, z) refl
 
 -- a piece from one state of the image is one from another
-record Rested (device : BlockDevice) (stage : Stage) (budget : Budget) (progress : Progress) (old new : SlotState) (start : Health) : Type 0 where
+record Rested (device : BlockDevice) (stage : Stage) (budget : Budget) (progress : Progress)
+    (old new : SlotState) (start : Health) : Type 0 where
   health : Health
-  served : ServesTo stage (exact_device device) budget 0 (queue_at 0 old.block) progress old.memory new.memory old.block new.block (disk_with old.extent start) (disk_with new.extent health)
+  served : ServesTo stage (exact_device device) budget 0 (queue_at 0 old.block) progress old.memory new.memory
+      old.block new.block (disk_with old.extent start) (disk_with new.extent health)
 
-rested : (device : BlockDevice) (stage : Stage) (budget : Budget) (progress : Progress) (old new : SlotState) (before after start : Health)
-    → ServesTo stage (exact_device device) budget 0 (queue_at 0 old.block) progress old.memory new.memory old.block new.block (disk_with old.extent before) (disk_with new.extent after)
+rested : (device : BlockDevice) (stage : Stage) (budget : Budget) (progress : Progress) (old new : SlotState)
+    (before after start : Health)
+    → ServesTo stage (exact_device device) budget 0 (queue_at 0 old.block) progress old.memory new.memory
+    old.block new.block (disk_with old.extent before) (disk_with new.extent after)
     → Rested device stage budget progress old new start
 rested device stage budget progress old new before after start h =
-    let p : PieceAs (exact_device device) (exact_device device) SameSectors (exact_same device) budget stage 0 (queue_at 0 old.block) progress old.memory new.memory old.block new.block (disk_with new.extent after) (disk_with old.extent start) =
-    piece_as (exact_device device) (exact_device device) SameSectors (exact_same device) budget stage 0 (queue_at 0 old.block) progress old.memory new.memory old.block new.block (disk_with old.extent before) (disk_with new.extent after) (disk_with old.extent start) (record { contents = refl; sectors = refl }) h in
-    let is : p.state ≡ disk_with new.extent (health_of p.state) = same_disk new.extent p.state p.alike.contents p.alike.sectors in
+    let p : PieceAs (exact_device device) (exact_device device) SameSectors (exact_same device) budget stage 0
+    (queue_at 0 old.block) progress old.memory new.memory old.block new.block (disk_with new.extent after)
+    (disk_with old.extent start) =
+    piece_as (exact_device device) (exact_device device) SameSectors (exact_same device) budget stage 0
+    (queue_at 0 old.block) progress old.memory new.memory old.block new.block
+    (disk_with old.extent before) (disk_with new.extent after) (disk_with old.extent start)
+    (record { contents = refl; sectors = refl }) h in
+    let is : p.state ≡ disk_with new.extent (health_of p.state) =
+    same_disk new.extent p.state p.alike.contents p.alike.sectors in
     record {
       health = health_of p.state;
-      served = subst (λ (d : Disk). ServesTo stage (exact_device device) budget 0 (queue_at 0 old.block) progress old.memory new.memory old.block new.block (disk_with old.extent start) d) is p.served;
+      served = subst (λ (d : Disk). ServesTo stage (exact_device device) budget 0 (queue_at 0 old.block)
+          progress old.memory new.memory old.block new.block (disk_with old.extent start) d) is p.served;
     }
 
 block_first : (budget : Budget) (mid : SlotState) (before after : Health) (new : SlotState) (output : List ℕ)
-    → IsBlockPiece (exact_device (device_of mid)) First budget progress.More mid before after new output → BlockWay mid new output
+    → IsBlockPiece (exact_device (device_of mid)) First budget progress.More mid before after new output
+    → BlockWay mid new output
 block_first budget mid before after new output h =
-    let r : Rested (device_of mid) First budget progress.More mid new at_rest = rested (device_of mid) First budget progress.More mid new before after at_rest h.served in
+    let r : Rested (device_of mid) First budget progress.More mid new at_rest =
+    rested (device_of mid) First budget progress.More mid new before after at_rest h.served in
     record {
       health = r.health;
-      way = first (exact_device (device_of mid)) 0 budget mid.memory new.memory mid.block new.block (disk_with mid.extent at_rest) (disk_with new.extent r.health) r.served;
+      way = first (exact_device (device_of mid)) 0 budget mid.memory new.memory mid.block new.block
+          (disk_with mid.extent at_rest) (disk_with new.extent r.health) r.served;
       is = h.is;
       size = h.size;
       silent = h.silent;
     }
 
 -- the piece that goes on, of the device as it began
-block_next : (budget : Budget) (progress : Progress) (mid now : SlotState) (out : List ℕ) (before after : Health) (new : SlotState) (output : List ℕ) → (w : BlockWay mid now out)
-    → IsBlockPiece (exact_device (device_of now)) Next budget progress now before after new output → Rested (device_of mid) Next budget progress now new w.health
+block_next : (budget : Budget) (progress : Progress) (mid now : SlotState) (out : List ℕ)
+    (before after : Health) (new : SlotState) (output : List ℕ) → (w : BlockWay mid now out)
+    → IsBlockPiece (exact_device (device_of now)) Next budget progress now before after new output
+    → Rested (device_of mid) Next budget progress now new w.health
 block_next budget progress mid now out before after new output w h =
-    let same : device_of now ≡ device_of mid = same_device now mid w.size (ap (λ (s : SlotState). s.read_only) w.is) (ap (λ (s : SlotState). s.identity) w.is) in
+    let same : device_of now ≡ device_of mid =
+    same_device now mid w.size (ap (λ (s : SlotState). s.read_only) w.is)
+    (ap (λ (s : SlotState). s.identity) w.is) in
     rested (device_of mid) Next budget progress now new before after w.health
-    (subst (λ (d : BlockDevice). ServesTo Next (exact_device d) budget 0 (queue_at 0 now.block) progress now.memory new.memory now.block new.block (disk_with now.extent before) (disk_with new.extent after)) same h.served)
+    (subst (λ (d : BlockDevice). ServesTo Next (exact_device d) budget 0 (queue_at 0 now.block) progress
+    now.memory new.memory now.block new.block (disk_with now.extent before)
+    (disk_with new.extent after)) same h.served)
 
 -- what two pieces put out that put out nothing
 silent_both : (out output : List ℕ) → out ≡ [] → output ≡ [] → out ++ output ≡ []
@@ -135,13 +171,18 @@ silent_both out output x y = rw (x, y) refl
 abbrev with_block : SlotState → SlotState → SlotState
 with_block mid new = record mid { memory = new.memory; extent = new.extent; block = new.block }
 
-block_again : (budget : Budget) (mid now : SlotState) (out : List ℕ) (before after : Health) (new : SlotState) (output : List ℕ) → BlockWay mid now out
-    → IsBlockPiece (exact_device (device_of now)) Next budget progress.More now before after new output → BlockWay mid new (out ++ output)
+block_again : (budget : Budget) (mid now : SlotState) (out : List ℕ) (before after : Health) (new : SlotState)
+    (output : List ℕ) → BlockWay mid now out
+    → IsBlockPiece (exact_device (device_of now)) Next budget progress.More now before after new output
+    → BlockWay mid new (out ++ output)
 block_again budget mid now out before after new output w h =
-    let r : Rested (device_of mid) Next budget progress.More now new w.health = block_next budget progress.More mid now out before after new output w h in
+    let r : Rested (device_of mid) Next budget progress.More now new w.health =
+    block_next budget progress.More mid now out before after new output w h in
     record {
       health = r.health;
-      way = again (exact_device (device_of mid)) 0 budget mid.memory now.memory new.memory mid.block now.block new.block (disk_with mid.extent at_rest) (disk_with now.extent w.health) (disk_with new.extent r.health) w.way r.served;
+      way = again (exact_device (device_of mid)) 0 budget mid.memory now.memory new.memory mid.block now.block
+          new.block (disk_with mid.extent at_rest) (disk_with now.extent w.health)
+          (disk_with new.extent r.health) w.way r.served;
       is = h.is ∙ ap (λ (s : SlotState). with_block s new) w.is;
       size = h.size ∙ w.size;
       silent = silent_both out output w.silent h.silent;
@@ -151,18 +192,25 @@ record BlockEnded (A : Type 0) (mid new : SlotState) (out : List ℕ) : Type 0 w
   health : Health
   service : IsBlockService {A = A} (exact_device (device_of mid)) mid at_rest health (came new Done out)
 
-same_came : {A : Type 0} (s t : SlotState) (reply : Reply A) (x y : List ℕ) → s ≡ t → x ≡ y → came s reply x ≡ came t reply y
+same_came : {A : Type 0} (s t : SlotState) (reply : Reply A) (x y : List ℕ) → s ≡ t → x ≡ y
+    → came s reply x ≡ came t reply y
 same_came s t reply x y a b = rw (a, b) refl
 
-block_ended : (A : Type 0) (budget : Budget) (mid now : SlotState) (out : List ℕ) (before after : Health) (new : SlotState) (output : List ℕ) → BlockWay mid now out
-    → IsBlockPiece (exact_device (device_of now)) Next budget progress.Done now before after new output → BlockEnded A mid new (out ++ output)
+block_ended : (A : Type 0) (budget : Budget) (mid now : SlotState) (out : List ℕ) (before after : Health)
+    (new : SlotState) (output : List ℕ) → BlockWay mid now out
+    → IsBlockPiece (exact_device (device_of now)) Next budget progress.Done now before after new output
+    → BlockEnded A mid new (out ++ output)
 block_ended A budget mid now out before after new output w h =
-    let r : Rested (device_of mid) Next budget progress.Done now new w.health = block_next budget progress.Done mid now out before after new output w h in
+    let r : Rested (device_of mid) Next budget progress.Done now new w.health =
+    block_next budget progress.Done mid now out before after new output w h in
     record {
       health = r.health;
       service = record {
-        notified = ended (exact_device (device_of mid)) 0 budget mid.memory now.memory new.memory mid.block now.block new.block (disk_with mid.extent at_rest) (disk_with now.extent w.health) (disk_with new.extent r.health) w.way r.served;
-        is = same_came new (with_block mid new) Done (out ++ output) [] (h.is ∙ ap (λ (s : SlotState). with_block s new) w.is) (silent_both out output w.silent h.silent);
+        notified = ended (exact_device (device_of mid)) 0 budget mid.memory now.memory new.memory mid.block
+            now.block new.block (disk_with mid.extent at_rest) (disk_with now.extent w.health)
+            (disk_with new.extent r.health) w.way r.served;
+        is = same_came new (with_block mid new) Done (out ++ output) [] (h.is
+            ∙ ap (λ (s : SlotState). with_block s new) w.is) (silent_both out output w.silent h.silent);
       };
     }
 
@@ -176,7 +224,8 @@ pub record ReceiveWay (mid now : SlotState) (out : List ℕ) : Type 0 where
 abbrev with_receive : SlotState → SlotState → SlotState
 with_receive mid new = record mid { memory = new.memory; console = new.console; pending = new.pending }
 
-receive_first : (budget : Budget) (mid : SlotState) (before after : Health) (new : SlotState) (output : List ℕ)
+receive_first : (budget : Budget) (mid : SlotState) (before after : Health)
+    (new : SlotState) (output : List ℕ)
     → IsReceivePiece First budget progress.More mid before after new output → ReceiveWay mid new output
 receive_first budget mid before after new output h = record {
   way = first receive 0 budget mid.memory new.memory mid.console new.console mid.pending new.pending h.served;
@@ -184,19 +233,26 @@ receive_first budget mid before after new output h = record {
   silent = h.silent;
 }
 
-receive_again : (budget : Budget) (mid now : SlotState) (out : List ℕ) (before after : Health) (new : SlotState) (output : List ℕ) → ReceiveWay mid now out
-    → IsReceivePiece Next budget progress.More now before after new output → ReceiveWay mid new (out ++ output)
+receive_again : (budget : Budget) (mid now : SlotState) (out : List ℕ) (before after : Health)
+    (new : SlotState) (output : List ℕ) → ReceiveWay mid now out
+    → IsReceivePiece Next budget progress.More now before after new output
+    → ReceiveWay mid new (out ++ output)
 receive_again budget mid now out before after new output w h = record {
-  way = again receive 0 budget mid.memory now.memory new.memory mid.console now.console new.console mid.pending now.pending new.pending w.way h.served;
+  way = again receive 0 budget mid.memory now.memory new.memory mid.console now.console new.console
+      mid.pending now.pending new.pending w.way h.served;
   is = h.is ∙ ap (λ (s : SlotState). with_receive s new) w.is;
   silent = silent_both out output w.silent h.silent;
 }
 
-receive_ended : {A : Type 0} (budget : Budget) (mid now : SlotState) (out : List ℕ) (before after : Health) (new : SlotState) (output : List ℕ) (reply : Reply A) → ReceiveWay mid now out
-    → IsReceivePiece Next budget progress.Done now before after new output → IsReceiveService mid reply at_rest at_rest (came new reply (out ++ output))
+receive_ended : {A : Type 0} (budget : Budget) (mid now : SlotState) (out : List ℕ) (before after : Health)
+    (new : SlotState) (output : List ℕ) (reply : Reply A) → ReceiveWay mid now out
+    → IsReceivePiece Next budget progress.Done now before after new output
+    → IsReceiveService mid reply at_rest at_rest (came new reply (out ++ output))
 receive_ended budget mid now out before after new output reply w h = record {
-  notified = ended receive 0 budget mid.memory now.memory new.memory mid.console now.console new.console mid.pending now.pending new.pending w.way h.served;
-  is = same_came new (with_receive mid new) reply (out ++ output) [] (h.is ∙ ap (λ (s : SlotState). with_receive s new) w.is) (silent_both out output w.silent h.silent);
+  notified = ended receive 0 budget mid.memory now.memory new.memory mid.console now.console new.console
+      mid.pending now.pending new.pending w.way h.served;
+  is = same_came new (with_receive mid new) reply (out ++ output) [] (h.is
+      ∙ ap (λ (s : SlotState). with_receive s new) w.is) (silent_both out output w.silent h.silent);
   image = refl;
 }
 
@@ -218,39 +274,56 @@ transmit_ahead out = record {
   takes = λ sent all alike. refl;
   gives = λ sent all readable w given alike h. record {
     state = all ++ readable;
-    alike = ap (λ l. l ++ readable) alike ∙ append_assoc out sent readable ∙ ap (λ l. out ++ l) (sym (ap (λ (g : Given (List ℕ)). g.state) h));
+    alike = ap (λ l. l ++ readable) alike ∙ append_assoc out sent readable
+        ∙ ap (λ l. out ++ l) (sym (ap (λ (g : Given (List ℕ)). g.state) h));
     gives = ap (λ (g : Given (List ℕ)). record { state = all ++ readable; written = g.written }) h;
   };
   lacks_memory = λ sent all readable w alike h. h;
 }
 
-transmit_next : (budget : Budget) (progress : Progress) (now : SlotState) (out : List ℕ) (new : SlotState) (output : List ℕ)
-    → ServesTo Next exact_transmit budget 1 (queue_at 1 now.console) progress now.memory new.memory now.console new.console [] output
-    → ServesTo Next exact_transmit budget 1 (queue_at 1 now.console) progress now.memory new.memory now.console new.console out (out ++ output)
+transmit_next : (budget : Budget) (progress : Progress) (now : SlotState) (out : List ℕ)
+    (new : SlotState) (output : List ℕ)
+    → ServesTo Next exact_transmit budget 1 (queue_at 1 now.console) progress now.memory new.memory
+    now.console new.console [] output
+    → ServesTo Next exact_transmit budget 1 (queue_at 1 now.console) progress now.memory new.memory
+    now.console new.console out (out ++ output)
 transmit_next budget progress now out new output h =
-    let p : PieceAs exact_transmit exact_transmit (Ahead out) (transmit_ahead out) budget Next 1 (queue_at 1 now.console) progress now.memory new.memory now.console new.console output out =
-    piece_as exact_transmit exact_transmit (Ahead out) (transmit_ahead out) budget Next 1 (queue_at 1 now.console) progress now.memory new.memory now.console new.console [] output out (sym (append-nil out)) h in
-    subst (λ (all : List ℕ). ServesTo Next exact_transmit budget 1 (queue_at 1 now.console) progress now.memory new.memory now.console new.console out all) p.alike p.served
+    let p : PieceAs exact_transmit exact_transmit (Ahead out) (transmit_ahead out) budget Next 1
+    (queue_at 1 now.console) progress now.memory new.memory now.console new.console output out =
+    piece_as exact_transmit exact_transmit (Ahead out) (transmit_ahead out) budget Next 1
+    (queue_at 1 now.console) progress now.memory new.memory now.console new.console [] output out
+    (sym (append-nil out)) h in
+    subst (λ (all : List ℕ). ServesTo Next exact_transmit budget 1 (queue_at 1 now.console) progress
+    now.memory new.memory now.console new.console out all) p.alike p.served
 
-transmit_first : (budget : Budget) (mid : SlotState) (before after : Health) (new : SlotState) (output : List ℕ)
+transmit_first : (budget : Budget) (mid : SlotState) (before after : Health)
+    (new : SlotState) (output : List ℕ)
     → IsTransmitPiece First budget progress.More mid before after new output → TransmitWay mid new output
 transmit_first budget mid before after new output h = record {
   way = first exact_transmit 1 budget mid.memory new.memory mid.console new.console [] output h.served;
   is = h.is;
 }
 
-transmit_again : (budget : Budget) (mid now : SlotState) (out : List ℕ) (before after : Health) (new : SlotState) (output : List ℕ) → TransmitWay mid now out
-    → IsTransmitPiece Next budget progress.More now before after new output → TransmitWay mid new (out ++ output)
+transmit_again : (budget : Budget) (mid now : SlotState) (out : List ℕ) (before after : Health)
+    (new : SlotState) (output : List ℕ) → TransmitWay mid now out
+    → IsTransmitPiece Next budget progress.More now before after new output
+    → TransmitWay mid new (out ++ output)
 transmit_again budget mid now out before after new output w h = record {
-  way = again exact_transmit 1 budget mid.memory now.memory new.memory mid.console now.console new.console [] out (out ++ output) w.way (transmit_next budget progress.More now out new output h.served);
+  way = again exact_transmit 1 budget mid.memory now.memory new.memory mid.console now.console new.console []
+      out (out ++ output) w.way (transmit_next budget progress.More now out new output h.served);
   is = h.is ∙ ap (λ (s : SlotState). with_transmit s new) w.is;
 }
 
-transmit_ended : (A : Type 0) (budget : Budget) (mid now : SlotState) (out : List ℕ) (before after : Health) (new : SlotState) (output : List ℕ) → TransmitWay mid now out
-    → IsTransmitPiece Next budget progress.Done now before after new output → IsTransmitService {A = A} mid at_rest at_rest (came new Done (out ++ output))
+transmit_ended : (A : Type 0) (budget : Budget) (mid now : SlotState) (out : List ℕ) (before after : Health)
+    (new : SlotState) (output : List ℕ) → TransmitWay mid now out
+    → IsTransmitPiece Next budget progress.Done now before after new output
+    → IsTransmitService {A = A} mid at_rest at_rest (came new Done (out ++ output))
 transmit_ended A budget mid now out before after new output w h = record {
-  notified = ended exact_transmit 1 budget mid.memory now.memory new.memory mid.console now.console new.console [] out (out ++ output) w.way (transmit_next budget progress.Done now out new output h.served);
-  is = same_came new (with_transmit mid new) Done (out ++ output) (out ++ output) (h.is ∙ ap (λ (s : SlotState). with_transmit s new) w.is) refl;
+  notified = ended exact_transmit 1 budget mid.memory now.memory new.memory mid.console now.console
+      new.console [] out (out ++ output) w.way
+      (transmit_next budget progress.Done now out new output h.served);
+  is = same_came new (with_transmit mid new) Done (out ++ output) (out ++ output) (h.is
+      ∙ ap (λ (s : SlotState). with_transmit s new) w.is) refl;
   image = refl;
 }
 
@@ -261,69 +334,104 @@ Way Block mid now out = BlockWay mid now out
 Way Receive mid now out = ReceiveWay mid now out
 Way Transmit mid now out = TransmitWay mid now out
 
-pub way_first : (service : Service) (budget : Budget) (mid : SlotState) (before after : Health) (new : SlotState) (output : List ℕ) → after.failures ≡ before.failures
+pub way_first : (service : Service) (budget : Budget) (mid : SlotState) (before after : Health)
+    (new : SlotState) (output : List ℕ) → after.failures ≡ before.failures
     → IsPiece service First budget progress.More mid before after new output → Way service mid new output
-way_first Block budget mid before after new output stood (inl h) = block_first budget mid before after new output h.piece
-way_first Block budget mid before after new output stood (inr h) = let rose = h.failures in absurd (omega (arith, rose, stood))
-way_first Receive budget mid before after new output stood h = receive_first budget mid before after new output h
-way_first Transmit budget mid before after new output stood h = transmit_first budget mid before after new output h
+way_first Block budget mid before after new output stood (inl h) =
+    block_first budget mid before after new output h.piece
+way_first Block budget mid before after new output stood (inr h) = let rose = h.failures in
+    absurd (omega (arith, rose, stood))
+way_first Receive budget mid before after new output stood h =
+    receive_first budget mid before after new output h
+way_first Transmit budget mid before after new output stood h =
+    transmit_first budget mid before after new output h
 
-pub way_again : (service : Service) (budget : Budget) (mid now : SlotState) (out : List ℕ) (before after : Health) (new : SlotState) (output : List ℕ) → after.failures ≡ before.failures → Way service mid now out
-    → IsPiece service Next budget progress.More now before after new output → Way service mid new (out ++ output)
-way_again Block budget mid now out before after new output stood w (inl h) = block_again budget mid now out before after new output w h.piece
-way_again Block budget mid now out before after new output stood w (inr h) = let rose = h.failures in absurd (omega (arith, rose, stood))
-way_again Receive budget mid now out before after new output stood w h = receive_again budget mid now out before after new output w h
-way_again Transmit budget mid now out before after new output stood w h = transmit_again budget mid now out before after new output w h
+pub way_again : (service : Service) (budget : Budget) (mid now : SlotState) (out : List ℕ)
+    (before after : Health) (new : SlotState) (output : List ℕ) → after.failures ≡ before.failures
+    → Way service mid now out
+    → IsPiece service Next budget progress.More now before after new output
+    → Way service mid new (out ++ output)
+way_again Block budget mid now out before after new output stood w (inl h) =
+    block_again budget mid now out before after new output w h.piece
+way_again Block budget mid now out before after new output stood w (inr h) = let rose = h.failures in
+    absurd (omega (arith, rose, stood))
+way_again Receive budget mid now out before after new output stood w h =
+    receive_again budget mid now out before after new output w h
+way_again Transmit budget mid now out before after new output stood w h =
+    transmit_again budget mid now out before after new output w h
 
 -- ---- at its end
 
 abbrev Ended : Type 0 → Service → SlotState → SlotState → List ℕ → Type 0
 Ended A Block mid new out = BlockEnded A mid new out
-Ended A Receive mid new out = (reply : Reply A) → IsReceiveService mid reply at_rest at_rest (came new reply out)
+Ended A Receive mid new out = (reply : Reply A)
+    → IsReceiveService mid reply at_rest at_rest (came new reply out)
 Ended A Transmit mid new out = IsTransmitService {A = A} mid at_rest at_rest (came new Done out)
 
-way_ended : (A : Type 0) (service : Service) (budget : Budget) (mid now : SlotState) (out : List ℕ) (before after : Health) (new : SlotState) (output : List ℕ) → after.failures ≡ before.failures → Way service mid now out
-    → IsPiece service Next budget progress.Done now before after new output → Ended A service mid new (out ++ output)
-way_ended A Block budget mid now out before after new output stood w (inl h) = block_ended A budget mid now out before after new output w h.piece
-way_ended A Block budget mid now out before after new output stood w (inr h) = let rose = h.failures in absurd (omega (arith, rose, stood))
-way_ended A Receive budget mid now out before after new output stood w h = λ reply. receive_ended budget mid now out before after new output reply w h
-way_ended A Transmit budget mid now out before after new output stood w h = transmit_ended A budget mid now out before after new output w h
+way_ended : (A : Type 0) (service : Service) (budget : Budget) (mid now : SlotState) (out : List ℕ)
+    (before after : Health) (new : SlotState) (output : List ℕ) → after.failures ≡ before.failures
+    → Way service mid now out
+    → IsPiece service Next budget progress.Done now before after new output
+    → Ended A service mid new (out ++ output)
+way_ended A Block budget mid now out before after new output stood w (inl h) =
+    block_ended A budget mid now out before after new output w h.piece
+way_ended A Block budget mid now out before after new output stood w (inr h) = let rose = h.failures in
+    absurd (omega (arith, rose, stood))
+way_ended A Receive budget mid now out before after new output stood w h =
+    λ reply. receive_ended budget mid now out before after new output reply w h
+way_ended A Transmit budget mid now out before after new output stood w h =
+    transmit_ended A budget mid now out before after new output w h
 
 record Finished {A : Type 0} (task : Task) (mid : SlotState) (outcome : Outcome A) : Type 0 where
   after : Health
   finishes : Finishes task mid at_rest after outcome
 
-finished : {A : Type 0} (task : Task) (pause : Pause) (mid new : SlotState) (out : List ℕ) → asked_by task ≡ Some pause → Ended A pause.service mid new out → Finished {A = A} task mid (came new (reply_of pause) out)
+finished : {A : Type 0} (task : Task) (pause : Pause) (mid new : SlotState) (out : List ℕ)
+    → asked_by task ≡ Some pause → Ended A pause.service mid new out
+    → Finished {A = A} task mid (came new (reply_of pause) out)
 finished Nothing pause mid new out asks = absurd (cc)
 finished {A} ServeBlock pause mid new out asks =
-    subst (λ (p : Pause). Ended A p.service mid new out → Finished {A = A} ServeBlock mid (came new (reply_of p) out)) (same_Some _ pause asks)
+    subst (λ (p : Pause). Ended A p.service mid new out
+    → Finished {A = A} ServeBlock mid (came new (reply_of p) out)) (same_Some _ pause asks)
     (λ e. record { after = e.health; finishes = e.service })
 finished {A} ServeReceive pause mid new out asks =
-    subst (λ (p : Pause). Ended A p.service mid new out → Finished {A = A} ServeReceive mid (came new (reply_of p) out)) (same_Some _ pause asks)
+    subst (λ (p : Pause). Ended A p.service mid new out
+    → Finished {A = A} ServeReceive mid (came new (reply_of p) out)) (same_Some _ pause asks)
     (λ e. record { after = at_rest; finishes = e Done })
 finished {A} ServeTransmit pause mid new out asks =
-    subst (λ (p : Pause). Ended A p.service mid new out → Finished {A = A} ServeTransmit mid (came new (reply_of p) out)) (same_Some _ pause asks)
+    subst (λ (p : Pause). Ended A p.service mid new out
+    → Finished {A = A} ServeTransmit mid (came new (reply_of p) out)) (same_Some _ pause asks)
     (λ e. record { after = at_rest; finishes = e })
 finished (PutOut byte) pause mid new out asks = absurd (cc)
 
-next_ended : {A : Type 0} (what : EventKind A) (state : SlotState) (pause : Pause) (new : SlotState) (out : List ℕ) → asked what state ≡ Some pause → Ended A pause.service (readied what state) new out → IsNext state what (came new (reply_of pause) out)
+next_ended : {A : Type 0} (what : EventKind A) (state : SlotState) (pause : Pause) (new : SlotState)
+    (out : List ℕ) → asked what state ≡ Some pause → Ended A pause.service (readied what state) new out
+    → IsNext state what (came new (reply_of pause) out)
 next_ended (Read window offset width) state pause new out asks e = absurd (cc)
 next_ended {A} (Write window offset width value) state pause new out asks e =
-    let f : Finished {A = A} (task_at window offset width value state) (with_write window offset width value state) (came new (reply_of pause) out) =
-    finished (task_at window offset width value state) pause (with_write window offset width value state) new out asks e in
+    let f : Finished {A = A} (task_at window offset width value state)
+    (with_write window offset width value state) (came new (reply_of pause) out) =
+    finished (task_at window offset width value state) pause
+    (with_write window offset width value state) new out asks e in
     record { after = f.after; gives = f.finishes }
 next_ended (MemRead addr len) state pause new out asks e = absurd (cc)
 next_ended (MemWrite addr bytes) state pause new out asks e = absurd (cc)
 next_ended {A} (Input bytes) state pause new out asks e =
-    subst (λ (p : Pause). Ended A p.service (with_input bytes state) new out → IsNext {A = A} state (Input bytes) (came new (reply_of p) out)) (same_Some _ pause asks)
+    subst (λ (p : Pause). Ended A p.service (with_input bytes state) new out
+    → IsNext {A = A} state (Input bytes) (came new (reply_of p) out)) (same_Some _ pause asks)
     (λ e. record { after = at_rest; gives = e (Took (fitting state.pending bytes)) }) e
 next_ended (Resize cols rows) state pause new out asks e = absurd (cc)
 next_ended (Restore bytes) state pause new out asks e = absurd (cc)
 next_ended (Complete verdict) state pause new out asks e = absurd (cc)
 
 -- So what it comes to is what comes of its event for a guest that is alone.
-pub next_of_pieces : {A : Type 0} (what : EventKind A) (budget : Budget) (state : SlotState) (pause : Pause) (now : SlotState) (out : List ℕ) (before after : Health) (new : SlotState) (output : List ℕ)
-    → asked what state ≡ Some pause → after.failures ≡ before.failures → Way pause.service (readied what state) now out
-    → IsPiece pause.service Next budget progress.Done now before after new output → IsNext {A = A} state what (came new (reply_of pause) (out ++ output))
+pub next_of_pieces : {A : Type 0} (what : EventKind A) (budget : Budget) (state : SlotState) (pause : Pause)
+    (now : SlotState) (out : List ℕ) (before after : Health) (new : SlotState) (output : List ℕ)
+    → asked what state ≡ Some pause → after.failures ≡ before.failures
+    → Way pause.service (readied what state) now out
+    → IsPiece pause.service Next budget progress.Done now before after new output
+    → IsNext {A = A} state what (came new (reply_of pause) (out ++ output))
 next_of_pieces {A} what budget state pause now out before after new output asks stood w h =
-    next_ended what state pause new (out ++ output) asks (way_ended A pause.service budget (readied what state) now out before after new output stood w h)
+    next_ended what state pause new (out
+    ++ output) asks (way_ended A pause.service budget (readied what state) now out before after
+    new output stood w h)

@@ -29,88 +29,152 @@ use Rattle.session.specs.Pacing.{Call, ComesTo, GoOn, Handle, IsTurn, IsUnchange
 
 -- ---- the image's failures never fall
 
-piece_rises : (service : Service) (stage : Stage) (budget : Budget) (progress : Progress) (old : SlotState) (before after : Health) (new : SlotState) (output : List ℕ) → IsPiece service stage budget progress old before after new output → before.failures ≤ after.failures
-piece_rises Block stage budget progress old before after new output (inl h) = let same = h.failures in omega (arith, same)
-piece_rises Block stage budget progress old before after new output (inr h) = let rose = h.failures in omega (arith, rose)
-piece_rises Receive stage budget progress old before after new output h = let same = ap (λ (x : Health). x.failures) h.image in omega (arith, same)
-piece_rises Transmit stage budget progress old before after new output h = let same = ap (λ (x : Health). x.failures) h.image in omega (arith, same)
+piece_rises : (service : Service) (stage : Stage) (budget : Budget) (progress : Progress) (old : SlotState)
+    (before after : Health) (new : SlotState) (output : List ℕ)
+    → IsPiece service stage budget progress old before after new output → before.failures ≤ after.failures
+piece_rises Block stage budget progress old before after new output (inl h) = let same = h.failures in
+    omega (arith, same)
+piece_rises Block stage budget progress old before after new output (inr h) = let rose = h.failures in
+    omega (arith, rose)
+piece_rises Receive stage budget progress old before after new output h = let same =
+    ap (λ (x : Health). x.failures) h.image in omega (arith, same)
+piece_rises Transmit stage budget progress old before after new output h = let same =
+    ap (λ (x : Health). x.failures) h.image in omega (arith, same)
 
-comes_rises : {A : Type 0} (pause : Pause) (stage : Stage) (budget : Budget) (old : SlotState) (before after : Health) (new : SlotState) (output : List ℕ) (t : Turn A) → pausing.ComesTo pause stage budget old before after new output t → before.failures ≤ after.failures
-comes_rises pause stage budget old before after new output (turn.Answered reply) (inl (done, h)) = piece_rises pause.service stage budget progress.Done old before after new output h
-comes_rises pause stage budget old before after new output (turn.Answered reply) (inr (lacks, (is, h))) = let same = ap (λ (x : Health). x.failures) h.image in omega (arith, same)
-comes_rises pause stage budget old before after new output (turn.More next) (is, h) = piece_rises pause.service stage budget progress.More old before after new output h
+comes_rises : {A : Type 0} (pause : Pause) (stage : Stage) (budget : Budget) (old : SlotState)
+    (before after : Health) (new : SlotState) (output : List ℕ) (t : Turn A)
+    → pausing.ComesTo pause stage budget old before after new output t → before.failures ≤ after.failures
+comes_rises pause stage budget old before after new output (turn.Answered reply) (inl (done, h)) =
+    piece_rises pause.service stage budget progress.Done old before after new output h
+comes_rises pause stage budget old before after new output (turn.Answered reply) (inr (lacks, (is, h))) =
+    let same = ap (λ (x : Health). x.failures) h.image in omega (arith, same)
+comes_rises pause stage budget old before after new output (turn.More next) (is, h) =
+    piece_rises pause.service stage budget progress.More old before after new output h
 
-begins_rises : {A : Type 0} (o : Option Pause) (what : EventKind A) (budget : Budget) (old : SlotState) (before after : Health) (new : SlotState) (output : List ℕ) (t : Turn A) → TurnsTo o what budget old before after new output t → before.failures ≤ after.failures
-begins_rises (Some pause) what budget old before after new output t h = comes_rises pause First budget (readied what old) before after new output t h
-begins_rises None what budget old before after new output (turn.Answered reply) h = given_failures old what before after (came new reply output) h
+begins_rises : {A : Type 0} (o : Option Pause) (what : EventKind A) (budget : Budget) (old : SlotState)
+    (before after : Health) (new : SlotState) (output : List ℕ) (t : Turn A)
+    → TurnsTo o what budget old before after new output t → before.failures ≤ after.failures
+begins_rises (Some pause) what budget old before after new output t h =
+    comes_rises pause First budget (readied what old) before after new output t h
+begins_rises None what budget old before after new output (turn.Answered reply) h =
+    given_failures old what before after (came new reply output) h
 begins_rises None what budget old before after new output (turn.More pause) h = absurd h
 
 -- ---- one move
 
 -- a turn, as whether it met a refusal
-turn_unmet : {A : Type 0} (t : Turn A) (f g : ℕ) → f ≤ g → met_in t f g ≡ false → (response_to t ≢ Answered NoMemory) × (g ≡ f)
+turn_unmet : {A : Type 0} (t : Turn A) (f g : ℕ) → f ≤ g → met_in t f g ≡ false
+    → (response_to t ≢ Answered NoMemory) × (g ≡ f)
 turn_unmet {A} (turn.Answered reply) f g rises none =
     let both = unmet reply f g rises none in
     (λ said. both.0 (let same : Answered reply ≡ Answered NoMemory = said in cc), both.1)
 turn_unmet {A} (turn.More pause) f g rises none = (λ said. cc, (unmet {A = A} Done f g rises none).1)
 
-turn_met : {A : Type 0} (t : Turn A) (f g : ℕ) → response_to t ≢ Answered NoMemory → g ≡ f → met_in t f g ≡ false
+turn_met : {A : Type 0} (t : Turn A) (f g : ℕ) → response_to t ≢ Answered NoMemory → g ≡ f
+    → met_in t f g ≡ false
 turn_met (turn.Answered reply) f g had stood = met reply f g (λ none. had (ap (λ r. Answered r) none)) stood
 turn_met {A} (turn.More pause) f g had stood = met {A = A} Done f g (λ none. cc) stood
 
 abbrev Notes : {A : Type 0} → ℕ → PacedWorld → Move A → Type 0
-Notes g old move = (slice_get move.after.world.disturbed g ≡ Some false) ↔ ((slice_get old.world.disturbed g ≡ Some false) × IsUndisturbed g old move)
+Notes g old move = (slice_get move.after.world.disturbed g ≡ Some false)
+    ↔ ((slice_get old.world.disturbed g ≡ Some false) × IsUndisturbed g old move)
 
-notes_unchanged : {A : Type 0} (g : ℕ) (old : PacedWorld) (move : Move A) → move.response ≢ Answered NoMemory → IsUnchanged old move.after move.output → Notes g old move
+notes_unchanged : {A : Type 0} (g : ℕ) (old : PacedWorld) (move : Move A) → move.response ≢ Answered NoMemory
+    → IsUnchanged old move.after move.output → Notes g old move
 notes_unchanged g old move had u =
-    let same : slice_get move.after.world.disturbed g ≡ slice_get old.world.disturbed g = ap (λ (w : PacedWorld). slice_get w.world.disturbed g) u.same in (
-      λ is. (sym same ∙ is, record { memory = λ mine. had; image = λ mine. ap (λ (w : PacedWorld). w.world.health.failures) u.same }),
+    let same : slice_get move.after.world.disturbed g ≡ slice_get old.world.disturbed g =
+    ap (λ (w : PacedWorld). slice_get w.world.disturbed g) u.same in (
+      λ is. (
+        sym same ∙ is,
+        record {
+          memory = λ mine. had;
+          image = λ mine. ap (λ (w : PacedWorld). w.world.health.failures) u.same;
+        },
+      ),
       λ is. same ∙ is.0,
     )
 
-module _ {A : Type 0} (Does : SlotState → Health → Health → SlotState → List ℕ → Turn A → Type 0) (rises : (s : SlotState) (f k : Health) (s' : SlotState) (output : List ℕ) (t : Turn A) → Does s f k s' output t → f.failures ≤ k.failures) where
-  notes_other : (g h : ℕ) (old : PacedWorld) (move : Move A) → slot_in move.call ≡ h → h ≢ g → IsTurn Does old h move.response move.output move.block_irq move.console_irq move.after → Notes g old move
+module _ {A : Type 0} (Does : SlotState → Health → Health → SlotState → List ℕ → Turn A
+    → Type 0) (rises : (s : SlotState) (f k : Health) (s' : SlotState) (output : List ℕ) (t : Turn A)
+    → Does s f k s' output t → f.failures ≤ k.failures) where
+  notes_other : (g h : ℕ) (old : PacedWorld) (move : Move A) → slot_in move.call ≡ h → h ≢ g
+      → IsTurn Does old h move.response move.output move.block_irq move.console_irq move.after
+      → Notes g old move
   notes_other g h old move is other t =
       let same : slice_get move.after.world.disturbed g ≡ slice_get old.world.disturbed g =
-      ap (λ (flags : List Bool). slice_get flags g) t.taken.disturbed ∙ noted_other old.world.disturbed h g (met_in t.turn old.world.health.failures move.after.world.health.failures) other in (
-        λ found. (sym same ∙ found, record { memory = λ mine. absurd (other (sym is ∙ mine)); image = λ mine. absurd (other (sym is ∙ mine)) }),
+      ap (λ (flags : List Bool). slice_get flags g) t.taken.disturbed
+      ∙ noted_other old.world.disturbed h g
+      (met_in t.turn old.world.health.failures move.after.world.health.failures) other in (
+        λ found. (
+          sym same ∙ found,
+          record {
+            memory = λ mine. absurd (other (sym is ∙ mine));
+            image = λ mine. absurd (other (sym is ∙ mine));
+          },
+        ),
         λ found. same ∙ found.0,
       )
 
-  notes_own : (h : ℕ) (old : PacedWorld) (move : Move A) → slot_in move.call ≡ h → IsTurn Does old h move.response move.output move.block_irq move.console_irq move.after → Notes h old move
+  notes_own : (h : ℕ) (old : PacedWorld) (move : Move A) → slot_in move.call ≡ h
+      → IsTurn Does old h move.response move.output move.block_irq move.console_irq move.after
+      → Notes h old move
   notes_own h old move is t =
       let test : Bool = met_in t.turn old.world.health.failures move.after.world.health.failures in
-      let now : slice_get move.after.world.disturbed h ≡ slice_get (noted h test old.world.disturbed) h = ap (λ (flags : List Bool). slice_get flags h) t.taken.disturbed in
-      let rose : old.world.health.failures ≤ move.after.world.health.failures = rises t.taken.state old.world.health move.after.world.health t.taken.after move.output t.turn t.taken.comes in (
+      let now : slice_get move.after.world.disturbed h ≡ slice_get (noted h test old.world.disturbed) h =
+      ap (λ (flags : List Bool). slice_get flags h) t.taken.disturbed in
+      let rose : old.world.health.failures ≤ move.after.world.health.failures =
+      rises t.taken.state old.world.health move.after.world.health t.taken.after move.output
+      t.turn t.taken.comes in (
         λ found.
             let own = noted_own old.world.disturbed h test (sym now ∙ found) in
-            let none = turn_unmet t.turn old.world.health.failures move.after.world.health.failures rose own.1 in
-            (own.0, record { memory = λ mine lacking. none.0 (sym t.told ∙ lacking); image = λ mine. none.1 }),
+            let none = turn_unmet t.turn old.world.health.failures
+            move.after.world.health.failures rose own.1 in (
+              own.0,
+              record {
+                memory = λ mine lacking. none.0 (sym t.told ∙ lacking);
+                image = λ mine. none.1;
+              },
+            ),
         λ found.
-            let none : test ≡ false = turn_met t.turn old.world.health.failures move.after.world.health.failures (λ lacking. found.1.memory is (t.told ∙ lacking)) (found.1.image is) in
+            let none : test ≡ false =
+            turn_met t.turn old.world.health.failures move.after.world.health.failures
+            (λ lacking. found.1.memory is (t.told ∙ lacking)) (found.1.image is) in
             now ∙ (ap (λ m. slice_get (noted h m old.world.disturbed) h) none ∙ found.0),
       )
 
-  notes_turn : (g h : ℕ) (old : PacedWorld) (move : Move A) → slot_in move.call ≡ h → (h ≡ g) ⊎ (h ≢ g) → IsTurn Does old h move.response move.output move.block_irq move.console_irq move.after → Notes g old move
+  notes_turn : (g h : ℕ) (old : PacedWorld) (move : Move A) → slot_in move.call ≡ h → (h ≡ g) ⊎ (h ≢ g)
+      → IsTurn Does old h move.response move.output move.block_irq move.console_irq move.after
+      → Notes g old move
   notes_turn g h old move is (inl mine) t = subst (λ k. Notes k old move) mine (notes_own h old move is t)
   notes_turn g h old move is (inr other) t = notes_other g h old move is other t
 
-notes_at : {A : Type 0} (g : ℕ) (budget : Budget) (old : PacedWorld) (move : Move A) (call : Call A) (o : Option (Option Pause)) → move.call ≡ call → ComesTo budget call o old move.response move.output move.block_irq move.console_irq move.after → Notes g old move
-notes_at g budget old move call None is c = notes_unchanged g old move (λ said. let never = sym c.0 ∙ said in cc) c.1
+notes_at : {A : Type 0} (g : ℕ) (budget : Budget) (old : PacedWorld) (move : Move A) (call : Call A)
+    (o : Option (Option Pause)) → move.call ≡ call
+    → ComesTo budget call o old move.response move.output move.block_irq move.console_irq move.after
+    → Notes g old move
+notes_at g budget old move call None is c =
+    notes_unchanged g old move (λ said. let never = sym c.0 ∙ said in cc) c.1
 notes_at g budget old move (Handle event) (Some None) is c =
-    notes_turn (Begins event.what budget) (λ s f k s' output t h. begins_rises (asked event.what s) event.what budget s f k s' output t h) g event.slot old move (ap slot_in is) (cases_eq event.slot g) c
-notes_at g budget old move (Handle event) (Some (Some pause)) is c = notes_unchanged g old move (λ said. let never = sym c.0 ∙ said in cc) c.1
-notes_at g budget old move (GoOn slot) (Some None) is c = notes_unchanged g old move (λ said. let never = sym c.0 ∙ said in cc) c.1
+    notes_turn (Begins event.what budget) (λ s f k s' output t h. begins_rises (asked event.what s) event.what
+    budget s f k s' output t h) g event.slot old move (ap slot_in is) (cases_eq event.slot g) c
+notes_at g budget old move (Handle event) (Some (Some pause)) is c =
+    notes_unchanged g old move (λ said. let never = sym c.0 ∙ said in cc) c.1
+notes_at g budget old move (GoOn slot) (Some None) is c =
+    notes_unchanged g old move (λ said. let never = sym c.0 ∙ said in cc) c.1
 notes_at {A} g budget old move (GoOn slot) (Some (Some pause)) is c =
-    notes_turn (GoesOn pause budget) (λ s f k s' output t h. comes_rises {A = A} pause Next budget s f k s' output t h) g slot old move (ap slot_in is) (cases_eq slot g) c
+    notes_turn (GoesOn pause budget) (λ s f k s' output t h. comes_rises {A = A} pause Next budget s f k s'
+    output t h) g slot old move (ap slot_in is) (cases_eq slot g) c
 
 -- and a whole line
-pub line_noted : {A : Type 0} (g : ℕ) (budget : Budget) (old new : PacedWorld) (moves : List (Move A)) → IsLine budget old moves new → IsNoted g old moves new
+pub line_noted : {A : Type 0} (g : ℕ) (budget : Budget) (old new : PacedWorld) (moves : List (Move A))
+    → IsLine budget old moves new → IsNoted g old moves new
 line_noted g budget old new [] line =
-    let same : slice_get new.world.disturbed g ≡ slice_get old.world.disturbed g = ap (λ (w : PacedWorld). slice_get w.world.disturbed g) line in
+    let same : slice_get new.world.disturbed g ≡ slice_get old.world.disturbed g =
+    ap (λ (w : PacedWorld). slice_get w.world.disturbed g) line in
     (λ is. (sym same ∙ is, tt), λ is. same ∙ is.0)
 line_noted g budget old new (move ∷ moves) line =
-    let first : Notes g old move = notes_at g budget old move move.call (slice_get old.paused (slot_in move.call)) refl line.0 in
+    let first : Notes g old move =
+    notes_at g budget old move move.call (slice_get old.paused (slot_in move.call)) refl line.0 in
     let rest : IsNoted g move.after moves new = line_noted g budget move.after new moves line.1 in (
       λ is. let later = rest.0 is in let sooner = first.0 later.0 in (sooner.0, (sooner.1, later.1)),
       λ is. rest.1 (first.1 (is.0, is.1.0), is.1.1),

@@ -3,7 +3,8 @@ use Rattle.std.proofs.Common.{◌≡◌, ℕ, ◌+◌, ◌-◌, ◌≤◌, List,
 use Rattle.std.proofs.Math.Seq.{drop-append-add}
 
 -- where all of the first list are taken, what is left stands in the other
-pub left_later : {X : Type 0} (first later : List X) (start count len : ℕ) → len ≡ length first → len - start ≤ count
+pub left_later : {X : Type 0} (first later : List X) (start count len : ℕ) → len ≡ length first
+    → len - start ≤ count
     → drop (count - (len - start)) later ++ [] ≡ drop count (drop start first ++ later)
 left_later first later start count len is_len past =
     let rest = drop start first in

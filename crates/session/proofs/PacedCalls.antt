@@ -1,4 +1,5 @@
--- A call of a board whose services may pause, by what is paused of its slot and what the board says of its turn.
+-- A call of a board whose services may pause, by what is paused of its slot and what the board says of its
+-- turn.
 use Rattle.std.proofs.Common.{◌≡◌, ℕ, ◌<◌, ◌≤◌, ◌↔◌, List, [], length, Option, Some, None, Ok, Err, refl, ap, subst, ◌∙◌, arith}
 use Rattle.std.specs.Prelude.{slice_set, IsSomeAnd}
 use Rattle.std.specs.List.{slice_get}

@@ -10,7 +10,8 @@ pub stays : {X : Type 0} (xs : List X) (h : ℕ) (x : X) → slice_get xs h ≡ 
 stays xs h x here = rw (← get_or_from_slice_get xs h x x here) (set-get_or xs h x)
 
 -- a slot that has an output is there
-pub is_there : {X Y : Type 0} (xs : List X) (ys : List Y) (h : ℕ) (x : X) → slice_get xs h ≡ Some x → length ys ≡ length xs → slice_get ys h ≡ None → ⊥
+pub is_there : {X Y : Type 0} (xs : List X) (ys : List Y) (h : ℕ) (x : X) → slice_get xs h ≡ Some x
+    → length ys ≡ length xs → slice_get ys h ≡ None → ⊥
 is_there [] ys h x here same none = absurd (cc (here))
 is_there (x ∷ xs) [] h y here same none = absurd (omega (arith, same))
 is_there (x ∷ xs) (y ∷ ys) zero z here same none = absurd (cc (none))

@@ -23,18 +23,24 @@ use Rattle.session.proofs.Steps.{session}
 held : (found : BoardSlot) (addr n : ℕ) → Inside found.memory addr n → is_inside found.memory addr n ≡ true
 held found addr n inside = (is_inside-tells found.memory addr n).1 inside
 
-not_held : (found : BoardSlot) (addr n : ℕ) → (Inside found.memory addr n → ⊥) → is_inside found.memory addr n ≡ false
-not_held found addr n outside = not_true (is_inside found.memory addr n) (λ is. outside ((is_inside-tells found.memory addr n).0 is))
+not_held : (found : BoardSlot) (addr n : ℕ) → (Inside found.memory addr n → ⊥)
+    → is_inside found.memory addr n ≡ false
+not_held found addr n outside =
+    not_true (is_inside found.memory addr n) (λ is. outside ((is_inside-tells found.memory addr n).0 is))
 
-read_at : (A : Type 0) (s : SessionState) (slot addr n : ℕ) (new : List ℕ) (o : Option BoardSlot) → slice_get s.slots slot ≡ o →
-    IsSomeAnd o (λ found. Inside found.memory addr n) → IsSomeAnd o (λ found. new ≡ part_of found.memory addr n) →
+read_at : (A : Type 0) (s : SessionState) (slot addr n : ℕ) (new : List ℕ) (o : Option BoardSlot)
+    → slice_get s.slots slot ≡ o →
+    IsSomeAnd o (λ found. Inside found.memory addr n)
+    → IsSomeAnd o (λ found. new ≡ part_of found.memory addr n) →
     IsStep {A = A} s (record { slot = slot; what = MemRead addr n }) (Bytes new) s
 read_at A s slot addr n new None here inside is = absurd inside
 read_at A s slot addr n new (Some found) here inside is =
-    unchanged s (record { slot = slot; what = MemRead addr n }) (Bytes new) found here refl (λ is. absurd (cc)) (λ is. absurd (cc))
+    unchanged s (record { slot = slot; what = MemRead addr n }) (Bytes new) found here refl
+    (λ is. absurd (cc)) (λ is. absurd (cc))
     (inl (record {
       alike = record {
-        alike = rw (held found addr n inside) (ap (λ (bytes : List ℕ). replies {A = A} (state_of s.image found) (Bytes bytes)) is);
+        alike = rw (held found addr n inside)
+            (ap (λ (bytes : List ℕ). replies {A = A} (state_of s.image found) (Bytes bytes)) is);
         image = refl;
       };
       answered = λ is. absurd (cc);
@@ -43,28 +49,37 @@ read_at A s slot addr n new (Some found) here inside is =
 
 -- what was read of it is the answer to that read
 pub was_read : (A : Type 0) (s : SessionState) (slot addr n : ℕ) (new : List ℕ) →
-    IsSomeAnd (slice_get s.slots slot) (λ found. Inside found.memory addr n) → IsSomeAnd (slice_get s.slots slot) (λ found. new ≡ part_of found.memory addr n) →
+    IsSomeAnd (slice_get s.slots slot) (λ found. Inside found.memory addr n)
+    → IsSomeAnd (slice_get s.slots slot) (λ found. new ≡ part_of found.memory addr n) →
     IsStep {A = A} s (record { slot = slot; what = MemRead addr n }) (Bytes new) s
 was_read A s slot addr n new inside is = read_at A s slot addr n new (slice_get s.slots slot) refl inside is
 
-outside_of_slot : (o : Option BoardSlot) (addr n : ℕ) → (IsSomeAnd o (λ found. Inside found.memory addr n) → ⊥) → (found : BoardSlot) → o ≡ Some found → is_inside found.memory addr n ≡ false
+outside_of_slot : (o : Option BoardSlot) (addr n : ℕ)
+    → (IsSomeAnd o (λ found. Inside found.memory addr n) → ⊥) → (found : BoardSlot) → o ≡ Some found
+    → is_inside found.memory addr n ≡ false
 outside_of_slot None addr n outside found is = absurd (cc)
-outside_of_slot (Some slot) addr n outside found is = not_held found addr n (λ inside. outside (rw (same_Some slot found is) inside))
+outside_of_slot (Some slot) addr n outside found is =
+    not_held found addr n (λ inside. outside (rw (same_Some slot found is) inside))
 
 -- what isn't inside it is refused, to a read
 pub not_read : (A : Type 0) (s : SessionState) (slot addr n : ℕ) →
     (IsSomeAnd (slice_get s.slots slot) (λ found. Inside found.memory addr n) → ⊥) →
-    IsStep {A = A} s (record { slot = slot; what = MemRead addr n }) (if nat_lt slot (length s.slots) then BadRange else BadSlot) s
+    IsStep {A = A} s (record { slot = slot; what = MemRead addr n })
+    (if nat_lt slot (length s.slots) then BadRange else BadSlot) s
 not_read A s slot addr n outside =
     refused_at s (record { slot = slot; what = MemRead addr n }) (slice_get s.slots slot) refl
     (λ found is. inl (record {
-      alike = record { alike = rw (outside_of_slot (slice_get s.slots slot) addr n outside found is) refl; image = refl };
+      alike = record {
+        alike = rw (outside_of_slot (slice_get s.slots slot) addr n outside found is) refl;
+        image = refl;
+      };
       answered = λ is. absurd (cc);
       failures = refl;
     })) (λ limit found after waiting left reply. tt)
 
 -- a step that put nothing out keeps whatever stands in the output
-behind : {A : Type 0} {old : World} {event : Event A} {reply : Reply A} {new : World} (output : List ℕ) → Answers old event reply [] [] new → Answers old event reply output output new
+behind : {A : Type 0} {old : World} {event : Event A} {reply : Reply A} {new : World} (output : List ℕ)
+    → Answers old event reply [] [] new → Answers old event reply output output new
 behind {A} {old} {event} {reply} {new} output answers = record {
   written = answers.written;
   step = answers.step;
@@ -72,13 +87,22 @@ behind {A} {old} {event} {reply} {new} output answers = record {
   appended = rw (← answers.appended) (sym (append-nil output));
 }
 
-wrote_at : (A : Type 0) (slots slots' : List BoardSlot) (image image' : List ℕ) (dirty dirty' : Bool) (outputs : List Waiting) (paused : List (Option Pause)) (budget : Budget) (slot addr : ℕ) (bytes : List ℕ) (o : Option BoardSlot) → slice_get slots slot ≡ o →
-    Answers {A = A} (world_of (session slots image dirty outputs paused budget)) (record { slot = slot; what = MemWrite addr bytes }) Done [] [] (world_of (session slots' image' dirty' outputs paused budget)) →
-    IsSomeAnd o (λ found. slots' ≡ slice_set slots slot (record found { memory = put found.memory addr bytes })) →
+wrote_at : (A : Type 0) (slots slots' : List BoardSlot) (image image' : List ℕ) (dirty dirty' : Bool)
+    (outputs : List Waiting) (paused : List (Option Pause)) (budget : Budget) (slot addr : ℕ) (bytes : List ℕ)
+    (o : Option BoardSlot) → slice_get slots slot ≡ o →
+    Answers {A = A} (world_of (session slots image dirty outputs paused budget))
+    (record { slot = slot; what = MemWrite addr bytes }) Done [] []
+    (world_of (session slots' image' dirty' outputs paused budget)) →
+    IsSomeAnd o (λ found. slots'
+    ≡ slice_set slots slot (record found { memory = put found.memory addr bytes })) →
     image' ≡ image →
-    IsStep {A = A} (session slots image dirty outputs paused budget) (record { slot = slot; what = MemWrite addr bytes }) Done (session slots' image' dirty' outputs paused budget)
-wrote_at A slots slots' image image' dirty dirty' outputs paused budget slot addr bytes None here answers stands same = absurd stands
-wrote_at A slots slots' image image' dirty dirty' outputs paused budget slot addr bytes (Some found) here answers stands same =
+    IsStep {A = A} (session slots image dirty outputs paused budget)
+    (record { slot = slot; what = MemWrite addr bytes }) Done
+    (session slots' image' dirty' outputs paused budget)
+wrote_at A slots slots' image image' dirty dirty' outputs paused budget slot addr bytes None here answers
+    stands same = absurd stands
+wrote_at A slots slots' image image' dirty dirty' outputs paused budget slot addr bytes (Some found) here
+    answers stands same =
     let fits : slot < length slots = slice_get_within slots slot found here in
     record {
       answers = behind _ answers;
@@ -98,10 +122,19 @@ wrote_at A slots slots' image image' dirty dirty' outputs paused budget slot add
     }
 
 -- what was written to it is the step of that write
-pub was_written : (A : Type 0) (slots slots' : List BoardSlot) (image image' : List ℕ) (dirty dirty' : Bool) (outputs : List Waiting) (paused : List (Option Pause)) (budget : Budget) (slot addr : ℕ) (bytes : List ℕ) →
-    Answers {A = A} (world_of (session slots image dirty outputs paused budget)) (record { slot = slot; what = MemWrite addr bytes }) Done [] [] (world_of (session slots' image' dirty' outputs paused budget)) →
-    IsSomeAnd (slice_get slots slot) (λ found. slots' ≡ slice_set slots slot (record found { memory = put found.memory addr bytes })) →
+pub was_written : (A : Type 0) (slots slots' : List BoardSlot) (image image' : List ℕ) (dirty dirty' : Bool)
+    (outputs : List Waiting) (paused : List (Option Pause)) (budget : Budget) (slot addr : ℕ) (bytes : List ℕ)
+    →
+    Answers {A = A} (world_of (session slots image dirty outputs paused budget))
+    (record { slot = slot; what = MemWrite addr bytes }) Done [] []
+    (world_of (session slots' image' dirty' outputs paused budget)) →
+    IsSomeAnd (slice_get slots slot) (λ found. slots'
+    ≡ slice_set slots slot (record found { memory = put found.memory addr bytes })) →
     image' ≡ image →
-    IsStep {A = A} (session slots image dirty outputs paused budget) (record { slot = slot; what = MemWrite addr bytes }) Done (session slots' image' dirty' outputs paused budget)
-was_written A slots slots' image image' dirty dirty' outputs paused budget slot addr bytes answers stands same =
-    wrote_at A slots slots' image image' dirty dirty' outputs paused budget slot addr bytes (slice_get slots slot) refl answers stands same
+    IsStep {A = A} (session slots image dirty outputs paused budget)
+    (record { slot = slot; what = MemWrite addr bytes }) Done
+    (session slots' image' dirty' outputs paused budget)
+was_written A slots slots' image image' dirty dirty' outputs paused budget slot addr bytes
+    answers stands same =
+    wrote_at A slots slots' image image' dirty dirty' outputs paused budget slot addr bytes
+    (slice_get slots slot) refl answers stands same

@@ -21,45 +21,57 @@ pub on_ok : {T E : Type 0} (r : Result T E) (P : Type 0) → P → OnOk r P
 on_ok (Ok x) P p = p
 on_ok (Err e) P p = tt
 
-same_err : {T : Type 0} (r : Result T SessionFault) (why fault : SessionFault) → r ≡ Err why → r ≡ Err fault → why ≡ fault
+same_err : {T : Type 0} (r : Result T SessionFault) (why fault : SessionFault) → r ≡ Err why
+    → r ≡ Err fault → why ≡ fault
 same_err (Ok x) why fault is it = absurd (cc)
 same_err (Err e) why fault is it = cc
 
 -- the fault that `?` hands on
-pub handed_on : {T : Type 0} (r : Result T SessionFault) (why : SessionFault) → IsErrAnd r (λ told. told ≡ why) → r ≡ Err why
+pub handed_on : {T : Type 0} (r : Result T SessionFault) (why : SessionFault)
+    → IsErrAnd r (λ told. told ≡ why) → r ≡ Err why
 handed_on (Ok x) why is = absurd is
 handed_on (Err e) why is = ap Err is
 
-pub if_err : {T : Type 0} (r : Result T SessionFault) (why : SessionFault) (P : SessionFault → Type 0) → r ≡ Err why → P why → IfErr r P
+pub if_err : {T : Type 0} (r : Result T SessionFault) (why : SessionFault) (P : SessionFault → Type 0)
+    → r ≡ Err why → P why → IfErr r P
 if_err r why P is p = subst (λ (s : Result _ SessionFault). IfErr s P) (sym is) p
 
-pub is_err : {T : Type 0} (r : Result T SessionFault) (why : SessionFault) (P : SessionFault → Type 0) → r ≡ Err why → P why → IsErrAnd r P
+pub is_err : {T : Type 0} (r : Result T SessionFault) (why : SessionFault) (P : SessionFault → Type 0)
+    → r ≡ Err why → P why → IsErrAnd r P
 is_err r why P is p = subst (λ (s : Result _ SessionFault). IsErrAnd s P) (sym is) p
 
 -- what is answered only for want of memory
-pub wanting : {T : Type 0} (r : Result T SessionFault) (P : SessionFault → Type 0) → IfErr r (λ why. why ≡ NoMemory) → P NoMemory → IfErr r P
+pub wanting : {T : Type 0} (r : Result T SessionFault) (P : SessionFault → Type 0)
+    → IfErr r (λ why. why ≡ NoMemory) → P NoMemory → IfErr r P
 wanting (Ok x) P want p = tt
 wanting (Err e) P want p = subst P (sym want) p
 
-pub never_spent : {T : Type 0} (r : Result T SessionFault) → IfErr r (λ why. why ≡ NoMemory) → IsErrOf r SpentBudget → ⊥
+pub never_spent : {T : Type 0} (r : Result T SessionFault) → IfErr r (λ why. why ≡ NoMemory)
+    → IsErrOf r SpentBudget → ⊥
 never_spent (Ok x) want is = cc
 never_spent (Err e) want is = cc
 
-pub never_outlet : {T : Type 0} (r : Result T SessionFault) → IfErr r (λ why. why ≡ NoMemory) → IsErrOf r BadOutlet → ⊥
+pub never_outlet : {T : Type 0} (r : Result T SessionFault) → IfErr r (λ why. why ≡ NoMemory)
+    → IsErrOf r BadOutlet → ⊥
 never_outlet (Ok x) want is = cc
 never_outlet (Err e) want is = cc
 
 -- as many slots are made as there are described
-pub length-made_over : {X : Type 0} (made : SlotSpec → Memory → X) (slots : List SlotSpec) (bytes : List (List ℕ)) → length (made_over made slots bytes) ≡ length slots
+pub length-made_over : {X : Type 0} (made : SlotSpec → Memory
+    → X) (slots : List SlotSpec) (bytes : List (List ℕ)) → length (made_over made slots bytes) ≡ length slots
 length-made_over made [] bytes = refl
-length-made_over made (spec ∷ slots) bytes = ap suc (length-made_over made slots (drop (length spec.regions) bytes))
+length-made_over made (spec ∷ slots) bytes =
+    ap suc (length-made_over made slots (drop (length spec.regions) bytes))
 
 -- what is judged of a slice is so of its list
-pub lent : (guests : List GuestSpec) (seen runs : List Run) → seen ≡ runs → AreBytesOf (slots_of guests) (map vec_items seen) → AreBytesOf (slots_of guests) (map vec_items runs)
-lent guests seen runs same are = subst (λ (some : List Run). AreBytesOf (slots_of guests) (map vec_items some)) same are
+pub lent : (guests : List GuestSpec) (seen runs : List Run) → seen ≡ runs
+    → AreBytesOf (slots_of guests) (map vec_items seen) → AreBytesOf (slots_of guests) (map vec_items runs)
+lent guests seen runs same are =
+    subst (λ (some : List Run). AreBytesOf (slots_of guests) (map vec_items some)) same are
 
 -- what a board is refused for, by the slots and the sectors that it was asked for
-pub asked : (slots specs : List SlotSpec) (sectors count cache : ℕ) (fault : BoardFault) → slots ≡ specs → sectors ≡ count
+pub asked : (slots specs : List SlotSpec) (sectors count cache : ℕ) (fault : BoardFault)
+    → slots ≡ specs → sectors ≡ count
     → Refuses count specs cache fault → Refuses sectors slots cache fault
 asked slots specs sectors count cache fault p q h = rw (p, q) h
 
@@ -75,7 +87,8 @@ module _ (guests : List GuestSpec) (image : List ℕ) (cache : ℕ) (budget : Bu
   only_image (Board fault) bad r = absurd (bad r.whole)
   only_image NoMemory bad r = absurd (bad r.0)
 
-  only_outlet : (why : SessionFault) → (length image % 512 ≡ 0) × ¬ AreOutlets guests → Refused why → why ≡ BadOutlet
+  only_outlet : (why : SessionFault) → (length image % 512 ≡ 0) × ¬ AreOutlets guests
+      → Refused why → why ≡ BadOutlet
   only_outlet BadLoan bad r = absurd r
   only_outlet BadImage bad r = absurd (r bad.0)
   only_outlet BadOutlet bad r = refl
@@ -83,7 +96,8 @@ module _ (guests : List GuestSpec) (image : List ℕ) (cache : ℕ) (budget : Bu
   only_outlet (Board fault) bad r = absurd (bad.1 r.outlets)
   only_outlet NoMemory bad r = absurd (bad.1 r.1)
 
-  only_spent : (why : SessionFault) → (length image % 512 ≡ 0) × AreOutlets guests × IsSpent budget → Refused why → why ≡ SpentBudget
+  only_spent : (why : SessionFault) → (length image % 512 ≡ 0) × AreOutlets guests × IsSpent budget
+      → Refused why → why ≡ SpentBudget
   only_spent BadLoan bad r = absurd r
   only_spent BadImage bad r = absurd (r bad.0)
   only_spent BadOutlet bad r = absurd (r.1 bad.1)
@@ -91,7 +105,8 @@ module _ (guests : List GuestSpec) (image : List ℕ) (cache : ℕ) (budget : Bu
   only_spent (Board fault) bad r = absurd (r.lasts bad.2)
   only_spent NoMemory bad r = absurd (r.2 bad.2)
 
-  module _ {T : Type 0} (r : Result T SessionFault) (why : SessionFault) (is : r ≡ Err why) (refused : Refused why) where
+  module _ {T : Type 0} (r : Result T SessionFault) (why : SessionFault) (is : r ≡ Err why)
+      (refused : Refused why) where
     told : (fault : SessionFault) → IsErrOf r fault → Refused fault
     told fault it = subst Refused (same_err r why fault is it) refused
 
@@ -117,7 +132,8 @@ module _ (guests : List GuestSpec) (image : List ℕ) (cache : ℕ) (budget : Bu
     lent_refused NoMemory r = (are, r)
 
     -- what is judged before the board is the first fault
-    pub judged_first : (told why : SessionFault) → ¬ IsJudged guests image budget → Refused told → LentRefused why → told ≡ why
+    pub judged_first : (told why : SessionFault) → ¬ IsJudged guests image budget → Refused told
+        → LentRefused why → told ≡ why
     judged_first told BadLoan bad is r = absurd (r are)
     judged_first told BadImage bad is r = only_image told r.1 is
     judged_first told BadOutlet bad is r = only_outlet told r.1 is
@@ -127,8 +143,11 @@ module _ (guests : List GuestSpec) (image : List ℕ) (cache : ℕ) (budget : Bu
 
     -- and behind it a board's
     pub then_board : {T : Type 0} (r : Result T SessionFault) → IsJudged guests image budget
-        → ((fault : BoardFault) → fault ≢ BoardFault.NoMemory → Refuses (length image / 512) (slots_of guests) cache fault → IsErrAnd r (λ why. (why ≡ Board fault) ⊎ (why ≡ NoMemory)))
-        → (why : SessionFault) → why ≢ NoMemory → LentRefused why → IsErrAnd r (λ told. (told ≡ why) ⊎ (told ≡ NoMemory))
+        → ((fault : BoardFault) → fault ≢ BoardFault.NoMemory
+        → Refuses (length image / 512) (slots_of guests) cache fault
+        → IsErrAnd r (λ why. (why ≡ Board fault) ⊎ (why ≡ NoMemory)))
+        → (why : SessionFault) → why ≢ NoMemory → LentRefused why
+        → IsErrAnd r (λ told. (told ≡ why) ⊎ (told ≡ NoMemory))
     then_board r judged by BadLoan other is = absurd (is are)
     then_board r judged by BadImage other is = absurd (is.1 judged.0)
     then_board r judged by BadOutlet other is = absurd (is.1.1 judged.1)
@@ -141,8 +160,10 @@ module _ (guests : List GuestSpec) (bytes : List (List ℕ)) (are : AreBytesOf (
   HostedLentRefused = IsHostedLentRefusedFor guests bytes
 
   pub then_hosted_board : {T : Type 0} (r : Result T SessionFault) → AreOutlets guests
-      → ((fault : BoardFault) → IsHostedBoardFault guests fault → IsErrAnd r (λ why. (why ≡ Board fault) ⊎ (why ≡ NoMemory)))
-      → (why : SessionFault) → why ≢ NoMemory → HostedLentRefused why → IsErrAnd r (λ told. (told ≡ why) ⊎ (told ≡ NoMemory))
+      → ((fault : BoardFault) → IsHostedBoardFault guests fault
+      → IsErrAnd r (λ why. (why ≡ Board fault) ⊎ (why ≡ NoMemory)))
+      → (why : SessionFault) → why ≢ NoMemory → HostedLentRefused why
+      → IsErrAnd r (λ told. (told ≡ why) ⊎ (told ≡ NoMemory))
   then_hosted_board r good by BadLoan other is = absurd (is are)
   then_hosted_board r good by BadImage other is = absurd is.1
   then_hosted_board r good by BadOutlet other is = absurd (is.1 good)

@@ -21,17 +21,21 @@ never_idle A (Err refusal.Busy) is = cc
 never_idle A (Err (refusal.Fault why)) is = cc
 
 -- what is refused keeps the session
-pub busy_keeps : (A : Type 0) (P : Type 0) (r : Result (Unit {0}) RestoreRefusal) → OnErr r P → restore_response {A = A} r ≡ Busy → P
+pub busy_keeps : (A : Type 0) (P : Type 0) (r : Result (Unit {0}) RestoreRefusal) → OnErr r P
+    → restore_response {A = A} r ≡ Busy → P
 busy_keeps A P (Ok done) kept is = absurd (cc)
 busy_keeps A P (Err why) kept is = kept
 
-pub bad_slot_keeps : (A : Type 0) (P : Type 0) (r : Result (Unit {0}) RestoreRefusal) → OnErr r P → restore_response {A = A} r ≡ Answered reply.BadSlot → P
+pub bad_slot_keeps : (A : Type 0) (P : Type 0) (r : Result (Unit {0}) RestoreRefusal) → OnErr r P
+    → restore_response {A = A} r ≡ Answered reply.BadSlot → P
 bad_slot_keeps A P (Ok done) kept is = absurd (cc)
 bad_slot_keeps A P (Err why) kept is = kept
 
 -- and a slot that isn't there is told by its own answer
-pub told_missing : (A : Type 0) (P : Type 0) (r : Result (Unit {0}) RestoreRefusal) → IsErrOf r refusal.BadSlot ↔ P → (restore_response {A = A} r ≡ Answered reply.BadSlot) ↔ P
+pub told_missing : (A : Type 0) (P : Type 0) (r : Result (Unit {0}) RestoreRefusal)
+    → IsErrOf r refusal.BadSlot ↔ P → (restore_response {A = A} r ≡ Answered reply.BadSlot) ↔ P
 told_missing A P (Ok done) missing = (λ is. absurd (cc), λ p. let never = missing.1 p in absurd (cc))
 told_missing A P (Err refusal.BadSlot) missing = (λ is. missing.0 refl, λ p. refl)
 told_missing A P (Err refusal.Busy) missing = (λ is. absurd (cc), λ p. let never = missing.1 p in absurd (cc))
-told_missing A P (Err (refusal.Fault why)) missing = (λ is. absurd (cc), λ p. let never = missing.1 p in absurd (cc))
+told_missing A P (Err (refusal.Fault why)) missing =
+    (λ is. absurd (cc), λ p. let never = missing.1 p in absurd (cc))

@@ -6,30 +6,41 @@ use Rattle.std.proofs.lemmas.List.{set-get_or, length-set, get_or-set_same}
 use Rattle.std.proofs.lemmas.Option.{get_or_from_slice_get, unwrap_or-slice_get, same_Some}
 use Rattle.session.specs.Session.{KeepsOtherOutputs, Waiting, none_waiting}
 
-pub others_output : (outputs : List Waiting) (h : ℕ) (new : Waiting) → KeepsOtherOutputs h outputs (slice_set outputs h new)
+pub others_output : (outputs : List Waiting) (h : ℕ) (new : Waiting)
+    → KeepsOtherOutputs h outputs (slice_set outputs h new)
 others_output [] h new other differ = refl
 others_output (o ∷ outputs) zero new zero differ = absurd (differ refl)
 others_output (o ∷ outputs) zero new (suc other) differ = refl
 others_output (o ∷ outputs) (suc h) new zero differ = refl
-others_output (o ∷ outputs) (suc h) new (suc other) differ = others_output outputs h new other (λ same. differ (ap suc same))
+others_output (o ∷ outputs) (suc h) new (suc other) differ =
+    others_output outputs h new other (λ same. differ (ap suc same))
 
-pub set_there : (outputs : List Waiting) (h : ℕ) (new : Waiting) → h < length outputs → unwrap_or (slice_get (slice_set outputs h new) h) (none_waiting 0) ≡ new
+pub set_there : (outputs : List Waiting) (h : ℕ) (new : Waiting) → h < length outputs
+    → unwrap_or (slice_get (slice_set outputs h new) h) (none_waiting 0) ≡ new
 set_there outputs h new fits =
     let fits' : h < length (slice_set outputs h new) = omega (arith, length-set outputs h new) in
-    rw (unwrap_or-slice_get (slice_set outputs h new) h (none_waiting 0)) (get_or-set_same outputs h new (none_waiting 0) fits)
+    rw (unwrap_or-slice_get (slice_set outputs h new) h (none_waiting 0))
+    (get_or-set_same outputs h new (none_waiting 0) fits)
 
-pub stays_there : (outputs : List Waiting) (h : ℕ) (old : Waiting) → slice_get outputs h ≡ Some old → slice_set outputs h old ≡ outputs
-stays_there outputs h old here = rw (← get_or_from_slice_get outputs h old old here) (set-get_or outputs h old)
+pub stays_there : (outputs : List Waiting) (h : ℕ) (old : Waiting) → slice_get outputs h ≡ Some old
+    → slice_set outputs h old ≡ outputs
+stays_there outputs h old here =
+    rw (← get_or_from_slice_get outputs h old old here) (set-get_or outputs h old)
 
-pub limits_set : (outputs : List Waiting) (h : ℕ) (before after : Waiting) → slice_get outputs h ≡ Some before → after.limit ≡ before.limit → (slot : ℕ) →
-    (unwrap_or (slice_get (slice_set outputs h after) slot) (none_waiting 0)).limit ≡ (unwrap_or (slice_get outputs slot) (none_waiting 0)).limit
+pub limits_set : (outputs : List Waiting) (h : ℕ) (before after : Waiting) → slice_get outputs h ≡ Some before
+    → after.limit ≡ before.limit → (slot : ℕ) →
+    (unwrap_or (slice_get (slice_set outputs h after) slot) (none_waiting 0)).limit
+    ≡ (unwrap_or (slice_get outputs slot) (none_waiting 0)).limit
 limits_set [] h before after here same slot = refl
-limits_set (o ∷ outputs) zero before after here same zero = let is : o ≡ before = same_Some o before here in rw is same
+limits_set (o ∷ outputs) zero before after here same zero = let is : o ≡ before =
+    same_Some o before here in rw is same
 limits_set (o ∷ outputs) zero before after here same (suc slot) = refl
 limits_set (o ∷ outputs) (suc h) before after here same zero = refl
-limits_set (o ∷ outputs) (suc h) before after here same (suc slot) = limits_set outputs h before after here same slot
+limits_set (o ∷ outputs) (suc h) before after here same (suc slot) =
+    limits_set outputs h before after here same slot
 
-pub rebuilt : (l k : List ℕ) (m n : ℕ) → l ≡ k → m ≡ n → ◌≡◌ {A = Waiting} (record { bytes = l; limit = m }) (record { bytes = k; limit = n })
+pub rebuilt : (l k : List ℕ) (m n : ℕ) → l ≡ k → m ≡ n
+    → ◌≡◌ {A = Waiting} (record { bytes = l; limit = m }) (record { bytes = k; limit = n })
 rebuilt l k m n p q = rw (p, q) refl
 
 pub same_outlet : (a b : Waiting) → a.bytes ≡ b.bytes → a.limit ≡ b.limit → a ≡ b

@@ -13,7 +13,8 @@ use Rattle.session.specs.Course.{SessionStep, Called, Took}
 use Rattle.session.specs.Pacing.{Call, Handle, GoOn, slot_in}
 use Rattle.session.specs.Session.{SessionState, limit_of, new_session, output_of, world_of}
 
--- What is asked for one guest: an event, that its paused service goes on, or the bytes that its console put out, as many as
+-- What is asked for one guest: an event, that its paused service goes on, or the bytes that its console put
+-- out, as many as
 -- find so much room.
 pub data Asking (A : Type 0) : Type 0 where
   Does : EventKind A → Asking A
@@ -66,7 +67,8 @@ IsSeatCourse limit old (asking ∷ askings) (answer ∷ answers) last =
 IsSeatCourse limit old askings answers last = ⊥
 
 -- Guest g, which was in this state, is answered, gives out its output and is left as it would alone.
-pub record IsSeatedAlone {A : Type 0} (g : ℕ) (state : SlotState) (old : SessionState) (steps : List (SessionStep A))
+pub record IsSeatedAlone {A : Type 0} (g : ℕ) (state : SlotState) (old : SessionState)
+    (steps : List (SessionStep A))
     (new : SessionState) : Type 0 where
   pub last : SlotState
   pub own :
@@ -76,9 +78,11 @@ pub record IsSeatedAlone {A : Type 0} (g : ℕ) (state : SlotState) (old : Sessi
 
 -- ---- two sessions
 
--- Guest g of one session and guest h of another have seen the same: they were answered the same, the same bytes of
+-- Guest g of one session and guest h of another have seen the same: they were answered the same, the same
+-- bytes of
 -- their output were taken, the same wait, and both are in the same state.
-pub record SeeAlike {A : Type 0} (g : ℕ) (steps : List (SessionStep A)) (new : SessionState) (h : ℕ) (more : List (SessionStep A))
+pub record SeeAlike {A : Type 0} (g : ℕ) (steps : List (SessionStep A)) (new : SessionState) (h : ℕ)
+    (more : List (SessionStep A))
     (last : SessionState) : Type 0 where
   pub answers : own_answers g steps ≡ own_answers h more
   pub waiting : output_of g new ≡ output_of h last

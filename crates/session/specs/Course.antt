@@ -1,4 +1,5 @@
--- What happens to a session, one thing after another, and what one guest has of it: its own events, as if it were alone and
+-- What happens to a session, one thing after another, and what one guest has of it: its own events, as if it
+-- were alone and
 -- none paused.
 use Rattle.std.specs.Prelude.{◌≡◌, ◌≢◌, ℕ, ◌==◌, ⊤, if◌then◌else◌, List, [], ◌∷◌, ◌++◌, map, take, drop, Some}
 use Rattle.std.specs.List.{slice_get}
@@ -17,16 +18,19 @@ use Rattle.session.specs.Session.{KeepsOtherOutputs, SessionState, limit_of, out
 
 -- A call is answered so: by what is paused of its slot, and an event that is answered at once as a whole one.
 abbrev pub IsCalled : {A : Type 0} → SessionState → Call A → Response A → SessionState → Type 0
-IsCalled old (Handle event) response new = IsCall old (Handle event) response new × IsWhole old event response new
+IsCalled old (Handle event) response new = IsCall old (Handle event) response new
+    × IsWhole old event response new
 IsCalled old (GoOn slot) response new = IsCall old (GoOn slot) response new
 
--- Something that happened, and the session after it: a call was answered so, or these bytes of what a slot's console put
+-- Something that happened, and the session after it: a call was answered so, or these bytes of what a slot's
+-- console put
 -- out were taken, where there was room for so many.
 pub data SessionStep (A : Type 0) : Type 0 where
   Called : Call A → Response A → SessionState → SessionStep A
   Took : ℕ → ℕ → List ℕ → SessionState → SessionStep A
 
--- The first bytes of what a slot's console put out were taken, as many as found room, and nothing else changed.
+-- The first bytes of what a slot's console put out were taken, as many as found room, and nothing else
+-- changed.
 pub record IsTaken (old : SessionState) (slot room : ℕ) (bytes : List ℕ) (new : SessionState) : Type 0 where
   pub first : bytes ≡ take room (output_of slot old)
   pub left : output_of slot new ≡ drop room (output_of slot old)
@@ -39,8 +43,10 @@ pub record IsTaken (old : SessionState) (slot room : ℕ) (bytes : List ℕ) (ne
 -- these things lead from one session to another
 abbrev pub IsCourse : {A : Type 0} → SessionState → List (SessionStep A) → SessionState → Type 0
 IsCourse old [] new = new ≡ old
-IsCourse old (Called call response after ∷ steps) new = IsCalled old call response after × IsCourse after steps new
-IsCourse old (Took slot room bytes after ∷ steps) new = IsTaken old slot room bytes after × IsCourse after steps new
+IsCourse old (Called call response after ∷ steps) new = IsCalled old call response after
+    × IsCourse after steps new
+IsCourse old (Took slot room bytes after ∷ steps) new = IsTaken old slot room bytes after
+    × IsCourse after steps new
 
 -- what can be seen of the board and its pauses
 abbrev pub paced_world_of : SessionState → PacedWorld
@@ -89,12 +95,15 @@ HadRoom g (Took slot room bytes after ∷ steps) = HadRoom g steps
 -- no service of guest g's was paused
 abbrev pub NeverPauses : {A : Type 0} → ℕ → List (SessionStep A) → Type 0
 NeverPauses g [] = ⊤
-NeverPauses g (Called call response after ∷ steps) = (slot_in call ≡ g → response ≢ More) × NeverPauses g steps
+NeverPauses g (Called call response after ∷ steps) = (slot_in call ≡ g → response ≢ More)
+    × NeverPauses g steps
 NeverPauses g (Took slot room bytes after ∷ steps) = NeverPauses g steps
 
--- Guest g, which was in this state, is answered what it would be answered alone where nothing pauses, its console puts
+-- Guest g, which was in this state, is answered what it would be answered alone where nothing pauses, its
+-- console puts
 -- out what it would put out then, and its state afterwards is what it would be.
-pub record RunsAlone {A : Type 0} (g : ℕ) (state : SlotState) (old : SessionState) (steps : List (SessionStep A))
+pub record RunsAlone {A : Type 0} (g : ℕ) (state : SlotState) (old : SessionState)
+    (steps : List (SessionStep A))
     (new : SessionState) : Type 0 where
   pub records : List (Record A)
   pub last : SlotState

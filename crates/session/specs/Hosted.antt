@@ -37,9 +37,11 @@ new_hosted_session_over guests bytes = record (new_hosted_session guests) {
   slots = made_over hosted_over (slots_of guests) bytes;
 }
 
--- A call for a slot: a call of the board by the slot's outlet, whose output stands behind what waits there. Nothing else
+-- A call for a slot: a call of the board by the slot's outlet, whose output stands behind what waits there.
+-- Nothing else
 -- of the session changes.
-pub record IsHostedCall {A : Type 0} (old : HostedSessionState) (slot : ℕ) (event : EventKind A) (reply : Reply A)
+pub record IsHostedCall {A : Type 0} (old : HostedSessionState) (slot : ℕ)
+    (event : EventKind A) (reply : Reply A)
     (new : HostedSessionState) : Type 0 where
   pub block : ℕ
   pub console : ℕ
@@ -61,7 +63,8 @@ flight_at slot session = option_and_then (λ found. found.flight) (slice_get ses
 
 -- what the host is asked to do for a slot
 abbrev pub operation_at : ℕ → HostedSessionState → Option Operation
-operation_at slot session = option_and_then (λ found. operation_in found.flight) (slice_get session.slots slot)
+operation_at slot session =
+    option_and_then (λ found. operation_in found.flight) (slice_get session.slots slot)
 
 -- what a call came to, by what was in flight before it and what is after it
 abbrev pub progress_by : Option Operation → Option Operation → HostedProgress
@@ -70,7 +73,8 @@ progress_by before now = Done
 
 -- the slot is there, and an event of it waits for what is in flight
 abbrev pub HoldsUp : {A : Type 0} → List HostedState → ℕ → EventKind A → Type 0
-HoldsUp slots slot what = IsSomeAnd (slice_get slots slot) (λ found. IsTrue (is_some found.flight && must_wait what))
+HoldsUp slots slot what =
+    IsSomeAnd (slice_get slots slot) (λ found. IsTrue (is_some found.flight && must_wait what))
 
 -- the slot is there, and nothing of it is in flight
 abbrev pub IsAtRest : List HostedState → ℕ → Type 0
@@ -83,7 +87,8 @@ IsOutside slot addr count session =
 
 -- a session with these bytes in the memory of a slot, from this address on
 abbrev pub with_hosted_bytes : ℕ → ℕ → HostedSessionState → List ℕ → HostedSessionState
-with_hosted_bytes slot addr session bytes = record session { slots = with_slot_bytes slot addr session.slots bytes }
+with_hosted_bytes slot addr session bytes =
+    record session { slots = with_slot_bytes slot addr session.slots bytes }
 
 -- ---- why there is none
 
@@ -93,7 +98,8 @@ pub record IsHostedBoardFault (guests : List GuestSpec) (fault : BoardFault) : T
   pub refused : RefusesHosted (slots_of guests) fault
   pub other : fault ≢ BoardFault.NoMemory
 
--- Why a session is refused: an outlet, then what a board is refused for. Want of memory may come before the latter, and
+-- Why a session is refused: an outlet, then what a board is refused for. Want of memory may come before the
+-- latter, and
 -- comes only where no outlet is too large.
 abbrev pub IsHostedRefusedFor : List GuestSpec → SessionFault → Type 0
 IsHostedRefusedFor guests BadLoan = ⊥
@@ -103,7 +109,8 @@ IsHostedRefusedFor guests SpentBudget = ⊥
 IsHostedRefusedFor guests (Board fault) = IsHostedBoardFault guests fault
 IsHostedRefusedFor guests NoMemory = AreOutlets guests
 
--- Why a session over lent memory is refused: the lent bytes, and then what one over memory of its own is refused for.
+-- Why a session over lent memory is refused: the lent bytes, and then what one over memory of its own is
+-- refused for.
 abbrev pub IsHostedLentRefusedFor : List GuestSpec → List (List ℕ) → SessionFault → Type 0
 IsHostedLentRefusedFor guests bytes BadLoan = ¬ AreBytesOf (slots_of guests) bytes
 IsHostedLentRefusedFor guests bytes why = AreBytesOf (slots_of guests) bytes × IsHostedRefusedFor guests why

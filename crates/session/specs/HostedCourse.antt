@@ -10,14 +10,17 @@ use Rattle.session.specs.Session.{KeepsOtherOutputs, waiting_at}
 
 -- ---- a session
 
--- Something that happened, and the session after it: a call for a slot was answered so, an event of its guest or a
+-- Something that happened, and the session after it: a call for a slot was answered so, an event of its guest
+-- or a
 -- completion, or these bytes of what its console put out were taken, where there was room for so many.
 pub data HostedStep (A : Type 0) : Type 0 where
   Called : ℕ → EventKind A → Reply A → HostedSessionState → HostedStep A
   Took : ℕ → ℕ → List ℕ → HostedSessionState → HostedStep A
 
--- The first bytes of what a slot's console put out were taken, as many as found room, and nothing else changed.
-pub record IsHostedTaken (old : HostedSessionState) (slot room : ℕ) (bytes : List ℕ) (new : HostedSessionState) : Type 0 where
+-- The first bytes of what a slot's console put out were taken, as many as found room, and nothing else
+-- changed.
+pub record IsHostedTaken (old : HostedSessionState) (slot room : ℕ) (bytes : List ℕ)
+    (new : HostedSessionState) : Type 0 where
   pub first : bytes ≡ take room (waiting_at slot old.outputs).bytes
   pub left : (waiting_at slot new.outputs).bytes ≡ drop room (waiting_at slot old.outputs).bytes
   pub others : KeepsOtherOutputs slot old.outputs new.outputs
@@ -25,7 +28,8 @@ pub record IsHostedTaken (old : HostedSessionState) (slot room : ℕ) (bytes : L
   pub slots : new.slots ≡ old.slots
 
 -- these things lead from one session to another
-abbrev pub IsHostedCourse : {A : Type 0} → HostedSessionState → List (HostedStep A) → HostedSessionState → Type 0
+abbrev pub IsHostedCourse : {A : Type 0} → HostedSessionState → List (HostedStep A)
+    → HostedSessionState → Type 0
 IsHostedCourse old [] new = new ≡ old
 IsHostedCourse old (Called slot event reply after ∷ steps) new =
     IsHostedCall old slot event reply after × IsHostedCourse after steps new
@@ -34,7 +38,8 @@ IsHostedCourse old (Took slot room bytes after ∷ steps) new =
 
 -- ---- a guest alone with its outlet
 
--- What is asked for one guest: an event of it or a completion, or the bytes that its console put out, as many as find so
+-- What is asked for one guest: an event of it or a completion, or the bytes that its console put out, as many
+-- as find so
 -- much room.
 pub data HostedAsking (A : Type 0) : Type 0 where
   Does : EventKind A → HostedAsking A
@@ -59,17 +64,20 @@ pub record IsSeatCalled {A : Type 0} (limit : ℕ) (old : HostedSeat) (event : E
       (record { state = new.state; reply = reply; output = output })
   pub behind : new.waiting ≡ old.waiting ++ output
 
-abbrev pub IsNextAsking : {A : Type 0} → ℕ → HostedSeat → HostedAsking A → HostedAnswer A → HostedSeat → Type 0
+abbrev pub IsNextAsking : {A : Type 0} → ℕ → HostedSeat → HostedAsking A → HostedAnswer A
+    → HostedSeat → Type 0
 IsNextAsking limit old (Does event) (Replied reply) new = IsSeatCalled limit old event reply new
 IsNextAsking limit old (Takes room) (Gave bytes) new =
     (bytes ≡ take room old.waiting) × (new ≡ record old { waiting = drop room old.waiting })
 IsNextAsking limit old asking answer new = ⊥
 
 -- one after another
-abbrev pub IsHostedSeatCourse : {A : Type 0} → ℕ → HostedSeat → List (HostedAsking A) → List (HostedAnswer A) → HostedSeat → Type 0
+abbrev pub IsHostedSeatCourse : {A : Type 0} → ℕ → HostedSeat → List (HostedAsking A) → List (HostedAnswer A)
+    → HostedSeat → Type 0
 IsHostedSeatCourse limit old [] [] last = last ≡ old
 IsHostedSeatCourse limit old (asking ∷ askings) (answer ∷ answers) last =
-    (next : HostedSeat) × IsNextAsking limit old asking answer next × IsHostedSeatCourse limit next askings answers last
+    (next : HostedSeat) × IsNextAsking limit old asking answer next
+    × IsHostedSeatCourse limit next askings answers last
 IsHostedSeatCourse limit old askings answers last = ⊥
 
 -- ---- each guest of a session
@@ -94,7 +102,8 @@ abbrev pub hosted_seat : ℕ → HostedState → HostedSessionState → HostedSe
 hosted_seat g state session = record { state = state; waiting = (waiting_at g session.outputs).bytes }
 
 -- Guest g, which was in this state, is answered, gives out its output and is left as it would alone.
-pub record IsHostedAlone {A : Type 0} (g : ℕ) (state : HostedState) (old : HostedSessionState) (steps : List (HostedStep A))
+pub record IsHostedAlone {A : Type 0} (g : ℕ) (state : HostedState) (old : HostedSessionState)
+    (steps : List (HostedStep A))
     (new : HostedSessionState) : Type 0 where
   pub last : HostedState
   pub own :

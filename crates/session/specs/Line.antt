@@ -1,4 +1,5 @@
--- Lines of calls with pauses, and what each guest sees of one: its own events, as if it were alone and never paused.
+-- Lines of calls with pauses, and what each guest sees of one: its own events, as if it were alone and never
+-- paused.
 use Rattle.std.specs.Prelude.{◌≡◌, ◌≢◌, ◌↔◌, ℕ, ◌==◌, ⊤, false, if◌then◌else◌, None, Some, List, [], ◌∷◌, ◌++◌}
 use Rattle.std.specs.List.{slice_get}
 use Rattle.chain.specs.declared.budget.Budget.{Budget}
@@ -46,9 +47,11 @@ record_at g out move reply = record {
   console_irq = move.console_irq;
 }
 
--- What guest g is told, in order, where the event that it waits for has put out so much: a record stands where its
+-- What guest g is told, in order, where the event that it waits for has put out so much: a record stands
+-- where its
 -- event ends, and has the output of all its pieces.
-abbrev pub told_by : {A : Type 0} → ℕ → List ℕ → Move A → Response A → (List ℕ → List (Record A)) → List (Record A)
+abbrev pub told_by : {A : Type 0} → ℕ → List ℕ → Move A → Response A
+    → (List ℕ → List (Record A)) → List (Record A)
 told_by g out move (Answered reply) rest = record_at g out move reply ∷ rest []
 told_by g out move More rest = rest (out ++ move.output)
 told_by g out move Busy rest = rest out
@@ -74,11 +77,14 @@ IsQuiet g old (move ∷ moves) = IsUndisturbed g old move × IsQuiet g move.afte
 -- what is noted of guest g says whether an event of it has met a refusal: before the line, or in it
 abbrev pub IsNoted : {A : Type 0} → ℕ → PacedWorld → List (Move A) → PacedWorld → Type 0
 IsNoted g old moves new =
-    (slice_get new.world.disturbed g ≡ Some false) ↔ ((slice_get old.world.disturbed g ≡ Some false) × IsQuiet g old moves)
+    (slice_get new.world.disturbed g ≡ Some false)
+    ↔ ((slice_get old.world.disturbed g ≡ Some false) × IsQuiet g old moves)
 
--- Guest g, which was in this state, is told what it would be told alone by a board that never pauses, and is left as
+-- Guest g, which was in this state, is told what it would be told alone by a board that never pauses, and is
+-- left as
 -- it would be.
-pub record RunsAlone {A : Type 0} (g : ℕ) (state : SlotState) (moves : List (Move A)) (new : PacedWorld) : Type 0 where
+pub record RunsAlone {A : Type 0} (g : ℕ) (state : SlotState) (moves : List (Move A))
+    (new : PacedWorld) : Type 0 where
   pub last : SlotState
   pub own : RunsOnItsOwn g state (own_events g moves) (own_records g [] moves) last
   pub state_after : slice_get new.world.slots g ≡ Some last

@@ -70,20 +70,26 @@ pub record IsUnchanged (old new : PacedWorld) (output : List ℕ) : Type 0 where
 
 -- The slot takes a turn, which shows these interrupt words after it.
 pub record IsTurn {A : Type 0} (Comes : SlotState → Health → Health → SlotState → List ℕ → Turn A → Type 0)
-    (old : PacedWorld) (h : ℕ) (response : Response A) (output : List ℕ) (block console : ℕ) (new : PacedWorld) : Type 0 where
+    (old : PacedWorld) (h : ℕ) (response : Response A) (output : List ℕ) (block console : ℕ)
+    (new : PacedWorld) : Type 0 where
   pub turn : Turn A
   pub taken : SlotTurn Comes old.world h turn output block console new.world
   pub told : response ≡ response_to turn
   pub paused : new.paused ≡ slice_set old.paused h (paused_by turn)
 
--- What a call comes to, by what is paused of its slot. A slot that waits for its service is busy for every event,
+-- What a call comes to, by what is paused of its slot. A slot that waits for its service is busy for every
+-- event,
 -- and one that waits for none has nothing to go on with.
-abbrev pub ComesTo : {A : Type 0} → Budget → Call A → Option (Option Pause) → PacedWorld → Response A → List ℕ → ℕ → ℕ → PacedWorld → Type 0
-ComesTo budget call None old response output block console new = (response ≡ Answered BadSlot) × IsUnchanged old new output
+abbrev pub ComesTo : {A : Type 0} → Budget → Call A → Option (Option Pause) → PacedWorld → Response A → List ℕ
+    → ℕ → ℕ → PacedWorld → Type 0
+ComesTo budget call None old response output block console new = (response ≡ Answered BadSlot)
+    × IsUnchanged old new output
 ComesTo budget (Handle event) (Some None) old response output block console new =
     IsTurn (Begins event.what budget) old event.slot response output block console new
-ComesTo budget (Handle event) (Some (Some pause)) old response output block console new = (response ≡ Busy) × IsUnchanged old new output
-ComesTo budget (GoOn slot) (Some None) old response output block console new = (response ≡ Idle) × IsUnchanged old new output
+ComesTo budget (Handle event) (Some (Some pause)) old response output block console new = (response ≡ Busy)
+    × IsUnchanged old new output
+ComesTo budget (GoOn slot) (Some None) old response output block console new = (response ≡ Idle)
+    × IsUnchanged old new output
 ComesTo budget (GoOn slot) (Some (Some pause)) old response output block console new =
     IsTurn (GoesOn pause budget) old slot response output block console new
 
@@ -98,7 +104,8 @@ pub record Move (A : Type 0) : Type 0 where
 
 abbrev pub IsMove : {A : Type 0} → Budget → PacedWorld → Move A → Type 0
 IsMove budget old move =
-    ComesTo budget move.call (slice_get old.paused (slot_in move.call)) old move.response move.output move.block_irq
+    ComesTo budget move.call (slice_get old.paused (slot_in move.call)) old move.response
+    move.output move.block_irq
     move.console_irq move.after
 
 -- A call is answered so, and its output was appended to what was put out before.
@@ -136,15 +143,18 @@ IsEvent (Handle event) = ⊤
 IsEvent (GoOn slot) = ⊥
 
 -- how what waits in an outlet with a limit decides a call, by what is paused of its slot
-abbrev pub CallWithin : {A : Type 0} → ℕ → Call A → Option (Option Pause) → Budget → SlotState → SlotState → List ℕ → List ℕ → Turn A → Type 0
+abbrev pub CallWithin : {A : Type 0} → ℕ → Call A → Option (Option Pause) → Budget → SlotState → SlotState
+    → List ℕ → List ℕ → Turn A → Type 0
 CallWithin limit (Handle event) paused budget old new before after turn =
     BeginsWithin limit event.what budget old new before after turn
 CallWithin limit (GoOn slot) (Some (Some pause)) budget old new before after turn =
     GoesOnWithin limit pause budget old new before after turn
 CallWithin limit (GoOn slot) paused budget old new before after turn = ⊤
 
--- A call is answered so, by an outlet with this limit, if it has one. Its output is appended to what was put out before.
-pub record IsPacedCall {I A : Type 0} (disk : I → Disk) (limit : Option ℕ) (old : PacedState I) (call : Call A)
+-- A call is answered so, by an outlet with this limit, if it has one. Its output is appended to what was put
+-- out before.
+pub record IsPacedCall {I A : Type 0} (disk : I
+    → Disk) (limit : Option ℕ) (old : PacedState I) (call : Call A)
     (response : Response A) (before after : List ℕ) (new : PacedState I) : Type 0 where
   pub responds :
       Tells (disk old.board.image) →
@@ -158,10 +168,12 @@ pub record IsPacedCall {I A : Type 0} (disk : I → Disk) (limit : Option ℕ) (
   -- by an outlet with a limit, what waits in it decides what is put out
   pub within :
       (most : ℕ) → limit ≡ Some most → (found later : BoardSlot) →
-      slice_get old.board.slots (slot_in call) ≡ Some found → slice_get new.board.slots (slot_in call) ≡ Some later →
+      slice_get old.board.slots (slot_in call) ≡ Some found
+      → slice_get new.board.slots (slot_in call) ≡ Some later →
       (turn : Turn A) → response ≡ response_to turn →
       CallWithin most call (slice_get old.paused (slot_in call)) old.budget
-      (state_of (bytes_of (disk old.board.image)) found) (state_of (bytes_of (disk new.board.image)) later) before after
+      (state_of (bytes_of (disk old.board.image)) found)
+      (state_of (bytes_of (disk new.board.image)) later) before after
       turn
   pub extents : extents_of new.board.slots ≡ extents_of old.board.slots
   pub others : KeepsOthers (slot_in call) old.board.slots new.board.slots

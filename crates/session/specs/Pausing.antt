@@ -19,8 +19,10 @@ use Rattle.session.specs.declared.refusal.Refusal.{Refusal}
 use Rattle.session.specs.Answering.{went_on_to}
 use Rattle.session.specs.Session.{IsStep, KeepsOtherOutputs, SessionState, limit_of, output_of, world_of}
 
--- The slot takes a turn: its event begins, or its service goes on. What it puts out stands behind what waits, what waits
--- and the limit decide it, and the turn leaves its service paused or not. Nothing else of the session changes.
+-- The slot takes a turn: its event begins, or its service goes on. What it puts out stands behind what waits,
+-- what waits
+-- and the limit decide it, and the turn leaves its service paused or not. Nothing else of the session
+-- changes.
 pub record IsTurn {A : Type 0} (Comes : SlotState → Health → Health → SlotState → List ℕ → Turn A → Type 0)
     (Within : ℕ → SlotState → SlotState → List ℕ → List ℕ → Turn A → Type 0) (old : SessionState) (slot : ℕ)
     (response : Response A) (new : SessionState) : Type 0 where
@@ -44,21 +46,26 @@ pub record IsTurn {A : Type 0} (Comes : SlotState → Health → Health → Slot
   pub budget : new.budget ≡ old.budget
 
 -- An event of a slot of which nothing is paused begins. It pauses only where the budget has a limit.
-pub record IsBegun {A : Type 0} (event : Event A) (old : SessionState) (response : Response A) (new : SessionState) : Type 0 where
+pub record IsBegun {A : Type 0} (event : Event A) (old : SessionState) (response : Response A)
+    (new : SessionState) : Type 0 where
   pub turn :
-      IsTurn (Begins event.what old.budget) (λ limit found after. BeginsWithin limit event.what old.budget found after)
+      IsTurn (Begins event.what old.budget)
+      (λ limit found after. BeginsWithin limit event.what old.budget found after)
       old event.slot response new
   pub limited : response ≡ More → HasLimit old.budget
 
--- What a call comes to, by what is paused of its slot, if there is such a slot: one that waits for its service is busy,
+-- What a call comes to, by what is paused of its slot, if there is such a slot: one that waits for its
+-- service is busy,
 -- and one that waits for none has nothing to go on with.
-abbrev pub ComesTo : {A : Type 0} → Call A → Option (Option Pause) → SessionState → Response A → SessionState → Type 0
+abbrev pub ComesTo : {A : Type 0} → Call A → Option (Option Pause) → SessionState → Response A
+    → SessionState → Type 0
 ComesTo call None old response new = (response ≡ Answered BadSlot) × (new ≡ old)
 ComesTo (Handle event) (Some None) old response new = IsBegun event old response new
 ComesTo (Handle event) (Some (Some pause)) old response new = (response ≡ Busy) × (new ≡ old)
 ComesTo (GoOn slot) (Some None) old response new = (response ≡ Idle) × (new ≡ old)
 ComesTo (GoOn slot) (Some (Some pause)) old response new =
-    IsTurn (GoesOn pause old.budget) (λ limit found after. GoesOnWithin limit pause old.budget found after) old slot response new
+    IsTurn (GoesOn pause old.budget) (λ limit found after. GoesOnWithin limit pause old.budget found after)
+    old slot response new
 
 abbrev pub IsCall : {A : Type 0} → SessionState → Call A → Response A → SessionState → Type 0
 IsCall old call response new = ComesTo call (slice_get old.paused (slot_in call)) old response new
@@ -73,7 +80,8 @@ IsWholeCall old (Handle event) response new = IsWhole old event response new
 IsWholeCall old (GoOn slot) response new = ⊤
 
 -- The service of a slot goes on, and this is told of it.
-pub record WentOn (A : Type 0) (old : SessionState) (slot : ℕ) (result : Result Progress Refusal) (new : SessionState) : Type 0 where
+pub record WentOn (A : Type 0) (old : SessionState) (slot : ℕ) (result : Result Progress Refusal)
+    (new : SessionState) : Type 0 where
   pub response : Response A
   pub call : IsCall old (GoOn slot) response new
   pub told : result ≡ went_on_to response

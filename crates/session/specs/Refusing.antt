@@ -19,7 +19,8 @@ abbrev pub IsJudged : List GuestSpec → List ℕ → Budget → Type 0
 IsJudged guests image budget = (length image % 512 ≡ 0) × AreOutlets guests × ¬ IsSpent budget
 
 -- the board would be refused for this, over an image of whole sectors
-pub record IsBoardFault (guests : List GuestSpec) (image : List ℕ) (cache : ℕ) (budget : Budget) (fault : BoardFault)
+pub record IsBoardFault (guests : List GuestSpec) (image : List ℕ) (cache : ℕ) (budget : Budget)
+    (fault : BoardFault)
     : Type 0 where
   pub whole : length image % 512 ≡ 0
   pub outlets : AreOutlets guests
@@ -27,17 +28,20 @@ pub record IsBoardFault (guests : List GuestSpec) (image : List ℕ) (cache : �
   pub refused : Refuses (length image / 512) (slots_of guests) cache fault
   pub other : fault ≢ BoardFault.NoMemory
 
--- Why a session is refused: the image's size, then an outlet, then the budget, then what a board is refused for. Want
+-- Why a session is refused: the image's size, then an outlet, then the budget, then what a board is refused
+-- for. Want
 -- of memory may come before the latter, and comes only where none of the others holds.
 abbrev pub IsRefusedFor : List GuestSpec → List ℕ → ℕ → Budget → SessionFault → Type 0
 IsRefusedFor guests image cache budget BadLoan = ⊥
 IsRefusedFor guests image cache budget BadImage = length image % 512 ≢ 0
 IsRefusedFor guests image cache budget BadOutlet = (length image % 512 ≡ 0) × ¬ AreOutlets guests
-IsRefusedFor guests image cache budget SpentBudget = (length image % 512 ≡ 0) × AreOutlets guests × IsSpent budget
+IsRefusedFor guests image cache budget SpentBudget = (length image % 512 ≡ 0)
+    × AreOutlets guests × IsSpent budget
 IsRefusedFor guests image cache budget (Board fault) = IsBoardFault guests image cache budget fault
 IsRefusedFor guests image cache budget NoMemory = IsJudged guests image budget
 
--- Why a session over lent memory is refused: the lent bytes, and then what one over memory of its own is refused for.
+-- Why a session over lent memory is refused: the lent bytes, and then what one over memory of its own is
+-- refused for.
 abbrev pub IsLentRefusedFor : List GuestSpec → List (List ℕ) → List ℕ → ℕ → Budget → SessionFault → Type 0
 IsLentRefusedFor guests bytes image cache budget BadLoan = ¬ AreBytesOf (slots_of guests) bytes
 IsLentRefusedFor guests bytes image cache budget why =

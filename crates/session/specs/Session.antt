@@ -30,8 +30,10 @@ pub record Waiting : Type 0 where
 abbrev pub none_waiting : ℕ → Waiting
 none_waiting limit = record { bytes = []; limit = limit }
 
--- A session: the slots of its board, the image's bytes and whether a write waits for a flush, for each slot what its
--- console put out and nobody has taken yet and the service that is paused, if any, and how much one call may serve.
+-- A session: the slots of its board, the image's bytes and whether a write waits for a flush, for each slot
+-- what its
+-- console put out and nobody has taken yet and the service that is paused, if any, and how much one call may
+-- serve.
 pub record SessionState : Type 0 where
   pub slots : List BoardSlot
   pub image : List ℕ
@@ -80,7 +82,8 @@ pub record IsStep {A : Type 0} (old : SessionState) (event : Event A) (reply : R
   pub outputs : KeepsOtherOutputs event.slot old.outputs new.outputs
   pub extents : extents_of new.slots ≡ extents_of old.slots
   pub size : length new.image ≡ length old.image
-  -- what waits of the slot's output, and how much may, decide what is put out; nothing else is refused for want
+  -- what waits of the slot's output, and how much may, decide what is put out; nothing else is refused for
+  -- want
   -- of room, and each limit stays
   pub within :
       (found after : SlotState) → slice_get (world_of old).slots event.slot ≡ Some found →
@@ -106,7 +109,8 @@ pub record IsStep {A : Type 0} (old : SessionState) (event : Event A) (reply : R
 abbrev pub slots_of : List GuestSpec → List SlotSpec
 slots_of guests = map (λ guest. guest.slot) guests
 
--- a new session: the slots of a new board, the image as it was handed over, nothing put out yet, and nothing paused
+-- a new session: the slots of a new board, the image as it was handed over, nothing put out yet, and nothing
+-- paused
 abbrev pub new_session : List GuestSpec → List ℕ → Budget → SessionState
 new_session guests image budget = record {
   slots = map opened (slots_of guests);

@@ -1,4 +1,5 @@
--- How records stand in a text: each behind the first tab of a line, up to the line's end. What else is said has no tab.
+-- How records stand in a text: each behind the first tab of a line, up to the line's end. What else is said
+-- has no tab.
 use Rattle.std.specs.Prelude.{◌≡◌, ℕ, ◌==◌, Bool, true, false, not, List, [], ◌∷◌, ◌++◌, Option, None, Some}
 use Rattle.std.specs.Io.KnownBytes.{append_known}
 use Rattle.show.specs.declared.weave.woven.Woven.{Woven}
@@ -37,7 +38,8 @@ records_of is_inside (Some text) = agreed is_inside (ends_inside false text) (re
 
 -- the records in what went out and what waits
 abbrev pub woven_records : {W : Type 0} → (W → Option (List ℕ)) → Woven W → Option (List ℕ)
-woven_records contents woven = records_of woven.is_inside (append_known (contents woven.out) woven.waiting.items)
+woven_records contents woven =
+    records_of woven.is_inside (append_known (contents woven.out) woven.waiting.items)
 
 -- a text that holds nothing of a record
 pub record IsPlain (text : List ℕ) : Type 0 where

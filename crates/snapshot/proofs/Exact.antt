@@ -32,7 +32,8 @@ guard_ok true d x y e = absurd cc
 guard_ok false d x y e = (refl, cc)
 
 -- a test that reading passed, and what is behind it
-pub guarded : {A : Type 0} (b : Bool) (d : Stop) (r : Result A Stop) (y : A) → cond b (Err d) r ≡ Ok y → (b ≡ false) × (r ≡ Ok y)
+pub guarded : {A : Type 0} (b : Bool) (d : Stop) (r : Result A Stop) (y : A) → cond b (Err d) r ≡ Ok y
+    → (b ≡ false) × (r ≡ Ok y)
 guarded true d r y e = absurd cc
 guarded false d r y e = (refl, e)
 
@@ -48,29 +49,39 @@ pub record Takes (bytes text rest : List ℕ) : Type 0 where
   pub rest_fits : IsBytes rest
 
 pub Takes-then : (a x b y c : List ℕ) → Takes a x b → Takes b y c → Takes a (x ++ y) c
-Takes-then a x b y c p q = record { parts = p.parts ∙ ap (λ (t : List ℕ). x ++ t) q.parts ∙ sym (append_assoc x y c); rest_fits = q.rest_fits }
+Takes-then a x b y c p q =
+    record {
+      parts = p.parts ∙ ap (λ (t : List ℕ). x ++ t) q.parts ∙ sym (append_assoc x y c);
+      rest_fits = q.rest_fits;
+    }
 
 -- A field: what is read is spelled so, and what is spelled so is read, whatever follows it.
-pub record IsField {A : Type 0} (read : List ℕ → Result (A × List ℕ) Stop) (text : A → List ℕ) (Fits : A → Type 0) : Type 0 where
-  pub takes : (bytes : List ℕ) (x : A) (rest : List ℕ) → IsBytes bytes → read bytes ≡ Ok (x, rest) → Takes bytes (text x) rest × Fits x
+pub record IsField {A : Type 0} (read : List ℕ → Result (A × List ℕ) Stop) (text : A → List ℕ) (Fits : A
+    → Type 0) : Type 0 where
+  pub takes : (bytes : List ℕ) (x : A) (rest : List ℕ) → IsBytes bytes → read bytes ≡ Ok (x, rest)
+      → Takes bytes (text x) rest × Fits x
   pub again : (x : A) (rest : List ℕ) → Fits x → read (text x ++ rest) ≡ Ok (x, rest)
 
 -- a step that did not fail: what it read, and that the rest of the steps goes on from there
-pub record Steps {A B : Type 0} (text : A → List ℕ) (Fits : A → Type 0) (bytes : List ℕ) (f : A × List ℕ → Result B Stop) (y : B) : Type 0 where
+pub record Steps {A B : Type 0} (text : A → List ℕ) (Fits : A → Type 0) (bytes : List ℕ) (f : A × List ℕ
+    → Result B Stop) (y : B) : Type 0 where
   pub value : A
   pub rest : List ℕ
   pub takes : Takes bytes (text value) rest
   pub fits : Fits value
   pub goes_on : f (value, rest) ≡ Ok y
 
-step_by : {A B : Type 0} (read : List ℕ → Result (A × List ℕ) Stop) (text : A → List ℕ) (Fits : A → Type 0) (bytes : List ℕ) (f : A × List ℕ → Result B Stop) (y : B)
-    (r : Result (A × List ℕ) Stop) → IsField read text Fits → IsBytes bytes → read bytes ≡ r → (r >>= f) ≡ Ok y → Steps text Fits bytes f y
+step_by : {A B : Type 0} (read : List ℕ → Result (A × List ℕ) Stop) (text : A → List ℕ) (Fits : A
+    → Type 0) (bytes : List ℕ) (f : A × List ℕ → Result B Stop) (y : B)
+    (r : Result (A × List ℕ) Stop) → IsField read text Fits → IsBytes bytes → read bytes ≡ r
+    → (r >>= f) ≡ Ok y → Steps text Fits bytes f y
 step_by read text Fits bytes f y (Ok x) field fits is e =
     let t = field.takes bytes x.0 x.1 fits is in
     record { value = x.0; rest = x.1; takes = t.0; fits = t.1; goes_on = e }
 step_by read text Fits bytes f y (Err d) field fits is e = absurd cc
 
-pub step : {A B : Type 0} (read : List ℕ → Result (A × List ℕ) Stop) (text : A → List ℕ) (Fits : A → Type 0) (bytes : List ℕ) (f : A × List ℕ → Result B Stop) (y : B)
+pub step : {A B : Type 0} (read : List ℕ → Result (A × List ℕ) Stop) (text : A → List ℕ) (Fits : A
+    → Type 0) (bytes : List ℕ) (f : A × List ℕ → Result B Stop) (y : B)
     → IsField read text Fits → IsBytes bytes → (read bytes >>= f) ≡ Ok y → Steps text Fits bytes f y
 step read text Fits bytes f y field fits e = step_by read text Fits bytes f y (read bytes) field fits refl e
 
@@ -82,15 +93,18 @@ byte_field = record {
   again = λ x rest fits. refl;
 }
   where
-    byte_takes : (bytes : List ℕ) (x : ℕ) (rest : List ℕ) → IsBytes bytes → byte_at bytes ≡ Ok (x, rest) → Takes bytes (x ∷ []) rest × (x < 256)
+    byte_takes : (bytes : List ℕ) (x : ℕ) (rest : List ℕ) → IsBytes bytes → byte_at bytes ≡ Ok (x, rest)
+        → Takes bytes (x ∷ []) rest × (x < 256)
     byte_takes [] x rest fits e = absurd cc
     byte_takes (b ∷ bytes) x rest fits e =
-        subst (λ (p : ℕ × List ℕ). Takes (b ∷ bytes) (p.0 ∷ []) p.1 × (p.0 < 256)) (ok_is (b, bytes) (x, rest) e)
+        subst (λ (p : ℕ × List ℕ). Takes (b ∷ bytes) (p.0 ∷ []) p.1
+        × (p.0 < 256)) (ok_is (b, bytes) (x, rest) e)
         (record { parts = refl; rest_fits = IsBytes-rest b bytes fits }, fits 0)
 
 record IsWide (w : Width) (limit : ℕ) : Type 0 where
   len : (n : ℕ) → length (to_le_bytes w n) ≡ byte_len w
-  back : (bytes : List ℕ) → length bytes ≡ byte_len w → IsBytes bytes → to_le_bytes w (from_le_bytes w bytes) ≡ bytes
+  back : (bytes : List ℕ) → length bytes ≡ byte_len w → IsBytes bytes
+      → to_le_bytes w (from_le_bytes w bytes) ≡ bytes
   again : (n : ℕ) → n < limit → from_le_bytes w (to_le_bytes w n) ≡ n
   below : (bytes : List ℕ) → IsBytes bytes → from_le_bytes w bytes < limit
 
@@ -118,22 +132,39 @@ wide64 = record {
   below = λ bytes fits. omega (arith, fits 0, fits 1, fits 2, fits 3, fits 4, fits 5, fits 6, fits 7);
 }
 
-number_takes : (w : Width) (limit : ℕ) (wide : IsWide w limit) (bytes : List ℕ) (n : ℕ) (rest : List ℕ) → IsBytes bytes → number_at w bytes ≡ Ok (n, rest) → Takes bytes (to_le_bytes w n) rest × (n < limit)
+number_takes : (w : Width) (limit : ℕ) (wide : IsWide w limit) (bytes : List ℕ) (n : ℕ) (rest : List ℕ)
+    → IsBytes bytes → number_at w bytes ≡ Ok (n, rest) → Takes bytes (to_le_bytes w n) rest × (n < limit)
 number_takes w limit wide bytes n rest fits e =
-    let g = guard_ok (ltb (length bytes) (byte_len w)) (record { why = Short; left = length bytes }) (from_le_bytes w (take (byte_len w) bytes), drop (byte_len w) bytes) (n, rest) e in
+    let g = guard_ok (ltb (length bytes) (byte_len w)) (record { why = Short; left = length bytes })
+    (from_le_bytes w (take (byte_len w) bytes), drop (byte_len w) bytes) (n, rest) e in
     let long : byte_len w ≤ length bytes = ltb-false _ _ g.0 in
     let n-is : from_le_bytes w (take (byte_len w) bytes) ≡ n = ap (λ (p : ℕ × List ℕ). p.0) g.1 in
     let rest-is : drop (byte_len w) bytes ≡ rest = ap (λ (p : ℕ × List ℕ). p.1) g.1 in
-    let front : to_le_bytes w n ≡ take (byte_len w) bytes = rw (← n-is) (wide.back (take (byte_len w) bytes) (omega (arith, length-take (byte_len w) bytes)) (IsBytes-take (byte_len w) bytes fits)) in
-    (record { parts = rw (front, ← rest-is) (sym (take-append-drop (byte_len w) bytes)); rest_fits = rw (← rest-is) (IsBytes-drop (byte_len w) bytes fits) }, rw (← n-is) (wide.below (take (byte_len w) bytes) (IsBytes-take (byte_len w) bytes fits)))
+    let front : to_le_bytes w n ≡ take (byte_len w) bytes =
+    rw (← n-is) (wide.back (take (byte_len w) bytes) (omega (arith, length-take (byte_len w) bytes))
+    (IsBytes-take (byte_len w) bytes fits)) in (
+      record {
+        parts = rw (front, ← rest-is) (sym (take-append-drop (byte_len w) bytes));
+        rest_fits = rw (← rest-is) (IsBytes-drop (byte_len w) bytes fits);
+      },
+      rw (← n-is) (wide.below (take (byte_len w) bytes) (IsBytes-take (byte_len w) bytes fits)),
+    )
 
-number_again : (w : Width) (limit : ℕ) (wide : IsWide w limit) (n : ℕ) (rest : List ℕ) → n < limit → number_at w (to_le_bytes w n ++ rest) ≡ Ok (n, rest)
+number_again : (w : Width) (limit : ℕ) (wide : IsWide w limit) (n : ℕ) (rest : List ℕ) → n < limit
+    → number_at w (to_le_bytes w n ++ rest) ≡ Ok (n, rest)
 number_again w limit wide n rest lt =
     let len = wide.len n in
-    let long : ltb (length (to_le_bytes w n ++ rest)) (byte_len w) ≡ false = le-ltb _ _ (omega (arith, length-append (to_le_bytes w n) rest)) in
-    rw (long, take_at (to_le_bytes w n) rest (byte_len w) len, drop_at (to_le_bytes w n) rest (byte_len w) len, wide.again n lt) refl
+    let long : ltb (length (to_le_bytes w n ++ rest)) (byte_len w) ≡ false =
+    le-ltb _ _ (omega (arith, length-append (to_le_bytes w n) rest)) in
+    rw (
+      long,
+      take_at (to_le_bytes w n) rest (byte_len w) len,
+      drop_at (to_le_bytes w n) rest (byte_len w) len,
+      wide.again n lt,
+    ) refl
 
-number_field : (w : Width) (limit : ℕ) → IsWide w limit → IsField (number_at w) (to_le_bytes w) (λ n. n < limit)
+number_field : (w : Width) (limit : ℕ) → IsWide w limit
+    → IsField (number_at w) (to_le_bytes w) (λ n. n < limit)
 number_field w limit wide = record {
   takes = λ bytes n rest fits e. number_takes w limit wide bytes n rest fits e;
   again = λ n rest lt. number_again w limit wide n rest lt;
@@ -150,43 +181,57 @@ field64 = number_field w64 (2 ^ 64) wide64
 
 -- ---- numbers of one value, and an identity
 
-equal_or : (n : ℕ) (x y : ℕ × List ℕ) (same : Bool) (d : Stop) → (x.0 == n) ≡ same → cond same (Ok x) (Err d) ≡ Ok y → (x.0 ≡ n) × (x ≡ y)
+equal_or : (n : ℕ) (x y : ℕ × List ℕ) (same : Bool) (d : Stop) → (x.0 == n) ≡ same
+    → cond same (Ok x) (Err d) ≡ Ok y → (x.0 ≡ n) × (x ≡ y)
 equal_or n x y true d is e = (eqb-true _ _ is, ok_is x y e)
 equal_or n x y false d is e = absurd cc
 
-constant_takes : (w : Width) (limit n : ℕ) (why : Why) (wide : IsWide w limit) (bytes : List ℕ) (x : ℕ) (rest : List ℕ) → IsBytes bytes
+constant_takes : (w : Width) (limit n : ℕ) (why : Why) (wide : IsWide w limit) (bytes : List ℕ) (x : ℕ)
+    (rest : List ℕ) → IsBytes bytes
     → constant_at w n why bytes ≡ Ok (x, rest) → Takes bytes (to_le_bytes w x) rest × (x ≡ n)
 constant_takes w limit n why wide bytes x rest fits e =
-    let found = step (number_at w) (to_le_bytes w) (λ k. k < limit) bytes _ (x, rest) (number_field w limit wide) fits e in
-    let same = equal_or n (found.value, found.rest) (x, rest) (found.value == n) (record { why = why; left = length bytes }) refl found.goes_on in
+    let found = step (number_at w) (to_le_bytes w) (λ k. k < limit) bytes _ (x, rest)
+    (number_field w limit wide) fits e in
+    let same = equal_or n (found.value, found.rest) (x, rest) (found.value == n)
+    (record { why = why; left = length bytes }) refl found.goes_on in
     subst (λ (p : ℕ × List ℕ). Takes bytes (to_le_bytes w p.0) p.1 × (p.0 ≡ n)) same.1 (found.takes, same.0)
 
-constant_again : (w : Width) (limit n : ℕ) (why : Why) (wide : IsWide w limit) → n < limit → (x : ℕ) (rest : List ℕ) → x ≡ n
+constant_again : (w : Width) (limit n : ℕ) (why : Why) (wide : IsWide w limit) → n < limit
+    → (x : ℕ) (rest : List ℕ) → x ≡ n
     → constant_at w n why (to_le_bytes w x ++ rest) ≡ Ok (x, rest)
 constant_again w limit n why wide lt x rest is =
     rw (is, number_again w limit wide n rest lt, eq-eqb n n refl) refl
 
-constant_field : (w : Width) (limit n : ℕ) (why : Why) → IsWide w limit → n < limit → IsField (constant_at w n why) (to_le_bytes w) (λ x. x ≡ n)
+constant_field : (w : Width) (limit n : ℕ) (why : Why) → IsWide w limit → n < limit
+    → IsField (constant_at w n why) (to_le_bytes w) (λ x. x ≡ n)
 constant_field w limit n why wide lt = record {
   takes = λ bytes x rest fits e. constant_takes w limit n why wide bytes x rest fits e;
   again = λ x rest is. constant_again w limit n why wide lt x rest is;
 }
 
-pub constant32 : (n : ℕ) (why : Why) → n < 2 ^ 32 → IsField (constant_at w32 n why) (to_le_bytes w32) (λ x. x ≡ n)
+pub constant32 : (n : ℕ) (why : Why) → n < 2 ^ 32
+    → IsField (constant_at w32 n why) (to_le_bytes w32) (λ x. x ≡ n)
 constant32 n why lt = constant_field w32 (2 ^ 32) n why wide32 lt
 
-pub constant64 : (n : ℕ) (why : Why) → n < 2 ^ 64 → IsField (constant_at w64 n why) (to_le_bytes w64) (λ x. x ≡ n)
+pub constant64 : (n : ℕ) (why : Why) → n < 2 ^ 64
+    → IsField (constant_at w64 n why) (to_le_bytes w64) (λ x. x ≡ n)
 constant64 n why lt = constant_field w64 (2 ^ 64) n why wide64 lt
 
 pub identity_field : IsField identity_at (λ xs. xs) (λ xs. length xs ≡ 20)
 identity_field = record { takes = identity_takes; again = identity_again }
   where
-    identity_takes : (bytes xs rest : List ℕ) → IsBytes bytes → identity_at bytes ≡ Ok (xs, rest) → Takes bytes xs rest × (length xs ≡ 20)
+    identity_takes : (bytes xs rest : List ℕ) → IsBytes bytes → identity_at bytes ≡ Ok (xs, rest)
+        → Takes bytes xs rest × (length xs ≡ 20)
     identity_takes bytes xs rest fits e =
-        let g = guard_ok (ltb (length bytes) 20) (record { why = Short; left = length bytes }) (take 20 bytes, drop 20 bytes) (xs, rest) e in
+        let g = guard_ok (ltb (length bytes) 20) (record { why = Short; left = length bytes }) (
+          take 20 bytes,
+          drop 20 bytes,
+        ) (xs, rest) e in
         let long : 20 ≤ length bytes = ltb-false _ _ g.0 in
-        subst (λ (p : List ℕ × List ℕ). Takes bytes p.0 p.1 × (length p.0 ≡ 20)) g.1
-        (record { parts = sym (take-append-drop 20 bytes); rest_fits = IsBytes-drop 20 bytes fits }, omega (arith, length-take 20 bytes))
+        subst (λ (p : List ℕ × List ℕ). Takes bytes p.0 p.1 × (length p.0 ≡ 20)) g.1 (
+          record { parts = sym (take-append-drop 20 bytes); rest_fits = IsBytes-drop 20 bytes fits },
+          omega (arith, length-take 20 bytes),
+        )
 
     identity_again : (xs rest : List ℕ) → length xs ≡ 20 → identity_at (xs ++ rest) ≡ Ok (xs, rest)
     identity_again xs rest len =

@@ -16,7 +16,8 @@ use Rattle.snapshot.specs.declared.saved.SavedSlot.{SavedSlot}
 -- 0 where the queue isn't ready, and 1 and how far it is served where it is
 abbrev pub reached : Option Reached → List ℕ
 reached None = 0 ∷ []
-reached (Some r) = 1 ∷ (to_le_bytes w16 r.place ++ (to_le_bytes w16 r.pending ++ to_le_bytes w16 r.used_count))
+reached (Some r) = 1 ∷ (to_le_bytes w16 r.place
+    ++ (to_le_bytes w16 r.pending ++ to_le_bytes w16 r.used_count))
 
 unfoldable pub queue : SavedQueue → List ℕ
 queue q =
@@ -28,14 +29,16 @@ queue q =
 
 -- the bits of InterruptStatus
 abbrev pub interrupts : Bool → Bool → ℕ
-interrupts used_buffer configuration_change = (if used_buffer then 1 else 0) + (if configuration_change then 2 else 0)
+interrupts used_buffer configuration_change =
+    (if used_buffer then 1 else 0) + (if configuration_change then 2 else 0)
 
 abbrev pub settled : Settled → List ℕ
 settled s = to_le_bytes w64 s.offered ++ ((s.status ∷ []) ++ to_le_bytes w64 s.accepted)
 
 abbrev pub selectors : Selectors → List ℕ
 selectors s =
-    to_le_bytes w32 s.device_features ++ (to_le_bytes w32 s.driver_features ++ (to_le_bytes w32 s.queue ++ to_le_bytes w32 s.shm))
+    to_le_bytes w32 s.device_features
+    ++ (to_le_bytes w32 s.driver_features ++ (to_le_bytes w32 s.queue ++ to_le_bytes w32 s.shm))
 
 abbrev pub told : Told → List ℕ
 told t = (interrupts t.interrupts.0 t.interrupts.1 ∷ []) ++ to_le_bytes w32 t.config_generation
@@ -53,10 +56,14 @@ selectors_in w = record {
 }
 
 abbrev pub told_in : SavedWindow → Told
-told_in w = record { interrupts = (w.used_buffer, w.configuration_change); config_generation = w.config_generation }
+told_in w = record {
+  interrupts = (w.used_buffer, w.configuration_change);
+  config_generation = w.config_generation;
+}
 
 unfoldable pub window : SavedWindow → List ℕ
-window w = settled (settled_in w) ++ (selectors (selectors_in w) ++ (queue w.queue_0 ++ (queue w.queue_1 ++ told (told_in w))))
+window w = settled (settled_in w)
+    ++ (selectors (selectors_in w) ++ (queue w.queue_0 ++ (queue w.queue_1 ++ told (told_in w))))
 
 -- ---- a slot
 

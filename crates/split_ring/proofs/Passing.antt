@@ -9,17 +9,20 @@ use Rattle.chain.specs.Setup.{RingState}
 use Rattle.split_ring.specs.Kind.{Wants, first_passed, opened, past}
 use Rattle.split_ring.specs.Passing.{HasPassed}
 
-pub same_first : (ring : RingState) → ring.used_count < idx_modulus → first_passed (past ring) ≡ first_passed ring
+pub same_first : (ring : RingState) → ring.used_count < idx_modulus
+    → first_passed (past ring) ≡ first_passed ring
 same_first ring most = back_from_ahead idx_modulus ring.place ring.used_count 1 (omega (arith, most))
 
-pub passes_its_place : (ring : RingState) (place : ℕ) → ring.place < idx_modulus → ring.used_count < idx_modulus
+pub passes_its_place : (ring : RingState) (place : ℕ) → ring.place < idx_modulus
+    → ring.used_count < idx_modulus
     → HasPassed (past ring) place ↔ (HasPassed ring place ⊎ (place ≡ ring.place))
 passes_its_place ring place below most =
     let m = idx_modulus in
     let here = ahead_of_first m ring.place ring.used_count below (omega (arith, most)) in
     let more = passed_more m (first_passed ring) ring.used_count 1 place in
     let one = passed_one m ring.place place below in
-    let both : HasPassed (past ring) place ↔ (HasPassed ring place ⊎ Passed m ring.place 1 place) = rw (same_first ring most) (rw here at more) in
+    let both : HasPassed (past ring) place ↔ (HasPassed ring place ⊎ Passed m ring.place 1 place) =
+    rw (same_first ring most) (rw here at more) in
     (λ p. then_one one (both.0 p), λ q. both.1 (one_then one q))
   where
     then_one : {A B C : Type 0} → (B ↔ C) → A ⊎ B → A ⊎ C
@@ -35,4 +38,5 @@ none_yet m ring place p = omega (arith, p.within)
 
 pub wanted_of : (m : Memory) (ring : RingState) → Wants m ring
     ↔ SplitWantsOf m ring.setup.driver ring.setup.size ring.setup.event_idx (HasPassed ring)
-wanted_of m ring = split_wants_of m ring.setup.driver ring.setup.size ring.setup.event_idx (first_passed ring) ring.used_count
+wanted_of m ring = split_wants_of m ring.setup.driver ring.setup.size ring.setup.event_idx
+    (first_passed ring) ring.used_count

@@ -18,7 +18,11 @@ opening_fault m ring = if nat_lt ring.setup.size (on_offer m ring) then Some Jum
 
 -- what a service may take is what is on offer as it opens, and nothing after a fault
 abbrev pub opened : Memory → RingState → RingState
-opened m ring = record ring { pending = if nat_lt ring.setup.size (on_offer m ring) then 0 else on_offer m ring; used_count = 0 }
+opened m ring = record ring {
+  pending = if nat_lt ring.setup.size (on_offer m ring) then 0 else on_offer m
+      ring;
+  used_count = 0;
+}
 
 -- whether a chain is left of those that were on offer
 abbrev pub offers : Memory → RingState → Bool
@@ -31,11 +35,13 @@ entry_of head = record { id = head; places = 1 }
 -- the chain on offer is the list of descriptors from the head at the ring's place
 abbrev pub Offers : Memory → RingState → List Buffer → Entry → Type 0
 Offers m ring buffers entry =
-    ListOffers split_tables ring.setup.indirect m (table_of m ring) ring.setup.size (head_of m ring) (λ count last. entry_of (head_of m ring)) buffers entry
+    ListOffers split_tables ring.setup.indirect m (table_of m ring) ring.setup.size (head_of m ring)
+    (λ count last. entry_of (head_of m ring)) buffers entry
 
 -- that list has this fault
 abbrev pub HasFault : Memory → RingState → Fault → Type 0
-HasFault m ring fault = ListFails split_tables ring.setup.indirect m (table_of m ring) ring.setup.size (head_of m ring) fault
+HasFault m ring fault = ListFails split_tables ring.setup.indirect m (table_of m ring) ring.setup.size
+    (head_of m ring) fault
 
 -- the token names the chain at the ring's place, and the service may still take it
 pub record IsTaken (ring : RingState) (token : Token) : Type 0 where
@@ -44,14 +50,19 @@ pub record IsTaken (ring : RingState) (token : Token) : Type 0 where
 
 -- the ring behind one more chain
 abbrev pub past : RingState → RingState
-past ring = record ring { place = next_place ring; pending = ring.pending - 1; used_count = ring.used_count + 1 }
+past ring = record ring {
+  place = next_place ring;
+  pending = ring.pending - 1;
+  used_count = ring.used_count + 1;
+}
 
 -- The closing writes: the driver is to notify of every chain, so the used flags are 0 (2.7.10); or, with
 -- VIRTIO_F_EVENT_IDX, of the next one, so avail_event is the ring's place too.
 abbrev pub closed : Memory → RingState → Memory
 closed m ring =
     let flags_written = put_num m ring.setup.device 2 0 in
-    if ring.setup.event_idx then put_num flags_written (ring.setup.device + 4 + 8 * ring.setup.size) 2 ring.place else flags_written
+    if ring.setup.event_idx then put_num flags_written (ring.setup.device + 4 + 8 * ring.setup.size) 2
+    ring.place else flags_written
 
 -- the first of the places that the service has passed; the ring's own place is behind the last
 abbrev pub first_passed : RingState → ℕ
@@ -59,7 +70,8 @@ first_passed ring = place_back idx_modulus ring.place ring.used_count
 
 -- the driver wants a notification of the places that the service has passed
 abbrev pub Wants : Memory → RingState → Type 0
-Wants m ring = SplitWants m ring.setup.driver ring.setup.size ring.setup.event_idx (first_passed ring) ring.used_count
+Wants m ring = SplitWants m ring.setup.driver ring.setup.size ring.setup.event_idx
+    (first_passed ring) ring.used_count
 
 -- the split ring as a kind of ring; whether a chain's device wrote anything is of no account to it
 abbrev pub split_kind : Kind RingState

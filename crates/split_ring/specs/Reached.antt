@@ -2,9 +2,11 @@
 use Rattle.std.specs.Prelude.{ℕ, ◌+◌, nat_le, if◌then◌else◌, Option, Some, None}
 use Rattle.chain.specs.Setup.{RingState}
 
--- the ring, served so far: at this place, with so many chains that its service may still take, and so many that it has
+-- the ring, served so far: at this place, with so many chains that its service may still take, and so many
+-- that it has
 -- used; a service uses no more chains than the queue has descriptors
 abbrev pub served_to : ℕ → ℕ → ℕ → RingState → Option RingState
 served_to place pending used_count ring =
-    if nat_le (used_count + pending) ring.setup.size then Some (record ring { place = place; pending = pending; used_count = used_count })
+    if nat_le (used_count + pending) ring.setup.size then Some
+    (record ring { place = place; pending = pending; used_count = used_count })
     else None

@@ -29,16 +29,20 @@ near-Passed m from count place d from_below place_below distance passed most =
     grind (arith, mod-eq_of_lt, mod-second_round, distance, passed)
 
 -- as many steps back as were taken lead to where they began
-pub back_at_first : (m from steps : ℕ) → from < m → steps ≤ m → place_back m (place_ahead m from steps) steps ≡ from
+pub back_at_first : (m from steps : ℕ) → from < m → steps ≤ m
+    → place_back m (place_ahead m from steps) steps ≡ from
 back_at_first m from steps from_below most =
     elim (cases_lt (from + steps) m) [
       | inl near ↦ let there : (from + steps) % m ≡ from + steps = mod-eq_of_lt near in
-          ap (λ x. (x + (m - steps)) % m) there ∙ mod-second_round m (from + steps + (m - steps)) (omega arith) (omega arith) ∙ (omega arith)
-      | inr round ↦ let there : (from + steps) % m ≡ from + steps - m = mod-second_round m (from + steps) round (omega arith) in
+          ap (λ x. (x + (m - steps)) % m) there
+          ∙ mod-second_round m (from + steps + (m - steps)) (omega arith) (omega arith) ∙ (omega arith)
+      | inr round ↦ let there : (from + steps) % m ≡ from + steps - m =
+          mod-second_round m (from + steps) round (omega arith) in
           let back : from + steps - m + (m - steps) ≡ from = omega arith in
           ap (λ x. (x + (m - steps)) % m) there ∙ ap (λ x. x % m) back ∙ mod-eq_of_lt from_below
     ]
 
 pub passed_since_first : (m from steps place : ℕ) → from < m → steps ≤ m →
     Passed m (place_back m (place_ahead m from steps) steps) steps place ↔ Passed m from steps place
-passed_since_first m from steps place from_below most = rw (back_at_first m from steps from_below most) (λ p. p, λ p. p)
+passed_since_first m from steps place from_below most =
+    rw (back_at_first m from steps from_below most) (λ p. p, λ p. p)

@@ -15,10 +15,20 @@ some_of : (modulus from count place : ℕ) → Passed modulus from count place �
 some_of modulus from count place p = omega (arith, p.within)
 
 pub split_wants_of : (m : Memory) (driver_area n : ℕ) (event_idx : Bool) (from count : ℕ) →
-    SplitWants m driver_area n event_idx from count ↔ SplitWantsOf m driver_area n event_idx (Passed idx_modulus from count)
+    SplitWants m driver_area n event_idx from count
+    ↔ SplitWantsOf m driver_area n event_idx (Passed idx_modulus from count)
 split_wants_of m driver_area n event_idx from count = (
-  λ wants. record { place = place_ahead idx_modulus from 0; some = first_of idx_modulus from count wants.some; flag = wants.flag; event = wants.event },
-  λ wants. record { some = some_of idx_modulus from count wants.place wants.some; flag = wants.flag; event = wants.event },
+  λ wants. record {
+    place = place_ahead idx_modulus from 0;
+    some = first_of idx_modulus from count wants.some;
+    flag = wants.flag;
+    event = wants.event;
+  },
+  λ wants. record {
+    some = some_of idx_modulus from count wants.place wants.some;
+    flag = wants.flag;
+    event = wants.event;
+  },
 )
 
 -- the named place was passed exactly where it is in the set
@@ -30,7 +40,8 @@ named_is m driver_area n from passed = (
 )
 
 pub packed_wants_of : (m : Memory) (driver_area n : ℕ) (event_idx : Bool) (from passed : ℕ) →
-    PackedWants m driver_area n event_idx from passed ↔ PackedWantsOf m driver_area n event_idx (Passed (2 * n) from passed)
+    PackedWants m driver_area n event_idx from passed
+    ↔ PackedWantsOf m driver_area n event_idx (Passed (2 * n) from passed)
 packed_wants_of m driver_area n true from passed = (
   λ wants. record {
     place = place_ahead (2 * n) from 0;
@@ -51,5 +62,9 @@ packed_wants_of m driver_area n false from passed = (
     flag = wants.flag;
     event = wants.event;
   },
-  λ wants. record { some = some_of (2 * n) from passed wants.place wants.some; flag = wants.flag; event = wants.event },
+  λ wants. record {
+    some = some_of (2 * n) from passed wants.place wants.some;
+    flag = wants.flag;
+    event = wants.event;
+  },
 )

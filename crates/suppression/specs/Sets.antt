@@ -1,4 +1,5 @@
--- What a driver wants, said of the set of places that a service passed: it turns on that set and on nothing else
+-- What a driver wants, said of the set of places that a service passed: it turns on that set and on nothing
+-- else
 -- of how the service went (2.7.7, 2.8.10).
 use Rattle.std.specs.Prelude.{◌≡◌, ◌≢◌, ℕ, ◌%◌, Bool}
 use Rattle.std.specs.Bool.{OnTrue, OnFalse}
@@ -7,7 +8,8 @@ use Rattle.suppression.specs.Split.{avail_flags, used_event}
 use Rattle.suppression.specs.Packed.{IsEventPlace, event_flags, disable, at_descriptor}
 
 -- the driver of a split queue wants a notification of the places of this set
-pub record SplitWantsOf (m : Memory) (driver_area n : ℕ) (event_idx : Bool) (Passes : ℕ → Type 0) : Type 0 where
+pub record SplitWantsOf (m : Memory) (driver_area n : ℕ) (event_idx : Bool) (Passes : ℕ
+    → Type 0) : Type 0 where
   -- some place was passed
   pub place : ℕ
   pub some : Passes place
@@ -22,7 +24,8 @@ pub record NamesOneOf (m : Memory) (driver_area n : ℕ) (Passes : ℕ → Type 
   pub among : Passes place
 
 -- the driver of a packed queue wants a notification of the places of this set
-pub record PackedWantsOf (m : Memory) (driver_area n : ℕ) (event_idx : Bool) (Passes : ℕ → Type 0) : Type 0 where
+pub record PackedWantsOf (m : Memory) (driver_area n : ℕ) (event_idx : Bool) (Passes : ℕ
+    → Type 0) : Type 0 where
   -- some place was passed
   pub place : ℕ
   pub some : Passes place

@@ -7,20 +7,26 @@ use Rattle.sector_cache.specs.Stop.{DiffersWithin}
 use Rattle.sector_cache.proofs.Stops.{differs_none}
 
 -- what stands after a front up to the end of the write, and then the rest
-rest_of : (bytes : List ℕ) (at n l : ℕ) → n ≤ l → take (l - n) (drop (at + n) bytes) ++ drop (at + l) bytes ≡ drop (at + n) bytes
+rest_of : (bytes : List ℕ) (at n l : ℕ) → n ≤ l → take (l - n) (drop (at + n) bytes)
+    ++ drop (at + l) bytes ≡ drop (at + n) bytes
 rest_of bytes at n l within =
-    ap (λ k. take (l - n) (drop (at + n) bytes) ++ drop k bytes) (let e : at + l ≡ at + n + (l - n) = omega (arith, within) in e)
+    ap (λ k. take (l - n) (drop (at + n) bytes)
+    ++ drop k bytes) (let e : at + l ≡ at + n + (l - n) = omega (arith, within) in e)
     ∙ ap (λ rest. take (l - n) (drop (at + n) bytes) ++ rest) (sym (drop-drop (l - n) (at + n) bytes))
     ∙ take-append-drop (l - n) (drop (at + n) bytes)
 
 -- a front that was written is a write that came short
-pub put_front : (bytes from : List ℕ) (at n : ℕ) → at + length from ≤ length bytes → n ≤ length from → IsPut at from n bytes (with_bytes bytes at (take n from))
+pub put_front : (bytes from : List ℕ) (at n : ℕ) → at + length from ≤ length bytes → n ≤ length from
+    → IsPut at from n bytes (with_bytes bytes at (take n from))
 put_front bytes from at n inside within =
     let front = take n from in
     let tail = take (length from - n) (drop (at + n) bytes) in
     let front_long : length front ≡ n = length-take-le n from within in
-    let tail_long : length tail ≡ length from - n = length-take-le (length from - n) (drop (at + n) bytes) (omega (arith, length-drop (at + n) bytes, inside, within)) in
-    let long : length (front ++ tail) ≡ length from = length-append front tail ∙ omega (arith, front_long, tail_long, within) in
+    let tail_long : length tail ≡ length from - n =
+    length-take-le (length from - n) (drop (at + n) bytes)
+    (omega (arith, length-drop (at + n) bytes, inside, within)) in
+    let long : length (front ++ tail) ≡ length from = length-append front tail
+    ∙ omega (arith, front_long, tail_long, within) in
     record {
       left = front ++ tail;
       long = long;
@@ -33,7 +39,8 @@ put_front bytes from at n inside within =
     }
 
 -- nor does it touch more than the place that it was to be written to
-pub front_within : (bytes front : List ℕ) (at size : ℕ) → at + length front ≤ length bytes → length front ≤ size → DiffersWithin at (at + size) bytes (with_bytes bytes at front)
+pub front_within : (bytes front : List ℕ) (at size : ℕ) → at + length front ≤ length bytes
+    → length front ≤ size → DiffersWithin at (at + size) bytes (with_bytes bytes at front)
 front_within bytes front at size inside within =
     let head = take at bytes in
     let rest = drop (at + length front) bytes in
@@ -43,20 +50,25 @@ front_within bytes front at size inside within =
       behind =
           sym (drop-drop size at (with_bytes bytes at front))
           ∙ ap (drop size) (drop_at head (front ++ rest) at head_long)
-          ∙ ap (λ k. drop k (front ++ rest)) (let e : size ≡ length front + (size - length front) = omega (arith, within) in e)
+          ∙ ap (λ k. drop k (front ++ rest)) (let e : size ≡ length front + (size - length front) = omega
+          (arith, within) in e)
           ∙ sym (drop-drop (size - length front) (length front) (front ++ rest))
           ∙ ap (drop (size - length front)) (drop_at front rest (length front) refl)
           ∙ drop-drop (size - length front) (at + length front) bytes
-          ∙ ap (λ k. drop k bytes) (let e : at + length front + (size - length front) ≡ at + size = omega (arith, within) in e);
+          ∙ ap (λ k. drop k bytes) (let e : at + length front + (size - length front)
+          ≡ at + size = omega (arith, within) in e);
     }
 
 nothing_written : (bytes front : List ℕ) (start : ℕ) → length front ≡ 0 → with_bytes bytes start front ≡ bytes
 nothing_written bytes [] start none =
-    ap (λ k. take start bytes ++ drop k bytes) (let e : start + 0 ≡ start = omega arith in e) ∙ take-append-drop start bytes
+    ap (λ k. take start bytes ++ drop k bytes) (let e : start + 0 ≡ start = omega arith in e)
+    ∙ take-append-drop start bytes
 nothing_written bytes (x ∷ front) start none = absurd (omega (arith, none))
 
 -- wherever the file found that place
-pub found_within : (bytes front : List ℕ) (at start size : ℕ) → start + length front ≤ length bytes → length front ≤ size → (at ≢ start → length front ≡ 0) → DiffersWithin at (at + size) bytes (with_bytes bytes start front)
+pub found_within : (bytes front : List ℕ) (at start size : ℕ) → start + length front ≤ length bytes
+    → length front ≤ size → (at ≢ start → length front ≡ 0)
+    → DiffersWithin at (at + size) bytes (with_bytes bytes start front)
 found_within bytes front at start size inside within apart =
     elim (cases_lt at start) [
       | inl below ↦ nothing (apart (λ same. omega (arith, below, same)))
@@ -71,7 +83,8 @@ found_within bytes front at start size inside within apart =
     ]
   where
     nothing : length front ≡ 0 → DiffersWithin at (at + size) bytes (with_bytes bytes start front)
-    nothing none = subst (DiffersWithin at (at + size) bytes) (sym (nothing_written bytes front start none)) (differs_none at (at + size) bytes)
+    nothing none = subst (DiffersWithin at (at + size) bytes) (sym (nothing_written bytes front start none))
+        (differs_none at (at + size) bytes)
 
 -- and nothing that was written is one of none
 pub put_none : (bytes from : List ℕ) (at : ℕ) → at + length from ≤ length bytes → IsPut at from 0 bytes bytes
@@ -81,14 +94,21 @@ put_none bytes from at inside =
       left = put.left;
       long = put.long;
       front = put.front;
-      put = sym (take-append-drop at bytes) ∙ ap (λ k. take at bytes ++ drop k bytes) (let e : at ≡ at + 0 = omega arith in e) ∙ put.put;
+      put = sym (take-append-drop at bytes)
+          ∙ ap (λ k. take at bytes ++ drop k bytes) (let e : at ≡ at + 0 = omega arith in e) ∙ put.put;
     }
 
 -- a write where the file's place for it was found
-pub wrote : (old new from : List ℕ) (at start n : ℕ) → (at + length from ≤ length old → start ≡ at) → n ≤ length from → new ≡ with_bytes old start (take n from) → at + length from ≤ length old → IsPut at from n old new
+pub wrote : (old new from : List ℕ) (at start n : ℕ) → (at + length from ≤ length old → start ≡ at)
+    → n ≤ length from → new ≡ with_bytes old start (take n from) → at + length from ≤ length old
+    → IsPut at from n old new
 wrote old new from at start n found within is inside =
-    subst (IsPut at from n old) (sym (is ∙ ap (λ k. with_bytes old k (take n from)) (found inside))) (put_front old from at n inside within)
+    subst (IsPut at from n old) (sym (is ∙ ap (λ k. with_bytes old k (take n from)) (found inside)))
+    (put_front old from at n inside within)
 
 -- and one that failed
-pub failed_to_write : (old new from : List ℕ) (at n : ℕ) → n ≡ 0 → new ≡ old → at + length from ≤ length old → IsPut at from n old new
-failed_to_write old new from at n none is inside = subst (λ k. IsPut at from k old new) (sym none) (subst (IsPut at from 0 old) (sym is) (put_none old from at inside))
+pub failed_to_write : (old new from : List ℕ) (at n : ℕ) → n ≡ 0 → new ≡ old → at + length from ≤ length old
+    → IsPut at from n old new
+failed_to_write old new from at n none is inside =
+    subst (λ k. IsPut at from k old new) (sym none)
+    (subst (IsPut at from 0 old) (sym is) (put_none old from at inside))

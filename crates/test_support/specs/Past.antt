@@ -17,6 +17,7 @@ none_left [] left had = had
 none_left (v ∷ past) left had = none_left past left had
 
 -- since the last of them there is nothing else
-pub only_now : (past : List (Vec ℕ Global)) (bytes left : List ℕ) → Since past bytes (length past) left → left ≡ bytes
+pub only_now : (past : List (Vec ℕ Global)) (bytes left : List ℕ)
+    → Since past bytes (length past) left → left ≡ bytes
 only_now past bytes left (inl now) = now
 only_now past bytes left (inr had) = absurd (none_left past left had)

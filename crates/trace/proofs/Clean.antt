@@ -25,7 +25,8 @@ pub record Good (version : ℕ) (text : List ℕ) (k : ℕ) : Type 0 where
   pub names : IsOfVersion text version
   pub first : k ≡ 1 → IsHeader (line_at text k)
   pub word : 2 ≤ k → HasWord version k (line_at text k)
-  pub order : first_field (line_at text k) ≡ spelled Slot → (j : ℕ) → 3 ≤ j → j < k → first_field (line_at text j) ≡ spelled Slot
+  pub order : first_field (line_at text k) ≡ spelled Slot → (j : ℕ) → 3 ≤ j → j < k
+      → first_field (line_at text j) ≡ spelled Slot
   pub entry : 2 ≤ k → (word : Word) × Entered version (line_at text k) word
 
 -- the word of a line and its fields
@@ -35,31 +36,43 @@ first_is version l w e = ap (λ (fs : List (List ℕ)). get_or fs 0 []) e.cut
 others_are : (version : ℕ) (l : List ℕ) (w : Word) (e : Entered version l w) → other_fields l ≡ e.fields
 others_are version l w e = ap (drop 1) e.cut
 
-counted : (version : ℕ) (l : List ℕ) (v w : Word) → Entered version l v → first_field l ≡ spelled w → AreAsMany version w (other_fields l)
+counted : (version : ℕ) (l : List ℕ) (v w : Word) → Entered version l v → first_field l ≡ spelled w
+    → AreAsMany version w (other_fields l)
 counted version l v w e is =
     let same = same_word v w (sym (first_is version l v e) ∙ is) in
-    subst (λ (x : Word). AreAsMany version x (other_fields l)) same (subst (AreAsMany version v) (sym (others_are version l v e)) e.count)
+    subst (λ (x : Word). AreAsMany version x (other_fields l)) same
+    (subst (AreAsMany version v) (sym (others_are version l v e)) e.count)
 
-parsed : (version : ℕ) (l : List ℕ) (v w : Word) (fault : FaultKind) → Entered version l v → first_field l ≡ spelled w → AllSay fault (shapes version w (other_fields l)) (other_fields l)
+parsed : (version : ℕ) (l : List ℕ) (v w : Word) (fault : FaultKind) → Entered version l v
+    → first_field l ≡ spelled w → AllSay fault (shapes version w (other_fields l)) (other_fields l)
 parsed version l v w fault e is =
     let same = same_word v w (sym (first_is version l v e) ∙ is) in
-    subst (λ (x : Word). AllSay fault (shapes version x (other_fields l)) (other_fields l)) same (subst (λ (fs : List (List ℕ)). AllSay fault (shapes version v fs) fs) (sym (others_are version l v e)) (e.say fault))
+    subst (λ (x : Word). AllSay fault (shapes version x (other_fields l)) (other_fields l)) same
+    (subst (λ (fs : List (List ℕ)). AllSay fault (shapes version v fs) fs)
+    (sym (others_are version l v e)) (e.say fault))
 
 module _ (version : ℕ) (text : List ℕ) (k : ℕ) (g : Good version text k) where
-  good_parsed : (fault : FaultKind) → 2 ≤ k → (v : ℕ) → IsOfVersion text v → (w : Word) → first_field (line_at text k) ≡ spelled w → AllSay fault (shapes v w (other_fields (line_at text k))) (other_fields (line_at text k))
+  good_parsed : (fault : FaultKind) → 2 ≤ k → (v : ℕ) → IsOfVersion text v → (w : Word)
+      → first_field (line_at text k) ≡ spelled w
+      → AllSay fault (shapes v w (other_fields (line_at text k))) (other_fields (line_at text k))
   good_parsed fault le v names w is =
       let e = g.entry le in
-      subst (λ (x : ℕ). AllSay fault (shapes x w (other_fields (line_at text k))) (other_fields (line_at text k))) (same_version version v text g.names names) (parsed version (line_at text k) e.0 w fault e.1 is)
+      subst (λ (x : ℕ). AllSay fault (shapes x w (other_fields (line_at text k)))
+      (other_fields (line_at text k))) (same_version version v text g.names names)
+      (parsed version (line_at text k) e.0 w fault e.1 is)
 
-  good_counted : 2 ≤ k → (v : ℕ) → IsOfVersion text v → (w : Word) → first_field (line_at text k) ≡ spelled w → AreAsMany v w (other_fields (line_at text k))
+  good_counted : 2 ≤ k → (v : ℕ) → IsOfVersion text v → (w : Word) → first_field (line_at text k) ≡ spelled w
+      → AreAsMany v w (other_fields (line_at text k))
   good_counted le v names w is =
       let e = g.entry le in
-      subst (λ (x : ℕ). AreAsMany x w (other_fields (line_at text k))) (same_version version v text g.names names) (counted version (line_at text k) e.0 w e.1 is)
+      subst (λ (x : ℕ). AreAsMany x w (other_fields (line_at text k)))
+      (same_version version v text g.names names) (counted version (line_at text k) e.0 w e.1 is)
 
   pub good_passes : (fault : FaultKind) → Passes text k fault
   good_passes kind.Cut = λ owed. g.ended
   good_passes kind.Header = λ end. g.first
-  good_passes kind.Word = λ end le v names. subst (λ (x : ℕ). HasWord x k (line_at text k)) (same_version version v text g.names names) (g.word le)
+  good_passes kind.Word = λ end le v names. subst (λ (x : ℕ). HasWord x k (line_at text k))
+      (same_version version v text g.names names) (g.word le)
   good_passes kind.Order = λ end. g.order
   good_passes kind.Fields = λ end. good_counted
   good_passes kind.Number = λ end. good_parsed kind.Number
@@ -71,7 +84,10 @@ abbrev pub IsSlotLine : ℕ → List ℕ → Type 0
 IsSlotLine version l = Entered version l Slot
 
 -- a text whose first lines are a header, where its disks are, slots and events, before at least one more part
-module _ (version : ℕ) (text k : List ℕ) (S E more : List (List ℕ)) (is : lines_of text ≡ (header version ∷ k ∷ (S ++ E)) ++ more) (some : 0 < length more) (one_of : IsVersion version) (second : EnteredSecond version k) (slots : All (IsSlotLine version) S) (events : All (EnteredEvent version) E) where
+module _ (version : ℕ) (text k : List ℕ) (S E more : List (List ℕ)) (is : lines_of text
+    ≡ (header version ∷ k ∷ (S ++ E)) ++ more) (some : 0 < length more) (one_of : IsVersion version)
+    (second : EnteredSecond version k) (slots : All (IsSlotLine version) S)
+    (events : All (EnteredEvent version) E) where
   total : length (lines_of text) ≡ 2 + (length S + length E) + length more
   total = ap length is ∙ omega (arith, length-append (header version ∷ k ∷ (S ++ E)) more, length-append S E)
 
@@ -84,19 +100,26 @@ module _ (version : ℕ) (text k : List ℕ) (S E more : List (List ℕ)) (is : 
   at_later : (j : ℕ) → 3 ≤ j → j < 3 + (length S + length E) → line_at text j ≡ get_or (S ++ E) (j - 3) []
   at_later j le lt =
       let e : j - 1 ≡ suc (suc (j - 3)) = omega arith in
-      ap (λ (ls : List (List ℕ)). get_or ls (j - 1) []) is ∙ ap (λ (n : ℕ). get_or ((header version ∷ k ∷ (S ++ E)) ++ more) n []) e ∙ get_or_append_left (S ++ E) more [] (j - 3) (omega (arith, length-append S E))
+      ap (λ (ls : List (List ℕ)). get_or ls (j - 1) []) is
+      ∙ ap (λ (n : ℕ). get_or ((header version ∷ k ∷ (S ++ E)) ++ more) n []) e
+      ∙ get_or_append_left (S ++ E) more [] (j - 3) (omega (arith, length-append S E))
 
   at_slot : (j : ℕ) → 3 ≤ j → j < 3 + length S → line_at text j ≡ get_or S (j - 3) []
   at_slot j le lt = at_later j le (omega arith) ∙ get_or_append_left S E [] (j - 3) (omega arith)
 
-  at_event : (j : ℕ) → 3 + length S ≤ j → j < 3 + (length S + length E) → line_at text j ≡ get_or E (j - 3 - length S) []
-  at_event j le lt = at_later j (omega arith) lt ∙ get_or-append_right S E (length S) (j - 3) [] refl (omega arith)
+  at_event : (j : ℕ) → 3 + length S ≤ j → j < 3 + (length S + length E)
+      → line_at text j ≡ get_or E (j - 3 - length S) []
+  at_event j le lt = at_later j (omega arith) lt
+      ∙ get_or-append_right S E (length S) (j - 3) [] refl (omega arith)
 
   slot_there : (j : ℕ) → 3 ≤ j → j < 3 + length S → Entered version (line_at text j) Slot
-  slot_there j le lt = subst (λ (l : List ℕ). Entered version l Slot) (sym (at_slot j le lt)) (All-get_or (IsSlotLine version) S (j - 3) [] (omega arith) slots)
+  slot_there j le lt = subst (λ (l : List ℕ). Entered version l Slot) (sym (at_slot j le lt))
+      (All-get_or (IsSlotLine version) S (j - 3) [] (omega arith) slots)
 
-  event_there : (j : ℕ) → 3 + length S ≤ j → j < 3 + (length S + length E) → EnteredEvent version (line_at text j)
-  event_there j le lt = subst (EnteredEvent version) (sym (at_event j le lt)) (All-get_or (EnteredEvent version) E (j - 3 - length S) [] (omega arith) events)
+  event_there : (j : ℕ) → 3 + length S ≤ j → j < 3 + (length S + length E)
+      → EnteredEvent version (line_at text j)
+  event_there j le lt = subst (EnteredEvent version) (sym (at_event j le lt))
+      (All-get_or (EnteredEvent version) E (j - 3 - length S) [] (omega arith) events)
 
   pub good : (j : ℕ) → 1 ≤ j → j < 3 + (length S + length E) → Good version text j
   good j le lt =
@@ -115,12 +138,18 @@ module _ (version : ℕ) (text k : List ℕ) (S E more : List (List ℕ)) (is : 
                   }
               | inr ne ↦
                   let two : j ≡ 2 = omega arith in
-                  let e : EnteredSecond version (line_at text j) = subst (EnteredSecond version) (sym (ap (line_at text) two ∙ at_two)) second in
+                  let e : EnteredSecond version (line_at text j) =
+                  subst (EnteredSecond version) (sym (ap (line_at text) two ∙ at_two)) second in
                   record {
                     ended = end;
                     names = at_one;
                     first = λ one. absurd (omega arith);
-                    word = λ _. record { word = e.word; may = subst (λ (n : ℕ). MayStand n e.word) (sym two) e.may; of_version = e.of_version; first = first_is version (line_at text j) e.word e.entry };
+                    word = λ _. record {
+                      word = e.word;
+                      may = subst (λ (n : ℕ). MayStand n e.word) (sym two) e.may;
+                      of_version = e.of_version;
+                      first = first_is version (line_at text j) e.word e.entry;
+                    };
                     order = λ _ i low high. absurd (omega arith);
                     entry = λ _. (e.word, e.entry);
                   }
@@ -133,8 +162,14 @@ module _ (version : ℕ) (text k : List ℕ) (S E more : List (List ℕ)) (is : 
                     ended = end;
                     names = at_one;
                     first = λ one. absurd (omega arith);
-                    word = λ _. record { word = Slot; may = late; of_version = tt; first = first_is version (line_at text j) Slot e };
-                    order = λ _ i low high. first_is version (line_at text i) Slot (slot_there i low (omega arith));
+                    word = λ _. record {
+                      word = Slot;
+                      may = late;
+                      of_version = tt;
+                      first = first_is version (line_at text j) Slot e;
+                    };
+                    order = λ _ i low high. first_is version (line_at text i) Slot
+                        (slot_there i low (omega arith));
                     entry = λ _. (Slot, e);
                   }
               | inr event ↦
@@ -143,19 +178,28 @@ module _ (version : ℕ) (text k : List ℕ) (S E more : List (List ℕ)) (is : 
                     ended = end;
                     names = at_one;
                     first = λ one. absurd (omega arith);
-                    word = λ _. record { word = e.word; may = may_move e.word 3 j (omega arith) late e.may; of_version = e.of_version; first = first_is version (line_at text j) e.word e.entry };
-                    order = λ is i low high. absurd (e.other (same_word e.word Slot (sym (first_is version (line_at text j) e.word e.entry) ∙ is)));
+                    word = λ _. record {
+                      word = e.word;
+                      may = may_move e.word 3 j (omega arith) late e.may;
+                      of_version = e.of_version;
+                      first = first_is version (line_at text j) e.word e.entry;
+                    };
+                    order = λ is i low high. absurd
+                        (e.other (same_word e.word Slot
+                        (sym (first_is version (line_at text j) e.word e.entry) ∙ is)));
                     entry = λ _. (e.word, e.entry);
                   }
             ]
       ]
 
   -- where no event has come, every line from the third on is a slot's
-  pub only_slots : length E ≡ 0 → (j : ℕ) → 3 ≤ j → j < 3 + (length S + length E) → first_field (line_at text j) ≡ spelled Slot
+  pub only_slots : length E ≡ 0 → (j : ℕ) → 3 ≤ j → j < 3 + (length S + length E)
+      → first_field (line_at text j) ≡ spelled Slot
   only_slots none j le lt = first_is version (line_at text j) Slot (slot_there j le (omega arith))
 
   -- where one has come, there is a line that isn't a slot's
   pub one_event : 0 < length E → first_field (line_at text (3 + length S)) ≡ spelled Slot → ⊥
   one_event some is =
       let e = event_there (3 + length S) (omega arith) (omega arith) in
-      e.other (same_word e.word Slot (sym (first_is version (line_at text (3 + length S)) e.word e.entry) ∙ is))
+      e.other (same_word e.word Slot (sym (first_is version (line_at text (3 + length S)) e.word e.entry)
+      ∙ is))

@@ -17,7 +17,9 @@ use Rattle.trace.proofs.Entries.{one_way, same_word}
 use Rattle.trace.proofs.Unique.{same_kind}
 
 -- it is the first of them
-pub at_fault_here : (kind : FaultKind) (shape : Shape) (shapes : List Shape) (field : List ℕ) (fields : List (List ℕ)) → fault_of shape ≡ kind → ¬ Says shape field → IsAtFault kind (shape ∷ shapes) (field ∷ fields) shape field
+pub at_fault_here : (kind : FaultKind) (shape : Shape) (shapes : List Shape) (field : List ℕ)
+    (fields : List (List ℕ)) → fault_of shape ≡ kind → ¬ Says shape field
+    → IsAtFault kind (shape ∷ shapes) (field ∷ fields) shape field
 at_fault_here kind shape shapes field fields is fails = record {
   before = [];
   after = shapes;
@@ -32,7 +34,9 @@ at_fault_here kind shape shapes field fields is fails = record {
 }
 
 -- it is a later one, where the first passes
-pub at_fault_later : (kind : FaultKind) (first shape : Shape) (shapes : List Shape) (field bytes : List ℕ) (fields : List (List ℕ)) → MatchBool (order (fault_of first) == order kind) (Says first field) ⊤ → IsAtFault kind shapes fields shape bytes → IsAtFault kind (first ∷ shapes) (field ∷ fields) shape bytes
+pub at_fault_later : (kind : FaultKind) (first shape : Shape) (shapes : List Shape) (field bytes : List ℕ)
+    (fields : List (List ℕ)) → MatchBool (order (fault_of first) == order kind) (Says first field) ⊤
+    → IsAtFault kind shapes fields shape bytes → IsAtFault kind (first ∷ shapes) (field ∷ fields) shape bytes
 at_fault_later kind first shape shapes field bytes fields passes is = record {
   before = first ∷ is.before;
   after = is.after;
@@ -51,37 +55,52 @@ pub others_are : (row : List Field) → take (length row - 1) (drop 1 row) ≡ d
 others_are row = take_all (length row - 1) (drop 1 row) (omega (arith, length-drop 1 row))
 
 -- the first passes: it has a fault of another kind, or says a value
-pub other_passes : (kind : FaultKind) (shape : Shape) (field : List ℕ) → fault_of shape ≢ kind → MatchBool (order (fault_of shape) == order kind) (Says shape field) ⊤
+pub other_passes : (kind : FaultKind) (shape : Shape) (field : List ℕ) → fault_of shape ≢ kind
+    → MatchBool (order (fault_of shape) == order kind) (Says shape field) ⊤
 other_passes kind shape field other =
-    let differ = ne_eqb (order (fault_of shape)) (order kind) (λ e. other (same_kind (fault_of shape) kind e)) in
+    let differ = ne_eqb (order (fault_of shape)) (order kind)
+    (λ e. other (same_kind (fault_of shape) kind e)) in
     rw differ tt
 
-pub parsed_passes : (kind : FaultKind) (shape : Shape) (field : List ℕ) → Says shape field → MatchBool (order (fault_of shape) == order kind) (Says shape field) ⊤
-parsed_passes kind shape field parsed = one_way (order (fault_of shape) == order kind) (Says shape field) parsed
+pub parsed_passes : (kind : FaultKind) (shape : Shape) (field : List ℕ) → Says shape field
+    → MatchBool (order (fault_of shape) == order kind) (Says shape field) ⊤
+parsed_passes kind shape field parsed =
+    one_way (order (fault_of shape) == order kind) (Says shape field) parsed
 
 module _ (kind : FaultKind) (width : List ℕ) where
   -- at the first of the fields of a row
-  pub row_here : (row : List Field) (all more : List (List ℕ)) (d : Field) (bytes : List ℕ) → 0 < length row → all ≡ bytes ∷ more → fault_of (shape_of width (slice_index_or row 0 d)) ≡ kind → ¬ Says (shape_of width (slice_index_or row 0 d)) bytes
+  pub row_here : (row : List Field) (all more : List (List ℕ)) (d : Field) (bytes : List ℕ) → 0 < length row
+      → all ≡ bytes ∷ more → fault_of (shape_of width (slice_index_or row 0 d)) ≡ kind
+      → ¬ Says (shape_of width (slice_index_or row 0 d)) bytes
       → IsAtFault kind (map (shape_of width) row) all (shape_of width (slice_index_or row 0 d)) bytes
   row_here [] all more d bytes some is of_kind fails = absurd (omega arith)
   row_here (f ∷ fs) all more d bytes some is of_kind fails =
-      subst (λ (fields : List (List ℕ)). IsAtFault kind (map (shape_of width) (f ∷ fs)) fields (shape_of width f) bytes) (sym is)
+      subst (λ (fields : List (List ℕ)). IsAtFault kind (map (shape_of width) (f ∷ fs)) fields
+      (shape_of width f) bytes) (sym is)
       (at_fault_here kind (shape_of width f) (map (shape_of width) fs) bytes more of_kind fails)
 
   -- at a later one, where the first passes
-  pub row_later : (row others : List Field) (all more : List (List ℕ)) (d : Field) (bytes : List ℕ) (found : Option (Field × Bor (List ℕ))) → 0 < length row → others ≡ drop 1 row → all ≡ bytes ∷ more
-      → MatchBool (order (fault_of (shape_of width (slice_index_or row 0 d))) == order kind) (Says (shape_of width (slice_index_or row 0 d)) bytes) ⊤
-      → IfSome found (λ f. IsAtFault kind (map (shape_of width) others) more (shape_of width f.0) f.1.now) → IfSome found (λ f. IsAtFault kind (map (shape_of width) row) all (shape_of width f.0) f.1.now)
+  pub row_later : (row others : List Field) (all more : List (List ℕ)) (d : Field) (bytes : List ℕ)
+      (found : Option (Field × Bor (List ℕ))) → 0 < length row → others ≡ drop 1 row → all ≡ bytes ∷ more
+      → MatchBool (order (fault_of (shape_of width (slice_index_or row 0 d))) == order kind)
+      (Says (shape_of width (slice_index_or row 0 d)) bytes) ⊤
+      → IfSome found (λ f. IsAtFault kind (map (shape_of width) others) more (shape_of width f.0) f.1.now)
+      → IfSome found (λ f. IsAtFault kind (map (shape_of width) row) all (shape_of width f.0) f.1.now)
   row_later row others all more d bytes None some rest is passes later = tt
   row_later [] others all more d bytes (Some f) some rest is passes later = absurd (omega arith)
   row_later (first ∷ fs) others all more d bytes (Some f) some rest is passes later =
-      subst (λ (fields : List (List ℕ)). IsAtFault kind (map (shape_of width) (first ∷ fs)) fields (shape_of width f.0) f.1.now) (sym is)
-      (at_fault_later kind (shape_of width first) (shape_of width f.0) (map (shape_of width) fs) bytes f.1.now more passes
-      (subst (λ (os : List Field). IsAtFault kind (map (shape_of width) os) more (shape_of width f.0) f.1.now) rest later))
+      subst (λ (fields : List (List ℕ)). IsAtFault kind (map (shape_of width) (first ∷ fs)) fields
+      (shape_of width f.0) f.1.now) (sym is)
+      (at_fault_later kind (shape_of width first) (shape_of width f.0) (map (shape_of width) fs) bytes
+      f.1.now more passes
+      (subst (λ (os : List Field). IsAtFault kind (map (shape_of width) os) more (shape_of width f.0)
+      f.1.now) rest later))
 
   -- at none
-  pub row_none : (row others : List Field) (all more : List (List ℕ)) (d : Field) (bytes : List ℕ) → 0 < length row → others ≡ drop 1 row → all ≡ bytes ∷ more
-      → MatchBool (order (fault_of (shape_of width (slice_index_or row 0 d))) == order kind) (Says (shape_of width (slice_index_or row 0 d)) bytes) ⊤
+  pub row_none : (row others : List Field) (all more : List (List ℕ)) (d : Field) (bytes : List ℕ)
+      → 0 < length row → others ≡ drop 1 row → all ≡ bytes ∷ more
+      → MatchBool (order (fault_of (shape_of width (slice_index_or row 0 d))) == order kind)
+      (Says (shape_of width (slice_index_or row 0 d)) bytes) ⊤
       → AllSay kind (map (shape_of width) others) more → AllSay kind (map (shape_of width) row) all
   row_none [] others all more d bytes some rest is passes later = absurd (omega arith)
   row_none (first ∷ fs) others all more d bytes some rest is passes later =
@@ -89,27 +108,42 @@ module _ (kind : FaultKind) (width : List ℕ) where
       (passes, subst (λ (os : List Field). AllSay kind (map (shape_of width) os) more) rest later)
 
 -- the fields after the word of a line
-module _ (kind : FaultKind) (version : ℕ) (line : List ℕ) (row : List Field) (width : List ℕ) (first : List ℕ) (fields : List (List ℕ)) (word : Word) where
-  row_is : (w : Word) → first_field line ≡ spelled word → fields_of line ≡ first ∷ fields → width ≡ slice_index_or fields 3 [] → row ≡ fields_in version word → first_field line ≡ spelled w
+module _ (kind : FaultKind) (version : ℕ) (line : List ℕ) (row : List Field) (width : List ℕ) (first : List ℕ)
+    (fields : List (List ℕ)) (word : Word) where
+  row_is : (w : Word) → first_field line ≡ spelled word → fields_of line ≡ first ∷ fields
+      → width ≡ slice_index_or fields 3 [] → row ≡ fields_in version word → first_field line ≡ spelled w
       → (map (shape_of width) row ≡ shapes version w (other_fields line)) × (fields ≡ other_fields line)
   row_is w is cut by table parsed =
       let same : w ≡ word = same_word w word (sym parsed ∙ is) in
-      let others : fields ≡ other_fields line = sym (ap (drop 1) cut) in
-      (ap (λ (x : List ℕ). map (shape_of x) row) (by ∙ ap (λ (fs : List (List ℕ)). slice_index_or fs 3 []) others) ∙ ap (λ (fs : List Field). map (shape_of (width_among (other_fields line))) fs) table ∙ ap (λ (v : Word). shapes version v (other_fields line)) (sym same), others)
+      let others : fields ≡ other_fields line = sym (ap (drop 1) cut) in (
+        ap (λ (x : List ℕ). map (shape_of x) row) (by
+            ∙ ap (λ (fs : List (List ℕ)). slice_index_or fs 3 []) others)
+            ∙ ap (λ (fs : List Field). map (shape_of (width_among (other_fields line))) fs) table
+            ∙ ap (λ (v : Word). shapes version v (other_fields line)) (sym same),
+        others,
+      )
 
-  pub some_in : (found : Option (Field × Bor (List ℕ))) → first_field line ≡ spelled word → fields_of line ≡ first ∷ fields → width ≡ slice_index_or fields 3 [] → row ≡ fields_in version word
+  pub some_in : (found : Option (Field × Bor (List ℕ))) → first_field line ≡ spelled word
+      → fields_of line ≡ first ∷ fields → width ≡ slice_index_or fields 3 [] → row ≡ fields_in version word
       → IfSome found (λ f. IsAtFault kind (map (shape_of width) row) fields (shape_of width f.0) f.1.now)
-      → IfSome found (λ f. (w : Word) → first_field line ≡ spelled w → IsAtFault kind (shapes version w (other_fields line)) (other_fields line) (shape_of (width_among (other_fields line)) f.0) f.1.now)
+      → IfSome found (λ f. (w : Word) → first_field line ≡ spelled w
+      → IsAtFault kind (shapes version w (other_fields line)) (other_fields line)
+      (shape_of (width_among (other_fields line)) f.0) f.1.now)
   some_in None is cut by table found = tt
   some_in (Some f) is cut by table found = λ w parsed.
       let same = row_is w is cut by table parsed in
-      let wide : width ≡ width_among (other_fields line) = by ∙ ap (λ (fs : List (List ℕ)). slice_index_or fs 3 []) same.1 in
-      subst (λ (x : List ℕ). IsAtFault kind (shapes version w (other_fields line)) (other_fields line) (shape_of x f.0) f.1.now) wide
-      (subst (λ (fs : List (List ℕ)). IsAtFault kind (shapes version w (other_fields line)) fs (shape_of width f.0) f.1.now) same.1
+      let wide : width ≡ width_among (other_fields line) = by
+      ∙ ap (λ (fs : List (List ℕ)). slice_index_or fs 3 []) same.1 in
+      subst (λ (x : List ℕ). IsAtFault kind (shapes version w (other_fields line)) (other_fields line)
+      (shape_of x f.0) f.1.now) wide
+      (subst (λ (fs : List (List ℕ)). IsAtFault kind (shapes version w (other_fields line)) fs
+      (shape_of width f.0) f.1.now) same.1
       (subst (λ (ss : List Shape). IsAtFault kind ss fields (shape_of width f.0) f.1.now) same.0 found))
 
-  pub none_in : first_field line ≡ spelled word → fields_of line ≡ first ∷ fields → width ≡ slice_index_or fields 3 [] → row ≡ fields_in version word
-      → AllSay kind (map (shape_of width) row) fields → (w : Word) → first_field line ≡ spelled w → AllSay kind (shapes version w (other_fields line)) (other_fields line)
+  pub none_in : first_field line ≡ spelled word → fields_of line ≡ first ∷ fields
+      → width ≡ slice_index_or fields 3 [] → row ≡ fields_in version word
+      → AllSay kind (map (shape_of width) row) fields → (w : Word) → first_field line ≡ spelled w
+      → AllSay kind (shapes version w (other_fields line)) (other_fields line)
   none_in is cut by table say = λ w parsed.
       let same = row_is w is cut by table parsed in
       subst (λ (fs : List (List ℕ)). AllSay kind (shapes version w (other_fields line)) fs) same.1
@@ -118,32 +152,44 @@ module _ (kind : FaultKind) (version : ℕ) (line : List ℕ) (row : List Field)
 -- ---- from the checks of the fields to their fault
 
 -- fields after others are checked by themselves
-all_after : (fault : FaultKind) (ss ts : List Shape) (fs gs : List (List ℕ)) → length ss ≡ length fs → AllSay fault (ss ++ ts) (fs ++ gs) → AllSay fault ts gs
+all_after : (fault : FaultKind) (ss ts : List Shape) (fs gs : List (List ℕ)) → length ss ≡ length fs
+    → AllSay fault (ss ++ ts) (fs ++ gs) → AllSay fault ts gs
 all_after fault [] ts [] gs same h = h
 all_after fault [] ts (f ∷ fs) gs same h = absurd (omega (arith, same))
 all_after fault (s ∷ ss) ts [] gs same h = absurd (omega (arith, same))
 all_after fault (s ∷ ss) ts (f ∷ fs) gs same h = all_after fault ss ts fs gs (omega (arith, same)) h.1
 
-parsed_here : (kind : FaultKind) (shape : Shape) (field : List ℕ) → fault_of shape ≡ kind → MatchBool (order (fault_of shape) == order kind) (Says shape field) ⊤ → Says shape field
+parsed_here : (kind : FaultKind) (shape : Shape) (field : List ℕ) → fault_of shape ≡ kind
+    → MatchBool (order (fault_of shape) == order kind) (Says shape field) ⊤ → Says shape field
 parsed_here kind shape field is h =
-    let same : (order (fault_of shape) == order kind) ≡ true = eq-eqb (order (fault_of shape)) (order kind) (ap order is) in
+    let same : (order (fault_of shape) == order kind) ≡ true =
+    eq-eqb (order (fault_of shape)) (order kind) (ap order is) in
     rw same at h
 
 -- where one field is at fault, they don't all say a value
-refuses : (kind : FaultKind) (ss : List Shape) (fs : List (List ℕ)) (shape : Shape) (field : List ℕ) → IsAtFault kind ss fs shape field → ¬ AllSay kind ss fs
+refuses : (kind : FaultKind) (ss : List Shape) (fs : List (List ℕ)) (shape : Shape) (field : List ℕ)
+    → IsAtFault kind ss fs shape field → ¬ AllSay kind ss fs
 refuses kind ss fs shape field at all =
-    let split = subst (λ (xs : List (List ℕ)). AllSay kind (at.before ++ shape ∷ at.after) xs) at.fields_are (subst (λ (xs : List Shape). AllSay kind xs fs) at.shapes_are all) in
+    let split = subst (λ (xs : List (List ℕ)). AllSay kind (at.before ++ shape ∷ at.after) xs) at.fields_are
+    (subst (λ (xs : List Shape). AllSay kind xs fs) at.shapes_are all) in
     let here = all_after kind at.before (shape ∷ at.after) at.front (field ∷ at.rest) at.as_many split in
     at.fails (parsed_here kind shape field at.of_kind here.0)
 
-pub none_found : (kind : FaultKind) (ss : List Shape) (fs : List (List ℕ)) (width : List ℕ) (found : Option (Field × Bor (List ℕ))) (none : Bool) → is_some found ≡ not none → IfSome found (λ f. IsAtFault kind ss fs (shape_of width f.0) f.1.now) → (is_some found ≡ false → AllSay kind ss fs)
+pub none_found : (kind : FaultKind) (ss : List Shape) (fs : List (List ℕ)) (width : List ℕ)
+    (found : Option (Field × Bor (List ℕ))) (none : Bool) → is_some found ≡ not none
+    → IfSome found (λ f. IsAtFault kind ss fs (shape_of width f.0) f.1.now)
+    → (is_some found ≡ false → AllSay kind ss fs)
     → IsTrue none ↔ AllSay kind ss fs
 none_found kind ss fs width None true is some all = (λ e. all refl, λ h. refl)
 none_found kind ss fs width None false is some all = absurd cc
 none_found kind ss fs width (Some f) true is some all = absurd cc
-none_found kind ss fs width (Some f) false is some all = (λ e. absurd cc, λ h. absurd (refuses kind ss fs (shape_of width f.0) f.1.now some h))
+none_found kind ss fs width (Some f) false is some all =
+    (λ e. absurd cc, λ h. absurd (refuses kind ss fs (shape_of width f.0) f.1.now some h))
 
-one_right : (shape : Shape) (field : List ℕ) → MatchBool (order (fault_of shape) == order kind.Number) (Says shape field) ⊤ → MatchBool (order (fault_of shape) == order kind.Choice) (Says shape field) ⊤ → MatchBool (order (fault_of shape) == order kind.Bytes) (Says shape field) ⊤ → Says shape field
+one_right : (shape : Shape) (field : List ℕ)
+    → MatchBool (order (fault_of shape) == order kind.Number) (Says shape field) ⊤
+    → MatchBool (order (fault_of shape) == order kind.Choice) (Says shape field) ⊤
+    → MatchBool (order (fault_of shape) == order kind.Bytes) (Says shape field) ⊤ → Says shape field
 one_right (Num bits) field n c b = n
 one_right Regions field n c b = n
 one_right Offset field n c b = n
@@ -156,21 +202,34 @@ one_right Bytes field n c b = b
 one_right Identity field n c b = b
 
 -- as many fields, of which each passes each check, are right
-all_right : (ss : List Shape) (fs : List (List ℕ)) → length fs ≡ length ss → AllSay kind.Number ss fs → AllSay kind.Choice ss fs → AllSay kind.Bytes ss fs → AllRight ss fs
+all_right : (ss : List Shape) (fs : List (List ℕ)) → length fs ≡ length ss → AllSay kind.Number ss fs
+    → AllSay kind.Choice ss fs → AllSay kind.Bytes ss fs → AllRight ss fs
 all_right [] [] many n c b = tt
 all_right [] (f ∷ fs) many n c b = absurd (omega (arith, many))
 all_right (s ∷ ss) [] many n c b = absurd (omega (arith, many))
-all_right (s ∷ ss) (f ∷ fs) many n c b = (one_right s f n.0 c.0 b.0, all_right ss fs (omega (arith, many)) n.1 c.1 b.1)
+all_right (s ∷ ss) (f ∷ fs) many n c b =
+    (one_right s f n.0 c.0 b.0, all_right ss fs (omega (arith, many)) n.1 c.1 b.1)
 
 -- the fields after a word, which aren't right
-module _ (version : ℕ) (word : Word) (row : List Field) (width : List ℕ) (fields : List (List ℕ)) (by : width ≡ slice_index_or fields 3 []) (table : row ≡ fields_in version word) where
+module _ (version : ℕ) (word : Word) (row : List Field) (width : List ℕ) (fields : List (List ℕ))
+    (by : width ≡ slice_index_or fields 3 []) (table : row ≡ fields_in version word) where
   shapes_are : map (shape_of width) row ≡ shapes version word fields
-  shapes_are = ap (λ (x : List ℕ). map (shape_of x) row) by ∙ ap (λ (fs : List Field). map (shape_of (width_among fields)) fs) table
+  shapes_are = ap (λ (x : List ℕ). map (shape_of x) row) by
+      ∙ ap (λ (fs : List Field). map (shape_of (width_among fields)) fs) table
 
-  all_of : (kind : FaultKind) → AllSay kind (map (shape_of width) row) fields → AllSay kind (shapes version word fields) fields
+  all_of : (kind : FaultKind) → AllSay kind (map (shape_of width) row) fields
+      → AllSay kind (shapes version word fields) fields
   all_of kind h = subst (λ (ss : List Shape). AllSay kind ss fields) shapes_are h
 
-  pub bytes_refused : ¬ AreRight version word fields → length fields ≡ length row → AllSay kind.Number (map (shape_of width) row) fields → AllSay kind.Choice (map (shape_of width) row) fields → RefusesFields version word fields kind.Bytes
+  pub bytes_refused : ¬ AreRight version word fields → length fields ≡ length row
+      → AllSay kind.Number (map (shape_of width) row) fields
+      → AllSay kind.Choice (map (shape_of width) row) fields → RefusesFields version word fields kind.Bytes
   bytes_refused wrong many numbers choices =
-      let counted : length row ≡ length (shapes version word fields) = sym (rw length-map refl) ∙ ap length shapes_are in
-      (many ∙ counted, all_of kind.Number numbers, all_of kind.Choice choices, λ all. wrong (all_right (shapes version word fields) fields (many ∙ counted) (all_of kind.Number numbers) (all_of kind.Choice choices) all))
+      let counted : length row ≡ length (shapes version word fields) = sym (rw length-map refl)
+      ∙ ap length shapes_are in (
+        many ∙ counted,
+        all_of kind.Number numbers,
+        all_of kind.Choice choices,
+        λ all. wrong (all_right (shapes version word fields) fields (many
+            ∙ counted) (all_of kind.Number numbers) (all_of kind.Choice choices) all),
+      )

@@ -18,10 +18,13 @@ pub nothing_before : (text : List ℕ) → IsCleanBefore text 1
 nothing_before text j le lt fault = absurd (omega arith)
 
 pub head_fault : (text : List ℕ) (fault : FaultKind) → RefusesHead text fault → IsFault text 1 fault
-head_fault text kind.Cut h = cut_fault text 1 (omega arith) (nothing_before text) (inl (omega arith)) (λ end. omega (arith, ap length h))
+head_fault text kind.Cut h =
+    cut_fault text 1 (omega arith) (nothing_before text) (inl (omega arith))
+    (λ end. omega (arith, ap length h))
 head_fault text kind.Header h =
     header_fault text (nothing_before text) (omega (arith, ap length h.cut, some_lines h.rest))
-    (λ p. h.other (subst IsHeader (ap (λ (ls : List (List ℕ)). get_or ls 0 []) h.cut) (p (omega (arith, ap length h.cut, some_lines h.rest)) refl)))
+    (λ p. h.other (subst IsHeader (ap (λ (ls : List (List ℕ)). get_or ls 0 []) h.cut)
+    (p (omega (arith, ap length h.cut, some_lines h.rest)) refl)))
 head_fault text kind.Word h = absurd h
 head_fault text kind.Order h = absurd h
 head_fault text kind.Fields h = absurd h
@@ -31,10 +34,13 @@ head_fault text kind.Bytes h = absurd h
 head_fault text kind.NoMemory h = absurd h
 
 -- after a good first line
-module _ (version : ℕ) (text rest : List ℕ) (one_of : IsVersion version) (whole : text ≡ header version ++ 10 ∷ rest) where
+module _ (version : ℕ) (text rest : List ℕ) (one_of : IsVersion version) (whole : text ≡ header version
+    ++ 10 ∷ rest) where
   pub headed : lines_of text ≡ header version ∷ lines_of rest
   unfolding joined
-  headed = ap lines_of (whole ∙ sym (ap (λ (xs : List ℕ). xs ++ rest) (append-nil (header version ++ 10 ∷ [])) ∙ append_assoc (header version) (10 ∷ []) rest)) ∙ lines_of-joined (header version ∷ []) rest (above_header version, tt)
+  headed = ap lines_of (whole ∙ sym (ap (λ (xs : List ℕ). xs ++ rest) (append-nil (header version ++ 10 ∷ []))
+      ∙ append_assoc (header version) (10 ∷ []) rest))
+      ∙ lines_of-joined (header version ∷ []) rest (above_header version, tt)
 
   names_it : IsOfVersion text version
   names_it = ap (λ (ls : List (List ℕ)). get_or ls 0 []) headed
@@ -51,24 +57,31 @@ module _ (version : ℕ) (text rest : List ℕ) (one_of : IsVersion version) (wh
       }
 
   pub head_clean : IsCleanBefore text 2
-  head_clean j le lt fault = let one : 1 ≡ j = omega arith in subst (λ (k : ℕ). Passes text k fault) one (good_passes version text 1 good_head fault)
+  head_clean j le lt fault = let one : 1 ≡ j = omega arith in
+      subst (λ (k : ℕ). Passes text k fault) one (good_passes version text 1 good_head fault)
 
   at_two : line_at text 2 ≡ get_or (lines_of rest) 0 []
   at_two = ap (λ (ls : List (List ℕ)). get_or ls 1 []) headed
 
-  fields_of_second : (fault : FaultKind) → RefusesDisks version rest fault → fault ≢ kind.NoMemory → IsFault text 2 fault
+  fields_of_second : (fault : FaultKind) → RefusesDisks version rest fault → fault ≢ kind.NoMemory
+      → IsFault text 2 fault
   fields_of_second fault h known =
       let here : line_at text 2 ≡ h.line = at_two ∙ ap (λ (ls : List (List ℕ)). get_or ls 0 []) h.cut in
       let end : IsEnded text 2 = omega (arith, ap length headed, ap length h.cut, some_lines h.rest) in
-      fields_fault text 2 (omega arith) head_clean end version names_it h.word h.may h.of_version (ap first_field here ∙ h.first) (λ _ _ j low high. absurd (omega arith)) fault
+      fields_fault text 2 (omega arith) head_clean end version names_it h.word h.may h.of_version
+      (ap first_field here ∙ h.first) (λ _ _ j low high. absurd (omega arith)) fault
       (subst (λ (l : List ℕ). RefusesFields version h.word (other_fields l) fault) (sym here) h.refused) known
 
-  pub second_fault : (fault : FaultKind) → RefusesSecond version rest fault → fault ≢ kind.NoMemory → IsFault text 2 fault
-  second_fault kind.Cut h known = cut_fault text 2 (omega arith) head_clean (inl (omega arith)) (λ end. omega (arith, ap length headed, ap length h))
+  pub second_fault : (fault : FaultKind) → RefusesSecond version rest fault → fault ≢ kind.NoMemory
+      → IsFault text 2 fault
+  second_fault kind.Cut h known =
+      cut_fault text 2 (omega arith) head_clean (inl (omega arith))
+      (λ end. omega (arith, ap length headed, ap length h))
   second_fault kind.Word h known =
       let here : line_at text 2 ≡ h.line = at_two ∙ ap (λ (ls : List (List ℕ)). get_or ls 0 []) h.cut in
       let end : IsEnded text 2 = omega (arith, ap length headed, ap length h.cut, some_lines h.rest) in
-      word_fault text 2 (omega arith) head_clean end version names_it (λ w may of is. h.other w may of (sym (ap first_field here) ∙ is))
+      word_fault text 2 (omega arith) head_clean end version names_it
+      (λ w may of is. h.other w may of (sym (ap first_field here) ∙ is))
   second_fault kind.Header h known = fields_of_second kind.Header h known
   second_fault kind.Order h known = fields_of_second kind.Order h known
   second_fault kind.Fields h known = fields_of_second kind.Fields h known

@@ -9,16 +9,20 @@ use Rattle.trace.specs.Words.{IsIdentityField}
 -- an identity is spelled by forty digits
 module _ (field bs : List ℕ) (h : IsIdentityField field bs) where
   identity_encoded : field ≡ encode_lower bs
-  identity_encoded = let twenty = h.twenty in h.bytes_are.spelled ∙ bytes_above bs (omega (arith, twenty, length-encode_with lower_digits bs))
+  identity_encoded = let twenty = h.twenty in h.bytes_are.spelled
+      ∙ bytes_above bs (omega (arith, twenty, length-encode_with lower_digits bs))
 
   pub identity_digits : All IsDigit field
-  identity_digits = subst (All IsDigit) (sym identity_encoded) (digits_encoded bs (is_bytes bs h.bytes_are.fits))
+  identity_digits = subst (All IsDigit) (sym identity_encoded)
+      (digits_encoded bs (is_bytes bs h.bytes_are.fits))
 
   pub identity_len : length field ≡ 40
-  identity_len = let twenty = h.twenty in omega (arith, twenty, ap length identity_encoded, length-encode_with lower_digits bs)
+  identity_len = let twenty = h.twenty in
+      omega (arith, twenty, ap length identity_encoded, length-encode_with lower_digits bs)
 
 -- what was read of forty digits
-pub identity_read : (field bs : List ℕ) → length field ≡ 40 → encode_lower bs ≡ field → AreBytes bs → IsIdentityField field bs
+pub identity_read : (field bs : List ℕ) → length field ≡ 40 → encode_lower bs ≡ field → AreBytes bs
+    → IsIdentityField field bs
 identity_read field bs len spelled fits =
     let some : 0 < length (encode_lower bs) = omega (arith, ap length spelled, len) in
     record {

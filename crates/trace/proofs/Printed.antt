@@ -9,13 +9,17 @@ use Rattle.trace.specs.Words.{IsWordOf}
 use Rattle.trace.specs.Text.{Content, disks_line, disks_word, ended, event_line, front_text, header, joined, line, slot_line, text, trace_lines, word_for}
 use Rattle.trace.proofs.Signs.{joined_push}
 
-pub line_push : (x : List ℕ) (xs : List (List ℕ)) (y : List ℕ) → line (x ∷ xs ++ y ∷ []) ≡ line (x ∷ xs) ++ 32 ∷ y
+pub line_push : (x : List ℕ) (xs : List (List ℕ)) (y : List ℕ)
+    → line (x ∷ xs ++ y ∷ []) ≡ line (x ∷ xs) ++ 32 ∷ y
 line_push x [] y = refl
-line_push x (z ∷ zs) y = ap (λ (t : List ℕ). x ++ 32 ∷ t) (line_push z zs y) ∙ sym (append_assoc x (32 ∷ line (z ∷ zs)) (32 ∷ y))
+line_push x (z ∷ zs) y = ap (λ (t : List ℕ). x ++ 32 ∷ t) (line_push z zs y)
+    ∙ sym (append_assoc x (32 ∷ line (z ∷ zs)) (32 ∷ y))
 
 -- one field more, of what stands at place i
-pub line_more : {X : Type 0} (f : X → List ℕ) (front word before spaced now : List ℕ) (xs : List X) (i : ℕ) (d : X) → i < length xs
-    → before ≡ front ++ line (word ∷ map f (take i xs)) → spaced ≡ before ++ 32 ∷ [] → now ≡ spaced ++ f (get_or xs i d)
+pub line_more : {X : Type 0} (f : X → List ℕ) (front word before spaced now : List ℕ) (xs : List X) (i : ℕ)
+    (d : X) → i < length xs
+    → before ≡ front ++ line (word ∷ map f (take i xs)) → spaced ≡ before ++ 32 ∷ [] → now ≡ spaced
+    ++ f (get_or xs i d)
     → now ≡ front ++ line (word ∷ map f (take (i + 1) xs))
 line_more f front word before spaced now xs i d lt sofar space field =
     let so = line (word ∷ map f (take i xs)) in
@@ -23,7 +27,8 @@ line_more f front word before spaced now xs i d lt sofar space field =
     field ∙ ap (λ (t : List ℕ). t ++ x) (space ∙ ap (λ (t : List ℕ). t ++ 32 ∷ []) sofar)
     ∙ append_assoc (front ++ so) (32 ∷ []) x
     ∙ append_assoc front so (32 ∷ x)
-    ∙ ap (λ (t : List ℕ). front ++ t) (sym (line_push word (map f (take i xs)) x) ∙ ap (λ (ys : List (List ℕ)). line (word ∷ ys)) (sym (map_more f xs i d lt)))
+    ∙ ap (λ (t : List ℕ). front ++ t) (sym (line_push word (map f (take i xs)) x)
+    ∙ ap (λ (ys : List (List ℕ)). line (word ∷ ys)) (sym (map_more f xs i d lt)))
 
 -- ---- lines
 
@@ -32,32 +37,52 @@ unfolding joined
 joined_none = refl
 
 -- one line more, of what stands at place i
-pub joined_more : {X : Type 0} (f : X → List ℕ) (front : List ℕ) (xs : List X) (i : ℕ) (x : X) → i < length xs → x ≡ get_or xs i x → (front ++ joined (map f (take i xs))) ++ ended (f x) ≡ front ++ joined (map f (take (i + 1) xs))
+pub joined_more : {X : Type 0} (f : X → List ℕ) (front : List ℕ) (xs : List X) (i : ℕ) (x : X) → i < length xs
+    → x ≡ get_or xs i x → (front ++ joined (map f (take i xs))) ++ ended (f x) ≡ front
+    ++ joined (map f (take (i + 1) xs))
 joined_more f front xs i x lt is =
     append_assoc front (joined (map f (take i xs))) (ended (f x))
-    ∙ ap (λ (t : List ℕ). front ++ t) (sym (joined_push (map f (take i xs)) (f x)) ∙ ap joined (ap (λ y. map f (take i xs) ++ f y ∷ []) is ∙ sym (map_more f xs i x lt)))
+    ∙ ap (λ (t : List ℕ). front ++ t) (sym (joined_push (map f (take i xs)) (f x))
+    ∙ ap joined (ap (λ y. map f (take i xs) ++ f y ∷ []) is ∙ sym (map_more f xs i x lt)))
 
 pub joined_append : (xs ys : List (List ℕ)) → joined (xs ++ ys) ≡ joined xs ++ joined ys
 unfolding joined
 joined_append [] ys = refl
-joined_append (x ∷ xs) ys = ap (λ (t : List ℕ). ended x ++ t) (joined_append xs ys) ∙ sym (append_assoc (ended x) (joined xs) (joined ys))
+joined_append (x ∷ xs) ys = ap (λ (t : List ℕ). ended x ++ t) (joined_append xs ys)
+    ∙ sym (append_assoc (ended x) (joined xs) (joined ys))
 
-front_is : (version : ℕ) (disks : Disks) → joined (header version ∷ disks_line disks ∷ []) ≡ front_text version disks
+front_is : (version : ℕ) (disks : Disks) → joined (header version ∷ disks_line disks ∷ [])
+    ≡ front_text version disks
 unfolding joined
-front_is version disks = ap (λ (t : List ℕ). ended (header version) ++ t) (append-nil (ended (disks_line disks)))
+front_is version disks = ap (λ (t : List ℕ). ended (header version)
+    ++ t) (append-nil (ended (disks_line disks)))
 
 -- the text, in its three parts
-pub text_is : {A : Type 0} (c : Content A) → (front_text c.version c.disks ++ joined (map (slot_line c.version) c.slots)) ++ joined (map event_line c.events) ≡ text c
+pub text_is : {A : Type 0} (c : Content A)
+    → (front_text c.version c.disks ++ joined (map (slot_line c.version) c.slots))
+    ++ joined (map event_line c.events) ≡ text c
 unfolding trace_lines
 text_is c =
-    sym (joined_append (header c.version ∷ disks_line c.disks ∷ map (slot_line c.version) c.slots) (map event_line c.events)
-    ∙ ap (λ (t : List ℕ). t ++ joined (map event_line c.events)) (joined_append (header c.version ∷ disks_line c.disks ∷ []) (map (slot_line c.version) c.slots) ∙ ap (λ (t : List ℕ). t ++ joined (map (slot_line c.version) c.slots)) (front_is c.version c.disks)))
+    sym (joined_append (header c.version ∷ disks_line c.disks ∷ map (slot_line c.version) c.slots)
+    (map event_line c.events)
+    ∙ ap (λ (t : List ℕ). t ++ joined (map event_line c.events))
+    (joined_append (header c.version ∷ disks_line c.disks ∷ []) (map (slot_line c.version) c.slots)
+    ∙ ap (λ (t : List ℕ). t ++ joined (map (slot_line c.version) c.slots)) (front_is c.version c.disks)))
 
 -- a trace has a text where four tests say so, of which the first three passed
-pub printable_when : {A : Type 0} (t : Content A) (front slots lines words : Bool) → IsTrue front ↔ (IsVersion t.version × IsWordOf t.version (disks_word t.disks))
-    → IsTrue slots ↔ All (IsPrintableSlot t.version) t.slots → IsTrue lines ↔ All (λ e. IsPrintableKind e.what) t.events → IsTrue words ↔ All (λ e. IsWordOf t.version (word_for e.what)) t.events
+pub printable_when : {A : Type 0} (t : Content A) (front slots lines words : Bool) → IsTrue front
+    ↔ (IsVersion t.version × IsWordOf t.version (disks_word t.disks))
+    → IsTrue slots ↔ All (IsPrintableSlot t.version) t.slots → IsTrue lines
+    ↔ All (λ e. IsPrintableKind e.what) t.events → IsTrue words
+    ↔ All (λ e. IsWordOf t.version (word_for e.what)) t.events
     → front ≡ true → slots ≡ true → lines ≡ true → IsTrue words ↔ IsPrintable t
 printable_when t front slots lines words f s l w a b c = (
-  λ h. let both = f.0 a in record { version = both.0; disks = both.1; slots = s.0 b; events = l.0 c; words = w.0 h },
+  λ h. let both = f.0 a in record {
+    version = both.0;
+    disks = both.1;
+    slots = s.0 b;
+    events = l.0 c;
+    words = w.0 h;
+  },
   λ h. w.1 h.words,
 )

@@ -21,7 +21,8 @@ use Rattle.trace.proofs.Printed.{line_push}
 pub slot_one : (n d : ℕ) → n < 16 → d ≡ digit n → d ∷ 32 ∷ [] ≡ num n ++ 32 ∷ []
 slot_one n d lt is = rw (is, num_digit n lt) refl
 
-pub slot_two : (n d e : ℕ) → 16 ≤ n → n < 256 → d ≡ digit (n / 16) → e ≡ digit (n % 16) → d ∷ e ∷ 32 ∷ [] ≡ num n ++ 32 ∷ []
+pub slot_two : (n d e : ℕ) → 16 ≤ n → n < 256 → d ≡ digit (n / 16) → e ≡ digit (n % 16)
+    → d ∷ e ∷ 32 ∷ [] ≡ num n ++ 32 ∷ []
 slot_two n d e le lt p q =
     let small : n / 16 < 16 = omega arith in
     rw (p, q, num_split n le, num_digit (n / 16) small) refl
@@ -32,20 +33,23 @@ one_digit n d rest lt is =
     let small : n % 16 ≡ n = omega arith in
     rw (is, small, num_digit n lt) refl
 
-pub two_digits : (n d e : ℕ) (rest : List ℕ) → 16 ≤ n → n < 256 → d ≡ digit (n / 16) → e ≡ digit (n % 16) → d ∷ e ∷ rest ≡ num n ++ rest
+pub two_digits : (n d e : ℕ) (rest : List ℕ) → 16 ≤ n → n < 256 → d ≡ digit (n / 16) → e ≡ digit (n % 16)
+    → d ∷ e ∷ rest ≡ num n ++ rest
 two_digits n d e rest le lt p q =
     let small : n / 16 < 16 = omega arith in
     rw (p, q, num_split n le, num_digit (n / 16) small) refl
 
 -- a line that begins with both digits of a slot, of which the first may be left out
-pub numbered_one : (n : ℕ) (xs : List ℕ) → n < 16 → take 2 xs ≡ digit (n / 16) ∷ digit (n % 16) ∷ [] → take (length xs - 1) (drop 1 xs) ≡ num n ++ drop 2 xs
+pub numbered_one : (n : ℕ) (xs : List ℕ) → n < 16 → take 2 xs ≡ digit (n / 16) ∷ digit (n % 16) ∷ []
+    → take (length xs - 1) (drop 1 xs) ≡ num n ++ drop 2 xs
 numbered_one n [] lt is = absurd cc
 numbered_one n (x ∷ []) lt is = absurd cc
 numbered_one n (x ∷ y ∷ xs) lt is =
     let last : y ≡ digit (n % 16) = cc in
     take_all (length (x ∷ y ∷ xs) - 1) (y ∷ xs) (omega arith) ∙ one_digit n y xs lt last
 
-pub numbered_two : (n : ℕ) (xs : List ℕ) → 16 ≤ n → n < 256 → take 2 xs ≡ digit (n / 16) ∷ digit (n % 16) ∷ [] → xs ≡ num n ++ drop 2 xs
+pub numbered_two : (n : ℕ) (xs : List ℕ) → 16 ≤ n → n < 256 → take 2 xs ≡ digit (n / 16) ∷ digit (n % 16) ∷ []
+    → xs ≡ num n ++ drop 2 xs
 numbered_two n [] le lt is = absurd cc
 numbered_two n (x ∷ []) le lt is = absurd cc
 numbered_two n (x ∷ y ∷ xs) le lt is =
@@ -54,12 +58,16 @@ numbered_two n (x ∷ y ∷ xs) le lt is =
     two_digits n x y xs le lt first last
 
 -- the line of a record without output, by its bytes
-pub quiet_is : (slot : ℕ) (reply : List ℕ) (words : ℕ × ℕ) → num slot ++ 32 ∷ (reply ++ 32 ∷ 45 ∷ 32 ∷ digit words.0 ∷ 32 ∷ digit words.1 ∷ 10 ∷ []) ≡ ended (quiet_line slot reply words)
+pub quiet_is : (slot : ℕ) (reply : List ℕ) (words : ℕ × ℕ) → num slot
+    ++ 32 ∷ (reply ++ 32 ∷ 45 ∷ 32 ∷ digit words.0 ∷ 32 ∷ digit words.1 ∷ 10 ∷ [])
+    ≡ ended (quiet_line slot reply words)
 unfolding quiet_line bytes
 quiet_is slot reply words = simp append_assoc
 
 -- the same of how many bytes were taken, put in four parts
-pub took_is : (slot count : ℕ) (words : ℕ × ℕ) → (num slot ++ 32 ∷ []) ++ (codes "took:" ++ (num count ++ 32 ∷ 45 ∷ 32 ∷ digit words.0 ∷ 32 ∷ digit words.1 ∷ 10 ∷ [])) ≡ ended (quiet_line slot (codes "took:" ++ num count) words)
+pub took_is : (slot count : ℕ) (words : ℕ × ℕ) → (num slot ++ 32 ∷ [])
+    ++ (codes "took:" ++ (num count ++ 32 ∷ 45 ∷ 32 ∷ digit words.0 ∷ 32 ∷ digit words.1 ∷ 10 ∷ []))
+    ≡ ended (quiet_line slot (codes "took:" ++ num count) words)
 took_is slot count words =
     let tail : List ℕ = 32 ∷ 45 ∷ 32 ∷ digit words.0 ∷ 32 ∷ digit words.1 ∷ 10 ∷ [] in
     append_assoc (num slot) (32 ∷ []) (codes "took:" ++ (num count ++ tail))
@@ -67,16 +75,21 @@ took_is slot count words =
     ∙ quiet_is slot (codes "took:" ++ num count) words
 
 -- a line without output is that line
-pub quiet_of : {A : Type 0} → (slot : ℕ) (reply : Reply A) (output : List ℕ) (words : ℕ × ℕ) (field : List ℕ) → length output ≡ 0 → reply_field reply ≡ field → ended (quiet_line slot field words) ≡ ended (record_line (entry_of slot reply output words))
+pub quiet_of : {A : Type 0} → (slot : ℕ) (reply : Reply A) (output : List ℕ) (words : ℕ × ℕ) (field : List ℕ)
+    → length output ≡ 0 → reply_field reply ≡ field
+    → ended (quiet_line slot field words) ≡ ended (record_line (entry_of slot reply output words))
 unfolding quiet_line record_line
 quiet_of slot reply [] words field none is = rw is refl
 quiet_of slot reply (x ∷ xs) words field none is = absurd cc
 
 -- the line of a value, made in a line of the same length
-pub value_line : (slot value x y : ℕ) (words : ℕ × ℕ) (digits : List ℕ) → digits ≡ fixed 8 value → x ≡ digit words.0 → y ≡ digit words.1
-    → num slot ++ 32 ∷ 118 ∷ 58 ∷ slice_set (slice_set (digits ++ 32 ∷ 45 ∷ 32 ∷ 48 ∷ 32 ∷ 48 ∷ 10 ∷ []) 11 x) 13 y ≡ ended (quiet_line slot (codes "v:" ++ fixed 8 value) words)
+pub value_line : (slot value x y : ℕ) (words : ℕ × ℕ) (digits : List ℕ) → digits ≡ fixed 8 value
+    → x ≡ digit words.0 → y ≡ digit words.1
+    → num slot ++ 32 ∷ 118 ∷ 58 ∷ slice_set (slice_set (digits ++ 32 ∷ 45 ∷ 32 ∷ 48 ∷ 32 ∷ 48 ∷ 10 ∷ []) 11 x)
+    13 y ≡ ended (quiet_line slot (codes "v:" ++ fixed 8 value) words)
 unfolding fixed
-value_line slot value x y words digits is p q = rw (is, p, q) (quiet_is slot (codes "v:" ++ fixed 8 value) words)
+value_line slot value x y words digits is p q =
+    rw (is, p, q) (quiet_is slot (codes "v:" ++ fixed 8 value) words)
 
 -- some of the bytes were put, and these are left
 pub record PutFront (a b s t : Option (List ℕ)) (bytes rest : List ℕ) : Type 0 where
@@ -85,25 +98,33 @@ pub record PutFront (a b s t : Option (List ℕ)) (bytes rest : List ℕ) : Type
   pub whole : done ++ encode_lower rest ≡ encode_lower bytes
 
 -- n bytes more
-pub put_more : (a b c s t u : Option (List ℕ)) (bytes rest : List ℕ) (n : ℕ) → PutFront a b s t bytes rest → Sends b c t (encode_lower (take n rest)) u → PutFront a c s u bytes (drop n rest)
+pub put_more : (a b c s t u : Option (List ℕ)) (bytes rest : List ℕ) (n : ℕ) → PutFront a b s t bytes rest
+    → Sends b c t (encode_lower (take n rest)) u → PutFront a c s u bytes (drop n rest)
 put_more a b c s t u bytes rest n p q = record {
   done = p.done ++ encode_lower (take n rest);
   sent = sends_more a b c s t u p.done (encode_lower (take n rest)) p.sent q;
   whole =
       append_assoc p.done (encode_lower (take n rest)) (encode_lower (drop n rest))
-      ∙ ap (λ (x : List ℕ). p.done ++ x) (sym (encode_append (take n rest) (drop n rest)) ∙ ap encode_lower (take-append-drop n rest))
+      ∙ ap (λ (x : List ℕ). p.done ++ x) (sym (encode_append (take n rest) (drop n rest))
+      ∙ ap encode_lower (take-append-drop n rest))
       ∙ p.whole;
 }
 
 -- none is left
-pub put_all : (a b s t : Option (List ℕ)) (bytes rest text : List ℕ) → PutFront a b s t bytes rest → length rest ≡ 0 → text ≡ encode_lower bytes → Sends a b s text t
-put_all a b s t bytes rest text p none is = sends_same a b s t p.done text (all_written p.done (encode_lower bytes) rest p.whole none ∙ sym is) p.sent
+pub put_all : (a b s t : Option (List ℕ)) (bytes rest text : List ℕ) → PutFront a b s t bytes rest
+    → length rest ≡ 0 → text ≡ encode_lower bytes → Sends a b s text t
+put_all a b s t bytes rest text p none is =
+    sends_same a b s t p.done text (all_written p.done (encode_lower bytes) rest p.whole none ∙ sym is) p.sent
 
-line_is : (a b c : List ℕ) (x y z : ℕ) → (a ++ 32 ∷ []) ++ (b ++ (32 ∷ c ++ 32 ∷ x ∷ 32 ∷ y ∷ z ∷ [])) ≡ line (a ∷ b ∷ c ∷ (x ∷ []) ∷ (y ∷ []) ∷ []) ++ z ∷ []
+line_is : (a b c : List ℕ) (x y z : ℕ) → (a ++ 32 ∷ []) ++ (b ++ (32 ∷ c ++ 32 ∷ x ∷ 32 ∷ y ∷ z ∷ []))
+    ≡ line (a ∷ b ∷ c ∷ (x ∷ []) ∷ (y ∷ []) ∷ []) ++ z ∷ []
 line_is a b c x y z = simp append_assoc
 
 -- five fields, each but the first after a space, and a byte behind them
-pub line_put : (i j k l m s t u v w : Option (List ℕ)) (a b c : List ℕ) (x y z : ℕ) → Sends i j s (a ++ 32 ∷ []) t → Sends j k t b u → Sends k l u (32 ∷ c) v → Sends l m v (32 ∷ x ∷ 32 ∷ y ∷ z ∷ []) w → Sends i m s (line (a ∷ b ∷ c ∷ (x ∷ []) ∷ (y ∷ []) ∷ []) ++ z ∷ []) w
+pub line_put : (i j k l m s t u v w : Option (List ℕ)) (a b c : List ℕ) (x y z : ℕ)
+    → Sends i j s (a ++ 32 ∷ []) t → Sends j k t b u → Sends k l u (32 ∷ c) v
+    → Sends l m v (32 ∷ x ∷ 32 ∷ y ∷ z ∷ []) w
+    → Sends i m s (line (a ∷ b ∷ c ∷ (x ∷ []) ∷ (y ∷ []) ∷ []) ++ z ∷ []) w
 line_put i j k l m s t u v w a b c x y z p q r e =
     sends_same i m s w _ _ (line_is a b c x y z)
     (sends_more i j m s t w (a ++ 32 ∷ []) (b ++ (32 ∷ c ++ 32 ∷ x ∷ 32 ∷ y ∷ z ∷ [])) p
@@ -111,17 +132,23 @@ line_put i j k l m s t u v w a b c x y z p q r e =
     (sends_more k l m u v w (32 ∷ c) (32 ∷ x ∷ 32 ∷ y ∷ z ∷ []) r e)))
 
 -- a record with one field more behind it
-pub asked_is : {A : Type 0} (entry : Record A) (asked : Option (Operation × List Segment)) → (line (record_fields entry) ++ 32 ∷ []) ++ (asked_field asked ++ 10 ∷ []) ≡ ended (asked_line entry asked)
+pub asked_is : {A : Type 0} (entry : Record A) (asked : Option (Operation × List Segment))
+    → (line (record_fields entry) ++ 32 ∷ [])
+    ++ (asked_field asked ++ 10 ∷ []) ≡ ended (asked_line entry asked)
 unfolding asked_line
 asked_is entry asked =
     let fields = line (record_fields entry) in
     let last = asked_field asked in
     append_assoc fields (32 ∷ []) (last ++ 10 ∷ [])
     ∙ sym (append_assoc fields (32 ∷ last) (10 ∷ []))
-    ∙ ap (λ (l : List ℕ). l ++ 10 ∷ []) (sym (line_push (num entry.slot) (reply_field entry.reply ∷ bytes entry.output ∷ (digit entry.block_irq ∷ []) ∷ (digit entry.console_irq ∷ []) ∷ []) last))
+    ∙ ap (λ (l : List ℕ). l ++ 10 ∷ [])
+    (sym (line_push (num entry.slot) (reply_field entry.reply ∷ bytes entry.output
+    ∷ (digit entry.block_irq ∷ []) ∷ (digit entry.console_irq ∷ []) ∷ []) last))
 
 -- one run more, of what stands at place i
-pub others_more : (runs : List Segment) (i : ℕ) (d : Segment) → i < length runs → flat_map other_run (take i runs) ++ (44 ∷ run_field (get_or runs i d)) ≡ flat_map other_run (take (i + 1) runs)
+pub others_more : (runs : List Segment) (i : ℕ) (d : Segment) → i < length runs
+    → flat_map other_run (take i runs)
+    ++ (44 ∷ run_field (get_or runs i d)) ≡ flat_map other_run (take (i + 1) runs)
 others_more [] i d lt = absurd (omega arith)
 others_more (run ∷ runs) zero d lt = sym (append-nil (other_run run))
 others_more (run ∷ runs) (suc i) d lt =
@@ -131,6 +158,10 @@ others_more (run ∷ runs) (suc i) d lt =
     ∙ ap (λ (n : ℕ). flat_map other_run (take n (run ∷ runs))) next
 
 -- runs by the first and the others
-pub runs_are : (runs others : List Segment) (d : Segment) → 0 < length runs → others ≡ take (length runs - 1) (drop 1 runs) → run_field (get_or runs 0 d) ++ flat_map other_run others ≡ runs_field runs
+pub runs_are : (runs others : List Segment) (d : Segment) → 0 < length runs
+    → others ≡ take (length runs - 1) (drop 1 runs) → run_field (get_or runs 0 d)
+    ++ flat_map other_run others ≡ runs_field runs
 runs_are [] others d some is = absurd (omega arith)
-runs_are (run ∷ runs) others d some is = ap (λ (rs : List Segment). run_field run ++ flat_map other_run rs) (is ∙ take_all (length (run ∷ runs) - 1) runs (omega arith))
+runs_are (run ∷ runs) others d some is =
+    ap (λ (rs : List Segment). run_field run ++ flat_map other_run rs) (is
+    ∙ take_all (length (run ∷ runs) - 1) runs (omega arith))

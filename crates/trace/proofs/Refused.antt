@@ -10,7 +10,8 @@ use Rattle.trace.specs.Refusals.{RefusesFields, RefusesLine, RefusesAfterWord}
 use Rattle.trace.specs.Words.{IsWordOf, spelled}
 
 -- a word stands in line 2 alone, or in each line from the third on
-place_of : (w : Word) → ((k : ℕ) → MayStand k w → k ≡ 2) ⊎ ((k : ℕ) → (MayStand k w → 3 ≤ k) × (3 ≤ k → MayStand k w))
+place_of : (w : Word) → ((k : ℕ) → MayStand k w → k ≡ 2)
+    ⊎ ((k : ℕ) → (MayStand k w → 3 ≤ k) × (3 ≤ k → MayStand k w))
 place_of Cache = inl (λ k h. h)
 place_of Hosted = inl (λ k h. h)
 place_of Slot = inr (λ k. (λ h. h, λ h. h))
@@ -50,7 +51,10 @@ may_move w j k late le h =
 
 -- ---- a line that is refused
 
-after : (version : ℕ) (begun : Bool) (line : List ℕ) (word : Word) (fault : FaultKind) (fields : List (List ℕ)) → MayStand 3 word → IsWordOf version word → fields_of line ≡ spelled word ∷ fields → (begun ≡ true → word ≡ Slot → ⊥) → RefusesFields version word fields fault → RefusesAfterWord version begun line fault
+after : (version : ℕ) (begun : Bool) (line : List ℕ) (word : Word) (fault : FaultKind)
+    (fields : List (List ℕ)) → MayStand 3 word → IsWordOf version word
+    → fields_of line ≡ spelled word ∷ fields → (begun ≡ true → word ≡ Slot → ⊥)
+    → RefusesFields version word fields fault → RefusesAfterWord version begun line fault
 after version begun line word fault fields may of is ordered h =
     let rest : other_fields line ≡ fields = ap (drop 1) is in
     record {
@@ -62,13 +66,20 @@ after version begun line word fault fields may of is ordered h =
       refused = subst (λ (fs : List (List ℕ)). RefusesFields version word fs fault) (sym rest) h;
     }
 
-pub refused_after : (version : ℕ) (begun : Bool) (line : List ℕ) (word : Word) (fault : FaultKind) (fields : List (List ℕ)) → MayStand 3 word → IsWordOf version word → fields_of line ≡ spelled word ∷ fields → (begun ≡ true → word ≡ Slot → ⊥) → RefusesFields version word fields fault → RefusesLine version begun line fault
+pub refused_after : (version : ℕ) (begun : Bool) (line : List ℕ) (word : Word) (fault : FaultKind)
+    (fields : List (List ℕ)) → MayStand 3 word → IsWordOf version word
+    → fields_of line ≡ spelled word ∷ fields → (begun ≡ true → word ≡ Slot → ⊥)
+    → RefusesFields version word fields fault → RefusesLine version begun line fault
 refused_after version begun line word kind.Cut fields may of is ordered h = absurd h
 refused_after version begun line word kind.Header fields may of is ordered h = absurd h
 refused_after version begun line word kind.Word fields may of is ordered h = absurd h
 refused_after version begun line word kind.Order fields may of is ordered h = absurd h
-refused_after version begun line word kind.Fields fields may of is ordered h = after version begun line word kind.Fields fields may of is ordered h
-refused_after version begun line word kind.Number fields may of is ordered h = after version begun line word kind.Number fields may of is ordered h
-refused_after version begun line word kind.Choice fields may of is ordered h = after version begun line word kind.Choice fields may of is ordered h
-refused_after version begun line word kind.Bytes fields may of is ordered h = after version begun line word kind.Bytes fields may of is ordered h
+refused_after version begun line word kind.Fields fields may of is ordered h =
+    after version begun line word kind.Fields fields may of is ordered h
+refused_after version begun line word kind.Number fields may of is ordered h =
+    after version begun line word kind.Number fields may of is ordered h
+refused_after version begun line word kind.Choice fields may of is ordered h =
+    after version begun line word kind.Choice fields may of is ordered h
+refused_after version begun line word kind.Bytes fields may of is ordered h =
+    after version begun line word kind.Bytes fields may of is ordered h
 refused_after version begun line word kind.NoMemory fields may of is ordered h = absurd h

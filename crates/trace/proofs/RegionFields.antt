@@ -37,11 +37,14 @@ free_num : (sign n : ℕ) → sign < 48 → Free sign (num n)
 free_num sign n low = free_digits sign (num n) low (are_digits_num n)
 
 -- pieces that are joined by a sign are parts again
-parts_joined : (sign : ℕ) (f : List ℕ) (fs : List (List ℕ)) → AllByRecursion (Free sign) (f ∷ fs) → parts sign (join_with_byte sign (f ∷ fs)) ≡ f ∷ fs
+parts_joined : (sign : ℕ) (f : List ℕ) (fs : List (List ℕ)) → AllByRecursion (Free sign) (f ∷ fs)
+    → parts sign (join_with_byte sign (f ∷ fs)) ≡ f ∷ fs
 unfolding parts
-parts_joined sign f [] h = slice_split_none (is_byte sign) f (All-from_recursion (λ c. is_byte sign c ≡ false) f h.0)
+parts_joined sign f [] h =
+    slice_split_none (is_byte sign) f (All-from_recursion (λ c. is_byte sign c ≡ false) f h.0)
 parts_joined sign f (g ∷ fs) h =
-    slice_split_at (is_byte sign) f sign (join_with_byte sign (g ∷ fs)) (All-from_recursion (λ c. is_byte sign c ≡ false) f h.0) (eq-eqb sign sign refl)
+    slice_split_at (is_byte sign) f sign (join_with_byte sign (g ∷ fs))
+    (All-from_recursion (λ c. is_byte sign c ≡ false) f h.0) (eq-eqb sign sign refl)
     ∙ ap (λ (xs : List (List ℕ)). f ∷ xs) (parts_joined sign g fs h.1)
 
 joined_parts : (sign : ℕ) (bs : List ℕ) → join_with_byte sign (parts sign bs) ≡ bs
@@ -52,48 +55,78 @@ some_parts : (sign : ℕ) (bs : List ℕ) → 0 < length (parts sign bs)
 unfolding parts
 some_parts sign bs = omega (arith, length-slice_split (is_byte sign) bs)
 
-join_first : (sign : ℕ) (f : List ℕ) (fs : List (List ℕ)) → 0 < length fs → join_with_byte sign (f ∷ fs) ≡ f ++ sign ∷ join_with_byte sign fs
+join_first : (sign : ℕ) (f : List ℕ) (fs : List (List ℕ)) → 0 < length fs → join_with_byte sign (f ∷ fs) ≡ f
+    ++ sign ∷ join_with_byte sign fs
 join_first sign f [] some = absurd (omega (arith, some))
 join_first sign f (g ∷ fs) some = refl
 
 -- ---- one region
 
-pub region_parts : (region : RegionSpec) → parts 43 (region_text region) ≡ num region.base ∷ num region.len ∷ []
-region_parts region = parts_joined 43 (num region.base) (num region.len ∷ []) (free_num 43 region.base (omega arith), (free_num 43 region.len (omega arith), tt))
+pub region_parts : (region : RegionSpec) → parts 43 (region_text region) ≡ num region.base
+    ∷ num region.len ∷ []
+region_parts region = parts_joined 43 (num region.base) (num region.len ∷ [])
+    (free_num 43 region.base (omega arith), (free_num 43 region.len (omega arith), tt))
 
 module _ (part base : List ℕ) (rest : Option (List ℕ)) (cut : parts 43 part ≡ base ∷ parts_left 43 rest) where
-  two : (region : RegionSpec) → IsRegionField part region → base ∷ parts_left 43 rest ≡ num region.base ∷ num region.len ∷ []
+  two : (region : RegionSpec) → IsRegionField part region → base ∷ parts_left 43 rest ≡ num region.base
+      ∷ num region.len ∷ []
   two region is = sym cut ∙ ap (parts 43) is.spelled ∙ region_parts region
 
   pub no_base : ¬ SpellsNumber 64 base → (region : RegionSpec) → ¬ IsRegionField part region
-  no_base none region is = none (region.base, record { fits = is.fits.base; spelled = ap (λ (xs : List (List ℕ)). get_or xs 0 []) (two region is) })
+  no_base none region is = none (
+    region.base,
+    record {
+      fits = is.fits.base;
+      spelled = ap (λ (xs : List (List ℕ)). get_or xs 0 []) (two region is);
+    },
+  )
 
   pub no_len : rest ≡ None → (region : RegionSpec) → ¬ IsRegionField part region
   no_len none region is =
       let count : length (base ∷ parts_left 43 rest) ≡ 2 = ap length (two region is) in
       absurd (omega (arith, subst (λ (r : Option (List ℕ)). length (base ∷ parts_left 43 r) ≡ 2) none count))
 
-  pub bad_len : (len : List ℕ) → rest ≡ Some len → ¬ SpellsNumber 64 len → (region : RegionSpec) → ¬ IsRegionField part region
+  pub bad_len : (len : List ℕ) → rest ≡ Some len → ¬ SpellsNumber 64 len → (region : RegionSpec)
+      → ¬ IsRegionField part region
   bad_len len some none region is =
-      let left : parts 43 len ≡ num region.len ∷ [] = subst (λ (r : Option (List ℕ)). parts_left 43 r ≡ num region.len ∷ []) some (ap (λ (xs : List (List ℕ)). drop 1 xs) (two region is)) in
-      none (region.len, record { fits = is.fits.len; spelled = sym (joined_parts 43 len) ∙ ap (join_with_byte 43) left })
+      let left : parts 43 len ≡ num region.len ∷ [] =
+      subst (λ (r : Option (List ℕ)). parts_left 43 r ≡ num region.len ∷ []) some
+      (ap (λ (xs : List (List ℕ)). drop 1 xs) (two region is)) in
+      none (
+        region.len,
+        record {
+          fits = is.fits.len;
+          spelled = sym (joined_parts 43 len)
+              ∙ ap (join_with_byte 43) left;
+        },
+      )
 
-  pub region_read : (b l : ℕ) (len : List ℕ) → rest ≡ Some len → IsNum 64 base b → IsNum 64 len l → IsRegionField part (record { base = b; len = l })
+  pub region_read : (b l : ℕ) (len : List ℕ) → rest ≡ Some len → IsNum 64 base b → IsNum 64 len l
+      → IsRegionField part (record { base = b; len = l })
   region_read b l len some first second =
-      let two_parts : parts 43 part ≡ base ∷ parts 43 len = subst (λ (r : Option (List ℕ)). parts 43 part ≡ base ∷ parts_left 43 r) some cut in
-      let halves : part ≡ base ++ 43 ∷ len = sym (joined_parts 43 part) ∙ ap (join_with_byte 43) two_parts ∙ join_first 43 base (parts 43 len) (some_parts 43 len) ∙ ap (λ (xs : List ℕ). base ++ 43 ∷ xs) (joined_parts 43 len) in
+      let two_parts : parts 43 part ≡ base ∷ parts 43 len =
+      subst (λ (r : Option (List ℕ)). parts 43 part ≡ base ∷ parts_left 43 r) some cut in
+      let halves : part ≡ base ++ 43 ∷ len = sym (joined_parts 43 part) ∙ ap (join_with_byte 43) two_parts
+      ∙ join_first 43 base (parts 43 len) (some_parts 43 len)
+      ∙ ap (λ (xs : List ℕ). base ++ 43 ∷ xs) (joined_parts 43 len) in
       record {
         fits = record { base = first.fits; len = second.fits };
-        spelled = halves ∙ ap (λ (xs : List ℕ). xs ++ 43 ∷ len) first.spelled ∙ ap (λ (xs : List ℕ). num b ++ 43 ∷ xs) second.spelled;
+        spelled = halves ∙ ap (λ (xs : List ℕ). xs ++ 43 ∷ len) first.spelled
+            ∙ ap (λ (xs : List ℕ). num b ++ 43 ∷ xs) second.spelled;
       }
 
 -- ---- the regions of a field
 
 free_regions : (regions : List RegionSpec) → AllByRecursion (Free 44) (map region_text regions)
 free_regions [] = tt
-free_regions (r ∷ rs) = (free_append 44 (num r.base) (43 ∷ num r.len) (free_num 44 r.base (omega arith)) (refl, free_num 44 r.len (omega arith)), free_regions rs)
+free_regions (r ∷ rs) = (
+  free_append 44 (num r.base) (43 ∷ num r.len) (free_num 44 r.base (omega arith))
+      (refl, free_num 44 r.len (omega arith)),
+  free_regions rs,
+)
 
-pub regions_parts : (regions : List RegionSpec) → 1 ≤ length regions → parts 44 (regions_text regions) ≡ map region_text regions
+pub regions_parts : (regions : List RegionSpec) → 1 ≤ length regions
+    → parts 44 (regions_text regions) ≡ map region_text regions
 regions_parts [] some = absurd (omega (arith, some))
 regions_parts (r ∷ rs) some = parts_joined 44 (region_text r) (map region_text rs) (free_regions (r ∷ rs))
 
@@ -104,8 +137,10 @@ here_of (y ∷ xs) x ys = here_of xs x ys
 no_region : RegionSpec
 no_region = record { base = 0; len = 0 }
 
-module _ (field : List ℕ) (items : List RegionSpec) (rest : Option (List ℕ)) (so_far : parts 44 field ≡ map region_text items ++ parts_left 44 rest) where
-  parsed : (regions : List RegionSpec) → IsRegionsField field regions → map region_text regions ≡ map region_text items ++ parts_left 44 rest
+module _ (field : List ℕ) (items : List RegionSpec) (rest : Option (List ℕ)) (so_far : parts 44 field
+    ≡ map region_text items ++ parts_left 44 rest) where
+  parsed : (regions : List RegionSpec) → IsRegionsField field regions
+      → map region_text regions ≡ map region_text items ++ parts_left 44 rest
   parsed regions is = sym (regions_parts regions is.some) ∙ sym (ap (parts 44) is.spelled) ∙ so_far
 
   -- more than eight
@@ -113,34 +148,67 @@ module _ (field : List ℕ) (items : List RegionSpec) (rest : Option (List ℕ))
   too_many list some full says =
       let regions = says.0 in
       let is = says.1 in
-      let parts_are : map region_text regions ≡ map region_text items ++ parts 44 list = subst (λ (r : Option (List ℕ)). map region_text regions ≡ map region_text items ++ parts_left 44 r) some (parsed regions is) in
+      let parts_are : map region_text regions ≡ map region_text items ++ parts 44 list =
+      subst (λ (r : Option (List ℕ)). map region_text regions ≡ map region_text items
+      ++ parts_left 44 r) some (parsed regions is) in
       let few = is.few in
-      omega (arith, few, full, some_parts 44 list, ap length parts_are, length-append (map region_text items) (parts 44 list), length-map regions region_text, length-map items region_text)
+      omega (
+        arith,
+        few,
+        full,
+        some_parts 44 list,
+        ap length parts_are,
+        length-append (map region_text items) (parts 44 list),
+        length-map regions region_text,
+        length-map items region_text,
+      )
 
   -- the next one is none
-  pub bad_part : (list part : List ℕ) (others : List (List ℕ)) → rest ≡ Some list → parts 44 list ≡ part ∷ others → ((region : RegionSpec) → ¬ IsRegionField part region) → ¬ Says Regions field
+  pub bad_part : (list part : List ℕ) (others : List (List ℕ)) → rest ≡ Some list
+      → parts 44 list ≡ part ∷ others → ((region : RegionSpec) → ¬ IsRegionField part region)
+      → ¬ Says Regions field
   bad_part list part others some cut none says =
       let regions = says.0 in
       let is = says.1 in
-      let parts_are : map region_text regions ≡ map region_text items ++ part ∷ others = subst (λ (r : Option (List ℕ)). map region_text regions ≡ map region_text items ++ parts_left 44 r) some (parsed regions is) ∙ ap (λ (xs : List (List ℕ)). map region_text items ++ xs) cut in
-      let below : length items < length regions = omega (arith, ap length parts_are, length-append (map region_text items) (part ∷ others), length-map regions region_text, length-map items region_text) in
+      let parts_are : map region_text regions ≡ map region_text items ++ part ∷ others =
+      subst (λ (r : Option (List ℕ)). map region_text regions ≡ map region_text items
+      ++ parts_left 44 r) some (parsed regions is)
+      ∙ ap (λ (xs : List (List ℕ)). map region_text items ++ xs) cut in
+      let below : length items < length regions =
+      omega (
+        arith,
+        ap length parts_are,
+        length-append (map region_text items) (part ∷ others),
+        length-map regions region_text,
+        length-map items region_text,
+      ) in
       let here : part ≡ region_text (get_or regions (length items) no_region) =
-      sym (here_of (map region_text items) part others) ∙ ap (λ (n : ℕ). get_or (map region_text items ++ part ∷ others) n []) (length-map items region_text) ∙ ap (λ (xs : List (List ℕ)). get_or xs (length items) []) (sym parts_are) ∙ get_or-map region_text regions (length items) no_region [] below in
-      none (get_or regions (length items) no_region) (record { fits = is.fits (length items) no_region below; spelled = here })
+      sym (here_of (map region_text items) part others)
+      ∙ ap (λ (n : ℕ). get_or (map region_text items ++ part ∷ others) n [])
+      (length-map items region_text)
+      ∙ ap (λ (xs : List (List ℕ)). get_or xs (length items) []) (sym parts_are)
+      ∙ get_or-map region_text regions (length items) no_region [] below in
+      none (get_or regions (length items) no_region)
+      (record { fits = is.fits (length items) no_region below; spelled = here })
 
   -- one more
-  pub one_more : (list part : List ℕ) (after : Option (List ℕ)) (region : RegionSpec) → rest ≡ Some list → parts 44 list ≡ part ∷ parts_left 44 after → IsRegionField part region
+  pub one_more : (list part : List ℕ) (after : Option (List ℕ)) (region : RegionSpec) → rest ≡ Some list
+      → parts 44 list ≡ part ∷ parts_left 44 after → IsRegionField part region
       → parts 44 field ≡ map region_text (items ++ region ∷ []) ++ parts_left 44 after
   one_more list part after region some cut is =
       subst (λ (r : Option (List ℕ)). parts 44 field ≡ map region_text items ++ parts_left 44 r) some so_far
-      ∙ ap (λ (xs : List (List ℕ)). map region_text items ++ xs) (cut ∙ ap (λ (x : List ℕ). x ∷ parts_left 44 after) is.spelled)
+      ∙ ap (λ (xs : List (List ℕ)). map region_text items ++ xs) (cut
+      ∙ ap (λ (x : List ℕ). x ∷ parts_left 44 after) is.spelled)
       ∙ sym (append_assoc (map region_text items) (region_text region ∷ []) (parts_left 44 after))
-      ∙ ap (λ (xs : List (List ℕ)). xs ++ parts_left 44 after) (sym (map-append region_text items (region ∷ [])))
+      ∙ ap (λ (xs : List (List ℕ)). xs
+      ++ parts_left 44 after) (sym (map-append region_text items (region ∷ [])))
 
   -- all of them
   pub all_read : rest ≡ None → length items ≤ 8 → All RegionInRange items → IsRegionsField field items
   all_read none few fits =
-      let parts_are : parts 44 field ≡ map region_text items = subst (λ (r : Option (List ℕ)). parts 44 field ≡ map region_text items ++ parts_left 44 r) none so_far ∙ append-nil (map region_text items) in
+      let parts_are : parts 44 field ≡ map region_text items =
+      subst (λ (r : Option (List ℕ)). parts 44 field ≡ map region_text items
+      ++ parts_left 44 r) none so_far ∙ append-nil (map region_text items) in
       record {
         some = omega (arith, some_parts 44 field, ap length parts_are, length-map items region_text);
         few = few;
@@ -149,10 +217,12 @@ module _ (field : List ℕ) (items : List RegionSpec) (rest : Option (List ℕ))
       }
 
 -- what was made of those that were read
-pub made_some : (field : List ℕ) (made : Option (List RegionSpec)) (items : List RegionSpec) → IfSome made (λ m. m ≡ items) → IsRegionsField field items → IfSome made (IsRegionsField field)
+pub made_some : (field : List ℕ) (made : Option (List RegionSpec)) (items : List RegionSpec)
+    → IfSome made (λ m. m ≡ items) → IsRegionsField field items → IfSome made (IsRegionsField field)
 made_some field None items is h = tt
 made_some field (Some m) items is h = subst (IsRegionsField field) (sym is) h
 
-pub made_parsed : (field : List ℕ) (made : Option (List RegionSpec)) (items : List RegionSpec) → IfSome made (λ m. m ≡ items) → IsRegionsField field items → OnSome made (Says Regions field)
+pub made_parsed : (field : List ℕ) (made : Option (List RegionSpec)) (items : List RegionSpec)
+    → IfSome made (λ m. m ≡ items) → IsRegionsField field items → OnSome made (Says Regions field)
 made_parsed field None items is h = tt
 made_parsed field (Some m) items is h = (items, h)

@@ -33,28 +33,60 @@ record MeantWhat {A : Type 0} (slot : ℕ) (w : EventKind A) (field : List ℕ) 
   range : KindInRange kind
   printable : IsPrintableKind kind
 
-plain : {A : Type 0} (slot : ℕ) (w : EventKind A) (field : List ℕ) → IsPlain w field → bytes_len w ≡ 0 → what_fields slot w ≡ what_parsed slot w field → MeantWhat slot w field
+plain : {A : Type 0} (slot : ℕ) (w : EventKind A) (field : List ℕ) → IsPlain w field → bytes_len w ≡ 0
+    → what_fields slot w ≡ what_parsed slot w field → MeantWhat slot w field
 plain slot w field h none same =
-    record { kind = w; len = rw h.none none; fields_are = same; word = refl; range = h.range; printable = h.printable }
+    record {
+      kind = w;
+      len = rw h.none none;
+      fields_are = same;
+      word = refl;
+      range = h.range;
+      printable = h.printable;
+    }
 
-by_what : {A : Type 0} (slot : ℕ) (w : EventKind A) (field : List ℕ) → IsFineWhat w field → MeantWhat slot w field
-by_what slot (event.Read kind offset width) field h = plain slot (event.Read kind offset width) field h refl refl
-by_what slot (event.Write kind offset width value) field h = plain slot (event.Write kind offset width value) field h refl refl
+by_what : {A : Type 0} (slot : ℕ) (w : EventKind A) (field : List ℕ) → IsFineWhat w field
+    → MeantWhat slot w field
+by_what slot (event.Read kind offset width) field h =
+    plain slot (event.Read kind offset width) field h refl refl
+by_what slot (event.Write kind offset width value) field h =
+    plain slot (event.Write kind offset width value) field h refl refl
 by_what slot (event.MemRead addr len) field h = plain slot (event.MemRead addr len) field h refl refl
 by_what slot (event.MemWrite addr bs) field h =
     let spelled = h.bytes.parsed.0 in
     let is = h.bytes.parsed.1 in
-    record { kind = event.MemWrite addr spelled; fields_are = rw (← is.spelled) refl; word = refl; len = spelled_len field spelled is; range = record { from = h.from; each = is.fits }; printable = tt }
+    record {
+      kind = event.MemWrite addr spelled;
+      fields_are = rw (← is.spelled) refl;
+      word = refl;
+      len = spelled_len field spelled is;
+      range = record { from = h.from; each = is.fits };
+      printable = tt;
+    }
 by_what slot (event.Input bs) field h =
     let spelled = h.parsed.0 in
     let is = h.parsed.1 in
-    record { kind = event.Input spelled; fields_are = rw (← is.spelled) refl; word = refl; len = spelled_len field spelled is; range = record { each = is.fits }; printable = tt }
+    record {
+      kind = event.Input spelled;
+      fields_are = rw (← is.spelled) refl;
+      word = refl;
+      len = spelled_len field spelled is;
+      range = record { each = is.fits };
+      printable = tt;
+    }
 by_what slot (event.Resize cols rows) field h = plain slot (event.Resize cols rows) field h refl refl
 by_what slot (event.Complete came) field h = plain slot (event.Complete came) field h refl refl
 by_what slot (event.Restore bs) field h =
     let spelled = h.parsed.0 in
     let is = h.parsed.1 in
-    record { kind = event.Restore spelled; fields_are = rw (← is.spelled) refl; word = refl; len = spelled_len field spelled is; range = record { each = is.fits }; printable = tt }
+    record {
+      kind = event.Restore spelled;
+      fields_are = rw (← is.spelled) refl;
+      word = refl;
+      len = spelled_len field spelled is;
+      range = record { each = is.fits };
+      printable = tt;
+    }
 
 -- what is said is an event's
 pub meant : {A : Type 0} (s : ParsedEvent A) → IsFineParsed s → Meant (parsed_fields s) s
@@ -69,22 +101,28 @@ meant s h =
     }
 
 -- the fields of a line that was made of them
-pub cut_parsed : {A : Type 0} (s : ParsedEvent A) → IsFineParsed s → fields_of (parsed_line s) ≡ parsed_fields s
+pub cut_parsed : {A : Type 0} (s : ParsedEvent A) → IsFineParsed s
+    → fields_of (parsed_line s) ≡ parsed_fields s
 unfolding parsed_line event_line
 cut_parsed s h =
     let it = meant s h in
-    ap (λ (fs : List (List ℕ)). fields_of (line fs)) (sym it.fields_are) ∙ cut_event it.event it.fine ∙ it.fields_are
+    ap (λ (fs : List (List ℕ)). fields_of (line fs)) (sym it.fields_are)
+    ∙ cut_event it.event it.fine ∙ it.fields_are
 
 -- no line feed stands in it
-unbroken_parsed : {A : Type 0} (s : ParsedEvent A) → IsFineParsed s → IsInEach (word_for s.event.what) → Above 10 (parsed_line s)
+unbroken_parsed : {A : Type 0} (s : ParsedEvent A) → IsFineParsed s → IsInEach (word_for s.event.what)
+    → Above 10 (parsed_line s)
 unfolding parsed_line event_line
 unbroken_parsed s h each =
     let it = meant s h in
-    let of : IsWordOf 3 (word_for it.event.what) = subst (λ (w : Word). IsWordOf 3 w) (sym it.word) (each 3) in
-    subst (λ (fs : List (List ℕ)). Above 10 (line fs)) it.fields_are (entered_event 3 it.event it.fine of).entry.unbroken
+    let of : IsWordOf 3 (word_for it.event.what) =
+    subst (λ (w : Word). IsWordOf 3 w) (sym it.word) (each 3) in
+    subst (λ (fs : List (List ℕ)). Above 10 (line fs)) it.fields_are
+    (entered_event 3 it.event it.fine of).entry.unbroken
 
 -- the line was taken off a text
-pub taken_parsed : {A : Type 0} (s : ParsedEvent A) (text after : List ℕ) → IsFineParsed s → IsInEach (word_for s.event.what)
+pub taken_parsed : {A : Type 0} (s : ParsedEvent A) (text after : List ℕ) → IsFineParsed s
+    → IsInEach (word_for s.event.what)
     → text ≡ parsed_line s ++ 10 ∷ after → TakesEvent text s after
 taken_parsed s text after fine each is = record {
   line = parsed_line s;

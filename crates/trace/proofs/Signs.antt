@@ -34,11 +34,13 @@ all_above b xs = list_all (ltb b) xs
 
 pub above_tested : (b : ℕ) (xs : List ℕ) → all_above b xs ≡ true → Above b xs
 above_tested b [] h = tt
-above_tested b (x ∷ xs) h = let p = and_parts (ltb b x) (all_above b xs) h in (ltb-true b x p.0, above_tested b xs p.1)
+above_tested b (x ∷ xs) h = let p = and_parts (ltb b x) (all_above b xs) h in
+    (ltb-true b x p.0, above_tested b xs p.1)
 
 pub above_digits : (xs : List ℕ) → AreDigits xs → Above 32 xs
 above_digits [] h = tt
-above_digits (x ∷ xs) h = let high = digit_above h.0.value h.0.small in let is = h.0.is in (omega arith, above_digits xs h.1)
+above_digits (x ∷ xs) h = let high = digit_above h.0.value h.0.small in let is = h.0.is in
+    (omega arith, above_digits xs h.1)
 
 pub above_num : (n : ℕ) → Above 32 (num n)
 above_num n = above_digits (num n) (are_digits_num n)
@@ -57,19 +59,24 @@ without b xs h = All-from_recursion (λ c. is_byte b c ≡ false) xs (differs b 
 pub bytes_digits : (bs : List ℕ) → AreBytes bs → Above 32 (bytes bs)
 unfolding bytes
 bytes_digits [] h = above_tested 32 (45 ∷ []) refl
-bytes_digits (b ∷ bs) h = above_digits (encode_lower (b ∷ bs)) (recursion_from_All IsDigit (encode_lower (b ∷ bs)) (digits_encoded (b ∷ bs) (is_bytes (b ∷ bs) h)))
+bytes_digits (b ∷ bs) h =
+    above_digits (encode_lower (b ∷ bs))
+    (recursion_from_All IsDigit (encode_lower (b ∷ bs)) (digits_encoded (b ∷ bs) (is_bytes (b ∷ bs) h)))
 
 -- ---- fields
 
 abbrev pub AllAbove : ℕ → List (List ℕ) → Type 0
 AllAbove b = AllByRecursion (Above b)
 
-split_join : (f : List ℕ) (fs : List (List ℕ)) → AllAbove 32 (f ∷ fs) → slice_split is_space (join_with_byte 32 (f ∷ fs)) ≡ f ∷ fs
+split_join : (f : List ℕ) (fs : List (List ℕ)) → AllAbove 32 (f ∷ fs)
+    → slice_split is_space (join_with_byte 32 (f ∷ fs)) ≡ f ∷ fs
 split_join f [] h = slice_split_none is_space f (without 32 f h.0)
-split_join f (g ∷ fs) h = slice_split_at is_space f 32 (join_with_byte 32 (g ∷ fs)) (without 32 f h.0) refl ∙ ap (λ (xs : List (List ℕ)). f ∷ xs) (split_join g fs h.1)
+split_join f (g ∷ fs) h = slice_split_at is_space f 32 (join_with_byte 32 (g ∷ fs)) (without 32 f h.0) refl
+    ∙ ap (λ (xs : List (List ℕ)). f ∷ xs) (split_join g fs h.1)
 
 -- the fields of a line that is made of fields
-pub fields_of-line : (f : List ℕ) (fs : List (List ℕ)) → AllAbove 32 (f ∷ fs) → fields_of (line (f ∷ fs)) ≡ f ∷ fs
+pub fields_of-line : (f : List ℕ) (fs : List (List ℕ)) → AllAbove 32 (f ∷ fs)
+    → fields_of (line (f ∷ fs)) ≡ f ∷ fs
 unfolding fields_of
 fields_of-line f fs h = split_join f fs h
 
@@ -80,19 +87,27 @@ line-fields_of l fs e = sym (join_with_byte-slice_split 32 l) ∙ ap (join_with_
 
 pub above_line : (f : List ℕ) (fs : List (List ℕ)) → AllAbove 32 (f ∷ fs) → Above 10 (line (f ∷ fs))
 above_line f [] h = above_lower 10 32 f (omega arith) h.0
-above_line f (g ∷ fs) h = above_append 10 f (32 ∷ line (g ∷ fs)) (above_lower 10 32 f (omega arith) h.0) (omega arith, above_line g fs h.1)
+above_line f (g ∷ fs) h =
+    above_append 10 f (32 ∷ line (g ∷ fs)) (above_lower 10 32 f (omega arith) h.0)
+    (omega arith, above_line g fs h.1)
 
 -- ---- lines
 
 pub above_header : (version : ℕ) → Above 10 (header version)
-above_header version = above_append 10 (codes "vreplay ") ((48 + version) ∷ []) (above_tested 10 (codes "vreplay ") refl) (omega arith, tt)
+above_header version = above_append 10 (codes "vreplay ") ((48 + version) ∷ [])
+    (above_tested 10 (codes "vreplay ") refl) (omega arith, tt)
 
-pub lines_of-joined : (ls : List (List ℕ)) (rest : List ℕ) → AllAbove 10 ls → lines_of (joined ls ++ rest) ≡ ls ++ lines_of rest
+pub lines_of-joined : (ls : List (List ℕ)) (rest : List ℕ) → AllAbove 10 ls
+    → lines_of (joined ls ++ rest) ≡ ls ++ lines_of rest
 unfolding lines_of joined
 lines_of-joined [] rest h = refl
 lines_of-joined (l ∷ ls) rest h =
-    let regrouped : flat_map ended (l ∷ ls) ++ rest ≡ l ++ 10 ∷ (flat_map ended ls ++ rest) = append_assoc (l ++ 10 ∷ []) (flat_map ended ls) rest ∙ append_assoc l (10 ∷ []) (flat_map ended ls ++ rest) in
-    ap (slice_split is_line_feed) regrouped ∙ slice_split_at is_line_feed l 10 (flat_map ended ls ++ rest) (without 10 l h.0) refl ∙ ap (λ (xs : List (List ℕ)). l ∷ xs) (lines_of-joined ls rest h.1)
+    let regrouped : flat_map ended (l ∷ ls) ++ rest ≡ l ++ 10 ∷ (flat_map ended ls ++ rest) =
+    append_assoc (l ++ 10 ∷ []) (flat_map ended ls) rest
+    ∙ append_assoc l (10 ∷ []) (flat_map ended ls ++ rest) in
+    ap (slice_split is_line_feed) regrouped
+    ∙ slice_split_at is_line_feed l 10 (flat_map ended ls ++ rest) (without 10 l h.0) refl
+    ∙ ap (λ (xs : List (List ℕ)). l ∷ xs) (lines_of-joined ls rest h.1)
 
 -- a text is cut behind a line without a line feed
 pub lines_of-line : (l after : List ℕ) → Above 10 l → lines_of (l ++ 10 ∷ after) ≡ l ∷ lines_of after
@@ -102,7 +117,8 @@ lines_of-line l after h = slice_split_at is_line_feed l 10 after (without 10 l h
 pub joined_push : (ls : List (List ℕ)) (l : List ℕ) → joined (ls ++ l ∷ []) ≡ joined ls ++ ended l
 unfolding joined
 joined_push [] l = append-nil (ended l)
-joined_push (m ∷ ls) l = ap (λ (xs : List ℕ). ended m ++ xs) (joined_push ls l) ∙ sym (append_assoc (ended m) (flat_map ended ls) (ended l))
+joined_push (m ∷ ls) l = ap (λ (xs : List ℕ). ended m ++ xs) (joined_push ls l)
+    ∙ sym (append_assoc (ended m) (flat_map ended ls) (ended l))
 
 pub above_lines : (xs ys : List (List ℕ)) → AllAbove 10 xs → AllAbove 10 ys → AllAbove 10 (xs ++ ys)
 above_lines [] ys hx hy = hy

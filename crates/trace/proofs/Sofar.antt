@@ -31,26 +31,45 @@ pub record Fits {A : Type 0} (c : Content A) : Type 0 where
   pub range : InRange c
   pub printable : IsPrintable c
 
-slot_lines : (version : ℕ) (slots : List SlotSpec) → All SlotInRange slots → All (IsPrintableSlot version) slots → All (IsSlotLine version) (map (slot_line version) slots)
-slot_lines version slots h fine = All-map (IsSlotLine version) (slot_line version) slots (λ k d lt. entered_slot version (get_or slots k d) (record { fits = h k d lt; printable = fine k d lt }))
+slot_lines : (version : ℕ) (slots : List SlotSpec) → All SlotInRange slots
+    → All (IsPrintableSlot version) slots → All (IsSlotLine version) (map (slot_line version) slots)
+slot_lines version slots h fine =
+    All-map (IsSlotLine version) (slot_line version) slots
+    (λ k d lt. entered_slot version (get_or slots k d) (record { fits = h k d lt; printable = fine k d lt }))
 
-event_lines : {A : Type 0} (version : ℕ) (events : List (Event A)) → All EventInRange events → All (λ e. IsPrintableKind e.what) events → All (λ e. IsWordOf version (word_for e.what)) events → All (EnteredEvent version) (map event_line events)
-event_lines version events range fine words = All-map (EnteredEvent version) event_line events (λ k d lt. entered_event version (get_or events k d) (record { fits = range k d lt; printable = fine k d lt }) (words k d lt))
+event_lines : {A : Type 0} (version : ℕ) (events : List (Event A)) → All EventInRange events
+    → All (λ e. IsPrintableKind e.what) events → All (λ e. IsWordOf version (word_for e.what)) events
+    → All (EnteredEvent version) (map event_line events)
+event_lines version events range fine words =
+    All-map (EnteredEvent version) event_line events
+    (λ k d lt. entered_event version (get_or events k d)
+    (record { fits = range k d lt; printable = fine k d lt }) (words k d lt))
 
 unbroken_slots : (version : ℕ) (ls : List (List ℕ)) → All (IsSlotLine version) ls → AllAbove 10 ls
 unbroken_slots version [] h = tt
-unbroken_slots version (l ∷ ls) h = let first = h 0 l (omega arith) in (first.unbroken, unbroken_slots version ls (λ k d lt. h (suc k) d (omega arith)))
+unbroken_slots version (l ∷ ls) h = let first = h 0 l (omega arith) in
+    (first.unbroken, unbroken_slots version ls (λ k d lt. h (suc k) d (omega arith)))
 
 unbroken_events : (version : ℕ) (ls : List (List ℕ)) → All (EnteredEvent version) ls → AllAbove 10 ls
 unbroken_events version [] h = tt
-unbroken_events version (l ∷ ls) h = let first = h 0 l (omega arith) in (first.entry.unbroken, unbroken_events version ls (λ k d lt. h (suc k) d (omega arith)))
+unbroken_events version (l ∷ ls) h = let first = h 0 l (omega arith) in
+    (first.entry.unbroken, unbroken_events version ls (λ k d lt. h (suc k) d (omega arith)))
 
 -- no line of a trace has a line feed in it
 pub unbroken : {A : Type 0} (c : Content A) → Fits c → AllAbove 10 (trace_lines c)
 unfolding trace_lines
 unbroken c h =
-    let second = entered_disks c.version c.disks h.range.disks h.printable.disks in
-    (above_header c.version, (second.entry.unbroken, above_lines (map (slot_line c.version) c.slots) (map event_line c.events) (unbroken_slots c.version (map (slot_line c.version) c.slots) (slot_lines c.version c.slots h.range.slots h.printable.slots)) (unbroken_events c.version (map event_line c.events) (event_lines c.version c.events h.range.events h.printable.events h.printable.words))))
+    let second = entered_disks c.version c.disks h.range.disks h.printable.disks in (
+      above_header c.version,
+      (
+        second.entry.unbroken,
+        above_lines (map (slot_line c.version) c.slots)
+            (map event_line c.events) (unbroken_slots c.version (map (slot_line c.version) c.slots)
+            (slot_lines c.version c.slots h.range.slots h.printable.slots))
+            (unbroken_events c.version (map event_line c.events)
+            (event_lines c.version c.events h.range.events h.printable.events h.printable.words)),
+      ),
+    )
 
 pub some_lines : (text : List ℕ) → 0 < length (lines_of text)
 unfolding lines_of
@@ -63,7 +82,8 @@ pub record Sofar {A : Type 0} (text : List ℕ) (c : Content A) (k : ℕ) (rest 
   pub count : k ≡ 3 + (length c.slots + length c.events)
 
 module _ {A : Type 0} (text : List ℕ) (c : Content A) (k : ℕ) (rest : List ℕ) (s : Sofar text c k rest) where
-  pub parts : lines_of text ≡ (header c.version ∷ disks_line c.disks ∷ (map (slot_line c.version) c.slots ++ map event_line c.events)) ++ lines_of rest
+  pub parts : lines_of text ≡ (header c.version ∷ disks_line c.disks ∷ (map (slot_line c.version) c.slots
+      ++ map event_line c.events)) ++ lines_of rest
   unfolding trace_lines
   parts = ap lines_of s.spelled ∙ lines_of-joined (trace_lines c) rest (unbroken c s.fits)
 
@@ -76,8 +96,12 @@ module _ {A : Type 0} (text : List ℕ) (c : Content A) (k : ℕ) (rest : List �
   good_before : (j : ℕ) → 1 ≤ j → j < k → Good c.version text j
   good_before j le lt =
       let count = s.count in
-      good c.version text (disks_line c.disks) (map (slot_line c.version) c.slots) (map event_line c.events) (lines_of rest) parts (some_lines rest) s.fits.printable.version
-      (entered_disks c.version c.disks s.fits.range.disks s.fits.printable.disks) (slot_lines c.version c.slots s.fits.range.slots s.fits.printable.slots) (event_lines c.version c.events s.fits.range.events s.fits.printable.events s.fits.printable.words) j le (omega (arith, slots_len, events_len))
+      good c.version text (disks_line c.disks) (map (slot_line c.version) c.slots) (map event_line c.events)
+      (lines_of rest) parts (some_lines rest) s.fits.printable.version
+      (entered_disks c.version c.disks s.fits.range.disks s.fits.printable.disks)
+      (slot_lines c.version c.slots s.fits.range.slots s.fits.printable.slots)
+      (event_lines c.version c.events s.fits.range.events s.fits.printable.events s.fits.printable.words)
+      j le (omega (arith, slots_len, events_len))
 
   pub clean : IsCleanBefore text k
   clean j le lt fault = good_passes c.version text j (good_before j le lt) fault
@@ -89,16 +113,34 @@ module _ {A : Type 0} (text : List ℕ) (c : Content A) (k : ℕ) (rest : List �
   pub next_is : line_at text k ≡ get_or (lines_of rest) 0 []
   next_is =
       let count = s.count in
-      let front : length (header c.version ∷ disks_line c.disks ∷ (map (slot_line c.version) c.slots ++ map event_line c.events)) ≡ k - 1 = omega (arith, slots_len, events_len, length-append (map (slot_line c.version) c.slots) (map event_line c.events)) in
+      let front : length (header c.version ∷ disks_line c.disks ∷ (map (slot_line c.version) c.slots
+      ++ map event_line c.events))
+      ≡ k - 1 = omega (
+        arith,
+        slots_len,
+        events_len,
+        length-append (map (slot_line c.version) c.slots)
+            (map event_line c.events),
+      ) in
       let none : k - 1 - (k - 1) ≡ 0 = omega arith in
       ap (λ (ls : List (List ℕ)). get_or ls (k - 1) []) parts
-      ∙ get_or-append_right (header c.version ∷ disks_line c.disks ∷ (map (slot_line c.version) c.slots ++ map event_line c.events)) (lines_of rest) (k - 1) (k - 1) [] front (omega arith)
+      ∙ get_or-append_right (header c.version ∷ disks_line c.disks ∷ (map (slot_line c.version) c.slots
+      ++ map event_line c.events)) (lines_of rest) (k - 1) (k - 1) [] front (omega arith)
       ∙ ap (λ (n : ℕ). get_or (lines_of rest) n []) none
 
   pub lines_left : length (lines_of text) + 1 ≡ k + length (lines_of rest)
   lines_left =
       let count = s.count in
-      omega (arith, ap length parts, slots_len, events_len, length-append (map (slot_line c.version) c.slots) (map event_line c.events), length-append (header c.version ∷ disks_line c.disks ∷ (map (slot_line c.version) c.slots ++ map event_line c.events)) (lines_of rest))
+      omega (
+        arith,
+        ap length parts,
+        slots_len,
+        events_len,
+        length-append (map (slot_line c.version) c.slots)
+            (map event_line c.events),
+        length-append (header c.version ∷ disks_line c.disks ∷ (map (slot_line c.version) c.slots
+            ++ map event_line c.events)) (lines_of rest),
+      )
 
   -- the rest is a line that isn't ended
   pub is_cut : lines_of rest ≡ rest ∷ [] → rest ≢ [] → IsFault text k kind.Cut
@@ -109,33 +151,51 @@ module _ {A : Type 0} (text : List ℕ) (c : Content A) (k : ℕ) (rest : List �
       (λ end. omega (arith, lines_left, ap length last))
 
   -- an ended line that has this word and fields
-  ordered : (begun : Bool) (fault : FaultKind) → IsEnded text k → (begun ≡ false → length c.events ≡ 0) → RefusesAfterWord c.version begun (line_at text k) fault → Passes text k kind.Order
+  ordered : (begun : Bool) (fault : FaultKind) → IsEnded text k → (begun ≡ false → length c.events ≡ 0)
+      → RefusesAfterWord c.version begun (line_at text k) fault → Passes text k kind.Order
   ordered begun fault end none r = λ _ slot j low high.
       let count = s.count in
       elim (cases_Bool begun) [
         | inl so ↦ absurd (r.ordered so (same_word r.word Slot (sym r.first ∙ slot)))
         | inr not_yet ↦
-            only_slots c.version text (disks_line c.disks) (map (slot_line c.version) c.slots) (map event_line c.events) (lines_of rest) parts (some_lines rest) s.fits.printable.version
-            (entered_disks c.version c.disks s.fits.range.disks s.fits.printable.disks) (slot_lines c.version c.slots s.fits.range.slots s.fits.printable.slots) (event_lines c.version c.events s.fits.range.events s.fits.printable.events s.fits.printable.words) (events_len ∙ none not_yet) j low (omega (arith, slots_len, events_len))
+            only_slots c.version text (disks_line c.disks) (map (slot_line c.version) c.slots)
+            (map event_line c.events) (lines_of rest) parts (some_lines rest) s.fits.printable.version
+            (entered_disks c.version c.disks s.fits.range.disks s.fits.printable.disks)
+            (slot_lines c.version c.slots s.fits.range.slots s.fits.printable.slots)
+            (event_lines c.version c.events s.fits.range.events s.fits.printable.events
+            s.fits.printable.words) (events_len
+            ∙ none not_yet) j low (omega (arith, slots_len, events_len))
       ]
 
-  fault_after : (begun : Bool) (fault : FaultKind) → IsEnded text k → 2 ≤ k → (begun ≡ false → length c.events ≡ 0) → RefusesAfterWord c.version begun (line_at text k) fault → fault ≢ kind.NoMemory → IsFault text k fault
+  fault_after : (begun : Bool) (fault : FaultKind) → IsEnded text k → 2 ≤ k
+      → (begun ≡ false → length c.events ≡ 0) → RefusesAfterWord c.version begun (line_at text k) fault
+      → fault ≢ kind.NoMemory → IsFault text k fault
   fault_after begun fault end late none r known =
       let count = s.count in
-      fields_fault text k late clean end c.version names_it r.word (may_move r.word 3 k (omega arith) (omega arith) r.may) r.of_version r.first (ordered begun fault end none r) fault r.refused known
+      fields_fault text k late clean end c.version names_it r.word
+      (may_move r.word 3 k (omega arith) (omega arith) r.may) r.of_version r.first
+      (ordered begun fault end none r) fault r.refused known
 
-  refused : (begun : Bool) (fault : FaultKind) → IsEnded text k → 2 ≤ k → (begun ≡ true → 0 < length c.events) → (begun ≡ false → length c.events ≡ 0) → RefusesLine c.version begun (line_at text k) fault → fault ≢ kind.NoMemory → IsFault text k fault
+  refused : (begun : Bool) (fault : FaultKind) → IsEnded text k → 2 ≤ k → (begun ≡ true → 0 < length c.events)
+      → (begun ≡ false → length c.events ≡ 0) → RefusesLine c.version begun (line_at text k) fault
+      → fault ≢ kind.NoMemory → IsFault text k fault
   refused begun kind.Cut end late some none h known = fault_after begun kind.Cut end late none h known
   refused begun kind.Header end late some none h known = fault_after begun kind.Header end late none h known
   refused begun kind.Word end late some none h known =
       let count = s.count in
-      word_fault text k late clean end c.version names_it (λ w may of is. h w (may_move w k 3 (omega arith) (omega arith) may) of is)
+      word_fault text k late clean end c.version names_it
+      (λ w may of is. h w (may_move w k 3 (omega arith) (omega arith) may) of is)
   refused begun kind.Order end late some none h known =
       let count = s.count in
       let begins = some h.0 in
-      order_fault text k late clean end (omega arith) h.1 (3 + length (map (slot_line c.version) c.slots)) (omega arith) (omega (arith, slots_len))
-      (one_event c.version text (disks_line c.disks) (map (slot_line c.version) c.slots) (map event_line c.events) (lines_of rest) parts (some_lines rest) s.fits.printable.version
-      (entered_disks c.version c.disks s.fits.range.disks s.fits.printable.disks) (slot_lines c.version c.slots s.fits.range.slots s.fits.printable.slots) (event_lines c.version c.events s.fits.range.events s.fits.printable.events s.fits.printable.words) (omega (arith, events_len)))
+      order_fault text k late clean end (omega arith) h.1 (3 + length (map (slot_line c.version) c.slots))
+      (omega arith) (omega (arith, slots_len))
+      (one_event c.version text (disks_line c.disks) (map (slot_line c.version) c.slots)
+      (map event_line c.events) (lines_of rest) parts (some_lines rest) s.fits.printable.version
+      (entered_disks c.version c.disks s.fits.range.disks s.fits.printable.disks)
+      (slot_lines c.version c.slots s.fits.range.slots s.fits.printable.slots)
+      (event_lines c.version c.events s.fits.range.events s.fits.printable.events s.fits.printable.words)
+      (omega (arith, events_len)))
   refused begun kind.Fields end late some none h known = fault_after begun kind.Fields end late none h known
   refused begun kind.Number end late some none h known = fault_after begun kind.Number end late none h known
   refused begun kind.Choice end late some none h known = fault_after begun kind.Choice end late none h known
@@ -143,98 +203,179 @@ module _ {A : Type 0} (text : List ℕ) (c : Content A) (k : ℕ) (rest : List �
   refused begun kind.NoMemory end late some none h known = absurd (known refl)
 
   -- the next line is refused
-  pub is_refused : (begun : Bool) (l after : List ℕ) (fault : FaultKind) → lines_of rest ≡ l ∷ lines_of after → (begun ≡ true → 0 < length c.events) → (begun ≡ false → length c.events ≡ 0) → RefusesLine c.version begun l fault → fault ≢ kind.NoMemory → IsFault text k fault
+  pub is_refused : (begun : Bool) (l after : List ℕ) (fault : FaultKind) → lines_of rest ≡ l ∷ lines_of after
+      → (begun ≡ true → 0 < length c.events) → (begun ≡ false → length c.events ≡ 0)
+      → RefusesLine c.version begun l fault → fault ≢ kind.NoMemory → IsFault text k fault
   is_refused begun l after fault is some none h known =
       let count = s.count in
       let here : line_at text k ≡ l = next_is ∙ ap (λ (ls : List (List ℕ)). get_or ls 0 []) is in
       let end : IsEnded text k = omega (arith, lines_left, ap length is, some_lines after) in
-      refused begun fault end (omega arith) some none (subst (λ (x : List ℕ). RefusesLine c.version begun x fault) (sym here) h) known
+      refused begun fault end (omega arith) some none
+      (subst (λ (x : List ℕ). RefusesLine c.version begun x fault) (sym here) h) known
 
 -- where nothing is left, the whole text was read
-pub all_read : {A : Type 0} (whole : List ℕ) (c : Content A) (k : ℕ) (rest : List ℕ) → Sofar whole c k rest → length rest ≡ 0 → whole ≡ text c
-all_read whole c k rest so none = so.spelled ∙ ap (λ (xs : List ℕ). text c ++ xs) (nil_from_length rest none) ∙ append-nil (text c)
+pub all_read : {A : Type 0} (whole : List ℕ) (c : Content A) (k : ℕ) (rest : List ℕ) → Sofar whole c k rest
+    → length rest ≡ 0 → whole ≡ text c
+all_read whole c k rest so none = so.spelled ∙ ap (λ (xs : List ℕ). text c ++ xs) (nil_from_length rest none)
+    ∙ append-nil (text c)
 
 -- ---- one line more
 
-pub push_slot : {A : Type 0} (c : Content A) (s : SlotSpec) → length c.events ≡ 0 → trace_lines (record c { slots = c.slots ++ s ∷ [] }) ≡ trace_lines c ++ slot_line c.version s ∷ []
+pub push_slot : {A : Type 0} (c : Content A) (s : SlotSpec) → length c.events ≡ 0
+    → trace_lines (record c { slots = c.slots ++ s ∷ [] }) ≡ trace_lines c ++ slot_line c.version s ∷ []
 unfolding trace_lines
 push_slot c s none =
     let empty = nil_from_length c.events none in
     let e : map event_line c.events ≡ [] = ap (map event_line) empty in
     let v = c.version in
-    ap (λ (ls : List (List ℕ)). (header v ∷ disks_line c.disks ∷ map (slot_line v) (c.slots ++ s ∷ [])) ++ ls) e
+    ap (λ (ls : List (List ℕ)). (header v ∷ disks_line c.disks ∷ map (slot_line v) (c.slots ++ s ∷ []))
+    ++ ls) e
     ∙ append-nil (header v ∷ disks_line c.disks ∷ map (slot_line v) (c.slots ++ s ∷ []))
     ∙ ap (λ (ls : List (List ℕ)). header v ∷ disks_line c.disks ∷ ls) (map_push (slot_line v) c.slots s)
-    ∙ ap (λ (ls : List (List ℕ)). ls ++ slot_line v s ∷ []) (sym (append-nil (header v ∷ disks_line c.disks ∷ map (slot_line v) c.slots)) ∙ ap (λ (ls : List (List ℕ)). (header v ∷ disks_line c.disks ∷ map (slot_line v) c.slots) ++ ls) (sym e))
+    ∙ ap (λ (ls : List (List ℕ)). ls
+    ++ slot_line v s ∷ []) (sym (append-nil (header v ∷ disks_line c.disks ∷ map (slot_line v) c.slots))
+    ∙ ap (λ (ls : List (List ℕ)). (header v ∷ disks_line c.disks ∷ map (slot_line v) c.slots)
+    ++ ls) (sym e))
 
-pub push_event : {A : Type 0} (c : Content A) (e : Event A) → trace_lines (record c { events = c.events ++ e ∷ [] }) ≡ trace_lines c ++ event_line e ∷ []
+pub push_event : {A : Type 0} (c : Content A) (e : Event A)
+    → trace_lines (record c { events = c.events ++ e ∷ [] }) ≡ trace_lines c ++ event_line e ∷ []
 unfolding trace_lines
 push_event c e =
-    ap (λ (ls : List (List ℕ)). (header c.version ∷ disks_line c.disks ∷ map (slot_line c.version) c.slots) ++ ls) (map_push event_line c.events e) ∙ sym (append_assoc (header c.version ∷ disks_line c.disks ∷ map (slot_line c.version) c.slots) (map event_line c.events) (event_line e ∷ []))
+    ap (λ (ls : List (List ℕ)). (header c.version ∷ disks_line c.disks ∷ map (slot_line c.version) c.slots)
+    ++ ls) (map_push event_line c.events e)
+    ∙ sym (append_assoc (header c.version ∷ disks_line c.disks ∷ map (slot_line c.version) c.slots)
+    (map event_line c.events) (event_line e ∷ []))
 
 -- a line taken off the rest goes to the end of what was read
-pub taken : (text : List ℕ) (front more : List (List ℕ)) (rest l after : List ℕ) → text ≡ joined front ++ rest → rest ≡ l ++ 10 ∷ after → more ≡ front ++ l ∷ [] → text ≡ joined more ++ after
+pub taken : (text : List ℕ) (front more : List (List ℕ)) (rest l after : List ℕ) → text ≡ joined front ++ rest
+    → rest ≡ l ++ 10 ∷ after → more ≡ front ++ l ∷ [] → text ≡ joined more ++ after
 taken text front more rest l after whole cut is =
-    whole ∙ ap (λ (xs : List ℕ). joined front ++ xs) (cut ∙ sym (append_assoc l (10 ∷ []) after)) ∙ sym (append_assoc (joined front) (ended l) after)
+    whole ∙ ap (λ (xs : List ℕ). joined front ++ xs) (cut ∙ sym (append_assoc l (10 ∷ []) after))
+    ∙ sym (append_assoc (joined front) (ended l) after)
     ∙ ap (λ (xs : List ℕ). xs ++ after) (sym (ap joined is ∙ joined_push front l))
 
-pub slot_read : {A : Type 0} (text : List ℕ) (c : Content A) (k : ℕ) (rest l after : List ℕ) (s : SlotSpec) → Sofar text c k rest → rest ≡ l ++ 10 ∷ after → fields_of l ≡ slot_fields c.version s → IsFineSlot c.version s → length c.events ≡ 0 → Sofar text (record c { slots = c.slots ++ s ∷ [] }) (k + 1) after
+pub slot_read : {A : Type 0} (text : List ℕ) (c : Content A) (k : ℕ) (rest l after : List ℕ) (s : SlotSpec)
+    → Sofar text c k rest → rest ≡ l ++ 10 ∷ after → fields_of l ≡ slot_fields c.version s
+    → IsFineSlot c.version s → length c.events ≡ 0
+    → Sofar text (record c { slots = c.slots ++ s ∷ [] }) (k + 1) after
 unfolding slot_line
 slot_read text c k rest l after s so cut is fine none =
     let count = so.count in
     record {
-      spelled = taken text (trace_lines c) (trace_lines (record c { slots = c.slots ++ s ∷ [] })) rest l after so.spelled cut
-          (push_slot c s none ∙ ap (λ (x : List ℕ). trace_lines c ++ x ∷ []) (sym (line-fields_of l (slot_fields c.version s) is)));
+      spelled = taken text (trace_lines c) (trace_lines (record c { slots = c.slots ++ s ∷ [] })) rest l
+          after so.spelled cut
+          (push_slot c s none ∙ ap (λ (x : List ℕ). trace_lines c
+          ++ x ∷ []) (sym (line-fields_of l (slot_fields c.version s) is)));
       fits = record {
-        range = record { disks = so.fits.range.disks; slots = All-push SlotInRange c.slots s so.fits.range.slots fine.fits; events = so.fits.range.events };
-        printable = record { version = so.fits.printable.version; disks = so.fits.printable.disks; slots = All-push (IsPrintableSlot c.version) c.slots s so.fits.printable.slots fine.printable; events = so.fits.printable.events; words = so.fits.printable.words };
+        range = record {
+          disks = so.fits.range.disks;
+          slots = All-push SlotInRange c.slots s so.fits.range.slots fine.fits;
+          events =
+              so.fits.range.events;
+        };
+        printable = record {
+          version = so.fits.printable.version;
+          disks = so.fits.printable.disks;
+          slots = All-push (IsPrintableSlot c.version) c.slots s so.fits.printable.slots fine.printable;
+          events = so.fits.printable.events;
+          words = so.fits.printable.words;
+        };
       };
       count = omega (arith, length_push c.slots s);
     }
 
-pub event_read : {A : Type 0} (text : List ℕ) (c : Content A) (k : ℕ) (rest l after : List ℕ) (e : Event A) → Sofar text c k rest → rest ≡ l ++ 10 ∷ after → fields_of l ≡ event_fields e → IsFine e → IsWordOf c.version (word_for e.what) → Sofar text (record c { events = c.events ++ e ∷ [] }) (k + 1) after
+pub event_read : {A : Type 0} (text : List ℕ) (c : Content A) (k : ℕ) (rest l after : List ℕ) (e : Event A)
+    → Sofar text c k rest → rest ≡ l ++ 10 ∷ after → fields_of l ≡ event_fields e → IsFine e
+    → IsWordOf c.version (word_for e.what)
+    → Sofar text (record c { events = c.events ++ e ∷ [] }) (k + 1) after
 unfolding event_line
 event_read text c k rest l after e so cut is fine of =
     let count = so.count in
     record {
-      spelled = taken text (trace_lines c) (trace_lines (record c { events = c.events ++ e ∷ [] })) rest l after so.spelled cut
-          (push_event c e ∙ ap (λ (x : List ℕ). trace_lines c ++ x ∷ []) (sym (line-fields_of l (event_fields e) is)));
+      spelled = taken text (trace_lines c) (trace_lines (record c { events = c.events ++ e ∷ [] })) rest l
+          after so.spelled cut
+          (push_event c e ∙ ap (λ (x : List ℕ). trace_lines c
+          ++ x ∷ []) (sym (line-fields_of l (event_fields e) is)));
       fits = record {
-        range = record { disks = so.fits.range.disks; slots = so.fits.range.slots; events = All-push EventInRange c.events e so.fits.range.events fine.fits };
-        printable = record { version = so.fits.printable.version; disks = so.fits.printable.disks; slots = so.fits.printable.slots; events = All-push (λ x. IsPrintableKind x.what) c.events e so.fits.printable.events fine.printable; words = All-push (λ x. IsWordOf c.version (word_for x.what)) c.events e so.fits.printable.words of };
+        range = record {
+          disks = so.fits.range.disks;
+          slots = so.fits.range.slots;
+          events = All-push EventInRange c.events e so.fits.range.events fine.fits;
+        };
+        printable = record {
+          version = so.fits.printable.version;
+          disks = so.fits.printable.disks;
+          slots = so.fits.printable.slots;
+          events =
+              All-push (λ x. IsPrintableKind x.what) c.events e so.fits.printable.events fine.printable;
+          words =
+              All-push (λ x. IsWordOf c.version (word_for x.what)) c.events e so.fits.printable.words of;
+        };
       };
       count = omega (arith, length_push c.events e);
     }
 
-two_lines : (a b rest : List ℕ) → ((a ++ 10 ∷ []) ++ ((b ++ 10 ∷ []) ++ [])) ++ rest ≡ a ++ 10 ∷ (b ++ 10 ∷ rest)
+two_lines : (a b rest : List ℕ) → ((a ++ 10 ∷ []) ++ ((b ++ 10 ∷ []) ++ [])) ++ rest ≡ a
+    ++ 10 ∷ (b ++ 10 ∷ rest)
 two_lines a b rest = simp (append_assoc, append-nil)
 
 -- the first two lines
-pub begun_so : {A : Type 0} (text : List ℕ) (version : ℕ) (disks : Disks) (middle l rest : List ℕ) → IsVersion version → IsWordOf version (disks_word disks) → text ≡ header version ++ 10 ∷ middle → middle ≡ l ++ 10 ∷ rest → fields_of l ≡ disks_fields disks → DisksInRange disks → Sofar {A = A} text (record { version = version; disks = disks; slots = []; events = [] }) 3 rest
+pub begun_so : {A : Type 0} (text : List ℕ) (version : ℕ) (disks : Disks) (middle l rest : List ℕ)
+    → IsVersion version → IsWordOf version (disks_word disks) → text ≡ header version ++ 10 ∷ middle
+    → middle ≡ l ++ 10 ∷ rest → fields_of l ≡ disks_fields disks → DisksInRange disks
+    → Sofar {A = A} text (record { version = version; disks = disks; slots = []; events = [] }) 3 rest
 unfolding trace_lines joined disks_line
 begun_so text version disks middle l rest one_of of first second is range =
     let e = line-fields_of l (disks_fields disks) is in
     record {
-      spelled = first ∙ ap (λ (m : List ℕ). header version ++ 10 ∷ m) (second ∙ ap (λ (x : List ℕ). x ++ 10 ∷ rest) e) ∙ sym (two_lines (header version) (line (disks_fields disks)) rest);
-      fits = record { range = record { disks = range; slots = All-nil SlotInRange; events = λ k d lt. absurd (omega arith) }; printable = record { version = one_of; disks = of; slots = All-nil (IsPrintableSlot version); events = λ k d lt. absurd (omega arith); words = λ k d lt. absurd (omega arith) } };
+      spelled = first ∙ ap (λ (m : List ℕ). header version ++ 10 ∷ m) (second
+          ∙ ap (λ (x : List ℕ). x ++ 10 ∷ rest) e)
+          ∙ sym (two_lines (header version) (line (disks_fields disks)) rest);
+      fits = record {
+        range = record {
+          disks = range;
+          slots = All-nil SlotInRange;
+          events = λ k d lt. absurd (omega arith);
+        };
+        printable = record {
+          version = one_of;
+          disks = of;
+          slots = All-nil (IsPrintableSlot version);
+          events = λ k d lt. absurd (omega arith);
+          words = λ k d lt. absurd (omega arith);
+        };
+      };
       count = refl;
     }
 
 pub none_begun : {A : Type 0} (c : Content A) → (has_begun c ≡ true → ⊥) → length c.events ≡ 0
-none_begun c h = elim (cases_lt 0 (length c.events)) [ inl lt ↦ absurd (h (lt-ltb 0 (length c.events) lt)) | inr le ↦ omega arith ]
+none_begun c h = elim (cases_lt 0 (length c.events))
+    [ inl lt ↦ absurd (h (lt-ltb 0 (length c.events) lt)) | inr le ↦ omega arith ]
 
-pub entry_read : {A : Type 0} (text : List ℕ) (c d : Content A) (k : ℕ) (rest l after : List ℕ) → Sofar text c k rest → rest ≡ l ++ 10 ∷ after → AddsLine c l d → Sofar text d (k + 1) after
+pub entry_read : {A : Type 0} (text : List ℕ) (c d : Content A) (k : ℕ) (rest l after : List ℕ)
+    → Sofar text c k rest → rest ≡ l ++ 10 ∷ after → AddsLine c l d → Sofar text d (k + 1) after
 entry_read text c d k rest l after so cut (inl adds) =
-    subst (λ x. Sofar text x (k + 1) after) (sym adds.added) (slot_read text c k rest l after adds.slot so cut adds.parsed.fields adds.parsed.fine (none_begun c adds.parsed.early))
+    subst (λ x. Sofar text x (k + 1) after) (sym adds.added)
+    (slot_read text c k rest l after adds.slot so cut adds.parsed.fields adds.parsed.fine
+    (none_begun c adds.parsed.early))
 entry_read text c d k rest l after so cut (inr adds) =
-    subst (λ x. Sofar text x (k + 1) after) (sym adds.added) (event_read text c k rest l after adds.event so cut adds.parsed.fields adds.parsed.fine adds.parsed.of_version)
+    subst (λ x. Sofar text x (k + 1) after) (sym adds.added)
+    (event_read text c k rest l after adds.event so cut adds.parsed.fields adds.parsed.fine
+    adds.parsed.of_version)
 
 -- what a line says was added
-pub parsed_added : {A : Type 0} (old : Content A) (l : List ℕ) (parsed : ParsedEvent A) (events : List (Event A)) → fields_of l ≡ parsed_fields parsed → IsWordOf old.version (word_for parsed.event.what) → AddsParsed parsed old.events events → AddsLine old l (record old { events = events })
+pub parsed_added : {A : Type 0} (old : Content A) (l : List ℕ) (parsed : ParsedEvent A)
+    (events : List (Event A)) → fields_of l ≡ parsed_fields parsed
+    → IsWordOf old.version (word_for parsed.event.what) → AddsParsed parsed old.events events
+    → AddsLine old l (record old { events = events })
 parsed_added old l parsed events is of adds =
     inr (record {
       event = adds.event;
-      parsed = record { fields = is ∙ sym adds.fields; fine = adds.fine; of_version = subst (λ (w : Word). IsWordOf old.version w) (sym adds.word) of };
+      parsed = record {
+        fields = is ∙ sym adds.fields;
+        fine = adds.fine;
+        of_version = subst (λ (w : Word). IsWordOf old.version w) (sym adds.word) of;
+      };
       added = ap (λ es. record old { events = es }) adds.added;
     })
 
@@ -242,11 +383,28 @@ parsed_added old l parsed events is of adds =
 pub length_joined : (ls : List (List ℕ)) → length ls ≤ length (joined ls)
 unfolding joined
 length_joined [] = omega arith
-length_joined (l ∷ ls) = omega (arith, length_joined ls, length-append (ended l) (joined ls), length-append l (10 ∷ []))
+length_joined (l ∷ ls) = omega (
+  arith,
+  length_joined ls,
+  length-append (ended l) (joined ls),
+  length-append l (10 ∷ []),
+)
 
-pub numbered : {A : Type 0} (text : List ℕ) (c : Content A) (k : ℕ) (rest : List ℕ) → Sofar text c k rest → k + 8 ≤ length text
+pub numbered : {A : Type 0} (text : List ℕ) (c : Content A) (k : ℕ) (rest : List ℕ) → Sofar text c k rest
+    → k + 8 ≤ length text
 unfolding trace_lines joined
 numbered text c k rest so =
     let count = so.count in
-    let others : List (List ℕ) = disks_line c.disks ∷ (map (slot_line c.version) c.slots ++ map event_line c.events) in
-    omega (arith, ap length so.spelled, length-append (joined (trace_lines c)) rest, length-append (ended (header c.version)) (joined others), length-append (header c.version) (10 ∷ []), length_joined others, length-append (map (slot_line c.version) c.slots) (map event_line c.events), length-map c.slots (slot_line c.version), length-map c.events event_line)
+    let others : List (List ℕ) =
+    disks_line c.disks ∷ (map (slot_line c.version) c.slots ++ map event_line c.events) in
+    omega (
+      arith,
+      ap length so.spelled,
+      length-append (joined (trace_lines c)) rest,
+      length-append (ended (header c.version)) (joined others),
+      length-append (header c.version) (10 ∷ []),
+      length_joined others,
+      length-append (map (slot_line c.version) c.slots) (map event_line c.events),
+      length-map c.slots (slot_line c.version),
+      length-map c.events event_line,
+    )

@@ -16,5 +16,6 @@ pub not_ended : (l : List ℕ) → ¬ AllRight [] (fields_of l)
 not_ended l h = some_more (fields_of l) (some_fields l) h
 
 -- a value beside its width
-pub no_value : (width bytes : List ℕ) (w : ℕ) → IsWidthField width w → ((n : ℕ) → ¬ IsFixed (2 * w) bytes n) → ¬ Says (Value width) bytes
+pub no_value : (width bytes : List ℕ) (w : ℕ) → IsWidthField width w → ((n : ℕ) → ¬ IsFixed (2 * w) bytes n)
+    → ¬ Says (Value width) bytes
 no_value width bytes w wide none parsed = let n = parsed w wide in none n.0 n.1

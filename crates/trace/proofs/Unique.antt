@@ -65,7 +65,10 @@ unfolding bytes
 same_bytes [] [] hx hy e = refl
 same_bytes [] (y ∷ ys) hx hy e = absurd (omega (arith, ap length e, length-encode_with lower_digits (y ∷ ys)))
 same_bytes (x ∷ xs) [] hx hy e = absurd (omega (arith, ap length e, length-encode_with lower_digits (x ∷ xs)))
-same_bytes (x ∷ xs) (y ∷ ys) hx hy e = ok_is (x ∷ xs) (y ∷ ys) (decode_of (encode_lower (x ∷ xs))) (decode_of-encode_lower (x ∷ xs) (is_bytes (x ∷ xs) hx)) (ap decode_of e ∙ decode_of-encode_lower (y ∷ ys) (is_bytes (y ∷ ys) hy))
+same_bytes (x ∷ xs) (y ∷ ys) hx hy e =
+    ok_is (x ∷ xs) (y ∷ ys) (decode_of (encode_lower (x ∷ xs)))
+    (decode_of-encode_lower (x ∷ xs) (is_bytes (x ∷ xs) hx)) (ap decode_of e
+    ∙ decode_of-encode_lower (y ∷ ys) (is_bytes (y ∷ ys) hy))
 
 -- the field at a place of equal lists
 field : (fs gs : List (List ℕ)) (i : ℕ) → fs ≡ gs → get_or fs i [] ≡ get_or gs i []
@@ -75,10 +78,18 @@ field fs gs i e = ap (λ (xs : List (List ℕ)). get_or xs i []) e
 
 made_slot : List RegionSpec → ℕ → ℕ → Bool → ℕ → ℕ → List ℕ → SlotSpec
 made_slot regions start count read_only cols rows identity =
-    record { regions = regions; extent = record { start = start; count = count }; read_only = read_only; cols = cols; rows = rows; identity = identity }
+    record {
+      regions = regions;
+      extent = record { start = start; count = count };
+      read_only = read_only;
+      cols = cols;
+      rows = rows;
+      identity = identity;
+    }
 
 -- lists with equally long fronts
-same_halves : (xs ys ls rs : List (List ℕ)) → length xs ≡ length ys → xs ++ ls ≡ ys ++ rs → (xs ≡ ys) × (ls ≡ rs)
+same_halves : (xs ys ls rs : List (List ℕ)) → length xs ≡ length ys → xs ++ ls ≡ ys ++ rs
+    → (xs ≡ ys) × (ls ≡ rs)
 same_halves [] [] ls rs e h = (refl, h)
 same_halves [] (y ∷ ys) ls rs e h = absurd (omega (arith, e))
 same_halves (x ∷ xs) [] ls rs e h = absurd (omega (arith, e))
@@ -89,15 +100,19 @@ same_halves (x ∷ xs) (y ∷ ys) ls rs e h =
     (ap (λ (z : List ℕ). z ∷ xs) head ∙ ap (λ (zs : List (List ℕ)). y ∷ zs) both.0, both.1)
 
 -- the memories of slots of one version: one region by its two fields
-same_single : (rs ss : List RegionSpec) → length rs ≡ 1 → length ss ≡ 1 → flat_map region_fields rs ≡ flat_map region_fields ss → rs ≡ ss
+same_single : (rs ss : List RegionSpec) → length rs ≡ 1 → length ss ≡ 1
+    → flat_map region_fields rs ≡ flat_map region_fields ss → rs ≡ ss
 same_single [] ss hr hs e = absurd (omega (arith, hr))
 same_single (r ∷ rs) [] hr hs e = absurd (omega (arith, hs))
 same_single (r ∷ (q ∷ rs)) (s ∷ ss) hr hs e = absurd (omega (arith, hr))
 same_single (r ∷ []) (s ∷ (q ∷ ss)) hr hs e = absurd (omega (arith, hs))
 same_single (r ∷ []) (s ∷ []) hr hs e =
-    let base = same_num r.base s.base (field (flat_map region_fields (r ∷ [])) (flat_map region_fields (s ∷ [])) 0 e) in
-    let len = same_num r.len s.len (field (flat_map region_fields (r ∷ [])) (flat_map region_fields (s ∷ [])) 1 e) in
-    ap (λ (n : ℕ). record { base = n; len = r.len } ∷ []) base ∙ ap (λ (n : ℕ). record { base = s.base; len = n } ∷ []) len
+    let base = same_num r.base s.base
+    (field (flat_map region_fields (r ∷ [])) (flat_map region_fields (s ∷ [])) 0 e) in
+    let len = same_num r.len s.len
+    (field (flat_map region_fields (r ∷ [])) (flat_map region_fields (s ∷ [])) 1 e) in
+    ap (λ (n : ℕ). record { base = n; len = r.len } ∷ []) base
+    ∙ ap (λ (n : ℕ). record { base = s.base; len = n } ∷ []) len
 
 -- all regions by one field
 same_region : (r s : RegionSpec) → region_text r ≡ region_text s → r ≡ s
@@ -105,7 +120,8 @@ same_region r s e =
     let both = sym (region_parts r) ∙ ap (parts 43) e ∙ region_parts s in
     let base = same_num r.base s.base (ap (λ (xs : List (List ℕ)). get_or xs 0 []) both) in
     let len = same_num r.len s.len (ap (λ (xs : List (List ℕ)). get_or xs 1 []) both) in
-    ap (λ (n : ℕ). record { base = n; len = r.len }) base ∙ ap (λ (n : ℕ). record { base = s.base; len = n }) len
+    ap (λ (n : ℕ). record { base = n; len = r.len }) base
+    ∙ ap (λ (n : ℕ). record { base = s.base; len = n }) len
 
 same_each : (rs ss : List RegionSpec) → map region_text rs ≡ map region_text ss → rs ≡ ss
 same_each [] [] e = refl
@@ -114,17 +130,23 @@ same_each (r ∷ rs) [] e = absurd (omega (arith, ap length e))
 same_each (r ∷ rs) (s ∷ ss) e =
     let first : region_text r ≡ region_text s = ap (λ (xs : List (List ℕ)). get_or xs 0 []) e in
     let others : map region_text rs ≡ map region_text ss = ap (drop 1) e in
-    ap (λ (x : RegionSpec). x ∷ rs) (same_region r s first) ∙ ap (λ (xs : List RegionSpec). s ∷ xs) (same_each rs ss others)
+    ap (λ (x : RegionSpec). x ∷ rs) (same_region r s first)
+    ∙ ap (λ (xs : List RegionSpec). s ∷ xs) (same_each rs ss others)
 
 abbrev memory_texts : Bool → List RegionSpec → List (List ℕ)
 memory_texts one regions = if one then flat_map region_fields regions else regions_text regions ∷ []
 
-same_texts : (one : Bool) (rs ss : List RegionSpec) → 1 ≤ length rs → 1 ≤ length ss → (one ≡ true → length rs ≡ 1) → (one ≡ true → length ss ≡ 1) → memory_texts one rs ≡ memory_texts one ss → rs ≡ ss
+same_texts : (one : Bool) (rs ss : List RegionSpec) → 1 ≤ length rs → 1 ≤ length ss
+    → (one ≡ true → length rs ≡ 1) → (one ≡ true → length ss ≡ 1)
+    → memory_texts one rs ≡ memory_texts one ss → rs ≡ ss
 same_texts false rs ss hr hs or os e =
-    same_each rs ss (sym (regions_parts rs hr) ∙ ap (parts 44) (ap (λ (xs : List (List ℕ)). get_or xs 0 []) e) ∙ regions_parts ss hs)
+    same_each rs ss (sym (regions_parts rs hr) ∙ ap (parts 44) (ap (λ (xs : List (List ℕ)). get_or xs 0 []) e)
+    ∙ regions_parts ss hs)
 same_texts true rs ss hr hs or os e = same_single rs ss (or refl) (os refl) e
 
-equally_long : (one : Bool) (rs ss : List RegionSpec) → 1 ≤ length rs → 1 ≤ length ss → (one ≡ true → length rs ≡ 1) → (one ≡ true → length ss ≡ 1) → length (memory_texts one rs) ≡ length (memory_texts one ss)
+equally_long : (one : Bool) (rs ss : List RegionSpec) → 1 ≤ length rs → 1 ≤ length ss
+    → (one ≡ true → length rs ≡ 1) → (one ≡ true → length ss ≡ 1)
+    → length (memory_texts one rs) ≡ length (memory_texts one ss)
 equally_long false rs ss hr hs or os = refl
 equally_long true [] ss hr hs or os = absurd (omega (arith, hr))
 equally_long true (r ∷ rs) [] hr hs or os = absurd (omega (arith, hs))
@@ -134,28 +156,36 @@ equally_long true (r ∷ []) (s ∷ []) hr hs or os = refl
 
 -- what stands behind a slot's memory
 abbrev behind : ℕ → SlotSpec → List (List ℕ)
-behind version s = num s.extent.start ∷ num s.extent.count ∷ mode s.read_only ∷ num s.cols ∷ num s.rows ∷ since_version_2 version (bytes s.identity ∷ [])
+behind version s = num s.extent.start ∷ num s.extent.count ∷ mode s.read_only ∷ num s.cols ∷ num s.rows
+    ∷ since_version_2 version (bytes s.identity ∷ [])
 
 -- the identities of slots of one version
-same_identity : (version : ℕ) (s t : SlotSpec) → IsVersion version → IsFineSlot version s → IsFineSlot version t → behind version s ≡ behind version t → s.identity ≡ t.identity
+same_identity : (version : ℕ) (s t : SlotSpec) → IsVersion version → IsFineSlot version s
+    → IsFineSlot version t → behind version s ≡ behind version t → s.identity ≡ t.identity
 same_identity version s t one_of fs ft e =
     elim one_of [
       | inl one ↦ fs.printable.identity one ∙ sym (ft.printable.identity one)
       | inr more ↦ elim more [
-        | inl two ↦ same_bytes s.identity t.identity fs.fits.identity ft.fits.identity (field (behind 2 s) (behind 2 t) 5 (subst (λ (v : ℕ). behind v s ≡ behind v t) two e))
-        | inr three ↦ same_bytes s.identity t.identity fs.fits.identity ft.fits.identity (field (behind 3 s) (behind 3 t) 5 (subst (λ (v : ℕ). behind v s ≡ behind v t) three e))
+        | inl two ↦ same_bytes s.identity t.identity fs.fits.identity ft.fits.identity
+            (field (behind 2 s) (behind 2 t) 5 (subst (λ (v : ℕ). behind v s ≡ behind v t) two e))
+        | inr three ↦ same_bytes s.identity t.identity fs.fits.identity ft.fits.identity
+            (field (behind 3 s) (behind 3 t) 5 (subst (λ (v : ℕ). behind v s ≡ behind v t) three e))
       ]
     ]
 
-same_slot_fields : (version : ℕ) (s t : SlotSpec) → IsVersion version → IsFineSlot version s → IsFineSlot version t → slot_fields version s ≡ slot_fields version t → s ≡ t
+same_slot_fields : (version : ℕ) (s t : SlotSpec) → IsVersion version → IsFineSlot version s
+    → IsFineSlot version t → slot_fields version s ≡ slot_fields version t → s ≡ t
 unfolding made_slot
 same_slot_fields version s t one_of fs ft e =
     let one = nat_lt version 3 in
     let single_s : one ≡ true → length s.regions ≡ 1 = λ h. fs.printable.memory.one (ltb-true version 3 h) in
     let single_t : one ≡ true → length t.regions ≡ 1 = λ h. ft.printable.memory.one (ltb-true version 3 h) in
-    let long = equally_long one s.regions t.regions fs.printable.memory.some ft.printable.memory.some single_s single_t in
-    let halves = same_halves (memory_fields version s.regions) (memory_fields version t.regions) (behind version s) (behind version t) long (ap (drop 1) e) in
-    let regions = same_texts one s.regions t.regions fs.printable.memory.some ft.printable.memory.some single_s single_t halves.0 in
+    let long = equally_long one s.regions t.regions fs.printable.memory.some ft.printable.memory.some
+    single_s single_t in
+    let halves = same_halves (memory_fields version s.regions) (memory_fields version t.regions)
+    (behind version s) (behind version t) long (ap (drop 1) e) in
+    let regions = same_texts one s.regions t.regions fs.printable.memory.some ft.printable.memory.some
+    single_s single_t halves.0 in
     let here = field (behind version s) (behind version t) in
     let start = same_num s.extent.start t.extent.start (here 0 halves.1) in
     let count = same_num s.extent.count t.extent.count (here 1 halves.1) in
@@ -163,36 +193,44 @@ same_slot_fields version s t one_of fs ft e =
     let cols = same_num s.cols t.cols (here 3 halves.1) in
     let rows = same_num s.rows t.rows (here 4 halves.1) in
     let identity = same_identity version s t one_of fs ft halves.1 in
-    ap (λ (x : List RegionSpec). made_slot x s.extent.start s.extent.count s.read_only s.cols s.rows s.identity) regions
+    ap (λ (x : List RegionSpec). made_slot x s.extent.start s.extent.count s.read_only s.cols s.rows
+    s.identity) regions
     ∙ ap (λ (x : ℕ). made_slot t.regions x s.extent.count s.read_only s.cols s.rows s.identity) start
     ∙ ap (λ (x : ℕ). made_slot t.regions t.extent.start x s.read_only s.cols s.rows s.identity) count
-    ∙ ap (λ (x : Bool). made_slot t.regions t.extent.start t.extent.count x s.cols s.rows s.identity) read_only
+    ∙ ap (λ (x : Bool). made_slot t.regions t.extent.start t.extent.count x s.cols s.rows
+    s.identity) read_only
     ∙ ap (λ (x : ℕ). made_slot t.regions t.extent.start t.extent.count t.read_only x s.rows s.identity) cols
     ∙ ap (λ (x : ℕ). made_slot t.regions t.extent.start t.extent.count t.read_only t.cols x s.identity) rows
-    ∙ ap (λ (x : List ℕ). made_slot t.regions t.extent.start t.extent.count t.read_only t.cols t.rows x) identity
+    ∙ ap (λ (x : List ℕ). made_slot t.regions t.extent.start t.extent.count t.read_only
+    t.cols t.rows x) identity
 
 -- the first two bytes of the first field, which differ for each event's word
 sign : List (List ℕ) → ℕ
 sign fs = get_or (get_or fs 0 []) 0 0 * 1000 + get_or (get_or fs 0 []) 1 0
 
 -- values by equal widths
-same_value : (w x u v o p : ℕ) → w ≡ x → IsWriteAccess o w u → IsWriteAccess p x v → fixed (2 * w) u ≡ fixed (2 * x) v → u ≡ v
+same_value : (w x u v o p : ℕ) → w ≡ x → IsWriteAccess o w u → IsWriteAccess p x v
+    → fixed (2 * w) u ≡ fixed (2 * x) v → u ≡ v
 same_value w x u v o p same one other e =
-    same_fixed (2 * x) u v (subst (λ (k : ℕ). u < 16 ^ (2 * k)) same (fits_digits w u one.access.wide one.within)) (fits_digits x v other.access.wide other.within)
+    same_fixed (2 * x) u v (subst (λ (k : ℕ). u < 16 ^ (2 * k)) same
+    (fits_digits w u one.access.wide one.within)) (fits_digits x v other.access.wide other.within)
     (ap (λ (k : ℕ). fixed (2 * k) u) (sym same) ∙ e)
 
-same_what : {A : Type 0} (m n : ℕ) (v w : EventKind A) → KindInRange v → KindInRange w → IsPrintableKind v → IsPrintableKind w → what_fields m v ≡ what_fields n w → (m ≡ n) × (v ≡ w)
+same_what : {A : Type 0} (m n : ℕ) (v w : EventKind A) → KindInRange v → KindInRange w → IsPrintableKind v
+    → IsPrintableKind w → what_fields m v ≡ what_fields n w → (m ≡ n) × (v ≡ w)
 unfolding sign
 same_what m n (what.Read k o w) (what.Read l p x) rv rw' fv fw e =
     let slot = same_num m n (ap (λ (fs : List (List ℕ)). get_or fs 1 []) e) in
     let kind = same_window k l (ap (λ (fs : List (List ℕ)). get_or fs 2 []) e) in
-    let offset = same_fixed 3 o p fv.three_digits fw.three_digits (ap (λ (fs : List (List ℕ)). get_or fs 3 []) e) in
+    let offset = same_fixed 3 o p fv.three_digits fw.three_digits
+    (ap (λ (fs : List (List ℕ)). get_or fs 3 []) e) in
     let width : w ≡ x = omega (arith, ap (λ (fs : List (List ℕ)). get_or (get_or fs 4 []) 0 0) e) in
     (slot, cc)
 same_what m n (what.Write k o w u) (what.Write l p x v) rv rw' fv fw e =
     let slot = same_num m n (ap (λ (fs : List (List ℕ)). get_or fs 1 []) e) in
     let kind = same_window k l (ap (λ (fs : List (List ℕ)). get_or fs 2 []) e) in
-    let offset = same_fixed 3 o p fv.access.three_digits fw.access.three_digits (ap (λ (fs : List (List ℕ)). get_or fs 3 []) e) in
+    let offset = same_fixed 3 o p fv.access.three_digits fw.access.three_digits
+    (ap (λ (fs : List (List ℕ)). get_or fs 3 []) e) in
     let width : w ≡ x = omega (arith, ap (λ (fs : List (List ℕ)). get_or (get_or fs 4 []) 0 0) e) in
     let value = same_value w x u v o p width fv fw (ap (λ (fs : List (List ℕ)). get_or fs 5 []) e) in
     (slot, cc)
@@ -280,23 +318,31 @@ same_what m n (what.Input xs) (what.Complete c) rv rw' fv fw e = absurd (omega (
 same_what m n (what.Resize a r) (what.Complete c) rv rw' fv fw e = absurd (omega (arith, ap sign e))
 same_what m n (what.Restore xs) (what.Complete c) rv rw' fv fw e = absurd (omega (arith, ap sign e))
 
-pub same_event_fields : {A : Type 0} (d e : Event A) → IsFine d → IsFine e → event_fields d ≡ event_fields e → d ≡ e
+pub same_event_fields : {A : Type 0} (d e : Event A) → IsFine d → IsFine e
+    → event_fields d ≡ event_fields e → d ≡ e
 same_event_fields d e fd fe h =
     let both = same_what d.slot e.slot d.what e.what fd.fits.what fe.fits.what fd.printable fe.printable h in
-    ap (λ (n : ℕ). record { slot = n; what = d.what }) both.0 ∙ ap (λ w. record { slot = e.slot; what = w }) both.1
+    ap (λ (n : ℕ). record { slot = n; what = d.what }) both.0
+    ∙ ap (λ w. record { slot = e.slot; what = w }) both.1
 
-same_slot_line : (version : ℕ) (s t : SlotSpec) → IsVersion version → IsFineSlot version s → IsFineSlot version t → slot_line version s ≡ slot_line version t → s ≡ t
-same_slot_line version s t one_of fs ft e = same_slot_fields version s t one_of fs ft (sym (cut_slot version s fs.fits) ∙ ap fields_of e ∙ cut_slot version t ft.fits)
+same_slot_line : (version : ℕ) (s t : SlotSpec) → IsVersion version → IsFineSlot version s
+    → IsFineSlot version t → slot_line version s ≡ slot_line version t → s ≡ t
+same_slot_line version s t one_of fs ft e =
+    same_slot_fields version s t one_of fs ft (sym (cut_slot version s fs.fits) ∙ ap fields_of e
+    ∙ cut_slot version t ft.fits)
 
 same_event_line : {A : Type 0} (d e : Event A) → IsFine d → IsFine e → event_line d ≡ event_line e → d ≡ e
-same_event_line d e hd he h = same_event_fields d e hd he (sym (cut_event d hd) ∙ ap fields_of h ∙ cut_event e he)
+same_event_line d e hd he h =
+    same_event_fields d e hd he (sym (cut_event d hd) ∙ ap fields_of h ∙ cut_event e he)
 
 -- a slot's line is no event's
-other_line : {A : Type 0} (version : ℕ) (s : SlotSpec) (e : Event A) → IsFineSlot version s → IsFine e → slot_line version s ≡ event_line e → ⊥
+other_line : {A : Type 0} (version : ℕ) (s : SlotSpec) (e : Event A) → IsFineSlot version s → IsFine e
+    → slot_line version s ≡ event_line e → ⊥
 other_line version s e hs he h =
     let event = entered_event 3 e he (word_of_3 (word_for e.what)) in
     let slot = entered_slot version s hs in
-    let words : spelled Slot ≡ spelled event.word = ap (λ (fs : List (List ℕ)). get_or fs 0 []) (sym slot.cut ∙ ap fields_of h ∙ event.entry.cut) in
+    let words : spelled Slot ≡ spelled event.word =
+    ap (λ (fs : List (List ℕ)). get_or fs 0 []) (sym slot.cut ∙ ap fields_of h ∙ event.entry.cut) in
     event.other (sym (same_word Slot event.word words))
 
 -- ---- traces
@@ -304,7 +350,8 @@ other_line version s e hs he h =
 abbrev AllFine : {A : Type 0} → List (Event A) → Type 0
 AllFine es = All IsFine es
 
-same_events : {A : Type 0} (ds es : List (Event A)) → AllFine ds → AllFine es → map event_line ds ≡ map event_line es → ds ≡ es
+same_events : {A : Type 0} (ds es : List (Event A)) → AllFine ds → AllFine es
+    → map event_line ds ≡ map event_line es → ds ≡ es
 same_events [] [] hd he e = refl
 same_events [] (y ∷ es) hd he e = absurd cc
 same_events (x ∷ ds) [] hd he e = absurd cc
@@ -312,24 +359,31 @@ same_events (x ∷ ds) (y ∷ es) hd he e =
     let first : event_line x ≡ event_line y = cc in
     let rest : map event_line ds ≡ map event_line es = cc in
     let a = same_event_line x y (hd 0 x (omega arith)) (he 0 y (omega arith)) first in
-    let b = same_events ds es (λ k d lt. hd (suc k) d (omega arith)) (λ k d lt. he (suc k) d (omega arith)) rest in
+    let b = same_events ds es (λ k d lt. hd (suc k) d (omega arith))
+    (λ k d lt. he (suc k) d (omega arith)) rest in
     cc
 
 module _ {A : Type 0} (version : ℕ) (one_of : IsVersion version) where
-  same_parts : (ss ts : List SlotSpec) (ds es : List (Event A)) → All (IsFineSlot version) ss → All (IsFineSlot version) ts → AllFine ds → AllFine es
-      → map (slot_line version) ss ++ map event_line ds ≡ map (slot_line version) ts ++ map event_line es → (ss ≡ ts) × (ds ≡ es)
+  same_parts : (ss ts : List SlotSpec) (ds es : List (Event A)) → All (IsFineSlot version) ss
+      → All (IsFineSlot version) ts → AllFine ds → AllFine es
+      → map (slot_line version) ss ++ map event_line ds ≡ map (slot_line version) ts ++ map event_line es
+      → (ss ≡ ts) × (ds ≡ es)
   same_parts [] [] ds es hs ht hd he e = (refl, same_events ds es hd he e)
   same_parts [] (t ∷ ts) [] es hs ht hd he e = absurd cc
   same_parts [] (t ∷ ts) (d ∷ ds) es hs ht hd he e =
-      let first : event_line d ≡ slot_line version t = cc in absurd (other_line version t d (ht 0 t (omega arith)) (hd 0 d (omega arith)) (sym first))
+      let first : event_line d ≡ slot_line version t = cc in
+      absurd (other_line version t d (ht 0 t (omega arith)) (hd 0 d (omega arith)) (sym first))
   same_parts (s ∷ ss) [] ds [] hs ht hd he e = absurd cc
   same_parts (s ∷ ss) [] ds (x ∷ es) hs ht hd he e =
-      let first : slot_line version s ≡ event_line x = cc in absurd (other_line version s x (hs 0 s (omega arith)) (he 0 x (omega arith)) first)
+      let first : slot_line version s ≡ event_line x = cc in
+      absurd (other_line version s x (hs 0 s (omega arith)) (he 0 x (omega arith)) first)
   same_parts (s ∷ ss) (t ∷ ts) ds es hs ht hd he e =
       let first : slot_line version s ≡ slot_line version t = cc in
-      let rest : map (slot_line version) ss ++ map event_line ds ≡ map (slot_line version) ts ++ map event_line es = cc in
+      let rest : map (slot_line version) ss ++ map event_line ds ≡ map (slot_line version) ts
+      ++ map event_line es = cc in
       let a = same_slot_line version s t one_of (hs 0 s (omega arith)) (ht 0 t (omega arith)) first in
-      let b = same_parts ss ts ds es (λ k d lt. hs (suc k) d (omega arith)) (λ k d lt. ht (suc k) d (omega arith)) hd he rest in
+      let b = same_parts ss ts ds es (λ k d lt. hs (suc k) d (omega arith))
+      (λ k d lt. ht (suc k) d (omega arith)) hd he rest in
       (let c = b.0 in cc, b.1)
 
 all_fine : {A : Type 0} (c : Content A) → Fits c → AllFine c.events
@@ -339,11 +393,13 @@ all_fine_slots : {A : Type 0} (c : Content A) → Fits c → All (IsFineSlot c.v
 all_fine_slots c h = λ k d lt. record { fits = h.range.slots k d lt; printable = h.printable.slots k d lt }
 
 lines_of_text : {A : Type 0} (c : Content A) → Fits c → lines_of (text c) ≡ trace_lines c ++ lines_of []
-lines_of_text c h = ap lines_of (sym (append-nil (text c))) ∙ lines_of-joined (trace_lines c) [] (unbroken c h)
+lines_of_text c h = ap lines_of (sym (append-nil (text c)))
+    ∙ lines_of-joined (trace_lines c) [] (unbroken c h)
 
 -- the second line says where the disks are
 same_disks : (c d : Disks) → disks_fields c ≡ disks_fields d → c ≡ d
-same_disks (kept.Cached m) (kept.Cached n) e = ap kept.Cached (same_num m n (ap (λ (fs : List (List ℕ)). get_or fs 1 []) e))
+same_disks (kept.Cached m) (kept.Cached n) e =
+    ap kept.Cached (same_num m n (ap (λ (fs : List (List ℕ)). get_or fs 1 []) e))
 same_disks (kept.Cached m) kept.Hosted e = absurd (omega (arith, ap length e))
 same_disks kept.Hosted (kept.Cached n) e = absurd (omega (arith, ap length e))
 same_disks kept.Hosted kept.Hosted e = refl
@@ -351,33 +407,47 @@ same_disks kept.Hosted kept.Hosted e = refl
 same_lines : {A : Type 0} (c d : Content A) → Fits c → Fits d → trace_lines c ≡ trace_lines d → c ≡ d
 unfolding trace_lines
 same_lines c d hc hd e =
-    let version : c.version ≡ d.version = omega (arith, ap (λ (ls : List (List ℕ)). get_or (get_or ls 0 []) 8 0) e) in
+    let version : c.version ≡ d.version =
+    omega (arith, ap (λ (ls : List (List ℕ)). get_or (get_or ls 0 []) 8 0) e) in
     let seconds : disks_line c.disks ≡ disks_line d.disks = ap (λ (ls : List (List ℕ)). get_or ls 1 []) e in
-    let disks = same_disks c.disks d.disks (sym (cut_disks c.disks) ∙ ap fields_of seconds ∙ cut_disks d.disks) in
-    let fine : All (IsFineSlot c.version) d.slots = subst (λ (v : ℕ). All (IsFineSlot v) d.slots) (sym version) (all_fine_slots d hd) in
-    let lines : map (slot_line c.version) c.slots ++ map event_line c.events ≡ map (slot_line c.version) d.slots ++ map event_line d.events =
+    let disks = same_disks c.disks d.disks (sym (cut_disks c.disks) ∙ ap fields_of seconds
+    ∙ cut_disks d.disks) in
+    let fine : All (IsFineSlot c.version) d.slots =
+    subst (λ (v : ℕ). All (IsFineSlot v) d.slots) (sym version) (all_fine_slots d hd) in
+    let lines : map (slot_line c.version) c.slots
+    ++ map event_line c.events ≡ map (slot_line c.version) d.slots ++ map event_line d.events =
     ap (drop 2) e ∙ ap (λ (v : ℕ). map (slot_line v) d.slots ++ map event_line d.events) (sym version) in
-    let parts = same_parts c.version hc.printable.version c.slots d.slots c.events d.events (all_fine_slots c hc) fine (all_fine c hc) (all_fine d hd) lines in
+    let parts = same_parts c.version hc.printable.version c.slots d.slots c.events d.events
+    (all_fine_slots c hc) fine (all_fine c hc) (all_fine d hd) lines in
     ap (λ (n : ℕ). record { version = n; disks = c.disks; slots = c.slots; events = c.events }) version
     ∙ ap (λ (k : Disks). record { version = d.version; disks = k; slots = c.slots; events = c.events }) disks
-    ∙ ap (λ (ss : List SlotSpec). record { version = d.version; disks = d.disks; slots = ss; events = c.events }) parts.0
+    ∙ ap (λ (ss : List SlotSpec). record {
+      version = d.version;
+      disks = d.disks;
+      slots = ss;
+      events = c.events;
+    }) parts.0
     ∙ ap (λ es. record { version = d.version; disks = d.disks; slots = d.slots; events = es }) parts.1
 
 -- a text belongs to one trace
 pub one_trace : {A : Type 0} (c d : Content A) → Fits c → Fits d → text c ≡ text d → c ≡ d
 one_trace c d hc hd e =
-    same_lines c d hc hd (append_cancel_right (trace_lines c) (trace_lines d) (lines_of []) (sym (lines_of_text c hc) ∙ ap lines_of e ∙ lines_of_text d hd))
+    same_lines c d hc hd (append_cancel_right (trace_lines c) (trace_lines d) (lines_of [])
+    (sym (lines_of_text c hc) ∙ ap lines_of e ∙ lines_of_text d hd))
 
 -- the text of a trace has no fault
-whole_so : {A : Type 0} (whole : List ℕ) (c : Content A) → Fits c → whole ≡ text c → Sofar whole c (3 + (length c.slots + length c.events)) []
+whole_so : {A : Type 0} (whole : List ℕ) (c : Content A) → Fits c → whole ≡ text c
+    → Sofar whole c (3 + (length c.slots + length c.events)) []
 whole_so whole c h e = record { spelled = e ∙ sym (append-nil (text c)); fits = h; count = refl }
 
 nothing_left : lines_of [] ≡ [] ∷ []
 unfolding lines_of
 nothing_left = refl
 
-past : (text : List ℕ) (k : ℕ) → 3 ≤ k → ¬ IsEnded text k → line_at text k ≡ [] → (fault : FaultKind) → Passes text k fault
-past text k le open' none kind.Cut = λ owed. elim owed [ inl early ↦ absurd (omega arith) | inr some ↦ absurd (some none) ]
+past : (text : List ℕ) (k : ℕ) → 3 ≤ k → ¬ IsEnded text k → line_at text k ≡ [] → (fault : FaultKind)
+    → Passes text k fault
+past text k le open' none kind.Cut =
+    λ owed. elim owed [ inl early ↦ absurd (omega arith) | inr some ↦ absurd (some none) ]
 past text k le open' none kind.Header = λ end. absurd (open' end)
 past text k le open' none kind.Word = λ end. absurd (open' end)
 past text k le open' none kind.Order = λ end. absurd (open' end)
@@ -387,18 +457,21 @@ past text k le open' none kind.Choice = λ end. absurd (open' end)
 past text k le open' none kind.Bytes = λ end. absurd (open' end)
 past text k le open' none kind.NoMemory = tt
 
-empty_past : {A : Type 0} (whole : List ℕ) (c : Content A) (k : ℕ) → Fits c → whole ≡ text c → 3 + (length c.slots + length c.events) ≤ k → line_at whole k ≡ []
+empty_past : {A : Type 0} (whole : List ℕ) (c : Content A) (k : ℕ) → Fits c → whole ≡ text c
+    → 3 + (length c.slots + length c.events) ≤ k → line_at whole k ≡ []
 empty_past whole c k h e le =
     let so = whole_so whole c h e in
     let total = lines_left whole c (3 + (length c.slots + length c.events)) [] so in
     let last = ap length nothing_left in
     elim (cases_eq k (3 + (length c.slots + length c.events))) [
-      | inl here ↦ ap (line_at whole) here ∙ next_is whole c (3 + (length c.slots + length c.events)) [] so ∙ ap (λ (ls : List (List ℕ)). get_or ls 0 []) nothing_left
+      | inl here ↦ ap (line_at whole) here ∙ next_is whole c (3 + (length c.slots + length c.events)) [] so
+          ∙ ap (λ (ls : List (List ℕ)). get_or ls 0 []) nothing_left
       | inr later ↦ get_or_past (lines_of whole) (k - 1) [] (omega arith)
     ]
 
 -- each of its lines passes each check
-every_check : {A : Type 0} (whole : List ℕ) (c : Content A) (k : ℕ) (fault : FaultKind) → Fits c → whole ≡ text c → 1 ≤ k → Passes whole k fault
+every_check : {A : Type 0} (whole : List ℕ) (c : Content A) (k : ℕ) (fault : FaultKind) → Fits c
+    → whole ≡ text c → 1 ≤ k → Passes whole k fault
 every_check whole c k fault h e numbered =
     let so = whole_so whole c h e in
     let total = lines_left whole c (3 + (length c.slots + length c.events)) [] so in
@@ -408,7 +481,8 @@ every_check whole c k fault h e numbered =
       | inr after ↦ past whole k (omega arith) (λ end. omega arith) (empty_past whole c k h e after) fault
     ]
 
-pub no_fault : {A : Type 0} (whole : List ℕ) (c : Content A) (k : ℕ) (fault : FaultKind) → Fits c → whole ≡ text c → IsFault whole k fault → ⊥
+pub no_fault : {A : Type 0} (whole : List ℕ) (c : Content A) (k : ℕ) (fault : FaultKind) → Fits c
+    → whole ≡ text c → IsFault whole k fault → ⊥
 no_fault whole c k fault h e f = f.fails (every_check whole c k fault h e f.numbered)
 
 pub text_clean : {A : Type 0} (c : Content A) (k : ℕ) → Fits c → IsCleanBefore (text c) k
@@ -417,7 +491,12 @@ text_clean c k h j numbered lt fault = every_check (text c) c j fault h refl num
 -- ---- a text has one fault
 
 kind_at : ℕ → FaultKind
-kind_at n = cond (eqb n 1) kind.Cut (cond (eqb n 2) kind.Header (cond (eqb n 3) kind.Word (cond (eqb n 4) kind.Order (cond (eqb n 5) kind.Fields (cond (eqb n 6) kind.Number (cond (eqb n 7) kind.Choice (cond (eqb n 8) kind.Bytes kind.NoMemory)))))))
+kind_at n = cond (eqb n 1) kind.Cut
+    (cond (eqb n 2) kind.Header
+    (cond (eqb n 3) kind.Word
+    (cond (eqb n 4) kind.Order
+    (cond (eqb n 5) kind.Fields
+    (cond (eqb n 6) kind.Number (cond (eqb n 7) kind.Choice (cond (eqb n 8) kind.Bytes kind.NoMemory)))))))
 
 kind_is : (c : FaultKind) → kind_at (order c) ≡ c
 unfolding kind_at
@@ -454,7 +533,8 @@ same_check text k c d f g =
       ]
     ]
 
-pub one_fault : (text : List ℕ) (k l : ℕ) (c d : FaultKind) → IsFault text k c → IsFault text l d → (k ≡ l) × (c ≡ d)
+pub one_fault : (text : List ℕ) (k l : ℕ) (c d : FaultKind) → IsFault text k c → IsFault text l d
+    → (k ≡ l) × (c ≡ d)
 one_fault text k l c d f g =
     let line = same_line text k l c d f g in
     (line, same_check text k c d f (subst (λ (n : ℕ). IsFault text n d) (sym line) g))

@@ -25,14 +25,22 @@ use Rattle.trace.proofs.Sofar.{Sofar, all_read, clean, event_read, is_cut, is_re
 use Rattle.trace.proofs.Unique.{no_fault, one_trace, text_clean}
 
 -- a line that says an event was validated, and this is kept of how many bytes it spells
-counted_as : (A : Type 0) (begun : Bool) (line after : List ℕ) (longest longest_line : ℕ) (s : ParsedEvent A) (old new : Validation) → fields_of line ≡ parsed_fields s → IsFineParsed s → IsWordOf old.version (word_for s.event.what)
-    → parsed_len s ≤ longest → old.longest ≤ longest → (1 ≤ old.longest_line → 1 ≤ longest_line) → new ≡ record old { longest = longest; longest_line = longest_line } → ValidatesLine A begun line after old new
+counted_as : (A : Type 0) (begun : Bool) (line after : List ℕ) (longest longest_line : ℕ) (s : ParsedEvent A)
+    (old new : Validation) → fields_of line ≡ parsed_fields s → IsFineParsed s
+    → IsWordOf old.version (word_for s.event.what)
+    → parsed_len s ≤ longest → old.longest ≤ longest → (1 ≤ old.longest_line → 1 ≤ longest_line)
+    → new ≡ record old { longest = longest; longest_line = longest_line }
+    → ValidatesLine A begun line after old new
 counted_as A begun line after longest longest_line s old new is fine of fits longer numbered e =
     let it = meant s fine in
     let len = it.len in
     inr (record {
       event = it.event;
-      parsed = record { fields = is ∙ sym it.fields_are; fine = it.fine; of_version = subst (λ (w : Word). IsWordOf old.version w) (sym it.word) of };
+      parsed = record {
+        fields = is ∙ sym it.fields_are;
+        fine = it.fine;
+        of_version = subst (λ (w : Word). IsWordOf old.version w) (sym it.word) of;
+      };
       fits = rw e (omega arith);
       longer = rw e longer;
       numbered = rw e numbered;
@@ -40,30 +48,44 @@ counted_as A begun line after longest longest_line s old new is fine of fits lon
     })
 
 -- the same, by whether it spells the most so far
-pub event_validated : (A : Type 0) (begun : Bool) (line after : List ℕ) (n : ℕ) (s : ParsedEvent A) (old new : Validation) → fields_of line ≡ parsed_fields s → IsFineParsed s → IsWordOf old.version (word_for s.event.what) → 1 ≤ n
-    → new ≡ (if nat_lt old.longest (parsed_len s) then record old { longest = parsed_len s; longest_line = n } else old) → ValidatesLine A begun line after old new
+pub event_validated : (A : Type 0) (begun : Bool) (line after : List ℕ) (n : ℕ) (s : ParsedEvent A)
+    (old new : Validation) → fields_of line ≡ parsed_fields s → IsFineParsed s
+    → IsWordOf old.version (word_for s.event.what) → 1 ≤ n
+    → new ≡ (if nat_lt old.longest (parsed_len s) then record old {
+      longest = parsed_len s;
+      longest_line = n;
+    } else old) → ValidatesLine A begun line after old new
 event_validated A begun line after n s old new is fine of numbered counted =
     elim (cases_Bool (nat_lt old.longest (parsed_len s))) [
       | inl more ↦
           let lt = ltb-true old.longest (parsed_len s) more in
-          counted_as A begun line after (parsed_len s) n s old new is fine of (omega arith) (omega arith) (λ _. numbered) (rw more at counted)
+          counted_as A begun line after (parsed_len s) n s old new is fine of (omega arith) (omega arith)
+          (λ _. numbered) (rw more at counted)
       | inr same ↦
           let le = ltb-false old.longest (parsed_len s) same in
-          counted_as A begun line after old.longest old.longest_line s old new is fine of le (omega arith) (λ h. h) (rw same at counted)
+          counted_as A begun line after old.longest old.longest_line s old new is fine of le (omega arith)
+          (λ h. h) (rw same at counted)
     ]
 
 -- the same of the first line of what is left, which says an event in each version
-pub first_event_validated : {A : Type 0} (rest after : List ℕ) (n : ℕ) (s : ParsedEvent A) (old new : Validation) → rest ≡ parsed_line s ++ 10 ∷ after → IsFineParsed s
-    → IsInEach (word_for s.event.what) → 1 ≤ n → new ≡ (if nat_lt old.longest (parsed_len s) then record old { longest = parsed_len s; longest_line = n } else old)
+pub first_event_validated : {A : Type 0} (rest after : List ℕ) (n : ℕ) (s : ParsedEvent A)
+    (old new : Validation) → rest ≡ parsed_line s ++ 10 ∷ after → IsFineParsed s
+    → IsInEach (word_for s.event.what) → 1 ≤ n
+    → new ≡ (if nat_lt old.longest (parsed_len s) then record old {
+      longest = parsed_len s;
+      longest_line = n;
+    } else old)
     → ValidatesFirst A rest after old new
 first_event_validated {A = A} rest after n s old new ended fine each numbered counted = record {
   line = parsed_line s;
   ended = ended;
-  validated = event_validated A (begun_before old rest) (parsed_line s) after n s old new (cut_parsed s fine) fine (each old.version) numbered counted;
+  validated = event_validated A (begun_before old rest) (parsed_line s) after n s old new (cut_parsed s fine)
+      fine (each old.version) numbered counted;
 }
 
 -- the lines so far are those of a trace, of which this is kept
-pub record ValidatedSofar (A : Type 0) (whole : List ℕ) (j : Validation) (k : ℕ) (rest : List ℕ) : Type 0 where
+pub record ValidatedSofar (A : Type 0) (whole : List ℕ) (j : Validation) (k : ℕ)
+    (rest : List ℕ) : Type 0 where
   pub trace : Content A
   pub so : Sofar whole trace k rest
   pub version : trace.version ≡ j.version
@@ -74,8 +96,16 @@ pub record ValidatedSofar (A : Type 0) (whole : List ℕ) (j : Validation) (k : 
   pub numbered : 1 ≤ j.longest_line
 
 -- the first two lines
-pub validated_first : (A : Type 0) (whole : List ℕ) (version : ℕ) (disks : Disks) (rest : List ℕ) → Sofar {A = A} whole (record { version = version; disks = disks; slots = []; events = [] }) 3 rest
-    → ValidatedSofar A whole (record { version = version; disks = disks; slots = []; events = rest; longest = 0; longest_line = 1 }) 3 rest
+pub validated_first : (A : Type 0) (whole : List ℕ) (version : ℕ) (disks : Disks) (rest : List ℕ)
+    → Sofar {A = A} whole (record { version = version; disks = disks; slots = []; events = [] }) 3 rest
+    → ValidatedSofar A whole (record {
+      version = version;
+      disks = disks;
+      slots = [];
+      events = rest;
+      longest = 0;
+      longest_line = 1;
+    }) 3 rest
 unfolding joined
 validated_first A whole version disks rest so = record {
   trace = record { version = version; disks = disks; slots = []; events = [] };
@@ -89,12 +119,14 @@ validated_first A whole version disks rest so = record {
 }
 
 -- no events, no lines of them
-no_lines : {A : Type 0} (es : List (Event A)) (rest : List ℕ) → length es ≡ 0 → rest ≡ joined (map event_line es) ++ rest
+no_lines : {A : Type 0} (es : List (Event A)) (rest : List ℕ) → length es ≡ 0
+    → rest ≡ joined (map event_line es) ++ rest
 unfolding joined
 no_lines [] rest none = refl
 no_lines (e ∷ es) rest none = absurd (omega arith)
 
-module _ (A : Type 0) (whole : List ℕ) (j : Validation) (k : ℕ) (rest : List ℕ) (s : ValidatedSofar A whole j k rest) where
+module _ (A : Type 0) (whole : List ℕ) (j : Validation) (k : ℕ) (rest : List ℕ)
+    (s : ValidatedSofar A whole j k rest) where
   -- events have begun where their lines begin before the rest
   pub some_events : length j.events ≢ length rest → 0 < length s.trace.events
   some_events other =
@@ -105,13 +137,23 @@ module _ (A : Type 0) (whole : List ℕ) (j : Validation) (k : ℕ) (rest : List
 
   pub no_events : length j.events ≡ length rest → length s.trace.events ≡ 0
   no_events same =
-      omega (arith, ap length s.lines, length-append (joined (map event_line s.trace.events)) rest, length_joined (map event_line s.trace.events), length-map s.trace.events event_line)
+      omega (
+        arith,
+        ap length s.lines,
+        length-append (joined (map event_line s.trace.events)) rest,
+        length_joined (map event_line s.trace.events),
+        length-map s.trace.events event_line,
+      )
 
 -- one line more
-slot_more : (A : Type 0) (whole : List ℕ) (j : Validation) (k : ℕ) (rest l after : List ℕ) (begun : Bool) (slot : SlotSpec) → ValidatedSofar A whole j k rest → rest ≡ l ++ 10 ∷ after
-    → begun ≡ not (length j.events == length rest) → SaysSlot j.version begun l slot → ValidatedSofar A whole (record j { slots = j.slots ++ slot ∷ []; events = after }) (k + 1) after
+slot_more : (A : Type 0) (whole : List ℕ) (j : Validation) (k : ℕ) (rest l after : List ℕ) (begun : Bool)
+    (slot : SlotSpec) → ValidatedSofar A whole j k rest → rest ≡ l ++ 10 ∷ after
+    → begun ≡ not (length j.events == length rest) → SaysSlot j.version begun l slot
+    → ValidatedSofar A whole (record j { slots = j.slots ++ slot ∷ []; events = after }) (k + 1) after
 slot_more A whole j k rest l after begun slot s cut test parsed =
-    let same : (length j.events == length rest) ≡ true = elim (cases_Bool (length j.events == length rest)) [ inl same ↦ same | inr other ↦ absurd (parsed.early (test ∙ ap not other)) ] in
+    let same : (length j.events == length rest) ≡ true =
+    elim (cases_Bool (length j.events == length rest))
+    [ inl same ↦ same | inr other ↦ absurd (parsed.early (test ∙ ap not other)) ] in
     let none = no_events A whole j k rest s (eqb-true (length j.events) (length rest) same) in
     let is = subst (λ (v : ℕ). fields_of l ≡ slot_fields v slot) (sym s.version) parsed.fields in
     let fine = subst (λ (v : ℕ). IsFineSlot v slot) (sym s.version) parsed.fine in
@@ -126,55 +168,73 @@ slot_more A whole j k rest l after begun slot s cut test parsed =
       numbered = s.numbered;
     }
 
-event_more : (A : Type 0) (whole : List ℕ) (j : Validation) (k longest longest_line : ℕ) (rest l after : List ℕ) (event : Event A) → ValidatedSofar A whole j k rest → rest ≡ l ++ 10 ∷ after
-    → SaysEvent j.version l event → bytes_len event.what ≤ longest → j.longest ≤ longest → 1 ≤ longest_line → ValidatedSofar A whole (record j { longest = longest; longest_line = longest_line }) (k + 1) after
+event_more : (A : Type 0) (whole : List ℕ) (j : Validation) (k longest longest_line : ℕ)
+    (rest l after : List ℕ) (event : Event A) → ValidatedSofar A whole j k rest → rest ≡ l ++ 10 ∷ after
+    → SaysEvent j.version l event → bytes_len event.what ≤ longest → j.longest ≤ longest → 1 ≤ longest_line
+    → ValidatedSofar A whole (record j { longest = longest; longest_line = longest_line }) (k + 1) after
 unfolding event_line
 event_more A whole j k longest longest_line rest l after event s cut parsed fits longer numbered =
     let es = s.trace.events in
     record {
       trace = with_event s.trace event;
-      so = event_read whole s.trace k rest l after event s.so cut parsed.fields parsed.fine (subst (λ (v : ℕ). IsWordOf v (word_for event.what)) (sym s.version) parsed.of_version);
+      so = event_read whole s.trace k rest l after event s.so cut parsed.fields parsed.fine
+          (subst (λ (v : ℕ). IsWordOf v (word_for event.what)) (sym s.version) parsed.of_version);
       version = s.version;
       disks = s.disks;
       slots = s.slots;
       lines = taken j.events (map event_line es) (map event_line (es ++ event ∷ [])) rest l after s.lines cut
-          (map_push event_line es event ∙ ap (λ (x : List ℕ). map event_line es ++ x ∷ []) (sym (line-fields_of l (event_fields event) parsed.fields)));
+          (map_push event_line es event
+          ∙ ap (λ (x : List ℕ). map event_line es
+          ++ x ∷ []) (sym (line-fields_of l (event_fields event) parsed.fields)));
       fit = All-push (λ (e : Event A). bytes_len e.what ≤ longest) es event
-          (All-weaker (λ (e : Event A). bytes_len e.what ≤ j.longest) (λ (e : Event A). bytes_len e.what ≤ longest) (λ e h. omega arith) es s.fit) fits;
+          (All-weaker (λ (e : Event A). bytes_len e.what ≤ j.longest)
+          (λ (e : Event A). bytes_len e.what ≤ longest) (λ e h. omega arith) es s.fit) fits;
       numbered = numbered;
     }
 
-pub validated_more : (A : Type 0) (whole : List ℕ) (j new : Validation) (k : ℕ) (rest l after : List ℕ) (begun : Bool) → ValidatedSofar A whole j k rest → rest ≡ l ++ 10 ∷ after
-    → begun ≡ not (length j.events == length rest) → ValidatesLine A begun l after j new → ValidatedSofar A whole new (k + 1) after
+pub validated_more : (A : Type 0) (whole : List ℕ) (j new : Validation) (k : ℕ) (rest l after : List ℕ)
+    (begun : Bool) → ValidatedSofar A whole j k rest → rest ≡ l ++ 10 ∷ after
+    → begun ≡ not (length j.events == length rest) → ValidatesLine A begun l after j new
+    → ValidatedSofar A whole new (k + 1) after
 validated_more A whole j new k rest l after begun s cut test (inl validates) =
-    subst (λ (n : Validation). ValidatedSofar A whole n (k + 1) after) (sym validates.is) (slot_more A whole j k rest l after begun validates.slot s cut test validates.parsed)
+    subst (λ (n : Validation). ValidatedSofar A whole n (k + 1) after) (sym validates.is)
+    (slot_more A whole j k rest l after begun validates.slot s cut test validates.parsed)
 validated_more A whole j new k rest l after begun s cut test (inr validates) =
     subst (λ (n : Validation). ValidatedSofar A whole n (k + 1) after) (sym validates.is)
-    (event_more A whole j k new.longest new.longest_line rest l after validates.event s cut validates.parsed validates.fits validates.longer (validates.numbered s.numbered))
+    (event_more A whole j k new.longest new.longest_line rest l after validates.event s cut validates.parsed
+    validates.fits validates.longer (validates.numbered s.numbered))
 
-pub first_more : (A : Type 0) (whole : List ℕ) (j new : Validation) (k : ℕ) (rest after : List ℕ) → ValidatedSofar A whole j k rest → ValidatesFirst A rest after j new
+pub first_more : (A : Type 0) (whole : List ℕ) (j new : Validation) (k : ℕ) (rest after : List ℕ)
+    → ValidatedSofar A whole j k rest → ValidatesFirst A rest after j new
     → ValidatedSofar A whole new (k + 1) after
-first_more A whole j new k rest after s h = validated_more A whole j new k rest h.line after (begun_before j rest) s h.ended refl h.validated
+first_more A whole j new k rest after s h =
+    validated_more A whole j new k rest h.line after (begun_before j rest) s h.ended refl h.validated
 
 -- ---- what is answered
 
 -- a fault of the text, which is then no trace's
-pub is_fault : (A : Type 0) (whole : List ℕ) (fault : TraceFault) → (fault.kind ≢ kind.NoMemory → IsFault whole fault.line fault.kind) → 1 ≤ fault.line → IsCleanBefore whole fault.line → IsTraceFault A whole fault
+pub is_fault : (A : Type 0) (whole : List ℕ) (fault : TraceFault)
+    → (fault.kind ≢ kind.NoMemory → IsFault whole fault.line fault.kind) → 1 ≤ fault.line
+    → IsCleanBefore whole fault.line → IsTraceFault A whole fault
 is_fault A whole fault named numbered clean' = record {
   named = named;
-  none = λ known other range printable is. no_fault whole other fault.line fault.kind (record { range = range; printable = printable }) is (named known);
+  none = λ known other range printable is. no_fault whole other fault.line fault.kind
+      (record { range = range; printable = printable }) is (named known);
   numbered = numbered;
   clean = clean';
 }
 
 -- the fault of a line after the second
-pub fault_later : (A : Type 0) (whole : List ℕ) (j : Validation) (k : ℕ) (rest : List ℕ) (fault : TraceFault) → ValidatedSofar A whole j k rest → fault.line ≡ k → (fault.kind ≢ kind.NoMemory → IsFault whole k fault.kind) → IsTraceFault A whole fault
+pub fault_later : (A : Type 0) (whole : List ℕ) (j : Validation) (k : ℕ) (rest : List ℕ) (fault : TraceFault)
+    → ValidatedSofar A whole j k rest → fault.line ≡ k
+    → (fault.kind ≢ kind.NoMemory → IsFault whole k fault.kind) → IsTraceFault A whole fault
 fault_later A whole j k rest fault s here named =
     let count = s.so.count in
     is_fault A whole fault (rw here named) (omega arith) (rw here (clean whole s.trace k rest s.so))
 
 -- the next line isn't ended
-pub is_cut_off : (A : Type 0) (whole : List ℕ) (j : Validation) (k : ℕ) (rest : List ℕ) → ValidatedSofar A whole j k rest → lines_of rest ≡ rest ∷ [] → length rest ≢ 0 → IsFault whole k kind.Cut
+pub is_cut_off : (A : Type 0) (whole : List ℕ) (j : Validation) (k : ℕ) (rest : List ℕ)
+    → ValidatedSofar A whole j k rest → lines_of rest ≡ rest ∷ [] → length rest ≢ 0 → IsFault whole k kind.Cut
 is_cut_off A whole j k rest s last some = is_cut whole s.trace k rest s.so last (λ e. some (ap length e))
 
 true_not_false : true ≡ false → ⊥
@@ -185,24 +245,32 @@ not_false true e = refl
 not_false false e = absurd cc
 
 -- the next line is refused
-pub is_refused_now : (A : Type 0) (whole : List ℕ) (j : Validation) (k : ℕ) (rest l after : List ℕ) (begun : Bool) (fault : FaultKind) → ValidatedSofar A whole j k rest → lines_of rest ≡ l ∷ lines_of after
-    → begun ≡ not (length j.events == length rest) → RefusesLine j.version begun l fault → fault ≢ kind.NoMemory → IsFault whole k fault
+pub is_refused_now : (A : Type 0) (whole : List ℕ) (j : Validation) (k : ℕ) (rest l after : List ℕ)
+    (begun : Bool) (fault : FaultKind) → ValidatedSofar A whole j k rest → lines_of rest ≡ l ∷ lines_of after
+    → begun ≡ not (length j.events == length rest) → RefusesLine j.version begun l fault
+    → fault ≢ kind.NoMemory → IsFault whole k fault
 is_refused_now A whole j k rest l after begun fault s cut test h known =
     is_refused whole s.trace k rest s.so begun l after fault cut
-    (λ so. some_events A whole j k rest s (λ e. absurd (true_not_false (sym so ∙ test ∙ ap not (eq-eqb (length j.events) (length rest) e)))))
-    (λ no'. no_events A whole j k rest s (eqb-true (length j.events) (length rest) (not_false (length j.events == length rest) (sym test ∙ no'))))
+    (λ so. some_events A whole j k rest s
+    (λ e. absurd (true_not_false (sym so ∙ test ∙ ap not (eq-eqb (length j.events) (length rest) e)))))
+    (λ no'. no_events A whole j k rest s
+    (eqb-true (length j.events) (length rest)
+    (not_false (length j.events == length rest) (sym test ∙ no'))))
     (subst (λ (v : ℕ). RefusesLine v begun l fault) (sym s.version) h) known
 
 -- the same, or it isn't ended
-pub first_refused : (A : Type 0) (whole : List ℕ) (j : Validation) (k : ℕ) (rest : List ℕ) (fault : FaultKind) → ValidatedSofar A whole j k rest
+pub first_refused : (A : Type 0) (whole : List ℕ) (j : Validation) (k : ℕ) (rest : List ℕ) (fault : FaultKind)
+    → ValidatedSofar A whole j k rest
     → length rest ≢ 0 → RefusesFirst j rest fault → fault ≢ kind.NoMemory → IsFault whole k fault
 first_refused A whole j k rest fault s some (inl cut) known =
     subst (λ (f : FaultKind). IsFault whole k f) (sym cut.named) (is_cut_off A whole j k rest s cut.last some)
 first_refused A whole j k rest fault s some (inr next) known =
-    is_refused_now A whole j k rest next.line next.after (begun_before j rest) fault s next.cut refl next.refused known
+    is_refused_now A whole j k rest next.line next.after (begun_before j rest) fault s next.cut
+    refl next.refused known
 
 -- nothing is left
-pub validated_whole : (A : Type 0) (whole : List ℕ) (j : Validation) (k : ℕ) (rest : List ℕ) → ValidatedSofar A whole j k rest → length rest ≡ 0 → IsValidated A whole j
+pub validated_whole : (A : Type 0) (whole : List ℕ) (j : Validation) (k : ℕ) (rest : List ℕ)
+    → ValidatedSofar A whole j k rest → length rest ≡ 0 → IsValidated A whole j
 validated_whole A whole j k rest s none =
     let t = s.trace in
     let found = all_read whole t k rest s.so none in
@@ -218,16 +286,23 @@ validated_whole A whole j k rest s none =
       disks = s.disks;
       slots = s.slots;
       lines_of = record {
-        fine = λ i d lt. record { fits = s.so.fits.range.events i d lt; printable = s.so.fits.printable.events i d lt };
-        spelled = s.lines ∙ ap (λ (xs : List ℕ). joined (map event_line t.events) ++ xs) (nil_from_length rest none) ∙ append-nil (joined (map event_line t.events));
+        fine = λ i d lt. record {
+          fits = s.so.fits.range.events i d lt;
+          printable = s.so.fits.printable.events i d lt;
+        };
+        spelled = s.lines ∙ ap (λ (xs : List ℕ). joined (map event_line t.events)
+            ++ xs) (nil_from_length rest none) ∙ append-nil (joined (map event_line t.events));
       };
       fit = s.fit;
       numbered = s.numbered;
     }
 
 -- there is no memory for the bytes of a line of a trace
-pub no_room : (A : Type 0) (whole : List ℕ) (j : Validation) (fault : TraceFault) → IsValidated A whole j → fault.line ≡ j.longest_line → fault.kind ≡ kind.NoMemory → IsTraceFault A whole fault
+pub no_room : (A : Type 0) (whole : List ℕ) (j : Validation) (fault : TraceFault) → IsValidated A whole j
+    → fault.line ≡ j.longest_line → fault.kind ≡ kind.NoMemory → IsTraceFault A whole fault
 no_room A whole j fault validated here want =
     let numbered = validated.numbered in
     is_fault A whole fault (λ known. absurd (known want)) (omega (arith, here))
-    (subst (λ (text' : List ℕ). IsCleanBefore text' fault.line) (sym validated.read.found) (text_clean validated.trace fault.line (record { range = validated.read.range; printable = validated.read.printable })))
+    (subst (λ (text' : List ℕ). IsCleanBefore text' fault.line) (sym validated.read.found)
+    (text_clean validated.trace fault.line
+    (record { range = validated.read.range; printable = validated.read.printable })))

@@ -18,52 +18,75 @@ use Rattle.trace.proofs.Widths.{num_width}
 -- ---- the values so far
 
 -- one value more
-pub are_more : (ss : List Shape) (s : Shape) (vs : List FieldValue) (v : FieldValue) → AreOf ss vs → IsOf s v → AreOf (ss ++ s ∷ []) (vs ++ v ∷ [])
+pub are_more : (ss : List Shape) (s : Shape) (vs : List FieldValue) (v : FieldValue) → AreOf ss vs → IsOf s v
+    → AreOf (ss ++ s ∷ []) (vs ++ v ∷ [])
 are_more [] s vs v h is = (v, [], (ap (λ (xs : List FieldValue). xs ++ v ∷ []) h, (is, refl)))
-are_more (t ∷ ss) s vs v h is = (h.0, h.1 ++ v ∷ [], (ap (λ (xs : List FieldValue). xs ++ v ∷ []) h.2.0, (h.2.1.0, are_more ss s h.1 v h.2.1.1 is)))
+are_more (t ∷ ss) s vs v h is = (
+  h.0,
+  h.1 ++ v ∷ [],
+  (
+    ap (λ (xs : List FieldValue). xs ++ v ∷ []) h.2.0,
+    (h.2.1.0, are_more ss s h.1 v h.2.1.1 is),
+  ),
+)
 
 -- the fields that are left are right for what is left of the row
-right_after : (f : Field → Shape) (row : List Field) (front left : List (List ℕ)) → length front ≤ length row → AllRight (map f row) (front ++ left) → AllRight (map f (drop (length front) row)) left
+right_after : (f : Field → Shape) (row : List Field) (front left : List (List ℕ)) → length front ≤ length row
+    → AllRight (map f row) (front ++ left) → AllRight (map f (drop (length front) row)) left
 right_after f row [] left le h = h
 right_after f [] (x ∷ front) left le h = absurd (omega arith)
 right_after f (r ∷ row) (x ∷ front) left le h = right_after f row front left (omega arith) h.1
 
-module _ (f : Field → Shape) (row : List Field) (vs : List FieldValue) (i : ℕ) (all left : List (List ℕ)) (count : length vs ≡ i) (spelled : all ≡ map value_text vs ++ left) where
+module _ (f : Field → Shape) (row : List Field) (vs : List FieldValue) (i : ℕ) (all left : List (List ℕ))
+    (count : length vs ≡ i) (spelled : all ≡ map value_text vs ++ left) where
   rest_right : i ≤ length row → AllRight (map f row) all → AllRight (map f (drop i row)) left
   rest_right le h =
       let many : length (map value_text vs) ≡ i = length-map vs value_text ∙ count in
       subst (λ (n : ℕ). AllRight (map f (drop n row)) left) many
-      (right_after f row (map value_text vs) left (omega (arith, many)) (subst (AllRight (map f row)) spelled h))
+      (right_after f row (map value_text vs) left (omega (arith, many))
+      (subst (AllRight (map f row)) spelled h))
 
-  here_right : (d : Field) → i < length row → AllRight (map f row) all → AllRight (f (get_or row i d) ∷ map f (drop (i + 1) row)) left
-  here_right d lt h = subst (λ (fs : List Field). AllRight (map f fs) left) (drop_more row i d lt) (rest_right (omega arith) h)
+  here_right : (d : Field) → i < length row → AllRight (map f row) all
+      → AllRight (f (get_or row i d) ∷ map f (drop (i + 1) row)) left
+  here_right d lt h = subst (λ (fs : List Field). AllRight (map f fs) left) (drop_more row i d lt)
+      (rest_right (omega arith) h)
 
   -- a field is missing
   pub missing : i < length row → left ≡ [] → ¬ AllRight (map f row) all
-  missing lt none h = subst (AllRight (f (get_or row i Sectors) ∷ map f (drop (i + 1) row))) none (here_right Sectors lt h)
+  missing lt none h = subst (AllRight (f (get_or row i Sectors) ∷ map f (drop (i + 1) row))) none
+      (here_right Sectors lt h)
 
   -- the next one says no value
-  pub wrong : (d : Field) (bytes : List ℕ) (more : List (List ℕ)) → i < length row → left ≡ bytes ∷ more → ¬ Says (f (get_or row i d)) bytes → ¬ AllRight (map f row) all
-  wrong d bytes more lt is fails h = fails (subst (AllRight (f (get_or row i d) ∷ map f (drop (i + 1) row))) is (here_right d lt h)).0
+  pub wrong : (d : Field) (bytes : List ℕ) (more : List (List ℕ)) → i < length row → left ≡ bytes ∷ more
+      → ¬ Says (f (get_or row i d)) bytes → ¬ AllRight (map f row) all
+  wrong d bytes more lt is fails h =
+      fails (subst (AllRight (f (get_or row i d) ∷ map f (drop (i + 1) row))) is (here_right d lt h)).0
 
   -- one field is left over
   pub left_over : i ≡ length row → ¬ AllRight [] left → ¬ AllRight (map f row) all
-  left_over e fails h = fails (subst (λ (fs : List Field). AllRight (map f fs) left) (drop_all i row (omega (arith, e))) (rest_right (omega (arith, e)) h))
+  left_over e fails h = fails
+      (subst (λ (fs : List Field). AllRight (map f fs) left) (drop_all i row (omega (arith, e)))
+      (rest_right (omega (arith, e)) h))
 
   -- one value more
-  pub one_more : (d : Field) (v : FieldValue) (bytes : List ℕ) (more : List (List ℕ)) → i < length row → AreOf (map f (take i row)) vs → left ≡ bytes ∷ more → SaysValue (f (get_or row i d)) bytes v
+  pub one_more : (d : Field) (v : FieldValue) (bytes : List ℕ) (more : List (List ℕ)) → i < length row
+      → AreOf (map f (take i row)) vs → left ≡ bytes ∷ more → SaysValue (f (get_or row i d)) bytes v
       → (all ≡ map value_text (vs ++ v ∷ []) ++ more) × AreOf (map f (take (i + 1) row)) (vs ++ v ∷ [])
   one_more d v bytes more lt are is says = (
-    spelled ∙ ap (λ (fs : List (List ℕ)). map value_text vs ++ fs) (is ∙ ap (λ (t : List ℕ). t ∷ more) says.spelled)
-        ∙ sym (append_assoc (map value_text vs) (value_text v ∷ []) more) ∙ ap (λ (fs : List (List ℕ)). fs ++ more) (sym (map-append value_text vs (v ∷ []))),
-    subst (λ (ss : List Shape). AreOf ss (vs ++ v ∷ [])) (sym (map_more f row i d lt)) (are_more (map f (take i row)) (f (get_or row i d)) vs v are says.is_of),
+    spelled ∙ ap (λ (fs : List (List ℕ)). map value_text vs ++ fs) (is
+        ∙ ap (λ (t : List ℕ). t ∷ more) says.spelled)
+        ∙ sym (append_assoc (map value_text vs) (value_text v ∷ []) more)
+        ∙ ap (λ (fs : List (List ℕ)). fs ++ more) (sym (map-append value_text vs (v ∷ []))),
+    subst (λ (ss : List Shape). AreOf ss (vs ++ v ∷ [])) (sym (map_more f row i d lt))
+        (are_more (map f (take i row)) (f (get_or row i d)) vs v are says.is_of),
   )
 
   -- all values
   pub all_values : i ≡ length row → AreOf (map f (take i row)) vs → left ≡ [] → SayValues (map f row) all vs
   all_values e are none = record {
     are_of = subst (λ (fs : List Field). AreOf (map f fs) vs) (take_all i row (omega (arith, e))) are;
-    spelled = spelled ∙ ap (λ (fs : List (List ℕ)). map value_text vs ++ fs) none ∙ append-nil (map value_text vs);
+    spelled = spelled ∙ ap (λ (fs : List (List ℕ)). map value_text vs ++ fs) none
+        ∙ append-nil (map value_text vs);
   }
 
 -- ---- over the table
@@ -71,7 +94,9 @@ module _ (f : Field → Shape) (row : List Field) (vs : List FieldValue) (i : �
 -- the fields of a slot, where its memory is one region and where its identity is left out
 abbrev slot_row : Bool → Bool → List Field
 slot_row one none =
-    (if one then field.Base ∷ field.Size ∷ [] else field.Regions ∷ []) ++ (field.Start ∷ field.Count ∷ field.Mode ∷ field.Columns ∷ field.Rows ∷ (if none then [] else Identity ∷ []))
+    (if one then field.Base ∷ field.Size ∷ [] else field.Regions ∷ [])
+    ++ (field.Start ∷ field.Count ∷ field.Mode ∷ field.Columns ∷ field.Rows
+    ∷ (if none then [] else Identity ∷ []))
 
 slot_row_few : (one none : Bool) → length (slot_row one none) ≤ 8
 slot_row_few false false = omega arith
@@ -79,7 +104,8 @@ slot_row_few false true = omega arith
 slot_row_few true false = omega arith
 slot_row_few true true = omega arith
 
-slot_row_alike : (one none : Bool) (v w : List ℕ) → map (shape_of v) (slot_row one none) ≡ map (shape_of w) (slot_row one none)
+slot_row_alike : (one none : Bool) (v w : List ℕ)
+    → map (shape_of v) (slot_row one none) ≡ map (shape_of w) (slot_row one none)
 slot_row_alike false false v w = refl
 slot_row_alike false true v w = refl
 slot_row_alike true false v w = refl
@@ -99,12 +125,16 @@ at_most_eight version Restore = omega arith
 at_most_eight version Complete = omega arith
 
 -- only a write's shapes depend on a width
-pub shapes_by : (version : ℕ) (word : Word) (width : List ℕ) (fields : List (List ℕ)) → (word ≡ Write → width ≡ width_among fields) → map (shape_of width) (fields_in version word) ≡ shapes version word fields
+pub shapes_by : (version : ℕ) (word : Word) (width : List ℕ) (fields : List (List ℕ))
+    → (word ≡ Write → width ≡ width_among fields) → map (shape_of width) (fields_in version word)
+    ≡ shapes version word fields
 shapes_by version Cache width fields same = refl
 shapes_by version Hosted width fields same = refl
-shapes_by version Slot width fields same = slot_row_alike (nat_lt version 3) (version == 1) width (width_among fields)
+shapes_by version Slot width fields same =
+    slot_row_alike (nat_lt version 3) (version == 1) width (width_among fields)
 shapes_by version Read width fields same = refl
-shapes_by version Write width fields same = ap (λ (by : List ℕ). Num 8 ∷ Window ∷ Offset ∷ Width ∷ Value by ∷ []) (same refl)
+shapes_by version Write width fields same =
+    ap (λ (by : List ℕ). Num 8 ∷ Window ∷ Offset ∷ Width ∷ Value by ∷ []) (same refl)
 shapes_by version MemRead width fields same = refl
 shapes_by version MemWrite width fields same = refl
 shapes_by version Input width fields same = refl
@@ -113,7 +143,8 @@ shapes_by version Restore width fields same = refl
 shapes_by version Complete width fields same = refl
 
 -- the fields of an event are the same in each version
-pub same_right : (version other : ℕ) (word : Word) (fields : List (List ℕ)) → word ≢ Slot → AreRight version word fields → AreRight other word fields
+pub same_right : (version other : ℕ) (word : Word) (fields : List (List ℕ)) → word ≢ Slot
+    → AreRight version word fields → AreRight other word fields
 same_right version other Cache fields event h = h
 same_right version other Hosted fields event h = h
 same_right version other Slot fields event h = absurd (event refl)
@@ -135,7 +166,8 @@ pub record IsWrite (vs : List FieldValue) : Type 0 where
   pub offset : ℕ
   pub width : ℕ
   pub val : ℕ
-  pub are : vs ≡ value.Number slot ∷ value.Window kind ∷ value.Offset offset ∷ value.Width width ∷ value.Value width val ∷ []
+  pub are : vs ≡ value.Number slot ∷ value.Window kind ∷ value.Offset offset ∷ value.Width width
+      ∷ value.Value width val ∷ []
   pub small : slot < 2 ^ 8
   pub fine : IsWriteAccess offset width val
 
@@ -157,11 +189,14 @@ written vs h =
     let window = t0.2.1.0 in
     let offset = t1.2.1.0 in
     let width = t2.2.1.0 in
-    let up_to_width : vs ≡ value.Number number.0 ∷ value.Window window.0 ∷ value.Offset offset.0 ∷ value.Width width.0 ∷ t2.1 =
-    h.2.0 ∙ ap (λ (xs : List FieldValue). h.0 ∷ xs) (t0.2.0 ∙ ap (λ (xs : List FieldValue). t0.0 ∷ xs) (t1.2.0 ∙ ap (λ (xs : List FieldValue). t1.0 ∷ xs) t2.2.0))
+    let up_to_width : vs ≡ value.Number number.0 ∷ value.Window window.0 ∷ value.Offset offset.0
+    ∷ value.Width width.0 ∷ t2.1 =
+    h.2.0 ∙ ap (λ (xs : List FieldValue). h.0 ∷ xs) (t0.2.0
+    ∙ ap (λ (xs : List FieldValue). t0.0 ∷ xs) (t1.2.0 ∙ ap (λ (xs : List FieldValue). t1.0 ∷ xs) t2.2.0))
     ∙ rw (number.1.0, window.1, offset.1.0, width.1.0) refl
     in
-    let by : slice_index_or (map value_text vs) 3 [] ≡ value_text (value.Width width.0) = ap (λ (xs : List FieldValue). slice_index_or (map value_text xs) 3 []) up_to_width in
+    let by : slice_index_or (map value_text vs) 3 [] ≡ value_text (value.Width width.0) =
+    ap (λ (xs : List FieldValue). slice_index_or (map value_text xs) 3 []) up_to_width in
     let val = t3.2.1.0 width.0 (record { fits = width.1.1; spelled = by ∙ num_width width.0 width.1.1 }) in
     let last : t2.1 ≡ value.Value width.0 val.0 ∷ [] = t3.2.0 ∙ rw (val.1.0, t4) refl in
     record {
@@ -170,7 +205,11 @@ written vs h =
       offset = offset.0;
       width = width.0;
       val = val.0;
-      are = up_to_width ∙ ap (λ (xs : List FieldValue). value.Number number.0 ∷ value.Window window.0 ∷ value.Offset offset.0 ∷ value.Width width.0 ∷ xs) last;
+      are = up_to_width ∙ ap (λ (xs : List FieldValue). value.Number number.0 ∷ value.Window window.0
+          ∷ value.Offset offset.0 ∷ value.Width width.0 ∷ xs) last;
       small = number.1.1;
-      fine = record { access = record { three_digits = offset.1.1; wide = width.1.1 }; within = within_width width.0 val.0 width.1.1 val.1.1 };
+      fine = record {
+        access = record { three_digits = offset.1.1; wide = width.1.1 };
+        within = within_width width.0 val.0 width.1.1 val.1.1;
+      };
     }

@@ -8,12 +8,14 @@ use Rattle.trace.specs.Text.{Content, as_version, disks_word, word_for}
 use Rattle.trace.specs.Version.{IsVersion, since_version_2}
 use Rattle.trace.specs.Words.{IsWordOf}
 
-map_if : {X Y : Type 0} (f : X → Y) (has : Bool) (xs : List X) → map f (if has then [] else xs) ≡ (if has then [] else map f xs)
+map_if : {X Y : Type 0} (f : X → Y) (has : Bool) (xs : List X)
+    → map f (if has then [] else xs) ≡ (if has then [] else map f xs)
 map_if f false xs = refl
 map_if f true xs = refl
 
 -- each of what later versions have
-pub map_since_version_2 : {X Y : Type 0} (f : X → Y) (version : ℕ) (xs : List X) → map f (since_version_2 version xs) ≡ since_version_2 version (map f xs)
+pub map_since_version_2 : {X Y : Type 0} (f : X → Y) (version : ℕ) (xs : List X)
+    → map f (since_version_2 version xs) ≡ since_version_2 version (map f xs)
 map_since_version_2 f version xs = map_if f (version == 1) xs
 
 -- a word stays one of the later versions
@@ -45,7 +47,12 @@ word_of_3 Restore = omega arith
 word_of_3 Complete = omega arith
 
 pub first_is_1 : (v w : ℕ) → IsVersion v → v ≤ w → w ≡ 1 → v ≡ 1
-first_is_1 v w one_of le e = elim one_of [ inl one ↦ one | inr more ↦ elim more [ inl two ↦ absurd (omega arith) | inr three ↦ absurd (omega arith) ] ]
+first_is_1 v w one_of le e =
+    elim one_of [
+      | inl one ↦ one
+      | inr more ↦ elim more
+          [ inl two ↦ absurd (omega arith) | inr three ↦ absurd (omega arith) ]
+    ]
 
 -- a slot that has a line has one in a later version
 slot_later : (v w : ℕ) (s : SlotSpec) → IsVersion v → v ≤ w → IsPrintableSlot v s → IsPrintableSlot w s
@@ -55,7 +62,8 @@ slot_later v w s one_of le h = record {
 }
 
 -- a trace that has a text has one in a later version
-pub fits_later : {A : Type 0} (version : ℕ) (t : Content A) → IsVersion version → t.version ≤ version → IsPrintable t → IsPrintable (as_version version t)
+pub fits_later : {A : Type 0} (version : ℕ) (t : Content A) → IsVersion version → t.version ≤ version
+    → IsPrintable t → IsPrintable (as_version version t)
 fits_later version t one_of le h = record {
   version = one_of;
   disks = word_later t.version version (disks_word t.disks) le h.disks;

@@ -1,4 +1,5 @@
--- The records of a trace whose disks the host serves: each has a sixth field, the operation that began with its event.
+-- The records of a trace whose disks the host serves: each has a sixth field, the operation that began with
+-- its event.
 use Rattle.std.specs.Prelude.{ℕ, Bool, true, false, Option, None, Some, List, [], ◌∷◌, ◌++◌, codes}
 use Rattle.std.specs.List.{flat_map}
 use Rattle.chain.specs.declared.segment.Segment.{Segment}
@@ -21,7 +22,8 @@ abbrev pub stable_mark : Bool → List ℕ
 stable_mark false = []
 stable_mark true = codes "-stable"
 
--- where its bytes lie: each run as address and length with `+` (43) between them, and `,` (44) between two runs
+-- where its bytes lie: each run as address and length with `+` (43) between them, and `,` (44) between two
+-- runs
 abbrev pub run_field : Segment → List ℕ
 run_field run = num run.addr ++ 43 ∷ num run.len
 
@@ -36,7 +38,8 @@ runs_field (run ∷ runs) = run_field run ++ flat_map other_run runs
 -- kind, start, length and runs, with `:` (58) between them
 abbrev pub operation_field : Operation → List Segment → List ℕ
 operation_field o runs =
-    kind_field o.kind ++ (stable_mark o.stable ++ 58 ∷ (num o.start ++ 58 ∷ (num o.len ++ 58 ∷ runs_field runs)))
+    kind_field o.kind ++ (stable_mark o.stable
+    ++ 58 ∷ (num o.start ++ 58 ∷ (num o.len ++ 58 ∷ runs_field runs)))
 
 -- the operation that began with an event, or none
 abbrev pub asked_field : Option (Operation × List Segment) → List ℕ

@@ -81,10 +81,12 @@ order kind.NoMemory = 9
 abbrev pub AllSay : FaultKind → List Shape → List (List ℕ) → Type 0
 AllSay fault [] fields = ⊤
 AllSay fault (shape ∷ more) [] = ⊤
-AllSay fault (shape ∷ more) (field ∷ fields) = MatchBool (order (fault_of shape) == order fault) (Says shape field) ⊤ × AllSay fault more fields
+AllSay fault (shape ∷ more) (field ∷ fields) =
+    MatchBool (order (fault_of shape) == order fault) (Says shape field) ⊤ × AllSay fault more fields
 
 -- the first of the fields whose fault is of this kind and that says no value of its shape
-pub record IsAtFault (fault : FaultKind) (shapes : List Shape) (fields : List (List ℕ)) (shape : Shape) (field : List ℕ) : Type 0 where
+pub record IsAtFault (fault : FaultKind) (shapes : List Shape) (fields : List (List ℕ)) (shape : Shape)
+    (field : List ℕ) : Type 0 where
   pub before : List Shape
   pub after : List Shape
   pub front : List (List ℕ)
@@ -100,11 +102,16 @@ pub record IsAtFault (fault : FaultKind) (shapes : List Shape) (fields : List (L
 abbrev pub Passes : List ℕ → ℕ → FaultKind → Type 0
 Passes text k kind.Cut = IsOwed text k → IsEnded text k
 Passes text k kind.Header = IsEnded text k → k ≡ 1 → IsHeader (line_at text k)
-Passes text k kind.Word = IsEnded text k → 2 ≤ k → (version : ℕ) → IsOfVersion text version → HasWord version k (line_at text k)
-Passes text k kind.Order = IsEnded text k → first_field (line_at text k) ≡ spelled Slot → (j : ℕ) → 3 ≤ j → j < k → first_field (line_at text j) ≡ spelled Slot
-Passes text k kind.Fields = IsEnded text k → 2 ≤ k → (version : ℕ) → IsOfVersion text version → (word : Word) → first_field (line_at text k) ≡ spelled word → AreAsMany version word (other_fields (line_at text k))
+Passes text k kind.Word = IsEnded text k → 2 ≤ k → (version : ℕ) → IsOfVersion text version
+    → HasWord version k (line_at text k)
+Passes text k kind.Order = IsEnded text k → first_field (line_at text k) ≡ spelled Slot → (j : ℕ) → 3 ≤ j
+    → j < k → first_field (line_at text j) ≡ spelled Slot
+Passes text k kind.Fields = IsEnded text k → 2 ≤ k → (version : ℕ) → IsOfVersion text version → (word : Word)
+    → first_field (line_at text k) ≡ spelled word → AreAsMany version word (other_fields (line_at text k))
 Passes text k kind.NoMemory = ⊤
-Passes text k fault = IsEnded text k → 2 ≤ k → (version : ℕ) → IsOfVersion text version → (word : Word) → first_field (line_at text k) ≡ spelled word → AllSay fault (shapes version word (other_fields (line_at text k))) (other_fields (line_at text k))
+Passes text k fault = IsEnded text k → 2 ≤ k → (version : ℕ) → IsOfVersion text version → (word : Word)
+    → first_field (line_at text k) ≡ spelled word
+    → AllSay fault (shapes version word (other_fields (line_at text k))) (other_fields (line_at text k))
 
 -- each line before line k passes every check
 abbrev pub IsCleanBefore : List ℕ → ℕ → Type 0

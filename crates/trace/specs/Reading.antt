@@ -17,6 +17,7 @@ pub record IsTraceOf {A : Type 0} (input : List ℕ) (trace : Content A) : Type 
 -- fault.
 pub record IsTraceFault (A : Type 0) (input : List ℕ) (fault : TraceFault) : Type 0 where
   pub named : fault.kind ≢ kind.NoMemory → IsFault input fault.line fault.kind
-  pub none : fault.kind ≢ kind.NoMemory → (other : Content A) → InRange other → IsPrintable other → input ≢ text other
+  pub none : fault.kind ≢ kind.NoMemory → (other : Content A) → InRange other → IsPrintable other
+      → input ≢ text other
   pub numbered : 1 ≤ fault.line
   pub clean : IsCleanBefore input fault.line

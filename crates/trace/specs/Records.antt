@@ -22,7 +22,8 @@ reply_field reply.NoMemory = codes "nomem"
 -- the slot, the reply, the console output, and InterruptStatus of both windows by one digit each
 abbrev pub record_fields : {A : Type 0} → Record A → List (List ℕ)
 record_fields entry =
-    num entry.slot ∷ reply_field entry.reply ∷ bytes entry.output ∷ (digit entry.block_irq ∷ []) ∷ (digit entry.console_irq ∷ []) ∷ []
+    num entry.slot ∷ reply_field entry.reply ∷ bytes entry.output ∷ (digit entry.block_irq ∷ [])
+    ∷ (digit entry.console_irq ∷ []) ∷ []
 
 -- a record by its parts, of which the last are the block window's word and the console window's
 abbrev pub entry_of : {A : Type 0} → ℕ → Reply A → List ℕ → ℕ × ℕ → Record A
@@ -34,11 +35,13 @@ record_line entry = line (record_fields entry)
 
 -- the line of a record without output whose reply is spelled so
 unfoldable pub quiet_line : ℕ → List ℕ → ℕ × ℕ → List ℕ
-quiet_line slot reply words = line (num slot ∷ reply ∷ bytes [] ∷ (digit words.0 ∷ []) ∷ (digit words.1 ∷ []) ∷ [])
+quiet_line slot reply words =
+    line (num slot ∷ reply ∷ bytes [] ∷ (digit words.0 ∷ []) ∷ (digit words.1 ∷ []) ∷ [])
 
 -- the line of a read of memory that gave these bytes
 unfoldable pub read_line : ℕ → List ℕ → ℕ × ℕ → List ℕ
-read_line slot bs words = line (num slot ∷ (codes "b:" ++ bytes bs) ∷ bytes [] ∷ (digit words.0 ∷ []) ∷ (digit words.1 ∷ []) ∷ [])
+read_line slot bs words =
+    line (num slot ∷ (codes "b:" ++ bytes bs) ∷ bytes [] ∷ (digit words.0 ∷ []) ∷ (digit words.1 ∷ []) ∷ [])
 
 -- the text of some records
 abbrev pub records_text : {A : Type 0} → List (Record A) → List ℕ

@@ -27,14 +27,19 @@ pub record IsFine {A : Type 0} (e : Event A) : Type 0 where
 -- the fields after a word fail this check, and pass those before it
 abbrev pub RefusesFields : ℕ → Word → List (List ℕ) → FaultKind → Type 0
 RefusesFields version word fields kind.Fields = ¬ AreAsMany version word fields
-RefusesFields version word fields kind.Number = AreAsMany version word fields × (¬ AllSay kind.Number (shapes version word fields) fields)
+RefusesFields version word fields kind.Number = AreAsMany version word fields
+    × (¬ AllSay kind.Number (shapes version word fields) fields)
 RefusesFields version word fields kind.Choice =
-    AreAsMany version word fields × AllSay kind.Number (shapes version word fields) fields × (¬ AllSay kind.Choice (shapes version word fields) fields)
+    AreAsMany version word fields × AllSay kind.Number (shapes version word fields) fields
+    × (¬ AllSay kind.Choice (shapes version word fields) fields)
 RefusesFields version word fields kind.Bytes =
-    AreAsMany version word fields × AllSay kind.Number (shapes version word fields) fields × AllSay kind.Choice (shapes version word fields) fields × (¬ AllSay kind.Bytes (shapes version word fields) fields)
+    AreAsMany version word fields × AllSay kind.Number (shapes version word fields) fields
+    × AllSay kind.Choice (shapes version word fields) fields
+    × (¬ AllSay kind.Bytes (shapes version word fields) fields)
 RefusesFields version word fields _ = ⊥
 
--- a line after the second is refused, where events may have begun before it: it has no word of the version, or is a slot
+-- a line after the second is refused, where events may have begun before it: it has no word of the version,
+-- or is a slot
 -- after an event, or its fields are refused
 pub record RefusesAfterWord (version : ℕ) (begun : Bool) (line : List ℕ) (fault : FaultKind) : Type 0 where
   pub word : Word
@@ -45,7 +50,8 @@ pub record RefusesAfterWord (version : ℕ) (begun : Bool) (line : List ℕ) (fa
   pub refused : RefusesFields version word (other_fields line) fault
 
 abbrev pub RefusesLine : ℕ → Bool → List ℕ → FaultKind → Type 0
-RefusesLine version begun line kind.Word = (word : Word) → MayStand 3 word → IsWordOf version word → ¬ (first_field line ≡ spelled word)
+RefusesLine version begun line kind.Word = (word : Word) → MayStand 3 word → IsWordOf version word
+    → ¬ (first_field line ≡ spelled word)
 RefusesLine version begun line kind.Order = (begun ≡ true) × (first_field line ≡ spelled Slot)
 RefusesLine version begun line fault = RefusesAfterWord version begun line fault
 

@@ -50,17 +50,20 @@ abbrev pub region_fields : RegionSpec → List (List ℕ)
 region_fields region = num region.base ∷ num region.len ∷ []
 
 abbrev pub memory_fields : ℕ → List RegionSpec → List (List ℕ)
-memory_fields version regions = until_version_3 version (flat_map region_fields regions) (regions_text regions ∷ [])
+memory_fields version regions =
+    until_version_3 version (flat_map region_fields regions) (regions_text regions ∷ [])
 
 -- a slot, in a version
 abbrev pub slot_fields : ℕ → SlotSpec → List (List ℕ)
 slot_fields version s =
-    spelled Slot ∷ (memory_fields version s.regions ++ (num s.extent.start ∷ num s.extent.count ∷ mode s.read_only ∷ num s.cols ∷ num s.rows
+    spelled Slot ∷ (memory_fields version s.regions
+    ++ (num s.extent.start ∷ num s.extent.count ∷ mode s.read_only ∷ num s.cols ∷ num s.rows
     ∷ since_version_2 version (bytes s.identity ∷ [])))
 
 -- a read and a write of a register, a read and a write of memory
 abbrev pub read_fields : ℕ → DeviceKind → ℕ → ℕ → List (List ℕ)
-read_fields slot kind offset width = spelled Read ∷ num slot ∷ window kind ∷ fixed 3 offset ∷ width_digit width ∷ []
+read_fields slot kind offset width = spelled Read ∷ num slot ∷ window kind ∷ fixed 3 offset
+    ∷ width_digit width ∷ []
 
 abbrev pub write_fields : ℕ → DeviceKind → ℕ → ℕ → ℕ → List (List ℕ)
 write_fields slot kind offset width value =
@@ -124,7 +127,8 @@ disks_line d = line (disks_fields d)
 
 -- the lines of a trace: the header, where its disks are, the slots, the events
 unfoldable pub trace_lines : {A : Type 0} → Content A → List (List ℕ)
-trace_lines t = header t.version ∷ disks_line t.disks ∷ map (slot_line t.version) t.slots ++ map event_line t.events
+trace_lines t = header t.version ∷ disks_line t.disks ∷ map (slot_line t.version) t.slots
+    ++ map event_line t.events
 
 -- lines as a text, each ended by a line feed
 abbrev pub ended : List ℕ → List ℕ

@@ -73,7 +73,8 @@ pub record IsValidated (A : Type 0) (text : List ℕ) (j : Validation) : Type 0 
   pub fit : HaveRoom j.longest trace.events
   pub numbered : 1 ≤ j.longest_line
 
--- a line was validated: it is that of a slot, before all events, which is kept, or that of an event, whose bytes are
+-- a line was validated: it is that of a slot, before all events, which is kept, or that of an event, whose
+-- bytes are
 -- counted
 pub record ValidatesSlot (begun : Bool) (line after : List ℕ) (old new : Validation) : Type 0 where
   pub slot : SlotSpec
@@ -89,7 +90,8 @@ pub record ValidatesEvent (A : Type 0) (line : List ℕ) (old new : Validation) 
   pub is : new ≡ record old { longest = new.longest; longest_line = new.longest_line }
 
 abbrev pub ValidatesLine : Type 0 → Bool → List ℕ → List ℕ → Validation → Validation → Type 0
-ValidatesLine A begun line after old new = ValidatesSlot begun line after old new ⊎ ValidatesEvent A line old new
+ValidatesLine A begun line after old new = ValidatesSlot begun line after old new
+    ⊎ ValidatesEvent A line old new
 
 -- whether events may have begun before what is left of a text: their lines begin before it
 abbrev pub begun_before : Validation → List ℕ → Bool

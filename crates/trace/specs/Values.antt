@@ -15,7 +15,8 @@ IsOf Regions v = (field : Bor (List ℕ)) × ((v ≡ value.Spelled field) × Say
 IsOf Offset v = (n : ℕ) × ((v ≡ value.Offset n) × (n < 16 ^ 3))
 IsOf Window v = (kind : DeviceKind) × (v ≡ value.Window kind)
 IsOf Width v = (width : ℕ) × ((v ≡ value.Width width) × IsWidth width)
-IsOf (Value width_field) v = (width : ℕ) → IsWidthField width_field width → (n : ℕ) × ((v ≡ value.Value width n) × (n < 16 ^ (2 * width)))
+IsOf (Value width_field) v = (width : ℕ) → IsWidthField width_field width → (n : ℕ)
+    × ((v ≡ value.Value width n) × (n < 16 ^ (2 * width)))
 IsOf Mode v = (read_only : Bool) × (v ≡ value.Mode read_only)
 IsOf Verdict v = (came : operation.Verdict) × (v ≡ value.Verdict came)
 IsOf Bytes v = (field : Bor (List ℕ)) × ((v ≡ value.Spelled field) × Says Bytes field.now)
@@ -24,7 +25,8 @@ IsOf Identity v = (bs : List ℕ) × ((v ≡ value.Identity bs) × IsIdentityFie
 -- each value is one of its shape
 abbrev pub AreOf : List Shape → List FieldValue → Type 0
 AreOf [] vs = vs ≡ []
-AreOf (shape ∷ shapes) vs = (v : FieldValue) × (others : List FieldValue) × ((vs ≡ v ∷ others) × (IsOf shape v × AreOf shapes others))
+AreOf (shape ∷ shapes) vs = (v : FieldValue) × (others : List FieldValue)
+    × ((vs ≡ v ∷ others) × (IsOf shape v × AreOf shapes others))
 
 -- the field says this value of a shape
 pub record SaysValue (shape : Shape) (field : List ℕ) (v : FieldValue) : Type 0 where

@@ -63,7 +63,8 @@ Says Regions field = (regions : List RegionSpec) × IsRegionsField field regions
 Says Offset field = (n : ℕ) × IsFixed 3 field n
 Says Window field = (kind : DeviceKind) × (field ≡ window kind)
 Says Width field = (width : ℕ) × IsWidthField field width
-Says (Value width_field) field = (width : ℕ) → IsWidthField width_field width → (n : ℕ) × IsFixed (2 * width) field n
+Says (Value width_field) field = (width : ℕ) → IsWidthField width_field width → (n : ℕ)
+    × IsFixed (2 * width) field n
 Says Mode field = (read_only : Bool) × (field ≡ mode read_only)
 Says Verdict field = (came : operation.Verdict) × (field ≡ verdict came)
 Says Bytes field = SpellsBytes field
@@ -83,7 +84,8 @@ spelled Resize = codes "sz"
 spelled Restore = codes "st"
 spelled Complete = codes "io"
 
--- the words of a version: hosted disks, restores and completions have theirs from version 3 on, and the others are in
+-- the words of a version: hosted disks, restores and completions have theirs from version 3 on, and the
+-- others are in
 -- each
 abbrev pub IsWordOf : ℕ → Word → Type 0
 IsWordOf version Hosted = 3 ≤ version
@@ -101,7 +103,8 @@ memory_in version = until_version_3 version (field.Base ∷ field.Size ∷ []) (
 -- what stands behind that
 abbrev pub behind_memory : ℕ → List Field
 behind_memory version =
-    field.Start ∷ field.Count ∷ field.Mode ∷ field.Columns ∷ field.Rows ∷ since_version_2 version (field.Identity ∷ [])
+    field.Start ∷ field.Count ∷ field.Mode ∷ field.Columns ∷ field.Rows
+    ∷ since_version_2 version (field.Identity ∷ [])
 
 -- the fields after each word, in a version
 abbrev pub fields_in : ℕ → Word → List Field

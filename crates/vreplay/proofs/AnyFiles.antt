@@ -14,15 +14,39 @@ asked o is = ((λ _. is), (λ _. refl))
 
 pub two_files : (trace image : Text) → Names (files_alone trace image) trace image None false
 unfolding clap_on_literals
-two_files trace image = record { taken = refl; trace_is = refl; image_is = refl; save_is = refl; in_place_is = not_asked _ refl; apart = λ _. refl }
+two_files trace image = record {
+  taken = refl;
+  trace_is = refl;
+  image_is = refl;
+  save_is = refl;
+  in_place_is = not_asked _ refl;
+  apart = λ _. refl;
+}
 
-pub saved_files : (save trace image : Text) → Names (files_saved save trace image) trace image (Some save) false
+pub saved_files : (save trace image : Text)
+    → Names (files_saved save trace image) trace image (Some save) false
 unfolding clap_on_literals
-saved_files save trace image = record { taken = refl; trace_is = refl; image_is = refl; save_is = refl; in_place_is = not_asked _ refl; apart = λ is. cc }
+saved_files save trace image =
+    record {
+      taken = refl;
+      trace_is = refl;
+      image_is = refl;
+      save_is = refl;
+      in_place_is = not_asked _ refl;
+      apart = λ is. cc;
+    }
 
 pub in_place_files : (trace image : Text) → Names (files_in_place trace image) trace image None true
 unfolding clap_on_literals
-in_place_files trace image = record { taken = refl; trace_is = refl; image_is = refl; save_is = refl; in_place_is = asked _ refl; apart = λ _. refl }
+in_place_files trace image =
+    record {
+      taken = refl;
+      trace_is = refl;
+      image_is = refl;
+      save_is = refl;
+      in_place_is = asked _ refl;
+      apart = λ _. refl;
+    }
 
 both_asked : (save trace image : Text) → AsksInPlace (files_both save trace image)
 unfolding clap_on_literals
@@ -36,14 +60,17 @@ some_of : {X : Type 0} (o : Option X) (x : X) → o ≡ Some x → IsSome o
 some_of o x is = rw is (search rules)
 
 pub not_both : (save trace image : Text) → NamesNoCall (files_both save trace image)
-not_both save trace image = inr (inr (inr (both_asked save trace image, some_of _ save (both_saved save trace image))))
+not_both save trace image =
+    inr (inr (inr (both_asked save trace image, some_of _ save (both_saved save trace image))))
 
 not_nil : {X : Type 0} (x : X) (xs ys : List X) → ys ≡ x ∷ xs → ys ≢ []
 not_nil x xs ys is none = grind (arith, is, none)
 
-more_files : (trace image more : Text) (others : List Text) → fault_of vreplay (files_and_more trace image more others) ≢ []
+more_files : (trace image more : Text) (others : List Text)
+    → fault_of vreplay (files_and_more trace image more others) ≢ []
 unfolding clap_on_literals
 more_files trace image more others = not_nil _ [] _ refl
 
-pub no_third_file : (trace image more : Text) (others : List Text) → NamesNoCall (files_and_more trace image more others)
+pub no_third_file : (trace image more : Text) (others : List Text)
+    → NamesNoCall (files_and_more trace image more others)
 no_third_file trace image more others = inl (more_files trace image more others)

@@ -20,15 +20,20 @@ unfolding clap_on_literals
 is_free_vreplay = refl
 
 -- the kinds of error of a command that is this one
-pub fails_by : {T : Type 0} (app : App) (words : List Text) (r : Result T Error) → app ≡ vreplay → (is_simple_and_free app ≡ true → FailsBy (fault_of app words) r) → FailsBy (fault_of vreplay words) r
-fails_by app words r is fails = subst (λ a. FailsBy (fault_of a words) r) is (fails (ap is_simple_and_free is ∙ is_free_vreplay))
+pub fails_by : {T : Type 0} (app : App) (words : List Text) (r : Result T Error) → app ≡ vreplay
+    → (is_simple_and_free app ≡ true → FailsBy (fault_of app words) r) → FailsBy (fault_of vreplay words) r
+fails_by app words r is fails =
+    subst (λ a. FailsBy (fault_of a words) r) is (fails (ap is_simple_and_free is ∙ is_free_vreplay))
 
 -- what was found for an argument is the value that the words give
-pub given : (m : ArgMatches) (words : List Text) (id : Text) → HasMatchesOf vreplay words m → value_of id words ≡ first_value (found_of m) id
+pub given : (m : ArgMatches) (words : List Text) (id : Text) → HasMatchesOf vreplay words m
+    → value_of id words ≡ first_value (found_of m) id
 given m words id has = sym (first_value-rows (found_of m) id ∙ ap (first_of id) (has is_simple_vreplay).0)
 
 -- and so is what a getter answers
-pub told : (m : ArgMatches) (words : List Text) (id : Text) (r : Option (Bor Text)) → HasMatchesOf vreplay words m → option_map (λ s. s.now) r ≡ first_value (found_of m) id → value_of id words ≡ option_map (λ s. s.now) r
+pub told : (m : ArgMatches) (words : List Text) (id : Text) (r : Option (Bor Text))
+    → HasMatchesOf vreplay words m → option_map (λ s. s.now) r ≡ first_value (found_of m) id
+    → value_of id words ≡ option_map (λ s. s.now) r
 told m words id r has got = given m words id has ∙ sym got
 
 -- an image that is served in place isn't saved
@@ -37,5 +42,6 @@ in_place_apart Unchanged is = refl
 in_place_apart (Saved file) is = cc
 in_place_apart InPlace is = refl
 
-pub asked : (a b : Option Text) (flag : Bool) → a ≡ b → IsTrue flag ↔ (b ≡ Some (codes "true")) → IsTrue flag ↔ (a ≡ Some (codes "true"))
+pub asked : (a b : Option Text) (flag : Bool) → a ≡ b → IsTrue flag ↔ (b ≡ Some (codes "true")) → IsTrue flag
+    ↔ (a ≡ Some (codes "true"))
 asked a b flag same is = subst (λ o. IsTrue flag ↔ (o ≡ Some (codes "true"))) (sym same) is

@@ -29,7 +29,9 @@ in_place_rule = record (new_rule (codes "in-place")) { long = Some (codes "in-pl
 
 -- the program's command: two positionals that may be left out, one option with a value, and a flag
 abbrev pub vreplay : App
-vreplay = with_rule (with_rule (with_rule (with_rule bare (new_rule (codes "trace"))) (new_rule (codes "image"))) save_rule) in_place_rule
+vreplay = with_rule (with_rule
+    (with_rule (with_rule bare (new_rule (codes "trace"))) (new_rule (codes "image")))
+    save_rule) in_place_rule
 
 -- what the words give an argument
 abbrev pub value_of : Text → List Text → Option Text
@@ -39,9 +41,11 @@ value_of id words = first_of id (matches_of vreplay words)
 abbrev pub AsksInPlace : List Text → Type 0
 AsksInPlace words = value_of (codes "in-place") words ≡ Some (codes "true")
 
--- the words are taken, and name this trace, this image, and what is to become of the image: perhaps a file to save
+-- the words are taken, and name this trace, this image, and what is to become of the image: perhaps a file to
+-- save
 -- it to, or else whether it is served in place
-pub record Names (words : List Text) (trace image : Text) (save : Option Text) (in_place : Bool) : Type 0 where
+pub record Names (words : List Text) (trace image : Text) (save : Option Text)
+    (in_place : Bool) : Type 0 where
   pub taken : fault_of vreplay words ≡ []
   pub trace_is : value_of (codes "trace") words ≡ Some trace
   pub image_is : value_of (codes "image") words ≡ Some image
@@ -62,12 +66,16 @@ is_in_place InPlace = true
 
 -- the words name the files of this call
 abbrev pub IsCall : List Text → Call → Type 0
-IsCall words call = Names words call.trace.now call.image.now (saved_to call.keeping) (is_in_place call.keeping)
+IsCall words call = Names words call.trace.now call.image.now (saved_to call.keeping)
+    (is_in_place call.keeping)
 
 -- the words are refused, help and version among it, or leave out a file that is wanted, or ask both that the
 -- image is saved and that it is served in place
 abbrev pub NamesNoCall : List Text → Type 0
-NamesNoCall words = (fault_of vreplay words ≢ []) ⊎ ((value_of (codes "trace") words ≡ None) ⊎ ((value_of (codes "image") words ≡ None) ⊎ (AsksInPlace words × IsSome (value_of (codes "save") words))))
+NamesNoCall words = (fault_of vreplay words ≢ [])
+    ⊎ ((value_of (codes "trace") words ≡ None)
+    ⊎ ((value_of (codes "image") words ≡ None)
+    ⊎ (AsksInPlace words × IsSome (value_of (codes "save") words))))
 
 -- the words `-- TRACE IMAGE`
 abbrev pub files_alone : Text → Text → List Text

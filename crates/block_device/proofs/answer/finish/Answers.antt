@@ -6,4 +6,8 @@ use Rattle.block_device.proofs.answer.finish.Goals.{then-done-room, else-done-ro
 pub overflow_cast-result : goal.overflow_cast-result
 overflow_cast-result g c =
     let few = writable_few c.args.mem.now c.args.chain.now c.requires.good in
-    elim c.if-done-room.branch [ then-done-room w ↦ omega (arith, few) | else-done-room w ↦ omega (arith, few) ]
+    elim c.if-done-room.branch [
+      | then-done-room w ↦ omega (arith, few)
+      | else-done-room w ↦
+          omega (arith, few)
+    ]

@@ -7,4 +7,5 @@ use Rattle.block_device.proofs.laws.pieces_are_one_service.Goals as goal
 
 pub returns : goal.returns
 returns c = λ device old new pauses ending wanted opens pieces.
-    pieces_are_a_service queue_kind (block_device device) SameSectors (block_same device) sectors_same sectors_further old new pauses ending wanted opens pieces
+    pieces_are_a_service queue_kind (block_device device) SameSectors (block_same device) sectors_same
+    sectors_further old new pauses ending wanted opens pieces

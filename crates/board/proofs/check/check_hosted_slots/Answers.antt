@@ -13,8 +13,10 @@ returns-in-Err-clause-fault c = record {
   there = slice_get-get_or c.args.slots.now c.loop-i.i c.index-slots-i.result c.loop-i-test.true;
   before = c.loop-i.invariant;
   fault_is =
-      subst (λ (spec : SlotSpec). IsFaultOf most_sectors [] (with_own_disk spec) c.in-Err.fault) c.index-slots-i.is
-      (subst (λ (spec : SlotSpec). IsFaultOf most_sectors [] spec c.in-Err.fault) c.own_disk.ensures c.in-Err.ensures.fault);
+      subst (λ (spec : SlotSpec). IsFaultOf most_sectors [] (with_own_disk spec)
+      c.in-Err.fault) c.index-slots-i.is
+      (subst (λ (spec : SlotSpec). IsFaultOf most_sectors [] spec c.in-Err.fault) c.own_disk.ensures
+      c.in-Err.ensures.fault);
 }
 
 pub loop-i-preserved : goal.loop-i-preserved

@@ -16,14 +16,17 @@ returns-in-Err-clause-fault c = λ cache. record {
   there = slice_get-get_or c.args.slots.now c.loop-i.i c.index-slots-i.result c.loop-i-test.true;
   before = c.loop-i.invariant;
   fault_is =
-      subst (λ (spec : SlotSpec). IsFaultOf c.args.sectors (take c.loop-i.i c.args.slots.now) spec c.in-Err.fault)
+      subst (λ (spec : SlotSpec). IsFaultOf c.args.sectors (take c.loop-i.i c.args.slots.now)
+      spec c.in-Err.fault)
       c.index-slots-i.is c.in-Err.ensures.fault;
 }
 
 pub loop-i-preserved : goal.loop-i-preserved
 loop-i-preserved c =
-    good_more c.args.sectors c.args.slots.now c.loop-i.i c.index-slots-i.result c.loop-i-test.true c.loop-i.invariant
-    (subst (λ (s : SlotSpec). IsGoodSlot c.args.sectors (take c.loop-i.i c.args.slots.now) s) c.index-slots-i.is c.in_default.ensures.ok)
+    good_more c.args.sectors c.args.slots.now c.loop-i.i c.index-slots-i.result
+    c.loop-i-test.true c.loop-i.invariant
+    (subst (λ (s : SlotSpec). IsGoodSlot c.args.sectors (take c.loop-i.i c.args.slots.now) s)
+    c.index-slots-i.is c.in_default.ensures.ok)
 
 pub returns-clause-ok : goal.returns-clause-ok
 returns-clause-ok c =

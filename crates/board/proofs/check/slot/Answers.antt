@@ -7,7 +7,8 @@ use Rattle.board.proofs.check.slot.Goals as goal
 
 pub returns-in-Some-clause-fault : goal.returns-in-Some-clause-fault
 returns-in-Some-clause-fault c =
-    subst (λ rs. IsRefusedAt rs c.in-Some.field-0.region c.in-Some.field-0.fault) c.as_slice.ensures.same c.in-Some.ensures.fault
+    subst (λ rs. IsRefusedAt rs c.in-Some.field-0.region c.in-Some.field-0.fault) c.as_slice.ensures.same
+    c.in-Some.ensures.fault
 
 pub returns-clause-ok : goal.returns-clause-ok
 returns-clause-ok c = record {

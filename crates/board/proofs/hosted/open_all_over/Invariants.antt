@@ -7,4 +7,5 @@ use Rattle.board.proofs.hosted.open_all_over.Given as goal
 
 abbrev pub invariant-loop-spec : goal.invariant-loop-spec
 invariant-loop-spec g l =
-    Opened hosted_over l.specs (map vec_items l.fn.bytes.items) l.spec-index l.slots.items (map vec_items (into_iter_items l.rest))
+    Opened hosted_over l.specs (map vec_items l.fn.bytes.items) l.spec-index l.slots.items
+    (map vec_items (into_iter_items l.rest))

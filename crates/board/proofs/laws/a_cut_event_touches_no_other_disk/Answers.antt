@@ -9,5 +9,7 @@ returns-clause-known g c = apart_left g.I.Image.moment g.I.Image.may_leave g.I.I
 pub returns-clause-seen : goal.returns-clause-seen
 returns-clause-seen g c = λ old new slot since own other left touches here apart tells clean begins past.
     let disk = g.I.Image.disk old.image in
-    apart_left g.I.Image.moment g.I.Image.may_leave g.I.Image.left_since old new slot since own other (bytes_of disk) left touches here apart
-    (λ whole may. contents_left disk.contents whole tells (g.met.I.Image.durable old.image whole may clean)) begins past
+    apart_left g.I.Image.moment g.I.Image.may_leave g.I.Image.left_since old new slot since own other
+    (bytes_of disk) left touches here apart
+    (λ whole may. contents_left disk.contents whole tells (g.met.I.Image.durable old.image whole may clean))
+    begins past

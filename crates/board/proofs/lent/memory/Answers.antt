@@ -9,23 +9,35 @@ use Rattle.board.proofs.lent.memory.Goals as goal
 pub unreachable-requires : goal.unreachable-requires
 unreachable-requires g c =
     let left = into_iter_items c.loop-region.bytes in
-    let some = took_some c.args.regions.now (map vec_items (into_iter_items c.args.bytes.now)) c.loop-region.region-index c.loop-region.made.items (map vec_items left)
+    let some = took_some c.args.regions.now (map vec_items (into_iter_items c.args.bytes.now))
+    c.loop-region.region-index c.loop-region.made.items (map vec_items left)
     c.loop-region-test.true c.loop-region.invariant in
-    absurd (omega (arith, some, length-map left vec_items, c.loop-region.bytes.rest.ok.0, c.in_default.ensures.cases.0))
+    absurd (omega (
+      arith,
+      some,
+      length-map left vec_items,
+      c.loop-region.bytes.rest.ok.0,
+      c.in_default.ensures.cases.0,
+    ))
 
 pub new-requires : goal.new-requires
 new-requires g c =
     let all = map vec_items (into_iter_items c.args.bytes.now) in
-    let next = took_next c.args.regions.now all c.loop-region.region-index (record { base = 0; len = 0 }) c.loop-region.made.items c.loop-region.made.items
-    (record { base = 0; bytes = [] }) (vec_items c.in-Some.run') _ (map vec_items (into_iter_items c.next.new.self)) c.loop-region-test.true
+    let next = took_next c.args.regions.now all c.loop-region.region-index (record { base = 0; len = 0 })
+    c.loop-region.made.items c.loop-region.made.items
+    (record { base = 0; bytes = [] }) (vec_items c.in-Some.run') _
+    (map vec_items (into_iter_items c.next.new.self)) c.loop-region-test.true
     (ap (map vec_items) c.in-Some.ensures.items) c.loop-region.invariant in
-    let end = good_ends c.args.regions.now c.requires.good c.loop-region.region-index (record { base = 0; len = 0 }) c.loop-region-test.true in
+    let end = good_ends c.args.regions.now c.requires.good c.loop-region.region-index
+    (record { base = 0; len = 0 }) c.loop-region-test.true in
     omega (arith, end, next.0)
 
 pub loop-region-preserved : goal.loop-region-preserved
 loop-region-preserved g c =
     let all = map vec_items (into_iter_items c.args.bytes.now) in
-    let next = took_next c.args.regions.now all c.loop-region.region-index (record { base = 0; len = 0 }) c.loop-region.made.items c.push.new.self.items
-    c.new.result (vec_items c.in-Some.run') _ (map vec_items (into_iter_items c.next.new.self)) c.loop-region-test.true
+    let next = took_next c.args.regions.now all c.loop-region.region-index (record { base = 0; len = 0 })
+    c.loop-region.made.items c.push.new.self.items
+    c.new.result (vec_items c.in-Some.run') _ (map vec_items (into_iter_items c.next.new.self))
+    c.loop-region-test.true
     (ap (map vec_items) c.in-Some.ensures.items) c.loop-region.invariant in
     next.1 c.new.ensures.base c.new.ensures.bytes c.in_ok-push.ensures.items

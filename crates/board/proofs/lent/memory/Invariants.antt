@@ -6,4 +6,5 @@ use Rattle.board.proofs.lent.memory.Given as goal
 
 abbrev pub invariant-loop-region : goal.invariant-loop-region
 invariant-loop-region g l =
-    Took l.regions (map vec_items (into_iter_items l.fn.bytes)) l.region-index l.made.items (map vec_items (into_iter_items l.bytes))
+    Took l.regions (map vec_items (into_iter_items l.fn.bytes)) l.region-index l.made.items
+    (map vec_items (into_iter_items l.bytes))

@@ -12,5 +12,6 @@ open-requires g c =
 
 pub loop-spec-preserved : goal.loop-spec-preserved
 loop-spec-preserved g c =
-    opened_more opened c.args.specs.now c.loop-spec.spec-index c.spec-item.result c.loop-spec.slots.items c.push.new.self.items c.in_ok-open.field-0
+    opened_more opened c.args.specs.now c.loop-spec.spec-index c.spec-item.result c.loop-spec.slots.items
+    c.push.new.self.items c.in_ok-open.field-0
     c.loop-spec-test.true c.spec-item.is c.loop-spec.invariant c.in_ok-open.ensures c.in_ok-push.ensures.items

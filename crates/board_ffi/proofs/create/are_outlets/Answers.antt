@@ -6,6 +6,8 @@ use Rattle.board_ffi.proofs.create.are_outlets.Goals as goal
 
 pub returns : goal.returns
 returns c = (
-  λ holds. All-map (λ guest. guest.outlet ≤ 2 ^ 24) guest_of c.args.slots.now (c.no_slot_passes.ensures.0 holds),
-  λ outlets. c.no_slot_passes.ensures.1 (All-unmap (λ guest. guest.outlet ≤ 2 ^ 24) guest_of c.args.slots.now outlets),
+  λ holds. All-map (λ guest. guest.outlet ≤ 2 ^ 24) guest_of c.args.slots.now
+      (c.no_slot_passes.ensures.0 holds),
+  λ outlets. c.no_slot_passes.ensures.1
+      (All-unmap (λ guest. guest.outlet ≤ 2 ^ 24) guest_of c.args.slots.now outlets),
 )

@@ -5,5 +5,6 @@ use Rattle.board_ffi.proofs.judge.told.Goals as goal
 
 pub returns-in-Slot-clause-region : goal.returns-in-Slot-clause-region
 returns-in-Slot-clause-region c =
-    subst (λ (fault : BoardFault). c.tell_region.new.region ≡ region_told fault c.args.region.now) (sym c.in-Slot.is)
+    subst (λ (fault : BoardFault). c.tell_region.new.region
+    ≡ region_told fault c.args.region.now) (sym c.in-Slot.is)
     (c.tell_region.ensures c.in-Slot.at)

@@ -15,13 +15,17 @@ loop-place-preserved c =
     let place = c.loop-place.place in
     let before = c.loop-place.invariant in
     let here = same_there loans old place c.index-loans-place.result before.1 c.index-loans-place.is in (
-      ap (map vec_items) c.in_ok-push.ensures.items ∙ map-append vec_items c.loop-place.bytes.items (c.take.result ∷ [])
-          ∙ ap (λ (run : List ℕ). map vec_items c.loop-place.bytes.items ++ (run ∷ [])) (c.take.ensures.taken ∙ ap (λ (loan : Loan). loan.items) (sym c.index-loans-place.is))
-          ∙ listed (λ (loan : Loan). loan.items) old place c.index-loans-place.result (map vec_items c.loop-place.bytes.items)
+      ap (map vec_items) c.in_ok-push.ensures.items
+          ∙ map-append vec_items c.loop-place.bytes.items (c.take.result ∷ [])
+          ∙ ap (λ (run : List ℕ). map vec_items c.loop-place.bytes.items ++ (run ∷ [])) (c.take.ensures.taken
+          ∙ ap (λ (loan : Loan). loan.items) (sym c.index-loans-place.is))
+          ∙ listed (λ (loan : Loan). loan.items) old place c.index-loans-place.result
+          (map vec_items c.loop-place.bytes.items)
           (omega (arith, before.2, c.loop-place-test.true)) here before.0,
       behind_same loans old place c.take.new.self before.1,
       length-set loans place c.take.new.self ∙ before.2,
-      one_more IsEmpty loans place c.take.new.self (omega (arith, before.2, c.loop-place-test.true)) before.3 c.take.ensures.left,
+      one_more IsEmpty loans place c.take.new.self (omega (arith, before.2, c.loop-place-test.true)) before.3
+          c.take.ensures.left,
     )
 
 pub returns-in_err-push-clause-front : goal.returns-in_err-push-clause-front
@@ -32,7 +36,8 @@ returns-in_err-push-clause-front c =
     let before = c.loop-place.invariant in
     record {
       taken = place + 1;
-      empty = one_more IsEmpty loans place c.take.new.self (omega (arith, before.2, c.loop-place-test.true)) before.3 c.take.ensures.left;
+      empty = one_more IsEmpty loans place c.take.new.self (omega (arith, before.2, c.loop-place-test.true))
+          before.3 c.take.ensures.left;
       others = behind_same loans old place c.take.new.self before.1;
       same = length-set loans place c.take.new.self ∙ before.2;
     }
@@ -47,4 +52,5 @@ returns-clause-front c = record {
 
 pub returns-clause-left : goal.returns-clause-left
 returns-clause-left c =
-    subst (All IsEmpty) (take_all c.loop-place.place c.loop-place.loans (omega (arith, c.loop-place.invariant.2, c.loop-place-test.false))) c.loop-place.invariant.3
+    subst (All IsEmpty) (take_all c.loop-place.place c.loop-place.loans
+    (omega (arith, c.loop-place.invariant.2, c.loop-place-test.false))) c.loop-place.invariant.3

@@ -16,7 +16,8 @@ loop-place-init c = none_judged c.args.regions.now
 
 pub loop-place-preserved : goal.loop-place-preserved
 loop-place-preserved c =
-    more_judged c.args.regions.now c.loop-place.place c.loop-place.size _ c.loop-place-test.true c.loop-place.invariant
+    more_judged c.args.regions.now c.loop-place.place c.loop-place.size _ c.loop-place-test.true
+    c.loop-place.invariant
     c.in_default.ensures.good
 
 pub returns-in-Some : goal.returns-in-Some
@@ -28,12 +29,17 @@ returns-in-Some c =
     record {
       fault = is;
       exact = exact c.args.regions.now c.loop-place.place c.in-Some.fault is;
-      good = (λ none. cc, λ good. absurd (refused_not_good c.args.regions.now c.loop-place.place c.in-Some.fault is good));
+      good = (
+        λ none. cc,
+        λ good. absurd
+            (refused_not_good c.args.regions.now c.loop-place.place c.in-Some.fault is good),
+      );
     }
 
 pub returns-then-is_empty : goal.returns-then-is_empty
 returns-then-is_empty c =
-    let empty : c.args.regions.now ≡ [] = none_there c.args.regions.now (sym c.is_empty.ensures ∙ c.if-is_empty.true) in
+    let empty : c.args.regions.now ≡ [] =
+    none_there c.args.regions.now (sym c.is_empty.ensures ∙ c.if-is_empty.true) in
     let is : IsRefusedAt c.args.regions.now 0 NoRegions = (empty, refl) in
     record {
       fault = is;
@@ -45,7 +51,8 @@ pub returns : goal.returns
 returns c =
     let empty : (length c.args.regions.now == 0) ≡ false = sym c.is_empty.ensures ∙ c.if-is_empty.false in
     let good : AreGood c.args.regions.now =
-    all_judged c.args.regions.now c.loop-place.place c.loop-place.size (grind (arith, nat_tests, empty)) (omega arith)
+    all_judged c.args.regions.now c.loop-place.place c.loop-place.size
+    (grind (arith, nat_tests, empty)) (omega arith)
     c.loop-place.invariant in
     record {
       fault = tt;

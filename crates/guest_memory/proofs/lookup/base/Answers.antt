@@ -8,4 +8,5 @@ bounds-regions-0 g c = some_region c.args.regions.now c.requires
 
 pub returns : goal.returns
 returns g c =
-    c.base.ensures ∙ begins c.args.regions.now c.index-regions-0.result (memory_of c.args.regions.now) refl c.requires c.index-regions-0.is
+    c.base.ensures ∙ begins c.args.regions.now c.index-regions-0.result (memory_of c.args.regions.now) refl
+    c.requires c.index-regions-0.is

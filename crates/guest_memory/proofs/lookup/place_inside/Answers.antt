@@ -8,7 +8,8 @@ returns-then-regions-eq1-clause-region g c = λ d.
 
 pub returns-clause-place : goal.returns-clause-place
 returns-clause-place g c =
-    (found_inside c.args.regions.now c.args.addr c.args.n (record { base = 0; bytes = [] }) c.place_of.result c.unwrap_or.result
+    (found_inside c.args.regions.now c.args.addr c.args.n (record { base = 0; bytes = [] })
+    c.place_of.result c.unwrap_or.result
     c.requires.apart c.requires.inside c.place_of.ensures c.unwrap_or.ensures).0
 
 pub returns-clause-region : goal.returns-clause-region

@@ -10,7 +10,8 @@ returns g c =
     let region : Region = c.index-regions-place.result in
     let within = c.place_inside-place.ensures.place in
     let lies = c.place_inside-place.ensures.region region in
-    let part = part_in rs place c.args.addr c.args.n region (memory_of rs) refl c.requires.apart within lies c.index-regions-place.is in
+    let part = part_in rs place c.args.addr c.args.n region (memory_of rs) refl c.requires.apart within lies
+    c.index-regions-place.is in
     record {
       value = c.slice.ensures.value ∙ part;
       len = c.slice.ensures.len;

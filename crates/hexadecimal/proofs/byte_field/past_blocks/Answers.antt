@@ -10,4 +10,5 @@ overflow_sub-text c = c.loop-n.invariant.within
 
 pub loop-n-preserved : goal.loop-n-preserved
 loop-n-preserved c =
-    block_more c.args.text.now c.loop-n.n c.args.block c.are_digits.result c.loop-n.invariant (omega arith) c.if-are_digits.true c.are_digits.ensures
+    block_more c.args.text.now c.loop-n.n c.args.block c.are_digits.result c.loop-n.invariant (omega arith)
+    c.if-are_digits.true c.are_digits.ensures

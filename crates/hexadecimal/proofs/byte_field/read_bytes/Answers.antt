@@ -21,8 +21,10 @@ pub returns-then-not-is_empty : goal.returns-then-not-is_empty
 returns-then-not-is_empty c =
     let some = eqb-false (length c.args.bytes.now) 0 (sym c.if-not-is_empty.ensures) in
     let size = c.requires.size in
-    bytes_read c.args.field.now c.read_pairs.new.bytes (omega (arith, some)) c.read_pairs.ensures.spelled c.read_pairs.ensures.fits
+    bytes_read c.args.field.now c.read_pairs.new.bytes (omega (arith, some)) c.read_pairs.ensures.spelled
+    c.read_pairs.ensures.fits
 
 pub returns-else-not-is_empty : goal.returns-else-not-is_empty
 returns-else-not-is_empty c =
-    said_none c.args.field.now c.args.bytes.now c.requires.spelled c.requires.size (eqb-true (length c.args.bytes.now) 0 (sym c.if-not-is_empty.ensures))
+    said_none c.args.field.now c.args.bytes.now c.requires.spelled c.requires.size
+    (eqb-true (length c.args.bytes.now) 0 (sym c.if-not-is_empty.ensures))

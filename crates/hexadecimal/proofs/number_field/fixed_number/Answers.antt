@@ -11,17 +11,24 @@ unfolding fixed
 loop-c-init c = record { spelled = refl; below = omega arith }
 
 pub overflow_mul-n : goal.overflow_mul-n
-overflow_mul-n c = let r = room c.args.field.now c.loop-c.c-index c.loop-c.n 8 c.loop-c.invariant.below (omega arith) in omega arith
+overflow_mul-n c = let r =
+    room c.args.field.now c.loop-c.c-index c.loop-c.n 8 c.loop-c.invariant.below (omega arith) in omega arith
 
 pub overflow_add-n : goal.overflow_add-n
-overflow_add-n c = let r = room c.args.field.now c.loop-c.c-index c.loop-c.n 8 c.loop-c.invariant.below (omega arith) in omega (arith, c.in_ok-value_of.ensures.some, c.from.ensures)
+overflow_add-n c = let r =
+    room c.args.field.now c.loop-c.c-index c.loop-c.n 8 c.loop-c.invariant.below (omega arith) in
+    omega (arith, c.in_ok-value_of.ensures.some, c.from.ensures)
 
 pub returns-in_err-value_of-clause-none : goal.returns-in_err-value_of-clause-none
 returns-in_err-value_of-clause-none c =
-    rw c.from_residual.ensures (λ n h. no_digit c.args.field.now (fixed c.args.digits n) c.loop-c.c-index (get_or c.args.field.now c.loop-c.c-index 0) (are_digits_fixed c.args.digits n) (omega arith) refl c.in_err-value_of.ensures.none h.spelled)
+    rw c.from_residual.ensures (λ n h. no_digit c.args.field.now (fixed c.args.digits n) c.loop-c.c-index
+    (get_or c.args.field.now c.loop-c.c-index 0) (are_digits_fixed c.args.digits n) (omega arith) refl
+    c.in_err-value_of.ensures.none h.spelled)
 
 pub loop-c-preserved : goal.loop-c-preserved
 loop-c-preserved c =
     rw c.from.ensures (
-    reads_fixed_more c.args.field.now c.loop-c.c-index c.loop-c.n c.in_ok-value_of.field-0 (get_or c.args.field.now c.loop-c.c-index 0) c.loop-c.invariant (omega arith) refl c.in_ok-value_of.ensures.some.0 c.in_ok-value_of.ensures.some.1
+    reads_fixed_more c.args.field.now c.loop-c.c-index c.loop-c.n c.in_ok-value_of.field-0
+    (get_or c.args.field.now c.loop-c.c-index 0) c.loop-c.invariant (omega arith) refl
+    c.in_ok-value_of.ensures.some.0 c.in_ok-value_of.ensures.some.1
     )

@@ -4,4 +4,5 @@ use Rattle.hexadecimal.proofs.number_field.number_u8.Goals as goal
 
 pub returns-clause-none : goal.returns-clause-none
 returns-clause-none c =
-    none_narrower c.args.field.now 8 (2 ^ 8) c.in_ok-number.field-0 c.try_from.result c.ok.result refl c.in_ok-number.ensures.some c.try_from.ensures c.ok.ensures.value
+    none_narrower c.args.field.now 8 (2 ^ 8) c.in_ok-number.field-0 c.try_from.result c.ok.result refl
+    c.in_ok-number.ensures.some c.try_from.ensures c.ok.ensures.value

@@ -13,7 +13,9 @@ overflow_add-result c =
     omega (arith, below)
 
 pub returns-clause-high : goal.returns-clause-high
-returns-clause-high c = high_read c.args.pair _ _ (values_are c.args.pair _ c.requires.high c.requires.low refl) refl
+returns-clause-high c = high_read c.args.pair _ _
+    (values_are c.args.pair _ c.requires.high c.requires.low refl) refl
 
 pub returns-clause-low : goal.returns-clause-low
-returns-clause-low c = low_read c.args.pair _ _ (values_are c.args.pair _ c.requires.high c.requires.low refl) refl
+returns-clause-low c = low_read c.args.pair _ _
+    (values_are c.args.pair _ c.requires.high c.requires.low refl) refl

@@ -10,7 +10,10 @@ unfolding digit
 loop-i-preserved c =
     let byte = get_or c.args.bytes.now c.loop-i.i 0 in
     encode_step lower_digits c.args.bytes.now c.loop-i.digits c.loop-i.i _ _ (omega arith) (omega arith)
-    (first_half byte c.computed_pair-pair.result (omega arith) c.computed_pair-pair.ensures) (second_half byte c.computed_pair-pair.result (omega arith) c.computed_pair-pair.ensures) c.loop-i.invariant
+    (first_half byte c.computed_pair-pair.result (omega arith) c.computed_pair-pair.ensures)
+    (second_half byte c.computed_pair-pair.result (omega arith)
+    c.computed_pair-pair.ensures) c.loop-i.invariant
 
 pub returns : goal.returns
-returns c = encode_done lower_digits c.args.bytes.now c.loop-i.digits c.loop-i.i (omega arith) (omega arith) c.loop-i.invariant
+returns c = encode_done lower_digits c.args.bytes.now c.loop-i.digits c.loop-i.i (omega arith)
+    (omega arith) c.loop-i.invariant

@@ -28,4 +28,9 @@ loop-index-preserved g c =
     let i = c.loop-index.index in
     let b = c.read.result.buffer in
     let e = packed_entry_is m a c.from.result i b c.read.ensures.buffer (omega arith) in
-    record { gathered = gathered_step m a c.args.chain.now c.loop-index.chain c.push.new.self i b e c.in-Ok-push.ensures.ok c.in-Ok-push.ensures.pushed c.loop-index.invariant.gathered; keeps = λ g. c.in-Ok-push.ensures.keeps (c.loop-index.invariant.keeps g) }
+    record {
+      gathered = gathered_step m a c.args.chain.now c.loop-index.chain c.push.new.self i b e
+          c.in-Ok-push.ensures.ok c.in-Ok-push.ensures.pushed c.loop-index.invariant.gathered;
+      keeps =
+          λ g. c.in-Ok-push.ensures.keeps (c.loop-index.invariant.keeps g);
+    }

@@ -9,12 +9,21 @@ returns-in-Err-push-clause-fault g c =
     let m = c.args.mem.now in
     let a = c.args.addr in
     let i = c.loop-count.index in
-    let e = entry_is m a c.from.result i c.in-Ok-read_plain.descriptor c.in-Ok-read_plain.ensures.ok (omega arith) in
-    let stops = refused_stops m c.loop-count.chain (split_table m a) c.in-Ok.entries c.loop-count._count i c.in-Ok-read_plain.descriptor
-    c.in-Err-push.fault e c.loop-count-test.true c.if-index-entries.false c.in-Ok-read_plain.ensures.plain c.in-Err-push.ensures.fault in
+    let e = entry_is m a c.from.result i c.in-Ok-read_plain.descriptor
+    c.in-Ok-read_plain.ensures.ok (omega arith) in
+    let stops = refused_stops m c.loop-count.chain (split_table m a) c.in-Ok.entries c.loop-count._count i
+    c.in-Ok-read_plain.descriptor
+    c.in-Err-push.fault e c.loop-count-test.true c.if-index-entries.false c.in-Ok-read_plain.ensures.plain
+    c.in-Err-push.ensures.fault in
     record {
       no_table = λ h. absurd (h c.in-Ok.ensures.ok);
-      walked = λ h. rw (← c.in-Ok.ensures.value, c.in-Err-push.ensures.err) (record { count = c.loop-count._count; at = i; reached = c.loop-count.invariant.walk; stops = stops });
+      walked = λ h. rw (← c.in-Ok.ensures.value, c.in-Err-push.ensures.err)
+          (record {
+            count = c.loop-count._count;
+            at = i;
+            reached = c.loop-count.invariant.walk;
+            stops = stops;
+          });
     }
 
 pub returns-in-None-clause-ok : goal.returns-in-None-clause-ok
@@ -22,11 +31,14 @@ returns-in-None-clause-ok g c =
     let m = c.args.mem.now in
     let a = c.args.addr in
     let i = c.loop-count.index in
-    let e = entry_is m a c.from.result i c.in-Ok-read_plain.descriptor c.in-Ok-read_plain.ensures.ok (omega arith) in
+    let e = entry_is m a c.from.result i c.in-Ok-read_plain.descriptor
+    c.in-Ok-read_plain.ensures.ok (omega arith) in
     record {
       table = c.in-Ok.ensures.ok;
-      path = rw (← c.in-Ok.ensures.value) (resolves_step m c.args.chain.now c.loop-count.chain c.push.new.self (split_table m a) c.in-Ok.entries 0 c.loop-count._count i
-          c.in-Ok-read_plain.descriptor e c.loop-count-test.true c.if-index-entries.false c.in-Ok-read_plain.ensures.plain c.in-None.is
+      path = rw (← c.in-Ok.ensures.value) (resolves_step m c.args.chain.now c.loop-count.chain c.push.new.self
+          (split_table m a) c.in-Ok.entries 0 c.loop-count._count i
+          c.in-Ok-read_plain.descriptor e c.loop-count-test.true c.if-index-entries.false
+          c.in-Ok-read_plain.ensures.plain c.in-None.is
           c.in-Ok-push.ensures.ok c.in-Ok-push.ensures.pushed c.loop-count.invariant.walk);
     }
 
@@ -35,10 +47,13 @@ loop-count-preserved g c =
     let m = c.args.mem.now in
     let a = c.args.addr in
     let i = c.loop-count.index in
-    let e = entry_is m a c.from.result i c.in-Ok-read_plain.descriptor c.in-Ok-read_plain.ensures.ok (omega arith) in
+    let e = entry_is m a c.from.result i c.in-Ok-read_plain.descriptor
+    c.in-Ok-read_plain.ensures.ok (omega arith) in
     rw c.from-index.ensures (record {
-      walk = reached_step m c.args.chain.now c.loop-count.chain c.push.new.self (split_table m a) c.in-Ok.entries 0 c.loop-count._count i c.in-Some.next
-          c.in-Ok-read_plain.descriptor e c.if-index-entries.false c.in-Ok-read_plain.ensures.plain c.in-Some.is
+      walk = reached_step m c.args.chain.now c.loop-count.chain c.push.new.self (split_table m a)
+          c.in-Ok.entries 0 c.loop-count._count i c.in-Some.next
+          c.in-Ok-read_plain.descriptor e c.if-index-entries.false
+          c.in-Ok-read_plain.ensures.plain c.in-Some.is
           c.in-Ok-push.ensures.ok c.in-Ok-push.ensures.pushed c.loop-count.invariant.walk;
       keeps = λ g. c.in-Ok-push.ensures.keeps (c.loop-count.invariant.keeps g);
     })

@@ -8,8 +8,10 @@ use Rattle.mmio_window.proofs.service.serve_queue.Goals as goal
 
 pub returns-in-Err-clause-leaves : goal.returns-in-Err-clause-leaves
 returns-in-Err-clause-leaves g c =
-    faults_at (g.D.Device.device (g.D.Device.setup c.args.device.now c.args.backend.now)) c.args.budget c.args.stage c.args.mem.now c.args.queue.now c.open.new.queue
-    (g.D.Device.state c.args.device.now c.args.backend.now) c.open.ensures.opened c.close.new.mem c.close.new.self c.in-Err.fault c.close.result
+    faults_at (g.D.Device.device (g.D.Device.setup c.args.device.now c.args.backend.now)) c.args.budget
+    c.args.stage c.args.mem.now c.args.queue.now c.open.new.queue
+    (g.D.Device.state c.args.device.now c.args.backend.now) c.open.ensures.opened c.close.new.mem
+    c.close.new.self c.in-Err.fault c.close.result
     c.in-Err.ensures.fault c.close.ensures.closed c.close.ensures.shut c.close.ensures.wants
 
 pub returns-in-Err-clause-keeps : goal.returns-in-Err-clause-keeps
@@ -25,4 +27,5 @@ returns-in-End-clause-leaves g c =
     (piece_closes queue_kind device c.args.budget (site_at c.args.mem.now c.open.new.queue s)
     c.serve_chains.new.mem c.close-in-End.new.mem c.serve_chains.new.queue c.close-in-End.new.self
     t (ending_of c.in-End.fault) c.close-in-End.result
-    (rw c.in-End.is at c.in_ok-serve_chains.ensures.stops) c.close-in-End.ensures.closed c.close-in-End.ensures.shut c.close-in-End.ensures.wants)
+    (rw c.in-End.is at c.in_ok-serve_chains.ensures.stops) c.close-in-End.ensures.closed
+    c.close-in-End.ensures.shut c.close-in-End.ensures.wants)

@@ -15,7 +15,8 @@ loop-count-preserved g c =
     let e = c.read_descriptor-descriptor.ensures in
     let next = ap (λ (d : Descriptor). d.next) (sym e) ∙ c.in-Some.is in
     record {
-      walk = reached_step m [] c.loop-count.chain c.push.new.self (ring_descriptor m a n) n c.args.first c.loop-count.count i c.in-Some.next
+      walk = reached_step m [] c.loop-count.chain c.push.new.self (ring_descriptor m a n) n c.args.first
+          c.loop-count.count i c.in-Some.next
           d e c.loop-count.invariant.below c.if-descriptor.false c.in-Some.is
           c.in-Ok-push.ensures.ok c.in-Ok-push.ensures.pushed c.loop-count.invariant.walk;
       below = next_below m a n i c.in-Some.next c.loop-count.invariant.below next;

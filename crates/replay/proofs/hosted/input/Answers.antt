@@ -7,4 +7,5 @@ returns-in-Some g c = taken_quietly _ _ _ _ c.in-Some.ensures.takes
 
 pub returns-in-None : goal.returns-in-None
 returns-in-None g c =
-    hosts_missing _ _ _ c.in-None.ensures.missing (past_slots c.args.board.now c.args.slot (λ there. false≢true (c.in-None.ensures.there.1 there)))
+    hosts_missing _ _ _ c.in-None.ensures.missing
+    (past_slots c.args.board.now c.args.slot (λ there. false≢true (c.in-None.ensures.there.1 there)))

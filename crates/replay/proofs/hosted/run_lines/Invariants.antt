@@ -9,7 +9,8 @@ abbrev pub invariant-loop-rest : goal.invariant-loop-rest
 invariant-loop-rest g l = record {
   sofar :
       RunSofar g.row.A.Denot l.lines (length l.fn.room) l.rest
-      (SendsAllHosted l.fn.board l.board (g.W.Write.contents l.fn.writer) (g.W.Write.contents l.writer) (waiting l.fn.text) (waiting l.text));
+      (SendsAllHosted l.fn.board l.board (g.W.Write.contents l.fn.writer) (g.W.Write.contents l.writer)
+      (waiting l.fn.text) (waiting l.text));
   empty : l.output.items ≡ [];
 }
 

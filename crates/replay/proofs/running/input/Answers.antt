@@ -4,4 +4,5 @@ use Rattle.replay.proofs.running.input.Goals as goal
 
 pub returns-in-None : goal.returns-in-None
 returns-in-None g c =
-    slot_missing g.I.Image.disk c.args.board.now c.input.new.self _ c.in-None.ensures.missing (past_slots c.args.board.now c.args.slot (λ there. false≢true (c.in-None.ensures.there.1 there)))
+    slot_missing g.I.Image.disk c.args.board.now c.input.new.self _ c.in-None.ensures.missing
+    (past_slots c.args.board.now c.args.slot (λ there. false≢true (c.in-None.ensures.there.1 there)))

@@ -12,19 +12,23 @@ loop-rest-init g c = record {
 
 pub run_line-rest-requires-clause-begins : goal.run_line-rest-requires-clause-begins
 run_line-rest-requires-clause-begins g c =
-    begins _ c.args.lines.now _ c.loop-rest.rest.now _ c.loop-rest.invariant.sofar (eqb-false (length c.loop-rest.rest.now) 0 (sym c.loop-rest-test.ensures))
+    begins _ c.args.lines.now _ c.loop-rest.rest.now _ c.loop-rest.invariant.sofar
+    (eqb-false (length c.loop-rest.rest.now) 0 (sym c.loop-rest-test.ensures))
 
 pub run_line-rest-requires-clause-room : goal.run_line-rest-requires-clause-room
-run_line-rest-requires-clause-room g c = rw c.loop-rest.auto.room (fits _ c.args.lines.now _ c.loop-rest.rest.now _ c.loop-rest.invariant.sofar)
+run_line-rest-requires-clause-room g c =
+    rw c.loop-rest.auto.room (fits _ c.args.lines.now _ c.loop-rest.rest.now _ c.loop-rest.invariant.sofar)
 
 pub loop-rest-preserved : goal.loop-rest-preserved
 loop-rest-preserved g c = record {
   sofar =
-      run_more _ c.args.lines.now _ c.loop-rest.rest.now _ _ _ _ c.loop-rest.invariant.sofar c.run_line-rest.ensures.ran
+      run_more _ c.args.lines.now _ c.loop-rest.rest.now _ _ _ _ c.loop-rest.invariant.sofar
+      c.run_line-rest.ensures.ran
       (λ es e. sends_one_more g.I.Image.disk c.args.board.now _ _ es e _ _ _ _ _ _);
   empty = c.run_line-rest.ensures.empty;
 }
 
 pub returns : goal.returns
 returns g c events are =
-    run_all _ c.args.lines.now _ c.loop-rest.rest.now events _ c.loop-rest.invariant.sofar (eqb-true (length c.loop-rest.rest.now) 0 (sym c.loop-rest-test.ensures)) are
+    run_all _ c.args.lines.now _ c.loop-rest.rest.now events _ c.loop-rest.invariant.sofar
+    (eqb-true (length c.loop-rest.rest.now) 0 (sym c.loop-rest-test.ensures)) are

@@ -4,7 +4,10 @@ use Rattle.sector_cache.proofs.Stops.{touches_more, touches_none}
 use Rattle.sector_cache.proofs.backing.read_sector.Goals as goal
 
 pub loop-turn-init : goal.loop-turn-init
-loop-turn-init g c = (touches_none 0 0, (refl, (λ h. h, (search rules, (search rules, front_of_none _ _ _ _ refl)))))
+loop-turn-init g c = (
+  touches_none 0 0,
+  (refl, (λ h. h, (search rules, (search rules, front_of_none _ _ _ _ refl)))),
+)
 
 pub returns-then-done-eq-SECTOR_LEN-clause-read : goal.returns-then-done-eq-SECTOR_LEN-clause-read
 returns-then-done-eq-SECTOR_LEN-clause-read g c =
@@ -24,7 +27,8 @@ loop-turn-preserved g c =
             search rules,
             (
               length_kept _ _ _ within long rest,
-              got_more c.read_from.result _ _ _ _ _ _ _ c.in_ok-done.ensures.count stays within long rest front c.read_from.ensures.read,
+              got_more c.read_from.result _ _ _ _ _ _ _ c.in_ok-done.ensures.count stays within long rest
+                  front c.read_from.ensures.read,
             ),
           ),
         ),

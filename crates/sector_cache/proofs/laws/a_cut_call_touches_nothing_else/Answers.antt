@@ -7,7 +7,8 @@ returns-clause-known g c = λ old new start end since bytes left touches only be
 
 pub returns-clause-contents : goal.returns-clause-contents
 returns-clause-contents g c = λ old new start end since left touches clean begins past.
-    contents_beside start end (g.I.Image.disk old) since left touches begins (g.met.I.Image.durable old) clean past
+    contents_beside start end (g.I.Image.disk old) since left touches begins
+    (g.met.I.Image.durable old) clean past
 
 pub returns-clause-apart : goal.returns-clause-apart
 returns-clause-apart g c = extent_apart

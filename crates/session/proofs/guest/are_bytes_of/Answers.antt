@@ -12,8 +12,10 @@ returns-then-not-begin_as_long c =
     let same : regions ≡ guest.slot.regions = c.as_slice-regions.ensures.same in (
       λ t. absurd (cc (t)),
       λ whole. c.if-not-begin_as_long.ensures.1
-          (ap (λ behind. sizes (take (length regions) behind)) (all_behind runs next) ∙ ap (λ some. sizes (take (length some) (drop next runs))) same
-          ∙ first_same c.args.guests.now c.loop-guest.guest-index guest runs next c.loop-guest-test.true c.guest-item.is (c.loop-guest.invariant.1.0 whole)
+          (ap (λ behind. sizes (take (length regions) behind)) (all_behind runs next)
+          ∙ ap (λ some. sizes (take (length some) (drop next runs))) same
+          ∙ first_same c.args.guests.now c.loop-guest.guest-index guest runs next c.loop-guest-test.true
+          c.guest-item.is (c.loop-guest.invariant.1.0 whole)
           ∙ sym (ap lens same)),
     )
 
@@ -25,17 +27,23 @@ loop-guest-preserved c =
     let next = c.loop-guest.next in
     let same : regions ≡ guest.slot.regions = c.as_slice-regions.ensures.same in
     let first : sizes (take (length guest.slot.regions) (drop next runs)) ≡ lens guest.slot.regions =
-    sym (ap (λ some. sizes (take (length some) (drop next runs))) same) ∙ sym (ap (λ behind. sizes (take (length regions) behind)) (all_behind runs next))
+    sym (ap (λ some. sizes (take (length some) (drop next runs))) same)
+    ∙ sym (ap (λ behind. sizes (take (length regions) behind)) (all_behind runs next))
     ∙ c.if-not-begin_as_long.ensures.0 refl ∙ ap lens same in
-    let step = rest_same c.args.guests.now c.loop-guest.guest-index guest runs next c.loop-guest-test.true c.guest-item.is first in
+    let step = rest_same c.args.guests.now c.loop-guest.guest-index guest runs next c.loop-guest-test.true
+    c.guest-item.is first in
     rw (ap length same) (
       first_fits guest.slot.regions runs next c.loop-guest.invariant.0 first,
-      ((λ whole. step.0 (c.loop-guest.invariant.1.0 whole)), (λ rest. c.loop-guest.invariant.1.1 (step.1 rest))),
+      (
+        (λ whole. step.0 (c.loop-guest.invariant.1.0 whole)),
+        (λ rest. c.loop-guest.invariant.1.1 (step.1 rest)),
+      ),
     )
 
 pub returns : goal.returns
 returns c =
-    let end = none_left c.args.guests.now c.loop-guest.guest-index c.args.bytes.now c.loop-guest.next c.loop-guest-test.false c.loop-guest.invariant.0 in (
+    let end = none_left c.args.guests.now c.loop-guest.guest-index c.args.bytes.now c.loop-guest.next
+    c.loop-guest-test.false c.loop-guest.invariant.0 in (
       λ test. c.loop-guest.invariant.1.1 (end.1 (grind (arith, nat_tests, test))),
       λ whole. let is = end.0 (c.loop-guest.invariant.1.0 whole) in grind (arith, nat_tests, is),
     )

@@ -9,4 +9,5 @@ use Rattle.session.proofs.guest.are_bytes_of.Given as goal
 abbrev pub invariant-loop-guest : goal.invariant-loop-guest
 invariant-loop-guest l =
     (l.next ≤ length l.bytes)
-    × (AreBytesOf (slots_of l.guests) (map vec_items l.bytes) ↔ AreBytesOf (slots_of (drop l.guest-index l.guests)) (map vec_items (drop l.next l.bytes)))
+    × (AreBytesOf (slots_of l.guests) (map vec_items l.bytes)
+    ↔ AreBytesOf (slots_of (drop l.guest-index l.guests)) (map vec_items (drop l.next l.bytes)))

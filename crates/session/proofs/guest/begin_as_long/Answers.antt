@@ -13,7 +13,9 @@ returns-then-len-regions c =
         arith,
         c.len.ensures,
         run.ok.0,
-        same_at (take (length regions) c.args.bytes.now) regions place run (record { base = 0; len = 0 }) same c.loop-place-test.true
-            (c.index-bytes-place.is ∙ sym (get_or-take (length regions) c.args.bytes.now place run c.loop-place-test.true)),
+        same_at (take (length regions) c.args.bytes.now) regions place run (record { base = 0; len = 0 }) same
+            c.loop-place-test.true
+            (c.index-bytes-place.is ∙ sym
+            (get_or-take (length regions) c.args.bytes.now place run c.loop-place-test.true)),
       ))),
     )

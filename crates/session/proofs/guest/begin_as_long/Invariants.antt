@@ -4,4 +4,5 @@ use Rattle.std.specs.Vec.{vec_items}
 use Rattle.session.proofs.guest.begin_as_long.Given as goal
 
 abbrev pub invariant-loop-place : goal.invariant-loop-place
-invariant-loop-place l = map (λ run. length run) (map vec_items (take l.place l.bytes)) ≡ map (λ region. region.len) (take l.place l.regions)
+invariant-loop-place l = map (λ run. length run) (map vec_items (take l.place l.bytes))
+    ≡ map (λ region. region.len) (take l.place l.regions)

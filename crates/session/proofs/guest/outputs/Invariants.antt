@@ -4,4 +4,5 @@ use Rattle.session.specs.Session.{none_waiting}
 use Rattle.session.proofs.guest.outputs.Given as goal
 
 abbrev pub invariant-loop-guest : goal.invariant-loop-guest
-invariant-loop-guest g l = l.outputs.items ≡ map (λ guest. none_waiting guest.outlet) (take l.guest-index l.guests)
+invariant-loop-guest g l =
+    l.outputs.items ≡ map (λ guest. none_waiting guest.outlet) (take l.guest-index l.guests)

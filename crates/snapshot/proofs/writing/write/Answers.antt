@@ -6,11 +6,16 @@ use Rattle.snapshot.proofs.OfSlot.{snapshot_again}
 use Rattle.snapshot.proofs.writing.write.Goals as goal
 
 -- what was written
-text : (g : _) (c : goal.In_ok-extend_from_slice-3 g) → c.extend_from_slice-3.new.self.items ≡ snapshot c.args.saved (c.args.front.now ++ c.args.back.now)
+text : (g : _) (c : goal.In_ok-extend_from_slice-3 g)
+    → c.extend_from_slice-3.new.self.items ≡ snapshot c.args.saved (c.args.front.now ++ c.args.back.now)
 text g c =
-    all_appended c.head_of-head.result.items c.args.front.now c.args.back.now c.in_ok-out.out.items c.extend_from_slice.new.self.items c.extend_from_slice-2.new.self.items c.extend_from_slice-3.new.self.items
-    c.in_ok-out.ensures.items (rw (← c.as_slice.ensures.value) c.in_ok-extend_from_slice.ensures.items) c.in_ok-extend_from_slice-2.ensures.items c.in_ok-extend_from_slice-3.ensures.items
-    ∙ sym (snapshot_of_head c.args.saved c.args.front.now c.args.back.now c.head_of-head.result.items _ c.head_of-head.ensures.text refl)
+    all_appended c.head_of-head.result.items c.args.front.now c.args.back.now c.in_ok-out.out.items
+    c.extend_from_slice.new.self.items c.extend_from_slice-2.new.self.items
+    c.extend_from_slice-3.new.self.items
+    c.in_ok-out.ensures.items (rw (← c.as_slice.ensures.value) c.in_ok-extend_from_slice.ensures.items)
+    c.in_ok-extend_from_slice-2.ensures.items c.in_ok-extend_from_slice-3.ensures.items
+    ∙ sym (snapshot_of_head c.args.saved c.args.front.now c.args.back.now c.head_of-head.result.items _
+    c.head_of-head.ensures.text refl)
 
 pub returns-clause-text : goal.returns-clause-text
 returns-clause-text g c = text g c
@@ -18,4 +23,5 @@ returns-clause-text g c = text g c
 pub returns-clause-again : goal.returns-clause-again
 returns-clause-again g c =
     ap snapshot_at (text g c)
-    ∙ snapshot_again c.args.saved (c.args.front.now ++ c.args.back.now) c.head_of-head.ensures.fits (omega (arith, length-append c.args.front.now c.args.back.now, c.requires))
+    ∙ snapshot_again c.args.saved (c.args.front.now ++ c.args.back.now) c.head_of-head.ensures.fits
+    (omega (arith, length-append c.args.front.now c.args.back.now, c.requires))

@@ -5,16 +5,19 @@ use Rattle.snapshot.proofs.writing.write_into.Goals as goal
 
 pub returns-then-into-len-clause-short : goal.returns-then-into-len-clause-short
 returns-then-into-len-clause-short c =
-    let long = snapshot_len c.args.saved.now c.args.front.now c.args.back.now c.head_of-head.result.items _ c.head_of-head.ensures.text refl in
+    let long = snapshot_len c.args.saved.now c.args.front.now c.args.back.now c.head_of-head.result.items _
+    c.head_of-head.ensures.text refl in
     (λ is. omega (arith, long, c.len.ensures.value, c.if-into-len.true), λ less. refl)
 
 pub returns-then-into-len-clause-again : goal.returns-then-into-len-clause-again
 returns-then-into-len-clause-again c =
-    snapshot_again c.args.saved.now (c.args.front.now ++ c.args.back.now) c.head_of-head.ensures.fits (omega (arith, length-append c.args.front.now c.args.back.now, c.requires))
+    snapshot_again c.args.saved.now (c.args.front.now ++ c.args.back.now) c.head_of-head.ensures.fits
+    (omega (arith, length-append c.args.front.now c.args.back.now, c.requires))
 
 pub returns-clause-len : goal.returns-clause-len
 returns-clause-len c =
-    let long = snapshot_len c.args.saved.now c.args.front.now c.args.back.now c.head_of-head.result.items _ c.head_of-head.ensures.text refl in
+    let long = snapshot_len c.args.saved.now c.args.front.now c.args.back.now c.head_of-head.result.items _
+    c.head_of-head.ensures.text refl in
     omega (arith, long, c.len.ensures.value)
 
 pub returns-clause-text : goal.returns-clause-text
@@ -27,15 +30,33 @@ returns-clause-text c =
     let three : c.len-3.result ≡ n = c.len-3.ensures.value in
     let width : n + f - n ≡ f = omega arith in
     let rest : n + f + b - (n + f) ≡ b = omega arith in
-    let text = snapshot_of_head c.args.saved.now c.args.front.now c.args.back.now c.head_of-head.result.items _ c.head_of-head.ensures.text refl in
-    rw (one, two, three, width, rest, c.copy_from_slice.ensures.after, c.as_slice.ensures.value, c.copy_from_slice-2.ensures.after, c.copy_from_slice-3.ensures.after, text)
-    (all_put c.head_of-head.result.items c.args.front.now c.args.back.now c.args.into.now n f b refl refl refl)
+    let text = snapshot_of_head c.args.saved.now c.args.front.now c.args.back.now c.head_of-head.result.items
+    _ c.head_of-head.ensures.text refl in
+    rw (
+      one,
+      two,
+      three,
+      width,
+      rest,
+      c.copy_from_slice.ensures.after,
+      c.as_slice.ensures.value,
+      c.copy_from_slice-2.ensures.after,
+      c.copy_from_slice-3.ensures.after,
+      text,
+    )
+    (all_put c.head_of-head.result.items c.args.front.now c.args.back.now c.args.into.now n
+    f b refl refl refl)
 
 pub returns-clause-short : goal.returns-clause-short
 returns-clause-short c =
-    let long = snapshot_len c.args.saved.now c.args.front.now c.args.back.now c.head_of-head.result.items _ c.head_of-head.ensures.text refl in
-    (λ never. absurd (cc), λ less. absurd (omega (arith, long, c.len.ensures.value, c.if-into-len.false, less)))
+    let long = snapshot_len c.args.saved.now c.args.front.now c.args.back.now c.head_of-head.result.items _
+    c.head_of-head.ensures.text refl in (
+      λ never. absurd (cc),
+      λ less. absurd
+          (omega (arith, long, c.len.ensures.value, c.if-into-len.false, less)),
+    )
 
 pub returns-clause-again : goal.returns-clause-again
 returns-clause-again c =
-    snapshot_again c.args.saved.now (c.args.front.now ++ c.args.back.now) c.head_of-head.ensures.fits (omega (arith, length-append c.args.front.now c.args.back.now, c.requires))
+    snapshot_again c.args.saved.now (c.args.front.now ++ c.args.back.now) c.head_of-head.ensures.fits
+    (omega (arith, length-append c.args.front.now c.args.back.now, c.requires))

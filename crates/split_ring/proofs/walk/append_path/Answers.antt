@@ -13,8 +13,10 @@ loop-count-preserved g c =
     let a = c.args.table.addr in
     let i = c.loop-count.index in
     let d = c.read_split-descriptor.result in
-    let e = entry_is m a (16 * c.from-in-loop-count.result) i d c.read_split-descriptor.ensures (omega arith) in
-    reached_step m [] c.loop-count.chain c.push.new.self (split_table m a) c.args.table.size c.args.head c.loop-count._count i c.in-Some.next
+    let e = entry_is m a (16 * c.from-in-loop-count.result) i d
+    c.read_split-descriptor.ensures (omega arith) in
+    reached_step m [] c.loop-count.chain c.push.new.self (split_table m a) c.args.table.size c.args.head
+    c.loop-count._count i c.in-Some.next
     d e c.if-index-table.false c.if-descriptor.false c.in-Some.is
     c.in-Ok.ensures.ok c.in-Ok.ensures.pushed c.loop-count.invariant
 
@@ -24,9 +26,12 @@ returns-in-Err-clause-fault g c =
     let a = c.args.table.addr in
     let i = c.loop-count.index in
     let d = c.read_split-descriptor.result in
-    let e = entry_is m a (16 * c.from-in-loop-count.result) i d c.read_split-descriptor.ensures (omega arith) in
-    list_refused split_tables c.args.table.indirect m (split_table m a) c.args.table.size c.args.head c.loop-count.chain c.loop-count._count i d c.in-Err.fault
-    e c.loop-count-test.true c.if-index-table.false c.if-descriptor.false c.in-Err.ensures.fault c.loop-count.invariant
+    let e = entry_is m a (16 * c.from-in-loop-count.result) i d
+    c.read_split-descriptor.ensures (omega arith) in
+    list_refused split_tables c.args.table.indirect m (split_table m a) c.args.table.size c.args.head
+    c.loop-count.chain c.loop-count._count i d c.in-Err.fault
+    e c.loop-count-test.true c.if-index-table.false c.if-descriptor.false c.in-Err.ensures.fault
+    c.loop-count.invariant
 
 pub returns-then-descriptor-clause-ok : goal.returns-then-descriptor-clause-ok
 returns-then-descriptor-clause-ok g c =
@@ -37,12 +42,15 @@ returns-then-descriptor-clause-ok g c =
     let d = c.read_split-descriptor.result in
     let before = c.loop-count.chain in
     let after = c.append_table.new.chain in
-    let e = entry_is m a (16 * c.from-in-loop-count.result) i d c.read_split-descriptor.ensures (omega arith) in
+    let e = entry_is m a (16 * c.from-in-loop-count.result) i d
+    c.read_split-descriptor.ensures (omega arith) in
     on_ok_weaker c.append_table.result
     (λ (ends : (count : ℕ) → EndsInTable split_tables c.args.table.indirect m before count d after). (
       k,
       i,
-      list_table split_tables c.args.table.indirect m (split_table m a) c.args.table.size c.args.head before after k i d
-          e c.loop-count-test.true c.if-index-table.false c.if-descriptor.true (ends k).known (ends k).apart (ends k).table c.loop-count.invariant,
+      list_table split_tables c.args.table.indirect m (split_table m a) c.args.table.size
+          c.args.head before after k i d
+          e c.loop-count-test.true c.if-index-table.false c.if-descriptor.true (ends k).known (ends k).apart
+          (ends k).table c.loop-count.invariant,
     ))
     c.append_table.ensures.ok

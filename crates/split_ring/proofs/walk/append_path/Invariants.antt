@@ -4,4 +4,5 @@ use Rattle.indirect.specs.Walks.{Reached}
 use Rattle.split_ring.proofs.walk.append_path.Given as goal
 
 abbrev pub invariant-loop-count : goal.invariant-loop-count
-invariant-loop-count g l = Reached l.mem [] (split_table l.mem l.table.addr) l.table.size l.head l._count l.index l.chain
+invariant-loop-count g l =
+    Reached l.mem [] (split_table l.mem l.table.addr) l.table.size l.head l._count l.index l.chain

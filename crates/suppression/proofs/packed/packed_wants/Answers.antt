@@ -14,5 +14,6 @@ returns-in-Some g c =
     let negotiated : a.event_idx ≡ true = grind (arith, common_steps) in
     let event = PackedWants-event a.mem.now a.driver_area a.n a.event_idx a.from a.passed place in
     let wants = event negotiated asked_for c.in-Some.ensures.place in
-    let among : IsTrue c.is_passed.result ↔ Passed (2 * a.n) a.from a.passed place = rw (← c.from.ensures) c.is_passed.ensures in
+    let among : IsTrue c.is_passed.result ↔ Passed (2 * a.n) a.from a.passed place =
+    rw (← c.from.ensures) c.is_passed.ensures in
     (λ h. wants.1 (among.0 h), λ h. among.1 (wants.0 h))

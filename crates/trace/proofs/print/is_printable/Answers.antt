@@ -9,8 +9,12 @@ returns-then-events_have_lines g c =
     elim c.if-has_front.branch [
       | then-has_front w ↦ elim c.if-slots_have_lines.branch [
         | then-slots_have_lines v ↦
-            printable_when (content c.args.trace.now) _ _ _ _ c.has_front.ensures (rw w.deref.ensures.value at w.slots_have_lines.ensures) (rw v.deref-then-slots_have_lines.ensures.value at v.events_have_lines.ensures)
-            (rw c.deref-then-events_have_lines.ensures.value at c.events_have_words.ensures) w.if-has_front.true (sym w.value-is ∙ v.if-slots_have_lines.true) (sym v.value-is ∙ c.if-events_have_lines.true)
+            printable_when (content c.args.trace.now) _ _ _ _ c.has_front.ensures
+            (rw w.deref.ensures.value at w.slots_have_lines.ensures)
+            (rw v.deref-then-slots_have_lines.ensures.value at v.events_have_lines.ensures)
+            (rw c.deref-then-events_have_lines.ensures.value at c.events_have_words.ensures)
+            w.if-has_front.true (sym w.value-is ∙ v.if-slots_have_lines.true) (sym v.value-is
+            ∙ c.if-events_have_lines.true)
         | else-slots_have_lines v ↦ let a = v.value-is in let b = c.if-events_have_lines.true in absurd (cc)
       ]
       | else-has_front w ↦ elim c.if-slots_have_lines.branch [

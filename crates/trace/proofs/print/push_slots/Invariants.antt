@@ -4,4 +4,5 @@ use Rattle.trace.proofs.print.push_slots.Given as goal
 
 -- the lines so far
 abbrev pub invariant-loop-slot : goal.invariant-loop-slot
-invariant-loop-slot g l = l.out.items ≡ l.initial.out.items ++ joined (map (slot_line l.version) (take l.slot-index l.slots))
+invariant-loop-slot g l = l.out.items ≡ l.initial.out.items
+    ++ joined (map (slot_line l.version) (take l.slot-index l.slots))

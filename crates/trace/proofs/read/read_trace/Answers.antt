@@ -13,65 +13,90 @@ returns-in-Err-clause-fault g c known = head_fault c.args.text.now c.in-Err.kind
 
 pub returns-in-Err-clause-none : goal.returns-in-Err-clause-none
 returns-in-Err-clause-none g c known u range printable is =
-    no_fault c.args.text.now u 1 c.in-Err.kind (record { range = range; printable = printable }) is (returns-in-Err-clause-fault g c known)
+    no_fault c.args.text.now u 1 c.in-Err.kind (record { range = range; printable = printable }) is
+    (returns-in-Err-clause-fault g c known)
 
 pub returns-in-Err-after_disks-clause-fault : goal.returns-in-Err-after_disks-clause-fault
-returns-in-Err-after_disks-clause-fault g c known = second_fault c.in-Ok.found.0 c.args.text.now c.in-Ok.found.1.now c.in-Ok.ensures.ok.one_of c.in-Ok.ensures.ok.ended c.in-Err-after_disks.kind c.in-Err-after_disks.ensures.err known
+returns-in-Err-after_disks-clause-fault g c known =
+    second_fault c.in-Ok.found.0 c.args.text.now c.in-Ok.found.1.now c.in-Ok.ensures.ok.one_of
+    c.in-Ok.ensures.ok.ended c.in-Err-after_disks.kind c.in-Err-after_disks.ensures.err known
 
 pub returns-in-Err-after_disks-clause-none : goal.returns-in-Err-after_disks-clause-none
 returns-in-Err-after_disks-clause-none g c known u range printable is =
-    no_fault c.args.text.now u 2 c.in-Err-after_disks.kind (record { range = range; printable = printable }) is (returns-in-Err-after_disks-clause-fault g c known)
+    no_fault c.args.text.now u 2 c.in-Err-after_disks.kind (record { range = range; printable = printable })
+    is (returns-in-Err-after_disks-clause-fault g c known)
 
 pub returns-in-Err-after_disks-clause-clean : goal.returns-in-Err-after_disks-clause-clean
-returns-in-Err-after_disks-clause-clean g c = head_clean c.in-Ok.found.0 c.args.text.now c.in-Ok.found.1.now c.in-Ok.ensures.ok.one_of c.in-Ok.ensures.ok.ended
+returns-in-Err-after_disks-clause-clean g c =
+    head_clean c.in-Ok.found.0 c.args.text.now c.in-Ok.found.1.now c.in-Ok.ensures.ok.one_of
+    c.in-Ok.ensures.ok.ended
 
 pub loop-rest-init : goal.loop-rest-init
 loop-rest-init g c =
     let second = c.in-Ok-after_disks.ensures.ok in
     subst (λ x. Sofar c.args.text.now x 3 c.in-Ok-after_disks.found.1.now) (sym c.new-trace.ensures)
-    (begun_so c.args.text.now c.in-Ok.found.0 c.in-Ok-after_disks.found.0 c.in-Ok.found.1.now second.line c.in-Ok-after_disks.found.1.now c.in-Ok.ensures.ok.one_of second.of_version c.in-Ok.ensures.ok.ended second.ended second.fields second.fits)
+    (begun_so c.args.text.now c.in-Ok.found.0 c.in-Ok-after_disks.found.0 c.in-Ok.found.1.now second.line
+    c.in-Ok-after_disks.found.1.now c.in-Ok.ensures.ok.one_of second.of_version c.in-Ok.ensures.ok.ended
+    second.ended second.fields second.fits)
 
 pub returns-in_default-clause-fault : goal.returns-in_default-clause-fault
 returns-in_default-clause-fault g c known =
-    is_cut c.args.text.now (content c.loop-rest.trace) c.loop-rest.line c.loop-rest.rest.now c.loop-rest.invariant c.in_default.ensures.none
+    is_cut c.args.text.now (content c.loop-rest.trace) c.loop-rest.line c.loop-rest.rest.now
+    c.loop-rest.invariant c.in_default.ensures.none
     (λ e. eqb-false (length c.loop-rest.rest.now) 0 (sym c.loop-rest-test.ensures) (ap length e))
 
 pub returns-in_default-clause-none : goal.returns-in_default-clause-none
 returns-in_default-clause-none g c known u range printable is =
-    no_fault c.args.text.now u c.loop-rest.line kind.Cut (record { range = range; printable = printable }) is (returns-in_default-clause-fault g c known)
+    no_fault c.args.text.now u c.loop-rest.line kind.Cut (record { range = range; printable = printable }) is
+    (returns-in_default-clause-fault g c known)
 
 pub returns-in_default-clause-numbered : goal.returns-in_default-clause-numbered
 returns-in_default-clause-numbered g c = let n = c.loop-rest.invariant.count in omega arith
 
 pub returns-in_default-clause-clean : goal.returns-in_default-clause-clean
-returns-in_default-clause-clean g c = clean c.args.text.now (content c.loop-rest.trace) c.loop-rest.line c.loop-rest.rest.now c.loop-rest.invariant
+returns-in_default-clause-clean g c =
+    clean c.args.text.now (content c.loop-rest.trace) c.loop-rest.line c.loop-rest.rest.now
+    c.loop-rest.invariant
 
 pub returns-in-Err-add_line-clause-fault : goal.returns-in-Err-add_line-clause-fault
 returns-in-Err-add_line-clause-fault g c known =
-    is_refused c.args.text.now (content c.loop-rest.trace) c.loop-rest.line c.loop-rest.rest.now c.loop-rest.invariant (has_begun (content c.loop-rest.trace)) c.in-Some.this.now c.in-Some.after.now c.in-Err-add_line.kind c.in-Some.ensures.lines
-    (ltb-true 0 (length c.loop-rest.trace.events.items)) (λ e. let none = ltb-false 0 (length c.loop-rest.trace.events.items) e in omega arith) (c.in-Err-add_line.ensures.err known) known
+    is_refused c.args.text.now (content c.loop-rest.trace) c.loop-rest.line c.loop-rest.rest.now
+    c.loop-rest.invariant (has_begun (content c.loop-rest.trace)) c.in-Some.this.now c.in-Some.after.now
+    c.in-Err-add_line.kind c.in-Some.ensures.lines
+    (ltb-true 0 (length c.loop-rest.trace.events.items))
+    (λ e. let none = ltb-false 0 (length c.loop-rest.trace.events.items) e in
+    omega arith) (c.in-Err-add_line.ensures.err known) known
 
 pub returns-in-Err-add_line-clause-none : goal.returns-in-Err-add_line-clause-none
 returns-in-Err-add_line-clause-none g c known u range printable is =
-    no_fault c.args.text.now u c.loop-rest.line c.in-Err-add_line.kind (record { range = range; printable = printable }) is (returns-in-Err-add_line-clause-fault g c known)
+    no_fault c.args.text.now u c.loop-rest.line c.in-Err-add_line.kind
+    (record { range = range; printable = printable }) is (returns-in-Err-add_line-clause-fault g c known)
 
 pub returns-in-Err-add_line-clause-numbered : goal.returns-in-Err-add_line-clause-numbered
 returns-in-Err-add_line-clause-numbered g c = let n = c.loop-rest.invariant.count in omega arith
 
 pub returns-in-Err-add_line-clause-clean : goal.returns-in-Err-add_line-clause-clean
-returns-in-Err-add_line-clause-clean g c = clean c.args.text.now (content c.loop-rest.trace) c.loop-rest.line c.loop-rest.rest.now c.loop-rest.invariant
+returns-in-Err-add_line-clause-clean g c =
+    clean c.args.text.now (content c.loop-rest.trace) c.loop-rest.line c.loop-rest.rest.now
+    c.loop-rest.invariant
 
 pub overflow_add-line : goal.overflow_add-line
-overflow_add-line g c = let n = numbered c.args.text.now (content c.loop-rest.trace) c.loop-rest.line c.loop-rest.rest.now c.loop-rest.invariant in omega arith
+overflow_add-line g c = let n =
+    numbered c.args.text.now (content c.loop-rest.trace) c.loop-rest.line c.loop-rest.rest.now
+    c.loop-rest.invariant in omega arith
 
 pub loop-rest-preserved : goal.loop-rest-preserved
 loop-rest-preserved g c =
-    entry_read c.args.text.now (content c.loop-rest.trace) (content c.add_line.new.trace) c.loop-rest.line c.loop-rest.rest.now c.in-Some.this.now c.in-Some.after.now c.loop-rest.invariant c.in-Some.ensures.ended c.in_default-add_line.ensures.ok
+    entry_read c.args.text.now (content c.loop-rest.trace) (content c.add_line.new.trace) c.loop-rest.line
+    c.loop-rest.rest.now c.in-Some.this.now c.in-Some.after.now c.loop-rest.invariant
+    c.in-Some.ensures.ended c.in_default-add_line.ensures.ok
 
 pub returns-clause-found : goal.returns-clause-found
 returns-clause-found g c =
-    all_read c.args.text.now (content c.loop-rest.trace) c.loop-rest.line c.loop-rest.rest.now c.loop-rest.invariant (eqb-true (length c.loop-rest.rest.now) 0 (sym c.loop-rest-test.ensures))
+    all_read c.args.text.now (content c.loop-rest.trace) c.loop-rest.line c.loop-rest.rest.now
+    c.loop-rest.invariant (eqb-true (length c.loop-rest.rest.now) 0 (sym c.loop-rest-test.ensures))
 
 pub returns-clause-only : goal.returns-clause-only
 returns-clause-only g c u range printable is =
-    one_trace u (content c.loop-rest.trace) (record { range = range; printable = printable }) c.loop-rest.invariant.fits (sym is ∙ returns-clause-found g c)
+    one_trace u (content c.loop-rest.trace) (record { range = range; printable = printable })
+    c.loop-rest.invariant.fits (sym is ∙ returns-clause-found g c)

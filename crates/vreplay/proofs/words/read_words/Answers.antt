@@ -7,14 +7,18 @@ use Rattle.vreplay.proofs.words.read_words.Goals as goal
 pub returns-in_err-trace-clause-refused : goal.returns-in_err-trace-clause-refused
 returns-in_err-trace-clause-refused c =
     let words = texts_of c.args.words.now in
-    let missing : value_of (codes "trace") words ≡ None = given c.in-Ok.matches words (codes "trace") c.in-Ok.ensures.matches ∙ c.in_err-trace.ensures.none (search rules) in
+    let missing : value_of (codes "trace") words ≡ None =
+    given c.in-Ok.matches words (codes "trace") c.in-Ok.ensures.matches
+    ∙ c.in_err-trace.ensures.none (search rules) in
     let is : c.from_residual.result ≡ Err Usage = search rules in
     subst (λ r. IfErr r (RefusesBy words)) (sym is) (inr (inl missing))
 
 pub returns-in_err-image-clause-refused : goal.returns-in_err-image-clause-refused
 returns-in_err-image-clause-refused c =
     let words = texts_of c.args.words.now in
-    let missing : value_of (codes "image") words ≡ None = given c.in-Ok.matches words (codes "image") c.in-Ok.ensures.matches ∙ c.in_err-image.ensures.none (search rules) in
+    let missing : value_of (codes "image") words ≡ None =
+    given c.in-Ok.matches words (codes "image") c.in-Ok.ensures.matches
+    ∙ c.in_err-image.ensures.none (search rules) in
     let is : c.from_residual-in_err-image.result ≡ Err Usage = search rules in
     subst (λ r. IfErr r (RefusesBy words)) (sym is) (inr (inr (inl missing)))
 
@@ -23,16 +27,22 @@ returns-in_default-clause-refused c =
     let words = texts_of c.args.words.now in
     let flag = given c.in-Ok.matches words (codes "in-place") c.in-Ok.ensures.matches in
     let file = given c.in-Ok.matches words (codes "save") c.in-Ok.ensures.matches in
-    inr (inr (inr (flag ∙ c.keeping_of.ensures.flag (search rules), subst IsSome (sym file) (c.keeping_of.ensures.file (search rules)))))
+    inr (inr (inr (
+      flag ∙ c.keeping_of.ensures.flag (search rules),
+      subst IsSome (sym file) (c.keeping_of.ensures.file (search rules)),
+    )))
 
 pub returns-clause-call : goal.returns-clause-call
 returns-clause-call c =
     let words = texts_of c.args.words.now in
     record {
       taken = c.in-Ok.ensures.kinds;
-      trace_is = given c.in-Ok.matches words (codes "trace") c.in-Ok.ensures.matches ∙ c.in_ok-trace.ensures.file;
-      image_is = given c.in-Ok.matches words (codes "image") c.in-Ok.ensures.matches ∙ c.in_ok-image.ensures.file;
+      trace_is = given c.in-Ok.matches words (codes "trace") c.in-Ok.ensures.matches
+          ∙ c.in_ok-trace.ensures.file;
+      image_is = given c.in-Ok.matches words (codes "image") c.in-Ok.ensures.matches
+          ∙ c.in_ok-image.ensures.file;
       save_is = given c.in-Ok.matches words (codes "save") c.in-Ok.ensures.matches ∙ c.in-Some.ensures.save;
-      in_place_is = asked _ _ _ (given c.in-Ok.matches words (codes "in-place") c.in-Ok.ensures.matches) c.in-Some.ensures.in_place;
+      in_place_is = asked _ _ _ (given c.in-Ok.matches words (codes "in-place") c.in-Ok.ensures.matches)
+          c.in-Some.ensures.in_place;
       apart = in_place_apart _;
     }

@@ -13,10 +13,16 @@ use Rattle.block_device.proofs.Anywhere.{asks_at, hosts_to}
 use Rattle.block_device.proofs.device.BlockDevice.host_piece.Goals as goal
 
 pub tell-operation-requires-clause-good : goal.tell-operation-requires-clause-good
-tell-operation-requires-clause-good g c = (asks_at c.args.self.now c.args.stage c.args.budget c.args.mem.now c.serve_queue.new.mem c.in-Some.queue.now c.serve_queue.new.queue c.serve_queue.new.chain c.in-Err.asked c.in-Err.ensures.refuses any_disk).good
+tell-operation-requires-clause-good g c =
+    (asks_at c.args.self.now c.args.stage c.args.budget c.args.mem.now c.serve_queue.new.mem
+    c.in-Some.queue.now c.serve_queue.new.queue c.serve_queue.new.chain c.in-Err.asked
+    c.in-Err.ensures.refuses any_disk).good
 
 pub tell-operation-requires-clause-asked : goal.tell-operation-requires-clause-asked
-tell-operation-requires-clause-asked g c = (asks_at c.args.self.now c.args.stage c.args.budget c.args.mem.now c.serve_queue.new.mem c.in-Some.queue.now c.serve_queue.new.queue c.serve_queue.new.chain c.in-Err.asked c.in-Err.ensures.refuses any_disk).stops.asked
+tell-operation-requires-clause-asked g c =
+    (asks_at c.args.self.now c.args.stage c.args.budget c.args.mem.now c.serve_queue.new.mem
+    c.in-Some.queue.now c.serve_queue.new.queue c.serve_queue.new.chain c.in-Err.asked
+    c.in-Err.ensures.refuses any_disk).stops.asked
 
 pub returns-in-Err-clause-served : goal.returns-in-Err-clause-served
 returns-in-Err-clause-served g c disk = record {
@@ -24,19 +30,26 @@ returns-in-Err-clause-served g c disk = record {
   ready = c.in-Some.ensures.value;
   last = c.serve_queue.new.queue;
   request = c.in-Err.asked.why;
-  asks = asks_at c.args.self.now c.args.stage c.args.budget c.args.mem.now c.serve_queue.new.mem c.in-Some.queue.now c.serve_queue.new.queue c.serve_queue.new.chain c.in-Err.asked c.in-Err.ensures.refuses disk;
+  asks = asks_at c.args.self.now c.args.stage c.args.budget c.args.mem.now c.serve_queue.new.mem
+      c.in-Some.queue.now c.serve_queue.new.queue c.serve_queue.new.chain c.in-Err.asked
+      c.in-Err.ensures.refuses disk;
   window = refl;
-  operation = c.tell-operation.ensures.operation ∙ ap (λ flushes. operation_of (not flushes) c.in-Err.asked.why)
-      (c.contains-stable.ensures tt ∙ ap (λ bits. has bits block_flush) (c.negotiated-negotiated.ensures.value ∙ ap negotiated_of c.negotiation.ensures));
+  operation = c.tell-operation.ensures.operation
+      ∙ ap (λ flushes. operation_of (not flushes) c.in-Err.asked.why)
+      (c.contains-stable.ensures tt ∙ ap (λ bits. has bits block_flush) (c.negotiated-negotiated.ensures.value
+      ∙ ap negotiated_of c.negotiation.ensures));
   runs_are = c.tell-operation.ensures.runs;
 }
 
 pub returns-in-Err-clause-flight : goal.returns-in-Err-clause-flight
 returns-in-Err-clause-flight g c =
-    let asks = asks_at c.args.self.now c.args.stage c.args.budget c.args.mem.now c.serve_queue.new.mem c.in-Some.queue.now c.serve_queue.new.queue c.serve_queue.new.chain c.in-Err.asked c.in-Err.ensures.refuses any_disk in
+    let asks = asks_at c.args.self.now c.args.stage c.args.budget c.args.mem.now c.serve_queue.new.mem
+    c.in-Some.queue.now c.serve_queue.new.queue c.serve_queue.new.chain c.in-Err.asked
+    c.in-Err.ensures.refuses any_disk in
     record {
       queue = c.serve_queue.new.queue;
-      ready = queue_stands_open 0 c.args.window.now c.in-Some.queue.now c.serve_queue.new.queue (sym c.in-Some.ensures.value);
+      ready = queue_stands_open 0 c.args.window.now c.in-Some.queue.now c.serve_queue.new.queue
+          (sym c.in-Some.ensures.value);
       taken = asks.stops.taken;
       good = asks.good;
       status = omega (arith, asks.stops.asked.all);
@@ -44,35 +57,45 @@ returns-in-Err-clause-flight g c =
 
 pub returns-in-Err-clause-inside : goal.returns-in-Err-clause-inside
 returns-in-Err-clause-inside g c =
-    let asks = asks_at c.args.self.now c.args.stage c.args.budget c.args.mem.now c.serve_queue.new.mem c.in-Some.queue.now c.serve_queue.new.queue c.serve_queue.new.chain c.in-Err.asked c.in-Err.ensures.refuses any_disk in
-    told_inside c.args.self.now c.serve_queue.new.mem c.serve_queue.new.chain c.in-Err.asked.why (not c.contains-stable.result) c.tell-operation.result c.tell-operation.new.runs
+    let asks = asks_at c.args.self.now c.args.stage c.args.budget c.args.mem.now c.serve_queue.new.mem
+    c.in-Some.queue.now c.serve_queue.new.queue c.serve_queue.new.chain c.in-Err.asked
+    c.in-Err.ensures.refuses any_disk in
+    told_inside c.args.self.now c.serve_queue.new.mem c.serve_queue.new.chain c.in-Err.asked.why
+    (not c.contains-stable.result) c.tell-operation.result c.tell-operation.new.runs
     asks.good asks.stops.asked c.tell-operation.ensures.operation c.tell-operation.ensures.runs
 
 pub returns-in-Err-clause-sound : goal.returns-in-Err-clause-sound
 returns-in-Err-clause-sound g c =
-    serving_keeps_sound c.args.mem.now c.serve_queue.new.mem c.args.window.now 0 c.in-Some.queue.now c.serve_queue.new.queue
+    serving_keeps_sound c.args.mem.now c.serve_queue.new.mem c.args.window.now 0 c.in-Some.queue.now
+    c.serve_queue.new.queue
     c.requires.sound c.serve_queue.ensures.range (sym c.in-Some.ensures.value) c.serve_queue.ensures.made
 
 pub returns-in-More-clause-served : goal.returns-in-More-clause-served
 returns-in-More-clause-served g c disk =
-    hosts_to c.args.self.now c.args.stage c.args.budget (queue_at 0 c.args.window.now) c.in-Some.queue.now c.serve_queue.new.queue c.in-Ok.left More
+    hosts_to c.args.self.now c.args.stage c.args.budget (queue_at 0 c.args.window.now) c.in-Some.queue.now
+    c.serve_queue.new.queue c.in-Ok.left More
     c.args.mem.now c.serve_queue.new.mem c.args.window.now c.show.new.window disk
-    c.in-Some.ensures.value (sym c.in-More.is ∙ c.show.ensures.progress) c.show.ensures.after c.in-Ok.ensures.leaves
+    c.in-Some.ensures.value (sym c.in-More.is ∙ c.show.ensures.progress) c.show.ensures.after
+    c.in-Ok.ensures.leaves
 
 pub returns-in-More-clause-sound : goal.returns-in-More-clause-sound
 returns-in-More-clause-sound g c =
     c.show.ensures.sound c.serve_queue.new.mem
-    (serving_keeps_sound c.args.mem.now c.serve_queue.new.mem c.args.window.now 0 c.in-Some.queue.now c.serve_queue.new.queue
+    (serving_keeps_sound c.args.mem.now c.serve_queue.new.mem c.args.window.now 0 c.in-Some.queue.now
+    c.serve_queue.new.queue
     c.requires.sound c.serve_queue.ensures.range (sym c.in-Some.ensures.value) c.serve_queue.ensures.made)
 
 pub returns-in-Done-clause-served : goal.returns-in-Done-clause-served
 returns-in-Done-clause-served g c disk =
-    hosts_to c.args.self.now c.args.stage c.args.budget (queue_at 0 c.args.window.now) c.in-Some.queue.now c.serve_queue.new.queue c.in-Ok.left Done
+    hosts_to c.args.self.now c.args.stage c.args.budget (queue_at 0 c.args.window.now) c.in-Some.queue.now
+    c.serve_queue.new.queue c.in-Ok.left Done
     c.args.mem.now c.serve_queue.new.mem c.args.window.now c.show.new.window disk
-    c.in-Some.ensures.value (sym c.in-Done.is ∙ c.show.ensures.progress) c.show.ensures.after c.in-Ok.ensures.leaves
+    c.in-Some.ensures.value (sym c.in-Done.is ∙ c.show.ensures.progress) c.show.ensures.after
+    c.in-Ok.ensures.leaves
 
 pub returns-in-Done-clause-sound : goal.returns-in-Done-clause-sound
 returns-in-Done-clause-sound g c =
     c.show.ensures.sound c.serve_queue.new.mem
-    (serving_keeps_sound c.args.mem.now c.serve_queue.new.mem c.args.window.now 0 c.in-Some.queue.now c.serve_queue.new.queue
+    (serving_keeps_sound c.args.mem.now c.serve_queue.new.mem c.args.window.now 0 c.in-Some.queue.now
+    c.serve_queue.new.queue
     c.requires.sound c.serve_queue.ensures.range (sym c.in-Some.ensures.value) c.serve_queue.ensures.made)

@@ -7,23 +7,30 @@ use Rattle.block_device.proofs.device.BlockDevice.perform.Goals as goal
 
 pub read_sectors-requires-clause-fits : goal.read_sectors-requires-clause-fits
 read_sectors-requires-clause-fits g c =
-    read_fits c.args.mem.now c.args.chain.now c.args.self.now.extent.count c.args.request c.in-Read.sector c.in-Read.count c.requires.asked.room _ c.requires.good c.in-Read.is c.requires.asked.servable c.requires.asked.all
+    read_fits c.args.mem.now c.args.chain.now c.args.self.now.extent.count c.args.request c.in-Read.sector
+    c.in-Read.count c.requires.asked.room _ c.requires.good c.in-Read.is c.requires.asked.servable
+    c.requires.asked.all
 
 pub write_sectors-requires-clause-fits : goal.write_sectors-requires-clause-fits
 write_sectors-requires-clause-fits g c =
-    write_fits c.args.mem.now c.args.chain.now c.args.self.now.extent.count c.args.request c.in-Write.sector c.in-Write.count c.requires.asked.room c.requires.good c.in-Write.is c.requires.asked.servable
+    write_fits c.args.mem.now c.args.chain.now c.args.self.now.extent.count c.args.request c.in-Write.sector
+    c.in-Write.count c.requires.asked.room c.requires.good c.in-Write.is c.requires.asked.servable
 
 pub zero_segments-requires-clause-fits : goal.zero_segments-requires-clause-fits
 zero_segments-requires-clause-fits g c =
-    zeroes_fit c.args.mem.now c.args.chain.now c.args.self.now.extent.count c.args.request c.in-WriteZeroes.segments c.requires.asked.room c.requires.good c.in-WriteZeroes.is c.requires.asked.servable
+    zeroes_fit c.args.mem.now c.args.chain.now c.args.self.now.extent.count c.args.request
+    c.in-WriteZeroes.segments c.requires.asked.room c.requires.good c.in-WriteZeroes.is
+    c.requires.asked.servable
 
 pub returns-in-Ok-clause-done : goal.returns-in-Ok-clause-done
 returns-in-Ok-clause-done g c =
-    done_flushed c.args.self.now.extent c.args.request c.args.chain.now c.args.mem.now (g.I.Image.disk c.args.cache.now) (g.I.Image.disk c.flush.new.self) c.in-Flush.is c.in-Ok.ensures.ok
+    done_flushed c.args.self.now.extent c.args.request c.args.chain.now c.args.mem.now
+    (g.I.Image.disk c.args.cache.now) (g.I.Image.disk c.flush.new.self) c.in-Flush.is c.in-Ok.ensures.ok
 
 pub returns-in-Err-clause-done : goal.returns-in-Err-clause-done
 returns-in-Err-clause-done g c =
-    done_unflushed c.args.self.now.extent c.args.request c.args.chain.now c.args.mem.now (g.I.Image.disk c.args.cache.now) (g.I.Image.disk c.flush.new.self) c.in-Flush.is c.in-Err.ensures.err
+    done_unflushed c.args.self.now.extent c.args.request c.args.chain.now c.args.mem.now
+    (g.I.Image.disk c.args.cache.now) (g.I.Image.disk c.flush.new.self) c.in-Flush.is c.in-Err.ensures.err
 
 pub returns-in-Read-clause-own : goal.returns-in-Read-clause-own
 returns-in-Read-clause-own g c = written_none

@@ -17,12 +17,15 @@ returns-clause-served g c =
 
 pub returns-clause-exact : goal.returns-clause-exact
 returns-clause-exact g c =
-    λ e. notified_without_failure c.args.self.now (queue_at 0 c.args.window.now) c.args.mem.now c.serve_piece.new.mem c.args.window.now c.serve_piece.new.window
-    (extent_disk c.args.self.now.extent (g.I.Image.disk c.args.cache.now)) (extent_disk c.args.self.now.extent (g.I.Image.disk c.serve_piece.new.cache)) e
+    λ e. notified_without_failure c.args.self.now (queue_at 0 c.args.window.now) c.args.mem.now
+    c.serve_piece.new.mem c.args.window.now c.serve_piece.new.window
+    (extent_disk c.args.self.now.extent (g.I.Image.disk c.args.cache.now))
+    (extent_disk c.args.self.now.extent (g.I.Image.disk c.serve_piece.new.cache)) e
     (returns-clause-served g c)
 
 pub returns-clause-own : goal.returns-clause-own
 returns-clause-own g c =
     whole (device_over g.I.Image.disk g.I.Image.moment g.I.Image.may_leave g.I.Image.left_since
-    c.args.self.now) _ 0 (queue_at 0 c.args.window.now) c.serve_piece.result.progress c.args.mem.now c.serve_piece.new.mem c.args.window.now c.serve_piece.new.window
+    c.args.self.now) _ 0 (queue_at 0 c.args.window.now) c.serve_piece.result.progress c.args.mem.now
+    c.serve_piece.new.mem c.args.window.now c.serve_piece.new.window
     c.args.cache.now c.serve_piece.new.cache refl refl c.serve_piece.ensures.own

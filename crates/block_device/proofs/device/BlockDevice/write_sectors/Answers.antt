@@ -24,14 +24,18 @@ loop-done-preserved-then-run-gt0 g c =
     let first = c.args.self.now.extent.start + c.args.sector in
     let some : 0 < n = omega arith in
     let within : done + n ≤ count = omega arith in (
-      writing_run (g.I.Image.disk c.args.cache.now) (g.I.Image.disk c.loop-done.cache) (g.I.Image.disk c.write_run-run.new.cache) first
-          count done n (readable_of c.args.mem.now c.args.chain.now) (g.met.I.Image.whole c.args.cache.now) c.loop-done.invariant.0
+      writing_run (g.I.Image.disk c.args.cache.now) (g.I.Image.disk c.loop-done.cache)
+          (g.I.Image.disk c.write_run-run.new.cache) first
+          count done n (readable_of c.args.mem.now c.args.chain.now) (g.met.I.Image.whole c.args.cache.now)
+          c.loop-done.invariant.0
           some within c.requires.payload (omega arith)
           (c.write_run-run.ensures.written some
           ∙ ap (λ (bytes : List ℕ). written_from (first + done) bytes (g.I.Image.disk c.loop-done.cache))
-          (front_listed c.read_part-part.result.now (readable_of c.args.mem.now c.args.chain.now) (16 + 512 * done) (512 * n)
+          (front_listed c.read_part-part.result.now (readable_of c.args.mem.now c.args.chain.now)
+          (16 + 512 * done) (512 * n)
           c.read_part-part.ensures.listed c.write_run-run.ensures.within)),
-      written_run c.args.self.now.extent (range_with_len c.args.sector count) (c.args.sector + done) (first + done) n (512 * n)
+      written_run c.args.self.now.extent (range_with_len c.args.sector count) (c.args.sector + done)
+          (first + done) n (512 * n)
           c.loop-done.invariant.1 (range_has_run c.args.sector count done n within) (omega arith) refl
           (c.write_run-run.ensures.touches some),
       within,
@@ -40,16 +44,23 @@ loop-done-preserved-then-run-gt0 g c =
 pub loop-done-preserved : goal.loop-done-preserved
 loop-done-preserved g c =
     let same : c.write_run-run.new.cache ≡ c.loop-done.cache = c.write_run-run.ensures.none (omega arith) in
-    let so_far : IsWriting (g.I.Image.disk c.args.cache.now) (g.I.Image.disk c.write_run-run.new.cache) (c.args.self.now.extent.start + c.args.sector)
+    let so_far : IsWriting (g.I.Image.disk c.args.cache.now) (g.I.Image.disk c.write_run-run.new.cache)
+    (c.args.self.now.extent.start + c.args.sector)
     (payload_of (readable_of c.args.mem.now c.args.chain.now)) c.loop-done.done =
-    subst (λ image. IsWriting (g.I.Image.disk c.args.cache.now) (g.I.Image.disk image) (c.args.self.now.extent.start + c.args.sector)
-    (payload_of (readable_of c.args.mem.now c.args.chain.now)) c.loop-done.done) (sym same) c.loop-done.invariant.0 in
+    subst (λ image. IsWriting (g.I.Image.disk c.args.cache.now) (g.I.Image.disk image)
+    (c.args.self.now.extent.start + c.args.sector)
+    (payload_of (readable_of c.args.mem.now c.args.chain.now)) c.loop-done.done) (sym same)
+    c.loop-done.invariant.0 in
     let touched : TouchesSectors g.I.Image.moment g.I.Image.may_leave g.I.Image.left_since
-    (on_image c.args.self.now.extent (range_with_len c.args.sector c.args.count)) c.args.cache.now c.write_run-run.new.cache =
+    (on_image c.args.self.now.extent (range_with_len c.args.sector c.args.count)) c.args.cache.now
+    c.write_run-run.new.cache =
     subst (λ image. TouchesSectors g.I.Image.moment g.I.Image.may_leave g.I.Image.left_since
-    (on_image c.args.self.now.extent (range_with_len c.args.sector c.args.count)) c.args.cache.now image) (sym same) c.loop-done.invariant.1 in (
-      writing_more (g.I.Image.disk c.args.cache.now) (g.I.Image.disk c.write_run-run.new.cache) (g.I.Image.disk c.write.new.self) (c.args.self.now.extent.start + c.args.sector)
-          c.args.count c.loop-done.done (readable_of c.args.mem.now c.args.chain.now) _ (g.met.I.Image.whole c.args.cache.now) so_far
+    (on_image c.args.self.now.extent (range_with_len c.args.sector c.args.count)) c.args.cache.now image)
+    (sym same) c.loop-done.invariant.1 in (
+      writing_more (g.I.Image.disk c.args.cache.now) (g.I.Image.disk c.write_run-run.new.cache)
+          (g.I.Image.disk c.write.new.self) (c.args.self.now.extent.start + c.args.sector)
+          c.args.count c.loop-done.done (readable_of c.args.mem.now c.args.chain.now) _
+          (g.met.I.Image.whole c.args.cache.now) so_far
           c.loop-done-test.true c.requires.payload (omega arith) c.sector_at-bytes.ensures c.in-Ok.ensures.ok,
       written_sector c.args.self.now.extent (range_with_len c.args.sector c.args.count)
           (c.args.sector + c.loop-done.done) (c.args.self.now.extent.start + c.args.sector + c.loop-done.done)
@@ -61,50 +72,76 @@ loop-done-preserved g c =
 pub returns-in-Err-clause-done : goal.returns-in-Err-clause-done
 returns-in-Err-clause-done g c =
     let same : c.write_run-run.new.cache ≡ c.loop-done.cache = c.write_run-run.ensures.none (omega arith) in
-    let so_far : IsWriting (g.I.Image.disk c.args.cache.now) (g.I.Image.disk c.write_run-run.new.cache) (c.args.self.now.extent.start + c.args.sector)
+    let so_far : IsWriting (g.I.Image.disk c.args.cache.now) (g.I.Image.disk c.write_run-run.new.cache)
+    (c.args.self.now.extent.start + c.args.sector)
     (payload_of (readable_of c.args.mem.now c.args.chain.now)) c.loop-done.done =
-    subst (λ image. IsWriting (g.I.Image.disk c.args.cache.now) (g.I.Image.disk image) (c.args.self.now.extent.start + c.args.sector)
-    (payload_of (readable_of c.args.mem.now c.args.chain.now)) c.loop-done.done) (sym same) c.loop-done.invariant.0 in
-    (writing_fails c.args.self.now.identity c.args.self.now.extent c.args.chain.now c.args.mem.now (g.I.Image.disk c.args.cache.now) (g.I.Image.disk c.write_run-run.new.cache) (g.I.Image.disk c.write.new.self)
-    c.args.sector c.args.count c.loop-done.done (g.met.I.Image.whole c.args.cache.now) c.requires.lies so_far c.loop-done-test.true c.requires.sectors c.requires.payload c.in-Err.ensures.err).0
+    subst (λ image. IsWriting (g.I.Image.disk c.args.cache.now) (g.I.Image.disk image)
+    (c.args.self.now.extent.start + c.args.sector)
+    (payload_of (readable_of c.args.mem.now c.args.chain.now)) c.loop-done.done) (sym same)
+    c.loop-done.invariant.0 in
+    (writing_fails c.args.self.now.identity c.args.self.now.extent c.args.chain.now c.args.mem.now
+    (g.I.Image.disk c.args.cache.now) (g.I.Image.disk c.write_run-run.new.cache)
+    (g.I.Image.disk c.write.new.self)
+    c.args.sector c.args.count c.loop-done.done (g.met.I.Image.whole c.args.cache.now) c.requires.lies so_far
+    c.loop-done-test.true c.requires.sectors c.requires.payload c.in-Err.ensures.err).0
 
 pub returns-in-Err-clause-calls : goal.returns-in-Err-clause-calls
 returns-in-Err-clause-calls g c =
     let same : c.write_run-run.new.cache ≡ c.loop-done.cache = c.write_run-run.ensures.none (omega arith) in
-    let so_far : IsWriting (g.I.Image.disk c.args.cache.now) (g.I.Image.disk c.write_run-run.new.cache) (c.args.self.now.extent.start + c.args.sector)
+    let so_far : IsWriting (g.I.Image.disk c.args.cache.now) (g.I.Image.disk c.write_run-run.new.cache)
+    (c.args.self.now.extent.start + c.args.sector)
     (payload_of (readable_of c.args.mem.now c.args.chain.now)) c.loop-done.done =
-    subst (λ image. IsWriting (g.I.Image.disk c.args.cache.now) (g.I.Image.disk image) (c.args.self.now.extent.start + c.args.sector)
-    (payload_of (readable_of c.args.mem.now c.args.chain.now)) c.loop-done.done) (sym same) c.loop-done.invariant.0 in
-    (writing_fails c.args.self.now.identity c.args.self.now.extent c.args.chain.now c.args.mem.now (g.I.Image.disk c.args.cache.now) (g.I.Image.disk c.write_run-run.new.cache) (g.I.Image.disk c.write.new.self)
-    c.args.sector c.args.count c.loop-done.done (g.met.I.Image.whole c.args.cache.now) c.requires.lies so_far c.loop-done-test.true c.requires.sectors c.requires.payload c.in-Err.ensures.err).1
+    subst (λ image. IsWriting (g.I.Image.disk c.args.cache.now) (g.I.Image.disk image)
+    (c.args.self.now.extent.start + c.args.sector)
+    (payload_of (readable_of c.args.mem.now c.args.chain.now)) c.loop-done.done) (sym same)
+    c.loop-done.invariant.0 in
+    (writing_fails c.args.self.now.identity c.args.self.now.extent c.args.chain.now c.args.mem.now
+    (g.I.Image.disk c.args.cache.now) (g.I.Image.disk c.write_run-run.new.cache)
+    (g.I.Image.disk c.write.new.self)
+    c.args.sector c.args.count c.loop-done.done (g.met.I.Image.whole c.args.cache.now) c.requires.lies so_far
+    c.loop-done-test.true c.requires.sectors c.requires.payload c.in-Err.ensures.err).1
 
 pub returns-in-Ok-flush-clause-done : goal.returns-in-Ok-flush-clause-done
 returns-in-Ok-flush-clause-done g c =
-    (writing_done c.args.self.now.identity c.args.self.now.extent c.args.chain.now c.args.mem.now (g.I.Image.disk c.args.cache.now) (g.I.Image.disk c.loop-done.cache) (g.I.Image.disk c.flush.new.self)
-    c.args.sector c.args.count c.loop-done.done (g.met.I.Image.whole c.args.cache.now) c.requires.lies c.loop-done.invariant.0 (omega (arith, c.loop-done.invariant.2, c.loop-done-test.false)) c.requires.sectors c.requires.payload c.in-Ok-flush.ensures.ok).0
+    (writing_done c.args.self.now.identity c.args.self.now.extent c.args.chain.now c.args.mem.now
+    (g.I.Image.disk c.args.cache.now) (g.I.Image.disk c.loop-done.cache) (g.I.Image.disk c.flush.new.self)
+    c.args.sector c.args.count c.loop-done.done (g.met.I.Image.whole c.args.cache.now) c.requires.lies
+    c.loop-done.invariant.0 (omega (arith, c.loop-done.invariant.2, c.loop-done-test.false))
+    c.requires.sectors c.requires.payload c.in-Ok-flush.ensures.ok).0
 
 pub returns-in-Ok-flush-clause-calls : goal.returns-in-Ok-flush-clause-calls
 returns-in-Ok-flush-clause-calls g c =
-    (writing_done c.args.self.now.identity c.args.self.now.extent c.args.chain.now c.args.mem.now (g.I.Image.disk c.args.cache.now) (g.I.Image.disk c.loop-done.cache) (g.I.Image.disk c.flush.new.self)
-    c.args.sector c.args.count c.loop-done.done (g.met.I.Image.whole c.args.cache.now) c.requires.lies c.loop-done.invariant.0 (omega (arith, c.loop-done.invariant.2, c.loop-done-test.false)) c.requires.sectors c.requires.payload c.in-Ok-flush.ensures.ok).1
+    (writing_done c.args.self.now.identity c.args.self.now.extent c.args.chain.now c.args.mem.now
+    (g.I.Image.disk c.args.cache.now) (g.I.Image.disk c.loop-done.cache) (g.I.Image.disk c.flush.new.self)
+    c.args.sector c.args.count c.loop-done.done (g.met.I.Image.whole c.args.cache.now) c.requires.lies
+    c.loop-done.invariant.0 (omega (arith, c.loop-done.invariant.2, c.loop-done-test.false))
+    c.requires.sectors c.requires.payload c.in-Ok-flush.ensures.ok).1
 
 pub returns-in-Err-flush-clause-done : goal.returns-in-Err-flush-clause-done
 returns-in-Err-flush-clause-done g c =
-    (writing_unflushed c.args.self.now.identity c.args.self.now.extent c.args.chain.now c.args.mem.now (g.I.Image.disk c.args.cache.now) (g.I.Image.disk c.loop-done.cache) (g.I.Image.disk c.flush.new.self)
-    c.args.sector c.args.count c.loop-done.done (g.met.I.Image.whole c.args.cache.now) c.requires.lies c.loop-done.invariant.0 (omega (arith, c.loop-done.invariant.2, c.loop-done-test.false)) c.requires.sectors c.requires.payload c.in-Err-flush.ensures.err).0
+    (writing_unflushed c.args.self.now.identity c.args.self.now.extent c.args.chain.now c.args.mem.now
+    (g.I.Image.disk c.args.cache.now) (g.I.Image.disk c.loop-done.cache) (g.I.Image.disk c.flush.new.self)
+    c.args.sector c.args.count c.loop-done.done (g.met.I.Image.whole c.args.cache.now) c.requires.lies
+    c.loop-done.invariant.0 (omega (arith, c.loop-done.invariant.2, c.loop-done-test.false))
+    c.requires.sectors c.requires.payload c.in-Err-flush.ensures.err).0
 
 pub returns-in-Err-flush-clause-calls : goal.returns-in-Err-flush-clause-calls
 returns-in-Err-flush-clause-calls g c =
-    (writing_unflushed c.args.self.now.identity c.args.self.now.extent c.args.chain.now c.args.mem.now (g.I.Image.disk c.args.cache.now) (g.I.Image.disk c.loop-done.cache) (g.I.Image.disk c.flush.new.self)
-    c.args.sector c.args.count c.loop-done.done (g.met.I.Image.whole c.args.cache.now) c.requires.lies c.loop-done.invariant.0 (omega (arith, c.loop-done.invariant.2, c.loop-done-test.false)) c.requires.sectors c.requires.payload c.in-Err-flush.ensures.err).1
+    (writing_unflushed c.args.self.now.identity c.args.self.now.extent c.args.chain.now c.args.mem.now
+    (g.I.Image.disk c.args.cache.now) (g.I.Image.disk c.loop-done.cache) (g.I.Image.disk c.flush.new.self)
+    c.args.sector c.args.count c.loop-done.done (g.met.I.Image.whole c.args.cache.now) c.requires.lies
+    c.loop-done.invariant.0 (omega (arith, c.loop-done.invariant.2, c.loop-done-test.false))
+    c.requires.sectors c.requires.payload c.in-Err-flush.ensures.err).1
 
 pub returns-in-Err-clause-touches : goal.returns-in-Err-clause-touches
 returns-in-Err-clause-touches g c =
     let same : c.write_run-run.new.cache ≡ c.loop-done.cache = c.write_run-run.ensures.none (omega arith) in
     let touched : TouchesSectors g.I.Image.moment g.I.Image.may_leave g.I.Image.left_since
-    (on_image c.args.self.now.extent (range_with_len c.args.sector c.args.count)) c.args.cache.now c.write_run-run.new.cache =
+    (on_image c.args.self.now.extent (range_with_len c.args.sector c.args.count)) c.args.cache.now
+    c.write_run-run.new.cache =
     subst (λ image. TouchesSectors g.I.Image.moment g.I.Image.may_leave g.I.Image.left_since
-    (on_image c.args.self.now.extent (range_with_len c.args.sector c.args.count)) c.args.cache.now image) (sym same) c.loop-done.invariant.1 in
+    (on_image c.args.self.now.extent (range_with_len c.args.sector c.args.count)) c.args.cache.now image)
+    (sym same) c.loop-done.invariant.1 in
     written_sector c.args.self.now.extent (range_with_len c.args.sector c.args.count)
     (c.args.sector + c.loop-done.done) (c.args.self.now.extent.start + c.args.sector + c.loop-done.done)
     touched (range_has c.args.sector c.args.count c.loop-done.done c.loop-done-test.true)

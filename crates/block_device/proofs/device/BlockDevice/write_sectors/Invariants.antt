@@ -9,7 +9,8 @@ use Rattle.block_device.proofs.device.BlockDevice.write_sectors.Given as goal
 
 abbrev pub invariant-loop-done : goal.invariant-loop-done
 invariant-loop-done g l =
-    IsWriting (g.I.Image.disk l.fn.cache) (g.I.Image.disk l.cache) (l.self.extent.start + l.sector) (payload_of (readable_of l.mem l.chain)) l.done
+    IsWriting (g.I.Image.disk l.fn.cache) (g.I.Image.disk l.cache) (l.self.extent.start + l.sector)
+    (payload_of (readable_of l.mem l.chain)) l.done
     × TouchesSectors g.I.Image.moment g.I.Image.may_leave g.I.Image.left_since
     (on_image l.self.extent (range_with_len l.sector l.count)) l.fn.cache l.cache
     × (l.done ≤ l.count)

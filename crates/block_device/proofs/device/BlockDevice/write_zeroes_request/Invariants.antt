@@ -4,4 +4,5 @@ use Rattle.block_device.proofs.Judging.{IsJudged}
 use Rattle.block_device.proofs.device.BlockDevice.write_zeroes_request.Given as goal
 
 abbrev pub invariant-loop-index : goal.invariant-loop-index
-invariant-loop-index g l = IsJudged l.self.extent.count (payload_of (readable_of l.mem l.chain)) l.index l.known l.within
+invariant-loop-index g l =
+    IsJudged l.self.extent.count (payload_of (readable_of l.mem l.chain)) l.index l.known l.within

@@ -10,18 +10,21 @@ pub run-requires-clause-sector : goal.run-requires-clause-sector
 run-requires-clause-sector g c =
     let payload = payload_of (readable_of c.args.mem.now c.args.chain.now) in
     let below : c.loop-index.index < length payload / 16 = omega (arith, c.requires.payload) in
-    let fits = segment_within c.args.self.now.extent.count payload c.loop-index.index c.read-segment.result c.requires.sectors c.read-segment.ensures below in
+    let fits = segment_within c.args.self.now.extent.count payload c.loop-index.index c.read-segment.result
+    c.requires.sectors c.read-segment.ensures below in
     omega (arith, fits, c.requires.disk)
 
 pub run-requires-clause-few : goal.run-requires-clause-few
 run-requires-clause-few g c =
     let payload = payload_of (readable_of c.args.mem.now c.args.chain.now) in
     let below : c.loop-index.index < length payload / 16 = omega (arith, c.requires.payload) in
-    segment_few c.args.self.now.extent.count payload c.loop-index.index c.read-segment.result c.requires.sectors c.read-segment.ensures below
+    segment_few c.args.self.now.extent.count payload c.loop-index.index c.read-segment.result
+    c.requires.sectors c.read-segment.ensures below
 
 pub push-requires : goal.push-requires
 push-requires g c =
-    let few = zeroes_few_before (payload_of (readable_of c.args.mem.now c.args.chain.now)) c.loop-index.index c.loop-index.runs c.loop-index.invariant in
+    let few = zeroes_few_before (payload_of (readable_of c.args.mem.now c.args.chain.now)) c.loop-index.index
+    c.loop-index.runs c.loop-index.invariant in
     omega (arith, few, c.requires.few)
 
 pub loop-index-preserved : goal.loop-index-preserved
@@ -29,7 +32,10 @@ loop-index-preserved g c =
     let payload = payload_of (readable_of c.args.mem.now c.args.chain.now) in
     elim c.if-segment-gt0.branch [
       | then-segment-gt0 w ↦
-          zeroes_put payload c.loop-index.index c.read-segment.result c.loop-index.runs c.if-segment-gt0.runs c.loop-index.invariant c.read-segment.ensures (omega (arith, w.if-segment-gt0.true)) (rw w.runs-is (rw w.run.ensures at w.push.ensures))
+          zeroes_put payload c.loop-index.index c.read-segment.result c.loop-index.runs c.if-segment-gt0.runs
+          c.loop-index.invariant c.read-segment.ensures (omega (arith, w.if-segment-gt0.true))
+          (rw w.runs-is (rw w.run.ensures at w.push.ensures))
       | else-segment-gt0 w ↦
-          rw w.runs-is (zeroes_passed payload c.loop-index.index c.read-segment.result c.loop-index.runs c.loop-index.invariant c.read-segment.ensures (omega (arith, w.if-segment-gt0.false)))
+          rw w.runs-is (zeroes_passed payload c.loop-index.index c.read-segment.result c.loop-index.runs
+          c.loop-index.invariant c.read-segment.ensures (omega (arith, w.if-segment-gt0.false)))
     ]

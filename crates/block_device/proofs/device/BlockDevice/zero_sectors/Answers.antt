@@ -18,9 +18,12 @@ pub loop-done-preserved : goal.loop-done-preserved
 loop-done-preserved g c =
     let sector = c.args.segment.sector in
     let done = c.loop-done.done in (
-      subst (IsZeroing c.args.self.now.extent (g.I.Image.disk c.args.cache.now) (g.I.Image.disk c.zero.new.self)) (sym (run-more sector done))
-          (zeroing_more c.args.self.now.extent (g.I.Image.disk c.args.cache.now) (g.I.Image.disk c.loop-done.cache) (g.I.Image.disk c.zero.new.self)
-          (range_with_len sector done) (sector + done) _ c.loop-done.invariant.0 (g.met.I.Image.whole c.loop-done.cache) c.requires.lies
+      subst (IsZeroing c.args.self.now.extent (g.I.Image.disk c.args.cache.now)
+          (g.I.Image.disk c.zero.new.self)) (sym (run-more sector done))
+          (zeroing_more c.args.self.now.extent (g.I.Image.disk c.args.cache.now)
+          (g.I.Image.disk c.loop-done.cache) (g.I.Image.disk c.zero.new.self)
+          (range_with_len sector done) (sector + done) _ c.loop-done.invariant.0
+          (g.met.I.Image.whole c.loop-done.cache) c.requires.lies
           (omega arith) (omega arith) c.in_ok-zero.ensures.ok),
       written_sector c.args.self.now.extent (sectors_of c.args.segment)
           (c.args.segment.sector + c.loop-done.done)
@@ -33,10 +36,15 @@ pub returns-in_err-zero-clause-err : goal.returns-in_err-zero-clause-err
 returns-in_err-zero-clause-err g c =
     let sector = c.args.segment.sector in
     let done = c.loop-done.done in
-    let stopped : IsStopped (sectors_of c.args.segment) (extent_disk c.args.self.now.extent (g.I.Image.disk c.args.cache.now)) (extent_disk c.args.self.now.extent (g.I.Image.disk c.zero.new.self)) =
-    (zeroing_stops c.args.self.now.extent (g.I.Image.disk c.args.cache.now) (g.I.Image.disk c.loop-done.cache) (g.I.Image.disk c.zero.new.self)
-    (sectors_of c.args.segment) (range_with_len sector done) (range_with_len (sector + done + 1) (c.args.segment.count - done - 1)) (sector + done) _
-    c.loop-done.invariant.0 (g.met.I.Image.whole c.loop-done.cache) c.requires.lies (omega arith) (omega arith)
+    let stopped : IsStopped (sectors_of c.args.segment)
+    (extent_disk c.args.self.now.extent (g.I.Image.disk c.args.cache.now))
+    (extent_disk c.args.self.now.extent (g.I.Image.disk c.zero.new.self)) =
+    (zeroing_stops c.args.self.now.extent (g.I.Image.disk c.args.cache.now) (g.I.Image.disk c.loop-done.cache)
+    (g.I.Image.disk c.zero.new.self)
+    (sectors_of c.args.segment) (range_with_len sector done)
+    (range_with_len (sector + done + 1) (c.args.segment.count - done - 1)) (sector + done) _
+    c.loop-done.invariant.0 (g.met.I.Image.whole c.loop-done.cache) c.requires.lies
+    (omega arith) (omega arith)
     (run-at sector done c.args.segment.count (omega arith)) c.in_err-zero.ensures.err).0 in
     search rules
 
@@ -44,9 +52,12 @@ pub returns-in_err-zero-clause-outside : goal.returns-in_err-zero-clause-outside
 returns-in_err-zero-clause-outside g c =
     let sector = c.args.segment.sector in
     let done = c.loop-done.done in
-    (zeroing_stops c.args.self.now.extent (g.I.Image.disk c.args.cache.now) (g.I.Image.disk c.loop-done.cache) (g.I.Image.disk c.zero.new.self)
-    (sectors_of c.args.segment) (range_with_len sector done) (range_with_len (sector + done + 1) (c.args.segment.count - done - 1)) (sector + done) _
-    c.loop-done.invariant.0 (g.met.I.Image.whole c.loop-done.cache) c.requires.lies (omega arith) (omega arith)
+    (zeroing_stops c.args.self.now.extent (g.I.Image.disk c.args.cache.now) (g.I.Image.disk c.loop-done.cache)
+    (g.I.Image.disk c.zero.new.self)
+    (sectors_of c.args.segment) (range_with_len sector done)
+    (range_with_len (sector + done + 1) (c.args.segment.count - done - 1)) (sector + done) _
+    c.loop-done.invariant.0 (g.met.I.Image.whole c.loop-done.cache) c.requires.lies
+    (omega arith) (omega arith)
     (run-at sector done c.args.segment.count (omega arith)) c.in_err-zero.ensures.err).1
 
 pub returns-in_err-zero-clause-touches : goal.returns-in_err-zero-clause-touches

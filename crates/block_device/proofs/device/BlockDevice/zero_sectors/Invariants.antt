@@ -7,6 +7,7 @@ use Rattle.block_device.proofs.device.BlockDevice.zero_sectors.Given as goal
 
 abbrev pub invariant-loop-done : goal.invariant-loop-done
 invariant-loop-done g l =
-    IsZeroing l.self.extent (g.I.Image.disk l.fn.cache) (g.I.Image.disk l.cache) (range_with_len l.fn.segment.sector l.done)
+    IsZeroing l.self.extent (g.I.Image.disk l.fn.cache) (g.I.Image.disk l.cache)
+    (range_with_len l.fn.segment.sector l.done)
     × TouchesSectors g.I.Image.moment g.I.Image.may_leave g.I.Image.left_since
     (on_image l.self.extent (sectors_of l.fn.segment)) l.fn.cache l.cache

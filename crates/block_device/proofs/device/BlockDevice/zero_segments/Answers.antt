@@ -12,7 +12,8 @@ pub zero_sectors-requires-clause-sectors : goal.zero_sectors-requires-clause-sec
 zero_sectors-requires-clause-sectors g c =
     let payload = payload_of (readable_of c.args.mem.now c.args.chain.now) in
     let below : c.loop-index.index < length payload / 16 = omega (arith, c.requires.payload) in
-    segment_within c.args.self.now.extent.count payload c.loop-index.index c.read-segment.result c.requires.sectors c.read-segment.ensures below
+    segment_within c.args.self.now.extent.count payload c.loop-index.index c.read-segment.result
+    c.requires.sectors c.read-segment.ensures below
 
 pub loop-index-init : goal.loop-index-init
 loop-index-init g c = (
@@ -31,50 +32,72 @@ loop-index-preserved g c =
           (payload_of (readable_of c.args.mem.now c.args.chain.now)) c.loop-index.index
           c.read-segment.result c.loop-index.invariant.0 c.read-segment.ensures
           c.in-Ok.ensures.ok c.zero_sectors.ensures.outside,
-      written_part c.args.self.now.extent (all_sectors (segments_in payload)) (sectors_of c.read-segment.result) c.loop-index.invariant.1
-          (segment-listed payload c.loop-index.index c.read-segment.result c.read-segment.ensures below) c.zero_sectors.ensures.touches,
+      written_part c.args.self.now.extent (all_sectors (segments_in payload))
+          (sectors_of c.read-segment.result) c.loop-index.invariant.1
+          (segment-listed payload c.loop-index.index c.read-segment.result c.read-segment.ensures below)
+          c.zero_sectors.ensures.touches,
     )
 
 pub returns-in-Err-clause-done : goal.returns-in-Err-clause-done
 returns-in-Err-clause-done g c =
     let payload = payload_of (readable_of c.args.mem.now c.args.chain.now) in
     let below : c.loop-index.index < length payload / 16 = omega (arith, c.requires.payload) in
-    (zeroes_stopped c.args.self.now.identity c.args.self.now.extent c.args.chain.now c.args.mem.now (g.I.Image.disk c.args.cache.now) (g.I.Image.disk c.loop-index.cache) (g.I.Image.disk c.zero_sectors.new.cache)
-    c.args.segments c.loop-index.index c.loop-index.invariant.0 c.read-segment.result c.read-segment.ensures below c.in-Err.ensures.err c.zero_sectors.ensures.outside).0
+    (zeroes_stopped c.args.self.now.identity c.args.self.now.extent c.args.chain.now c.args.mem.now
+    (g.I.Image.disk c.args.cache.now) (g.I.Image.disk c.loop-index.cache)
+    (g.I.Image.disk c.zero_sectors.new.cache)
+    c.args.segments c.loop-index.index c.loop-index.invariant.0 c.read-segment.result c.read-segment.ensures
+    below c.in-Err.ensures.err c.zero_sectors.ensures.outside).0
 
 pub returns-in-Err-clause-calls : goal.returns-in-Err-clause-calls
 returns-in-Err-clause-calls g c =
     let payload = payload_of (readable_of c.args.mem.now c.args.chain.now) in
     let below : c.loop-index.index < length payload / 16 = omega (arith, c.requires.payload) in
-    (zeroes_stopped c.args.self.now.identity c.args.self.now.extent c.args.chain.now c.args.mem.now (g.I.Image.disk c.args.cache.now) (g.I.Image.disk c.loop-index.cache) (g.I.Image.disk c.zero_sectors.new.cache)
-    c.args.segments c.loop-index.index c.loop-index.invariant.0 c.read-segment.result c.read-segment.ensures below c.in-Err.ensures.err c.zero_sectors.ensures.outside).1
+    (zeroes_stopped c.args.self.now.identity c.args.self.now.extent c.args.chain.now c.args.mem.now
+    (g.I.Image.disk c.args.cache.now) (g.I.Image.disk c.loop-index.cache)
+    (g.I.Image.disk c.zero_sectors.new.cache)
+    c.args.segments c.loop-index.index c.loop-index.invariant.0 c.read-segment.result c.read-segment.ensures
+    below c.in-Err.ensures.err c.zero_sectors.ensures.outside).1
 
 pub returns-in-Ok-flush-clause-done : goal.returns-in-Ok-flush-clause-done
 returns-in-Ok-flush-clause-done g c =
-    (zeroes_done c.args.self.now.identity c.args.self.now.extent c.args.chain.now c.args.mem.now (g.I.Image.disk c.args.cache.now) (g.I.Image.disk c.loop-index.cache) (g.I.Image.disk c.flush.new.self)
-    c.args.segments c.loop-index.index c.loop-index.invariant.0 c.requires.payload (omega arith) c.in-Ok-flush.ensures.ok).0
+    (zeroes_done c.args.self.now.identity c.args.self.now.extent c.args.chain.now c.args.mem.now
+    (g.I.Image.disk c.args.cache.now) (g.I.Image.disk c.loop-index.cache)
+    (g.I.Image.disk c.flush.new.self)
+    c.args.segments c.loop-index.index c.loop-index.invariant.0 c.requires.payload (omega arith)
+    c.in-Ok-flush.ensures.ok).0
 
 pub returns-in-Ok-flush-clause-calls : goal.returns-in-Ok-flush-clause-calls
 returns-in-Ok-flush-clause-calls g c =
-    (zeroes_done c.args.self.now.identity c.args.self.now.extent c.args.chain.now c.args.mem.now (g.I.Image.disk c.args.cache.now) (g.I.Image.disk c.loop-index.cache) (g.I.Image.disk c.flush.new.self)
-    c.args.segments c.loop-index.index c.loop-index.invariant.0 c.requires.payload (omega arith) c.in-Ok-flush.ensures.ok).1
+    (zeroes_done c.args.self.now.identity c.args.self.now.extent c.args.chain.now c.args.mem.now
+    (g.I.Image.disk c.args.cache.now) (g.I.Image.disk c.loop-index.cache)
+    (g.I.Image.disk c.flush.new.self)
+    c.args.segments c.loop-index.index c.loop-index.invariant.0 c.requires.payload (omega arith)
+    c.in-Ok-flush.ensures.ok).1
 
 pub returns-in-Err-flush-clause-done : goal.returns-in-Err-flush-clause-done
 returns-in-Err-flush-clause-done g c =
-    (zeroes_unflushed c.args.self.now.identity c.args.self.now.extent c.args.chain.now c.args.mem.now (g.I.Image.disk c.args.cache.now) (g.I.Image.disk c.loop-index.cache) (g.I.Image.disk c.flush.new.self)
-    c.args.segments c.loop-index.index c.loop-index.invariant.0 c.requires.payload (omega arith) c.in-Err-flush.ensures.err).0
+    (zeroes_unflushed c.args.self.now.identity c.args.self.now.extent c.args.chain.now c.args.mem.now
+    (g.I.Image.disk c.args.cache.now) (g.I.Image.disk c.loop-index.cache)
+    (g.I.Image.disk c.flush.new.self)
+    c.args.segments c.loop-index.index c.loop-index.invariant.0 c.requires.payload (omega arith)
+    c.in-Err-flush.ensures.err).0
 
 pub returns-in-Err-flush-clause-calls : goal.returns-in-Err-flush-clause-calls
 returns-in-Err-flush-clause-calls g c =
-    (zeroes_unflushed c.args.self.now.identity c.args.self.now.extent c.args.chain.now c.args.mem.now (g.I.Image.disk c.args.cache.now) (g.I.Image.disk c.loop-index.cache) (g.I.Image.disk c.flush.new.self)
-    c.args.segments c.loop-index.index c.loop-index.invariant.0 c.requires.payload (omega arith) c.in-Err-flush.ensures.err).1
+    (zeroes_unflushed c.args.self.now.identity c.args.self.now.extent c.args.chain.now c.args.mem.now
+    (g.I.Image.disk c.args.cache.now) (g.I.Image.disk c.loop-index.cache)
+    (g.I.Image.disk c.flush.new.self)
+    c.args.segments c.loop-index.index c.loop-index.invariant.0 c.requires.payload (omega arith)
+    c.in-Err-flush.ensures.err).1
 
 pub returns-in-Err-clause-touches : goal.returns-in-Err-clause-touches
 returns-in-Err-clause-touches g c =
     let payload = payload_of (readable_of c.args.mem.now c.args.chain.now) in
     let below : c.loop-index.index < length payload / 16 = omega (arith, c.requires.payload) in
-    written_part c.args.self.now.extent (all_sectors (segments_in payload)) (sectors_of c.read-segment.result) c.loop-index.invariant.1
-    (segment-listed payload c.loop-index.index c.read-segment.result c.read-segment.ensures below) c.zero_sectors.ensures.touches
+    written_part c.args.self.now.extent (all_sectors (segments_in payload)) (sectors_of c.read-segment.result)
+    c.loop-index.invariant.1
+    (segment-listed payload c.loop-index.index c.read-segment.result c.read-segment.ensures below)
+    c.zero_sectors.ensures.touches
 
 pub returns-in-Ok-flush-clause-touches : goal.returns-in-Ok-flush-clause-touches
 returns-in-Ok-flush-clause-touches g c = written_nothing

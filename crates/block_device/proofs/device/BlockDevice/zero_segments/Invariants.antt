@@ -8,6 +8,8 @@ use Rattle.block_device.proofs.device.BlockDevice.zero_segments.Given as goal
 
 abbrev pub invariant-loop-index : goal.invariant-loop-index
 invariant-loop-index g l =
-    IsZeroing l.self.extent (g.I.Image.disk l.fn.cache) (g.I.Image.disk l.cache) (all_sectors (first_segments (payload_of (readable_of l.mem l.chain)) l.index))
+    IsZeroing l.self.extent (g.I.Image.disk l.fn.cache) (g.I.Image.disk l.cache)
+    (all_sectors (first_segments (payload_of (readable_of l.mem l.chain)) l.index))
     × TouchesSectors g.I.Image.moment g.I.Image.may_leave g.I.Image.left_since
-    (on_image l.self.extent (all_sectors (segments_in (payload_of (readable_of l.mem l.chain))))) l.fn.cache l.cache
+    (on_image l.self.extent (all_sectors (segments_in (payload_of (readable_of l.mem l.chain))))) l.fn.cache
+    l.cache

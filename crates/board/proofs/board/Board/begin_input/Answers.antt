@@ -9,31 +9,45 @@ use Rattle.board.proofs.Seats.{extents_of-set, takes}
 use Rattle.board.proofs.board.Board.begin_input.Goals as goal
 
 -- the slot of that number
-there : (g : _) (c : goal.After-self-2-1 g) → slice_get c.self.inside.slots.items c.args.slot ≡ Some c.in-Some.slot.now
-there g c = slice_get_read c.self.inside.slots.items (length c.self.inside.slots.items) c.args.slot c.in-Some.slot.now refl (omega (arith, c.in-Some.ensures.variant.0 refl)) c.in-Some.ensures.value
+there : (g : _) (c : goal.After-self-2-1 g) → slice_get c.self.inside.slots.items c.args.slot
+    ≡ Some c.in-Some.slot.now
+there g c = slice_get_read c.self.inside.slots.items (length c.self.inside.slots.items) c.args.slot
+    c.in-Some.slot.now refl (omega (arith, c.in-Some.ensures.variant.0 refl)) c.in-Some.ensures.value
 
 pub invariant_of-self-2 : goal.invariant_of-self-2
 invariant_of-self-2 g c =
-    rw (extents_of-set c.self.inside.slots.items c.args.slot c.in-Some.slot.now c.input-turn.new.self (there g c) c.input-turn.ensures.extent)
+    rw (extents_of-set c.self.inside.slots.items c.args.slot c.in-Some.slot.now c.input-turn.new.self
+    (there g c) c.input-turn.ensures.extent)
     c.self.invariant
 
 pub returns-clause-takes : goal.returns-clause-takes
 returns-clause-takes g c tells below =
     let disk = g.I.Image.disk c.self.inside.cache in
     rw (← c.self.view_is, c.after.ensures.turn)
-    (takes _ c.self.inside.slots.items disk disk c.args.slot c.in-Some.slot.now c.input-turn.new.self c.input-turn.result _ _ [] []
-    c.self.invariant.apart (there g c) c.input-turn.ensures.extent (unmet_turn c.in-Some.slot.now c.input-turn.new.self c.input-turn.result disk.failures c.input-turn.ensures.disturbed c.input-turn.ensures.took) refl
-    (record { output = []; comes = c.input-turn.ensures.comes (bytes_of disk) (health_of disk); appended = refl })
+    (takes _ c.self.inside.slots.items disk disk c.args.slot c.in-Some.slot.now c.input-turn.new.self
+    c.input-turn.result _ _ [] []
+    c.self.invariant.apart (there g c) c.input-turn.ensures.extent
+    (unmet_turn c.in-Some.slot.now c.input-turn.new.self c.input-turn.result disk.failures
+    c.input-turn.ensures.disturbed c.input-turn.ensures.took) refl
+    (record {
+      output = [];
+      comes = c.input-turn.ensures.comes (bytes_of disk) (health_of disk);
+      appended = refl;
+    })
     c.after.ensures.shown)
 
 pub returns-clause-extents : goal.returns-clause-extents
-returns-clause-extents g c = extents_of-set c.self.inside.slots.items c.args.slot c.in-Some.slot.now c.input-turn.new.self (there g c) c.input-turn.ensures.extent ∙ ap (λ b. extents_of b.slots) c.self.view_is
+returns-clause-extents g c =
+    extents_of-set c.self.inside.slots.items c.args.slot c.in-Some.slot.now c.input-turn.new.self (there g c)
+    c.input-turn.ensures.extent ∙ ap (λ b. extents_of b.slots) c.self.view_is
 
 pub returns-clause-others : goal.returns-clause-others
 returns-clause-others g c other differ =
-    others_kept c.self.inside.slots.items c.args.slot c.input-turn.new.self other differ ∙ ap (λ b. slice_get b.slots other) c.self.view_is
+    others_kept c.self.inside.slots.items c.args.slot c.input-turn.new.self other differ
+    ∙ ap (λ b. slice_get b.slots other) c.self.view_is
 
 pub returns-clause-disturbed : goal.returns-clause-disturbed
 returns-clause-disturbed g c =
-    disturbed_kept c.self.inside.slots.items c.args.slot c.in-Some.slot.now c.input-turn.new.self (there g c) c.input-turn.ensures.disturbed
+    disturbed_kept c.self.inside.slots.items c.args.slot c.in-Some.slot.now c.input-turn.new.self (there g c)
+    c.input-turn.ensures.disturbed
     ∙ ap (λ b. disturbed_of b.slots) c.self.view_is

@@ -19,11 +19,13 @@ open_all-requires g c = memories _ c.args.slots.now c.in_ok-cache.ensures.accept
 pub board_of-requires : goal.board_of-requires
 board_of-requires g c =
     rw c.in_ok-cache.ensures.made (IfOk-weaker c.open_all.result _ _ (λ slots are.
-    same_sound _ _ _ are (sound _ c.args.slots.now c.in_ok-cache.ensures.accepted.slots_good)) c.open_all.ensures)
+    same_sound _ _ _ are (sound _ c.args.slots.now c.in_ok-cache.ensures.accepted.slots_good))
+    c.open_all.ensures)
 
 pub returns-clause-made : goal.returns-clause-made
 returns-clause-made g c =
-    made_of vec_items (λ (slots : List BoardSlot). record { slots = slots; image = c.args.image }) c.board_of.result c.open_all.result (map opened c.args.slots.now)
+    made_of vec_items (λ (slots : List BoardSlot). record { slots = slots; image = c.args.image })
+    c.board_of.result c.open_all.result (map opened c.args.slots.now)
     (rw (← c.in_ok-cache.ensures.made) c.board_of.ensures.made) c.open_all.ensures
 
 pub returns-clause-exact : goal.returns-clause-exact

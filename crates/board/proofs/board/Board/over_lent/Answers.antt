@@ -20,11 +20,14 @@ open_all_over-requires-clause-good g c = memories _ c.args.slots.now c.in_ok-cac
 pub board_of-requires : goal.board_of-requires
 board_of-requires g c =
     rw c.in_ok-cache.ensures.made (IfOk-weaker c.open_all_over.result _ _ (λ slots are.
-    same_sound _ _ _ are (sound_over _ c.args.slots.now (map vec_items c.args.bytes.items) c.in_ok-cache.ensures.accepted.slots_good)) c.open_all_over.ensures)
+    same_sound _ _ _ are (sound_over _ c.args.slots.now (map vec_items c.args.bytes.items)
+    c.in_ok-cache.ensures.accepted.slots_good)) c.open_all_over.ensures)
 
 pub returns-clause-made : goal.returns-clause-made
 returns-clause-made g c =
-    made_of vec_items (λ (slots : List BoardSlot). record { slots = slots; image = c.args.image }) c.board_of.result c.open_all_over.result (made_over opened_over c.args.slots.now (map vec_items c.args.bytes.items))
+    made_of vec_items (λ (slots : List BoardSlot). record { slots = slots; image = c.args.image })
+    c.board_of.result c.open_all_over.result
+    (made_over opened_over c.args.slots.now (map vec_items c.args.bytes.items))
     (rw (← c.in_ok-cache.ensures.made) c.board_of.ensures.made) c.open_all_over.ensures
 
 pub returns-clause-exact : goal.returns-clause-exact

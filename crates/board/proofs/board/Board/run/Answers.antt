@@ -5,17 +5,21 @@ use Rattle.board.proofs.Seats.{stays_still}
 use Rattle.board.proofs.board.Board.run.Goals as goal
 
 pub returns-then-is_err-clause-run : goal.returns-then-is_err-clause-run
-returns-then-is_err-clause-run g c tells = rw c.reserve.ensures.items (run_of _ _ _ _ _ (c.loop-done.invariant.reached tells))
+returns-then-is_err-clause-run g c tells =
+    rw c.reserve.ensures.items (run_of _ _ _ _ _ (c.loop-done.invariant.reached tells))
 
 pub returns-then-is_err-clause-words : goal.returns-then-is_err-clause-words
-returns-then-is_err-clause-words g c = λ before. rw c.reserve.ensures.items (c.loop-done.invariant.words before)
+returns-then-is_err-clause-words g c =
+    λ before. rw c.reserve.ensures.items (c.loop-done.invariant.words before)
 
 pub returns-then-is_err-clause-missing : goal.returns-then-is_err-clause-missing
-returns-then-is_err-clause-missing g c = λ before. rw c.reserve.ensures.items (c.loop-done.invariant.missing before)
+returns-then-is_err-clause-missing g c =
+    λ before. rw c.reserve.ensures.items (c.loop-done.invariant.missing before)
 
 pub put-requires : goal.put-requires
 put-requires g c =
-    let room : vec_len c.reserve.new.self + 1 ≤ vec_capacity c.reserve.new.self = where_ok c.reserve.result _ (sym c.is_err.ensures.value ∙ c.if-is_err.false) c.reserve.ensures.ok in
+    let room : vec_len c.reserve.new.self + 1 ≤ vec_capacity c.reserve.new.self =
+    where_ok c.reserve.result _ (sym c.is_err.ensures.value ∙ c.if-is_err.false) c.reserve.ensures.ok in
     omega (arith, room)
 
 pub loop-done-preserved : goal.loop-done-preserved
@@ -24,21 +28,34 @@ loop-done-preserved g c =
     let world = world_of g.I.Image.disk in
     record {
       reached = λ tells.
-          reached_next (world c.args.self.now) (world c.loop-done.self) (world c.handle-handled.new.self) c.args.events.now c.loop-done.done c.index-events-done.result
-          handled.reply handled.block_irq handled.console_irq c.handle-handled.new.out.items c.args.records.now.items c.loop-done.records.items c.put.new.records.items
+          reached_next (world c.args.self.now) (world c.loop-done.self) (world c.handle-handled.new.self)
+          c.args.events.now c.loop-done.done c.index-events-done.result
+          handled.reply handled.block_irq handled.console_irq c.handle-handled.new.out.items
+          c.args.records.now.items c.loop-done.records.items c.put.new.records.items
           (omega arith) c.index-events-done.is (c.loop-done.invariant.reached tells)
-          (rw c.new-output.ensures.items at (c.handle-handled.ensures.handles (c.loop-done.invariant.stays.tells tells)))
+          (rw c.new-output.ensures.items at
+          (c.handle-handled.ensures.handles (c.loop-done.invariant.stays.tells tells)))
           (rw (c.reserve.ensures.items, c.from.ensures) at c.put.ensures);
-      words = λ before. words_more c.loop-done.records.items c.put.new.records.items _ (rw (c.reserve.ensures.items, c.from.ensures) at c.put.ensures) (c.loop-done.invariant.words before) c.handle-handled.ensures.words;
-      missing = λ before. missing_more c.args.self.now.slots c.loop-done.self.slots c.loop-done.records.items c.put.new.records.items c.index-events-done.result.slot
-          handled.reply c.handle-handled.new.out.items handled.block_irq handled.console_irq (rw (c.reserve.ensures.items, c.from.ensures) at c.put.ensures)
-          c.loop-done.invariant.stays.extents (c.loop-done.invariant.missing before) c.handle-handled.ensures.bad_slot.1 (rw c.new-output.ensures.items at c.handle-handled.ensures.missing);
-      others = idle_next c.args.events.now c.loop-done.done c.index-events-done.result _ _ _ (omega arith) c.index-events-done.is c.loop-done.invariant.others c.handle-handled.ensures.others;
-      stays = stays_still g.I.Image.disk c.args.self.now c.loop-done.self c.handle-handled.new.self c.loop-done.invariant.stays c.handle-handled.ensures.stays;
+      words = λ before. words_more c.loop-done.records.items c.put.new.records.items _
+          (rw (c.reserve.ensures.items, c.from.ensures) at c.put.ensures) (c.loop-done.invariant.words before)
+          c.handle-handled.ensures.words;
+      missing = λ before. missing_more c.args.self.now.slots c.loop-done.self.slots c.loop-done.records.items
+          c.put.new.records.items c.index-events-done.result.slot
+          handled.reply c.handle-handled.new.out.items handled.block_irq handled.console_irq
+          (rw (c.reserve.ensures.items, c.from.ensures) at c.put.ensures)
+          c.loop-done.invariant.stays.extents (c.loop-done.invariant.missing before)
+          c.handle-handled.ensures.bad_slot.1
+          (rw c.new-output.ensures.items at c.handle-handled.ensures.missing);
+      others = idle_next c.args.events.now c.loop-done.done c.index-events-done.result _ _ _ (omega arith)
+          c.index-events-done.is c.loop-done.invariant.others c.handle-handled.ensures.others;
+      stays = stays_still g.I.Image.disk c.args.self.now c.loop-done.self c.handle-handled.new.self
+          c.loop-done.invariant.stays c.handle-handled.ensures.stays;
     }
 
 pub returns-clause-run : goal.returns-clause-run
-returns-clause-run g c tells = run_whole _ _ c.args.events.now c.loop-done.done _ _ (omega arith) (c.loop-done.invariant.reached tells)
+returns-clause-run g c tells =
+    run_whole _ _ c.args.events.now c.loop-done.done _ _ (omega arith) (c.loop-done.invariant.reached tells)
 
 pub returns-clause-others : goal.returns-clause-others
-returns-clause-others g c = idle_whole c.args.events.now c.loop-done.done _ _ (omega arith) c.loop-done.invariant.others
+returns-clause-others g c =
+    idle_whole c.args.events.now c.loop-done.done _ _ (omega arith) c.loop-done.invariant.others

@@ -4,4 +4,5 @@ use Rattle.board.proofs.board.Board.slot.Goals as goal
 
 pub returns-clause-missing : goal.returns-clause-missing
 returns-clause-missing g c =
-    none_there c.deref.result.now c.args.self.now.slots c.args.slot c.get.result (c.deref.ensures.value ∙ ap (λ b. b.slots) c.self.view_is) c.get.ensures.lookup
+    none_there c.deref.result.now c.args.self.now.slots c.args.slot c.get.result (c.deref.ensures.value
+    ∙ ap (λ b. b.slots) c.self.view_is) c.get.ensures.lookup

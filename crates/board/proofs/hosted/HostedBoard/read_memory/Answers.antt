@@ -17,10 +17,12 @@ returns-in_default-clause-inside g c =
 
 pub returns-in_default-part-clause-takes : goal.returns-in_default-part-clause-takes
 returns-in_default-part-clause-takes g c =
-    not_read _ c.args.self.now c.args.slot c.in-Some.memory.now c.args.addr (length c.args.into.now) c.in-Some.ensures.value
+    not_read _ c.args.self.now c.args.slot c.in-Some.memory.now c.args.addr (length c.args.into.now)
+    c.in-Some.ensures.value
     (λ inside. let is : false ≡ true = c.in_default-part.ensures.inside.1 inside in absurd (cc (is)))
 
 pub returns-clause-takes : goal.returns-clause-takes
 returns-clause-takes g c =
-    was_read _ c.args.self.now c.args.slot c.in-Some.memory.now c.args.addr (length c.args.into.now) c.copy_from_slice.new.self c.in-Some.ensures.value
+    was_read _ c.args.self.now c.args.slot c.in-Some.memory.now c.args.addr (length c.args.into.now)
+    c.copy_from_slice.new.self c.in-Some.ensures.value
     (c.in-Some-part.ensures.inside.0 refl) (c.copy_from_slice.ensures.after ∙ c.in-Some-part.ensures.value)

@@ -8,28 +8,37 @@ use Rattle.board.proofs.hosted.HostedBoard.restore.Goals as goal
 
 pub returns-in_default-clause-takes : goal.returns-in_default-clause-takes
 returns-in_default-clause-takes g c =
-    let past : length c.self.inside.slots.items ≤ c.args.slot = grind (arith, c.in_default.ensures.variant.1) in
+    let past : length c.self.inside.slots.items ≤ c.args.slot =
+    grind (arith, c.in_default.ensures.variant.1) in
     rw (← c.self.view_is) (restored_nowhere _ c.self.inside.slots.items c.args.slot c.args.from.now past)
 
 pub returns-in_default-clause-busy : goal.returns-in_default-clause-busy
 returns-in_default-clause-busy g c =
-    let past : length c.self.inside.slots.items ≤ c.args.slot = grind (arith, c.in_default.ensures.variant.1) in
-    rw (← c.self.view_is, slice_get_past c.self.inside.slots.items c.args.slot past) (λ is. absurd (cc (is)), λ never. absurd never)
+    let past : length c.self.inside.slots.items ≤ c.args.slot =
+    grind (arith, c.in_default.ensures.variant.1) in
+    rw (← c.self.view_is, slice_get_past c.self.inside.slots.items c.args.slot past) (
+      λ is. absurd (cc (is)),
+      λ never. absurd never,
+    )
 
 pub returns-in_default-clause-taken : goal.returns-in_default-clause-taken
 returns-in_default-clause-taken g c saved old new is here there like rests =
-    let past : length c.self.inside.slots.items ≤ c.args.slot = grind (arith, c.in_default.ensures.variant.1) in
+    let past : length c.self.inside.slots.items ≤ c.args.slot =
+    grind (arith, c.in_default.ensures.variant.1) in
     let none = slice_get_past c.self.inside.slots.items c.args.slot past in
     absurd (cc (none, there))
 
 -- the slot of that number
-there : (g : _) (c : goal.After-self-2-1 g) → slice_get c.self.inside.slots.items c.args.slot ≡ Some c.in-Some.found.now
-there g c = slice_get_read c.self.inside.slots.items (length c.self.inside.slots.items) c.args.slot c.in-Some.found.now refl (omega (arith, c.in-Some.ensures.variant.0 refl)) c.in-Some.ensures.value
+there : (g : _) (c : goal.After-self-2-1 g) → slice_get c.self.inside.slots.items c.args.slot
+    ≡ Some c.in-Some.found.now
+there g c = slice_get_read c.self.inside.slots.items (length c.self.inside.slots.items) c.args.slot
+    c.in-Some.found.now refl (omega (arith, c.in-Some.ensures.variant.0 refl)) c.in-Some.ensures.value
 
 pub returns-clause-takes : goal.returns-clause-takes
 returns-clause-takes g c =
     rw (← c.self.view_is)
-    (restored_quietly _ c.self.inside.slots.items c.args.slot c.in-Some.found.now c.restore.new.self c.args.from.now (hosted_restore_reply c.restore.result) (there g c) c.restore.ensures.takes)
+    (restored_quietly _ c.self.inside.slots.items c.args.slot c.in-Some.found.now c.restore.new.self
+    c.args.from.now (hosted_restore_reply c.restore.result) (there g c) c.restore.ensures.takes)
 
 pub returns-clause-busy : goal.returns-clause-busy
 returns-clause-busy g c = rw (← c.self.view_is, there g c) c.restore.ensures.busy
@@ -39,9 +48,12 @@ returns-clause-fault g c why is = rw (← c.self.view_is, there g c) (c.restore.
 
 pub returns-clause-taken : goal.returns-clause-taken
 returns-clause-taken g c saved old new is here then like rests =
-    taken_there c.self.inside.slots.items c.args.slot c.in-Some.found.now c.restore.new.self old new saved c.restore.result
-    (λ alike idle. c.restore.ensures.taken saved is alike idle) (there g c) (rw (← c.self.view_is) at here) then like rests
+    taken_there c.self.inside.slots.items c.args.slot c.in-Some.found.now c.restore.new.self old new
+    saved c.restore.result
+    (λ alike idle. c.restore.ensures.taken saved is alike idle) (there g c)
+    (rw (← c.self.view_is) at here) then like rests
 
 pub returns-clause-others : goal.returns-clause-others
 returns-clause-others g c other differ =
-    others_kept c.self.inside.slots.items c.args.slot c.restore.new.self other differ ∙ ap (λ slots. slice_get slots other) c.self.view_is
+    others_kept c.self.inside.slots.items c.args.slot c.restore.new.self other differ
+    ∙ ap (λ slots. slice_get slots other) c.self.view_is

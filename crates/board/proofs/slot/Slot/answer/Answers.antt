@@ -20,11 +20,14 @@ returns-in-Some-clause-within g c = λ limit limited.
     c.in-Some.ensures.within (bytes_of (g.I.Image.disk c.args.cache.now)) limit limited
 
 pub returns-in-Some-clause-touches : goal.returns-in-Some-clause-touches
-returns-in-Some-clause-touches g c = untouched g.I.Image.moment g.I.Image.may_leave g.I.Image.left_since c.args.self.now.extent c.args.cache.now
+returns-in-Some-clause-touches g c =
+    untouched g.I.Image.moment g.I.Image.may_leave g.I.Image.left_since
+    c.args.self.now.extent c.args.cache.now
 
 pub serve_piece-requires : goal.serve_piece-requires
 serve_piece-requires g c = record {
-  lies = subst (λ (e : Extent). IsWithin (g.I.Image.disk c.args.cache.now).sector_count e) (sym c.answer_beside_disk.ensures.extent) c.requires.lies;
+  lies = subst (λ (e : Extent). IsWithin (g.I.Image.disk c.args.cache.now).sector_count e)
+      (sym c.answer_beside_disk.ensures.extent) c.requires.lies;
 }
 
 pub returns-in-None-clause-serves : goal.returns-in-None-clause-serves
@@ -33,8 +36,10 @@ returns-in-None-clause-serves g c = λ tells.
     let state = state_of bytes c.args.self.now in
     let rings = rw (c.in-None.is) at (c.answer_beside_disk.ensures.notified bytes) in
     rw (← c.in-None.ensures.silent)
-    (begins_by c.args.what.now _ c.args.budget state (state_of bytes c.answer_beside_disk.new.self) _ _ _ c.serve_piece.result.turn _ _
-    (block_asked c.args.what.now state rings) (c.in-None.ensures.readied bytes) (c.serve_piece.ensures.serves tells))
+    (begins_by c.args.what.now _ c.args.budget state (state_of bytes c.answer_beside_disk.new.self) _ _ _
+    c.serve_piece.result.turn _ _
+    (block_asked c.args.what.now state rings) (c.in-None.ensures.readied bytes)
+    (c.serve_piece.ensures.serves tells))
 
 pub returns-in-None-clause-within : goal.returns-in-None-clause-within
 returns-in-None-clause-within g c = λ limit limited.
@@ -42,17 +47,20 @@ returns-in-None-clause-within g c = λ limit limited.
     let state = state_of bytes c.args.self.now in
     let rings = rw (c.in-None.is) at (c.answer_beside_disk.ensures.notified bytes) in
     rw (← c.in-None.ensures.silent)
-    (begins_within limit c.args.what.now _ c.args.budget state (state_of bytes c.answer_beside_disk.new.self) _ _ _ c.serve_piece.result.turn
+    (begins_within limit c.args.what.now _ c.args.budget state (state_of bytes c.answer_beside_disk.new.self)
+    _ _ _ c.serve_piece.result.turn
     (block_asked c.args.what.now state rings) (c.in-None.ensures.readied bytes)
     (c.serve_piece.ensures.within limit (c.answer_beside_disk.ensures.limit ∙ limited)))
 
 pub returns-in-None-clause-unnoted : goal.returns-in-None-clause-unnoted
 returns-in-None-clause-unnoted g c =
-    unnoted_behind _ _ _ _ _ _ c.answer_beside_disk.ensures.extent c.answer_beside_disk.ensures.disturbed c.serve_piece.ensures.unnoted
+    unnoted_behind _ _ _ _ _ _ c.answer_beside_disk.ensures.extent c.answer_beside_disk.ensures.disturbed
+    c.serve_piece.ensures.unnoted
 
 pub returns-in-None-clause-touches : goal.returns-in-None-clause-touches
 returns-in-None-clause-touches g c =
-    subst (λ (e : Extent). TouchesExtent g.I.Image.moment g.I.Image.may_leave g.I.Image.left_since e c.args.cache.now c.serve_piece.new.cache)
+    subst (λ (e : Extent). TouchesExtent g.I.Image.moment g.I.Image.may_leave g.I.Image.left_since e
+    c.args.cache.now c.serve_piece.new.cache)
     c.answer_beside_disk.ensures.extent c.serve_piece.ensures.touches
 
 pub returns-in-None-clause-no_memory : goal.returns-in-None-clause-no_memory

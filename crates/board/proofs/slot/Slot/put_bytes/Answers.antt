@@ -4,4 +4,5 @@ use Rattle.board.proofs.slot.Slot.put_bytes.Goals as goal
 
 pub invariant_of-self : goal.invariant_of-self
 invariant_of-self g c =
-    memory_changed _ _ _ _ _ _ c.self.invariant (put_range c.self.inside.memory c.args.addr c.copy_from_slice.new.self)
+    memory_changed _ _ _ _ _ _ c.self.invariant
+    (put_range c.self.inside.memory c.args.addr c.copy_from_slice.new.self)

@@ -13,7 +13,8 @@ pub returns-in-Ok-clause-given : goal.returns-in-Ok-clause-given
 returns-in-Ok-clause-given g c = λ bytes health.
     let inside : Inside c.args.self.now.memory c.args.addr c.args.len = search rules in
     let is : c.from-in-Ok.result ≡ part_of c.args.self.now.memory c.args.addr c.args.len = search rules in
-    reads g.row.A.Denot (state_of bytes c.args.self.now) c.args.addr c.args.len c.from-in-Ok.result health inside is
+    reads g.row.A.Denot (state_of bytes c.args.self.now) c.args.addr c.args.len
+    c.from-in-Ok.result health inside is
 
 pub returns-in-Err-clause-given : goal.returns-in-Err-clause-given
 returns-in-Err-clause-given g c = λ bytes health.

@@ -11,6 +11,7 @@ invariant_of-self g c =
     let console = c.self.inside.console in
     console_changed _ _ _ _ _ _ _ _ c.self.invariant
     (subst (KeepsDevice console) (sym changed.ensures.after) (KeepsDevice-config_changed console))
-    (changed.ensures.sound c.self.inside.memory c.self.invariant.console_sound) (same_range c.self.inside.memory)
+    (changed.ensures.sound c.self.inside.memory c.self.invariant.console_sound)
+    (same_range c.self.inside.memory)
     (subst (λ (pending : List ℕ). length pending ≤ 4096)
     (sym (ap (λ (console : Console). console.pending) c.resize.ensures)) c.self.invariant.pending_fits)

@@ -8,7 +8,8 @@ invariant_of-self g c =
     let served = c.serve_piece in
     let device = c.self.inside.block_device in
     block_changed _ _ _ _ _ _ _ c.self.invariant
-    (KeepsDevice-served (block_device (record { extent = device.extent; read_only = device.read_only; identity = device.identity }))
+    (KeepsDevice-served (block_device
+    (record { extent = device.extent; read_only = device.read_only; identity = device.identity }))
     c.args.budget 0 c.args.stage _ served.result.progress _ _ _ _ _ _ served.ensures.served)
     served.ensures.sound served.ensures.range
 

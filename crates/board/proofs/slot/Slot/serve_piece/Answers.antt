@@ -12,21 +12,29 @@ returns-in-Block-clause-serves g c = λ tells.
     let served = c.serve_block-progress in
     let new = g.I.Image.disk served.new.cache in
     let slot = c.args.self.now in
-    let kept = outside_kept slot.extent old.contents new.contents tells served.ensures.stays.outside.contents in
-    let lies : IsWithin new.sector_count slot.extent = omega (arith, c.requires.lies, served.ensures.stays.outside.sectors) in
+    let kept = outside_kept slot.extent old.contents new.contents tells
+    served.ensures.stays.outside.contents in
+    let lies : IsWithin new.sector_count slot.extent =
+    omega (arith, c.requires.lies, served.ensures.stays.outside.sectors) in
     rw (served.ensures.rest, c.turn.ensures)
-    (silent_turn c.args.pause c.args.stage c.args.budget served.result.progress _ _ _ _ (g.O.Outlet.bytes c.args.out.now)
+    (silent_turn c.args.pause c.args.stage c.args.budget served.result.progress _ _ _ _
+    (g.O.Outlet.bytes c.args.out.now)
     (rw (c.in-Block.is)
-    (block_piece slot c.args.stage c.args.budget served.result.progress served.new.self.memory served.new.self.block old new tells kept.tells
-    (g.met.I.Image.whole c.args.cache.now) (g.met.I.Image.whole served.new.cache) c.requires.lies lies served.ensures.stays.rises served.ensures.served)))
+    (block_piece slot c.args.stage c.args.budget served.result.progress served.new.self.memory
+    served.new.self.block old new tells kept.tells
+    (g.met.I.Image.whole c.args.cache.now) (g.met.I.Image.whole served.new.cache) c.requires.lies lies
+    served.ensures.stays.rises served.ensures.served)))
 
 pub returns-in-Receive-clause-serves : goal.returns-in-Receive-clause-serves
 returns-in-Receive-clause-serves g c = λ tells.
-    c.serve_console.ensures.serves (bytes_of (g.I.Image.disk c.args.cache.now)) (health_of (g.I.Image.disk c.args.cache.now))
+    c.serve_console.ensures.serves (bytes_of (g.I.Image.disk c.args.cache.now))
+    (health_of (g.I.Image.disk c.args.cache.now))
 
 pub returns-in-Receive-clause-within : goal.returns-in-Receive-clause-within
 returns-in-Receive-clause-within g c = λ limit limited.
     c.serve_console.ensures.within (bytes_of (g.I.Image.disk c.args.cache.now)) limit limited
 
 pub returns-in-Receive-clause-touches : goal.returns-in-Receive-clause-touches
-returns-in-Receive-clause-touches g c = untouched g.I.Image.moment g.I.Image.may_leave g.I.Image.left_since c.args.self.now.extent c.args.cache.now
+returns-in-Receive-clause-touches g c =
+    untouched g.I.Image.moment g.I.Image.may_leave g.I.Image.left_since
+    c.args.self.now.extent c.args.cache.now

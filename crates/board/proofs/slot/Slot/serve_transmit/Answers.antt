@@ -9,7 +9,8 @@ invariant_of-self g c =
     let served = c.serve_transmit_piece in
     let limit = g.O.Outlet.limit c.args.out.now in
     console_changed _ _ _ _ _ _ _ _ c.self.invariant
-    (transmit_keeps c.args.stage (transmit_fitting limit) (transmit_within limit) c.args.budget _ _ _ _ _ _ _ served.result
+    (transmit_keeps c.args.stage (transmit_fitting limit) (transmit_within limit) c.args.budget _ _ _ _
+    _ _ _ served.result
     served.ensures.ok served.ensures.no_memory)
     served.ensures.sound served.ensures.range
     (subst (λ (pending : List ℕ). length pending ≤ 4096)

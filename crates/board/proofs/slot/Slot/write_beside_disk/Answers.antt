@@ -17,35 +17,54 @@ use Rattle.board.proofs.Turns.{begins_by, begins_within, nothing_asked, nothing_
 use Rattle.board.proofs.slot.Slot.write_beside_disk.Goals as goal
 
 pub returns-in-Serve-Block-clause-device : goal.returns-in-Serve-Block-clause-device
-returns-in-Serve-Block-clause-device g c = written_device c.args.window c.args.offset c.args.width c.args.value c.args.self.now c.write_registers.new.self c.write_registers.ensures.written c.write_registers.ensures.extent
+returns-in-Serve-Block-clause-device g c =
+    written_device c.args.window c.args.offset c.args.width c.args.value c.args.self.now
+    c.write_registers.new.self c.write_registers.ensures.written c.write_registers.ensures.extent
 
 pub returns-in-Serve-Block-clause-block : goal.returns-in-Serve-Block-clause-block
-returns-in-Serve-Block-clause-block g c = written_block g.row.A.Denot c.args.window c.args.offset c.args.width c.args.value c.args.self.now c.write_registers.new.self c.write_registers.ensures.written
+returns-in-Serve-Block-clause-block g c =
+    written_block g.row.A.Denot c.args.window c.args.offset c.args.width c.args.value c.args.self.now
+    c.write_registers.new.self c.write_registers.ensures.written
 
 pub returns-in-Serve-Block-clause-range : goal.returns-in-Serve-Block-clause-range
-returns-in-Serve-Block-clause-range g c = written_range c.args.window c.args.offset c.args.width c.args.value c.args.self.now c.write_registers.new.self c.write_registers.ensures.written
+returns-in-Serve-Block-clause-range g c =
+    written_range c.args.window c.args.offset c.args.width c.args.value c.args.self.now
+    c.write_registers.new.self c.write_registers.ensures.written
 
 pub returns-in-Serve : goal.returns-in-Serve
 returns-in-Serve g c =
     let written = c.write_registers.ensures in
-    let task : (image : List ℕ) → Task = λ image. task_at c.args.window c.args.offset c.args.width c.args.value (state_of image c.args.self.now) in
+    let task : (image : List ℕ) → Task =
+    λ image. task_at c.args.window c.args.offset c.args.width c.args.value
+    (state_of image c.args.self.now) in
     let what : EventKind g.row.A.Denot = Write c.args.window c.args.offset c.args.width c.args.value in
     let served = c.serve_console in
     record {
-      notified = λ image. not_block (task image) c.in-Serve.service (sym c.in-Serve.is ∙ written.duty image) served.ensures.console;
+      notified = λ image. not_block (task image) c.in-Serve.service (sym c.in-Serve.is
+          ∙ written.duty image) served.ensures.console;
       readied = tt;
       silent = tt;
       serves = λ image health.
-          begins_by what _ c.args.budget (state_of image c.args.self.now) (state_of image c.write_registers.new.self) health health (state_of image served.new.self) served.result _ _
-          (serve_asked (task image) c.in-Serve.service (sym c.in-Serve.is ∙ written.duty image)) (written.written image) (served.ensures.serves image health);
+          begins_by what _ c.args.budget (state_of image c.args.self.now)
+          (state_of image c.write_registers.new.self) health health
+          (state_of image served.new.self) served.result _ _
+          (serve_asked (task image) c.in-Serve.service (sym c.in-Serve.is ∙ written.duty image))
+          (written.written image) (served.ensures.serves image health);
       within = λ image limit limited.
-          begins_within limit what _ c.args.budget (state_of image c.args.self.now) (state_of image c.write_registers.new.self) (state_of image served.new.self) _ _ served.result
-          (serve_asked (task image) c.in-Serve.service (sym c.in-Serve.is ∙ written.duty image)) (written.written image) (served.ensures.within image limit limited);
+          begins_within limit what _ c.args.budget (state_of image c.args.self.now)
+          (state_of image c.write_registers.new.self) (state_of image served.new.self) _ _ served.result
+          (serve_asked (task image) c.in-Serve.service (sym c.in-Serve.is ∙ written.duty image))
+          (written.written image) (served.ensures.within image limit limited);
       limited = served.ensures.limited;
       limit = served.ensures.limit;
-      device = served.ensures.device ∙ written_device c.args.window c.args.offset c.args.width c.args.value c.args.self.now c.write_registers.new.self written.written written.extent;
-      block = served.ensures.block ∙ written_block g.row.A.Denot c.args.window c.args.offset c.args.width c.args.value c.args.self.now c.write_registers.new.self written.written;
-      range = same_trans _ _ _ (written_range c.args.window c.args.offset c.args.width c.args.value c.args.self.now c.write_registers.new.self written.written) served.ensures.range;
+      device = served.ensures.device
+          ∙ written_device c.args.window c.args.offset c.args.width c.args.value c.args.self.now
+          c.write_registers.new.self written.written written.extent;
+      block = served.ensures.block
+          ∙ written_block g.row.A.Denot c.args.window c.args.offset c.args.width c.args.value c.args.self.now
+          c.write_registers.new.self written.written;
+      range = same_trans _ _ _ (written_range c.args.window c.args.offset c.args.width c.args.value
+          c.args.self.now c.write_registers.new.self written.written) served.ensures.range;
       extent = served.ensures.extent ∙ written.extent;
       disturbed = served.ensures.disturbed ∙ written.disturbed;
       there = served.ensures.there;
@@ -53,8 +72,10 @@ returns-in-Serve g c =
       no_memory = λ lacking image.
           let state = state_of image c.args.self.now in
           let found = served.ensures.no_memory lacking refl in
-          let asked = transmit_asked (task image) (ap duty.Serve (sym found.0) ∙ (sym c.in-Serve.is ∙ written.duty image)) in
-          subst (λ (t : Task). TakesMemory t (with_write c.args.window c.args.offset c.args.width c.args.value state)) (sym asked)
+          let asked = transmit_asked (task image) (ap duty.Serve (sym found.0)
+          ∙ (sym c.in-Serve.is ∙ written.duty image)) in
+          subst (λ (t : Task). TakesMemory t (with_write c.args.window c.args.offset c.args.width c.args.value
+          state)) (sym asked)
           (rw (← written.written image) found.1);
     }
 
@@ -64,10 +85,14 @@ returns-in-PutOut-clause-serves g c = λ image health.
     let task = task_at c.args.window c.args.offset c.args.width c.args.value state in
     let what : EventKind g.row.A.Denot = Write c.args.window c.args.offset c.args.width c.args.value in
     rw (c.emergency-put_out.ensures.same)
-    (subst (λ (slot : BoardSlot). ServesTurn (Begins what c.args.budget) state health health (state_of image slot) (Answered c.reply_to.result) (g.O.Outlet.bytes c.args.out.now) (g.O.Outlet.bytes c.emergency-put_out.new.out)) (sym c.self.view_is)
-    (rw (c.write_registers.ensures.written image) (put_out_turn state c.args.window c.args.offset c.args.width c.args.value c.in-PutOut.byte c.args.budget health _ _ c.emergency-put_out.result c.reply_to.result
+    (subst (λ (slot : BoardSlot). ServesTurn (Begins what c.args.budget) state health health
+    (state_of image slot) (Answered c.reply_to.result) (g.O.Outlet.bytes c.args.out.now)
+    (g.O.Outlet.bytes c.emergency-put_out.new.out)) (sym c.self.view_is)
+    (rw (c.write_registers.ensures.written image) (put_out_turn state c.args.window c.args.offset c.args.width
+    c.args.value c.in-PutOut.byte c.args.budget health _ _ c.emergency-put_out.result c.reply_to.result
     (put_out_asked task c.in-PutOut.byte (sym c.in-PutOut.is ∙ c.write_registers.ensures.duty image))
-    c.emergency-put_out.ensures.ok c.emergency-put_out.ensures.err c.reply_to.ensures.done c.reply_to.ensures.no_memory)))
+    c.emergency-put_out.ensures.ok c.emergency-put_out.ensures.err c.reply_to.ensures.done
+    c.reply_to.ensures.no_memory)))
 
 pub returns-in-PutOut-clause-within : goal.returns-in-PutOut-clause-within
 returns-in-PutOut-clause-within g c = λ image limit limited.
@@ -75,37 +100,53 @@ returns-in-PutOut-clause-within g c = λ image limit limited.
     let task = task_at c.args.window c.args.offset c.args.width c.args.value state in
     let what : EventKind g.row.A.Denot = Write c.args.window c.args.offset c.args.width c.args.value in
     rw (c.emergency-put_out.ensures.same)
-    (subst (λ (slot : BoardSlot). BeginsWithin limit what c.args.budget state (state_of image slot) (g.O.Outlet.bytes c.args.out.now) (g.O.Outlet.bytes c.emergency-put_out.new.out) (Answered c.reply_to.result)) (sym c.self.view_is)
-    (rw (c.write_registers.ensures.written image) (put_out_within limit (g.O.Outlet.limit c.args.out.now) state c.args.window c.args.offset c.args.width c.args.value c.in-PutOut.byte c.args.budget _ _ c.emergency-put_out.result c.reply_to.result limited
+    (subst (λ (slot : BoardSlot). BeginsWithin limit what c.args.budget state (state_of image slot)
+    (g.O.Outlet.bytes c.args.out.now) (g.O.Outlet.bytes c.emergency-put_out.new.out)
+    (Answered c.reply_to.result)) (sym c.self.view_is)
+    (rw (c.write_registers.ensures.written image)
+    (put_out_within limit (g.O.Outlet.limit c.args.out.now) state c.args.window c.args.offset c.args.width
+    c.args.value c.in-PutOut.byte c.args.budget _ _ c.emergency-put_out.result c.reply_to.result limited
     (put_out_asked task c.in-PutOut.byte (sym c.in-PutOut.is ∙ c.write_registers.ensures.duty image))
-    c.emergency-put_out.ensures.ok c.emergency-put_out.ensures.fits c.emergency-put_out.ensures.err c.emergency-put_out.ensures.refused c.reply_to.ensures.done c.reply_to.ensures.no_memory)))
+    c.emergency-put_out.ensures.ok c.emergency-put_out.ensures.fits c.emergency-put_out.ensures.err
+    c.emergency-put_out.ensures.refused c.reply_to.ensures.done c.reply_to.ensures.no_memory)))
 
 pub returns-in-PutOut-clause-device : goal.returns-in-PutOut-clause-device
 returns-in-PutOut-clause-device g c =
     subst (λ (slot : BoardSlot). device_at slot ≡ device_at c.args.self.now) (sym c.self.view_is)
-    (written_device c.args.window c.args.offset c.args.width c.args.value c.args.self.now c.write_registers.new.self c.write_registers.ensures.written c.write_registers.ensures.extent)
+    (written_device c.args.window c.args.offset c.args.width c.args.value c.args.self.now
+    c.write_registers.new.self c.write_registers.ensures.written c.write_registers.ensures.extent)
 
 pub returns-in-PutOut-clause-block : goal.returns-in-PutOut-clause-block
 returns-in-PutOut-clause-block g c =
-    ap (λ (slot : BoardSlot). slot.block) c.self.view_is ∙ written_block g.row.A.Denot c.args.window c.args.offset c.args.width c.args.value c.args.self.now c.write_registers.new.self c.write_registers.ensures.written
+    ap (λ (slot : BoardSlot). slot.block) c.self.view_is
+    ∙ written_block g.row.A.Denot c.args.window c.args.offset c.args.width c.args.value c.args.self.now
+    c.write_registers.new.self c.write_registers.ensures.written
 
 pub returns-in-PutOut-clause-range : goal.returns-in-PutOut-clause-range
 returns-in-PutOut-clause-range g c =
     subst (λ (slot : BoardSlot). SameRange c.args.self.now.memory slot.memory) (sym c.self.view_is)
-    (written_range c.args.window c.args.offset c.args.width c.args.value c.args.self.now c.write_registers.new.self c.write_registers.ensures.written)
+    (written_range c.args.window c.args.offset c.args.width c.args.value c.args.self.now
+    c.write_registers.new.self c.write_registers.ensures.written)
 
 pub returns-in-Nothing-clause-serves : goal.returns-in-Nothing-clause-serves
 returns-in-Nothing-clause-serves g c = λ image health.
     let state = state_of image c.args.self.now in
     rw (c.write_registers.ensures.written image)
     (nothing_turn state c.args.window c.args.offset c.args.width c.args.value c.args.budget health _
-    (nothing_asked (task_at c.args.window c.args.offset c.args.width c.args.value state) (sym c.in-Nothing.is ∙ c.write_registers.ensures.duty image)))
+    (nothing_asked (task_at c.args.window c.args.offset c.args.width c.args.value state) (sym c.in-Nothing.is
+    ∙ c.write_registers.ensures.duty image)))
 
 pub returns-in-Nothing-clause-device : goal.returns-in-Nothing-clause-device
-returns-in-Nothing-clause-device g c = written_device c.args.window c.args.offset c.args.width c.args.value c.args.self.now c.write_registers.new.self c.write_registers.ensures.written c.write_registers.ensures.extent
+returns-in-Nothing-clause-device g c =
+    written_device c.args.window c.args.offset c.args.width c.args.value c.args.self.now
+    c.write_registers.new.self c.write_registers.ensures.written c.write_registers.ensures.extent
 
 pub returns-in-Nothing-clause-block : goal.returns-in-Nothing-clause-block
-returns-in-Nothing-clause-block g c = written_block g.row.A.Denot c.args.window c.args.offset c.args.width c.args.value c.args.self.now c.write_registers.new.self c.write_registers.ensures.written
+returns-in-Nothing-clause-block g c =
+    written_block g.row.A.Denot c.args.window c.args.offset c.args.width c.args.value c.args.self.now
+    c.write_registers.new.self c.write_registers.ensures.written
 
 pub returns-in-Nothing-clause-range : goal.returns-in-Nothing-clause-range
-returns-in-Nothing-clause-range g c = written_range c.args.window c.args.offset c.args.width c.args.value c.args.self.now c.write_registers.new.self c.write_registers.ensures.written
+returns-in-Nothing-clause-range g c =
+    written_range c.args.window c.args.offset c.args.width c.args.value c.args.self.now
+    c.write_registers.new.self c.write_registers.ensures.written

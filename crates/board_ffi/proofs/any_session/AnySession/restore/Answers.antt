@@ -14,6 +14,9 @@ returns-in-OfImage-clause-restores c =
       taken = λ saved before after is here there like idle.
           let found = restored.taken saved before after is here there like idle in
           (numbered.done.1 found.0, found.1);
-      missing = (λ is. restored.missing.0 (numbered.missing.0 is), λ past. numbered.missing.1 (restored.missing.1 past));
+      missing = (
+        λ is. restored.missing.0 (numbered.missing.0 is),
+        λ past. numbered.missing.1 (restored.missing.1 past),
+      );
       busy = λ is. restored.busy (numbered.busy.0 is);
     })

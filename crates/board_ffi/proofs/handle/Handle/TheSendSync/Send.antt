@@ -22,7 +22,8 @@ crosses = session.the_send
 owned : (alloc : Global) (p : Ptr) (session : Held) → Keyless (held alloc p session)
 owned alloc null_ptr session = λ _. tt
 owned alloc (block_ptr b o) None = tt
-owned alloc (block_ptr b o) (Some session) = (lies Row crosses (block_ptr b o) session, heap.frees.frees alloc (raw (lone Row.mir)) (block_ptr b o))
+owned alloc (block_ptr b o) (Some session) =
+    (lies Row crosses (block_ptr b o) session, heap.frees.frees alloc (raw (lone Row.mir)) (block_ptr b o))
 
 pub send : IsSend the_row
 send =

@@ -47,13 +47,17 @@ use Rattle.board_ffi.proofs.handle.Handle.into_parts.Code as code
 abbrev stayed : Stays (F.ended).signature.params (F.ended).kept
 stayed = (stay_dropped From yes, tt)
 
-module _ {M : Type 1} {𝓤 : Ura M} (𝓛 : Logic 𝓤) (at_mem : Memory → SProp 𝓤) (run : Routine → Fun 𝓤) (𝓣 : Tables 𝓤 𝓛.H) where
+module _ {M : Type 1} {𝓤 : Ura M} (𝓛 : Logic 𝓤) (at_mem : Memory → SProp 𝓤) (run : Routine
+    → Fun 𝓤) (𝓣 : Tables 𝓤 𝓛.H) where
   -- what a box owns tells that its pointer may be compared with null
-  tested : (a : E.al.row.Denot) (p : Ptr) (x : E.row.Denot) → ent 𝓤 (sem 𝓛 (box_owns (token E.al a) (R E) p x)) (guard 𝓤 (Testable p) (sem 𝓛 (box_owns (token E.al a) (R E) p x)))
+  tested : (a : E.al.row.Denot) (p : Ptr) (x : E.row.Denot)
+      → ent 𝓤 (sem 𝓛 (box_owns (token E.al a) (R E) p x))
+      (guard 𝓤 (Testable p) (sem 𝓛 (box_owns (token E.al a) (R E) p x)))
   tested a p x =
       let owns : SProp 𝓤 = sem 𝓛 (box_owns (token E.al a) (R E) p x) in
       let last : SProp 𝓤 = sem 𝓛 (token E.al a (bare (lone (R E).mir)) p) in
-      fact_use 𝓤 (Testable p) (via 𝓤 last (snd∗ 𝓤 (sem 𝓛 (points_to (R E) p x)) last) (dealloc_token-Testable 𝓛 a (bare (lone (R E).mir)) p)) (guard_i 𝓤 (Testable p) owns)
+      fact_use 𝓤 (Testable p) (via 𝓤 last (snd∗ 𝓤 (sem 𝓛 (points_to (R E) p x)) last)
+      (dealloc_token-Testable 𝓛 a (bare (lone (R E).mir)) p)) (guard_i 𝓤 (Testable p) owns)
 
   module _ (z : (walk_of 𝓛 F.ended stayed (F.clauses 𝓛 at_mem run)).Ghost) where
     abbrev Post : Val → SProp 𝓤
@@ -64,21 +68,28 @@ module _ {M : Type 1} {𝓤 : Ura M} (𝓛 : Logic 𝓤) (at_mem : Memory → SP
 
     -- the walk from each pointer, and what may stand behind it
     at : (p : Ptr) (x : Held) (hv : Val) → d.session ≡ x → Fits E.al hv
-        → ent 𝓤 (sep 𝓤 (sem 𝓛 (held d.alloc p x)) (sem 𝓛 (handle E d.alloc hv))) (WpFn 𝓤 𝓛.H 𝓣.C 𝓣.Λ code.function (word p hv ∷ []) Post)
+        → ent 𝓤 (sep 𝓤 (sem 𝓛 (held d.alloc p x)) (sem 𝓛 (handle E d.alloc hv)))
+        (WpFn 𝓤 𝓛.H 𝓣.C 𝓣.Λ code.function (word p hv ∷ []) Post)
     at null_ptr x hv e fa =
         let Γ : List (Item 𝓤) = ‵ (held d.alloc null_ptr x) ∷ ‵ (handle E d.alloc hv) ∷ [] in
         qed 𝓛 Γ ∵ fpick ! (λ none. drop ! $ drop ! $
-        enter ! 𝓣.C 𝓣.Λ code.function (word null_ptr hv ∷ []) _ $ alloc_all ! (λ ls. pass_all ! refl ((and_tt _ fa.0, (record { fits = lit< tt }, (fa.1, tt))), tt) $
-        sets ! (of_opd ! (get_in ! (fld ! refl (stop !)) (sub ! 0 refl (whole !)))) refl (tt, record { fits = lit< tt }) $ sets ! (of_opd ! (get_in ! (fld ! refl (stop !)) (sub ! 1 refl (whole !)))) refl fa $
+        enter ! 𝓣.C 𝓣.Λ code.function (word null_ptr hv ∷ []) _ $ alloc_all !
+        (λ ls. pass_all ! refl ((and_tt _ fa.0, (record { fits = lit< tt }, (fa.1, tt))), tt) $
+        sets ! (of_opd ! (get_in ! (fld ! refl (stop !)) (sub ! 0 refl (whole !)))) refl
+        (tt, record { fits = lit< tt }) $ sets !
+        (of_opd ! (get_in ! (fld ! refl (stop !)) (sub ! 1 refl (whole !)))) refl fa $
         sets ! (bin ! (get ! refl) (lit ! tt) (tests_null null_ptr (lit< tt))) refl (tt, tt) $
         first ! $ branches ! (get ! refl)
         (λ t. sets ! (agg ! (and_then ! (lit ! tt) (no_more !))) refl (tt, (record { fits = lit< tt }, tt)) $
         returns_within ! Post refl (look_at ! 0 refl) $ free_all ! refl $
         use0 𝓛 (‵ ((OP.the_row Of).own_val None (live 0 (of_list []) ∷ []))) (none_of 𝓛 Of) $
-        suffices ! _ (ends_at 𝓛 F.ended stayed (F.clauses 𝓛 at_mem run) z (live 0 (of_list [])) None (tt, tt) (tt, tt)) $ says ! (e ∙ none) $
+        suffices ! _ (ends_at 𝓛 F.ended stayed (F.clauses 𝓛 at_mem run) z (live 0 (of_list [])) None (tt, tt)
+        (tt, tt)) $ says ! (e ∙ none) $
         nothing ! $ nothing ! $ fjoin ! $ join ! $ nothing ! $ join ! $ done !)
         (λ t. absurd t)))
-    at (block_ptr b o) None hv e fa = qed 𝓛 (‵ ffalse ∷ ‵ (handle E d.alloc hv) ∷ []) ∵ use1 𝓛 (given ⊥ (‵ ftrue)) (never_e 𝓤 _) $ learn ! (λ f. absurd f)
+    at (block_ptr b o) None hv e fa =
+        qed 𝓛 (‵ ffalse ∷ ‵ (handle E d.alloc hv) ∷ []) ∵ use1 𝓛 (given ⊥ (‵ ftrue)) (never_e 𝓤 _) $
+        learn ! (λ f. absurd f)
     at (block_ptr b o) (Some x) hv e fa =
         let w : Val = word (block_ptr b o) hv in
         let v : D E = record { ptr = block_ptr b o; alloc = d.alloc; value = x } in
@@ -86,32 +97,46 @@ module _ {M : Type 1} {𝓤 : Ura M} (𝓛 : Logic 𝓤) (at_mem : Memory → SP
         let out : Val = live 1 (of_list (w ∷ [])) in
         let typed = box_typed E hv b o fa in
         qed 𝓛 (‵ (box_owns (token E.al d.alloc) (R E) (block_ptr b o) x) ∷ ‵ (handle E d.alloc hv) ∷ []) ∵
-        use1 𝓛 (given (Testable (block_ptr b o)) (‵ (box_owns (token E.al d.alloc) (R E) (block_ptr b o) x))) (tested d.alloc (block_ptr b o) x) $ learn ! (λ may.
+        use1 𝓛 (given (Testable (block_ptr b o)) (‵ (box_owns (token E.al d.alloc) (R E) (block_ptr b o) x)))
+        (tested d.alloc (block_ptr b o) x) $ learn ! (λ may.
         fsplit ! $ box_in E ! v b o x refl refl $ use1 𝓛 (‵ (Of.own_val made (w ∷ []))) (id⊢ 𝓤 _) $
         use1 𝓛 (‵ ((OP.the_row Of).own_val (Some made) (out ∷ []))) (Some-of 𝓛 Of made w) $
         enter ! 𝓣.C 𝓣.Λ code.function (w ∷ []) _ $ alloc_all ! (λ ls. pass_all ! refl (typed, tt) $
-        sets ! (of_opd ! (get_in ! (fld ! refl (stop !)) (sub ! 0 refl (whole !)))) refl (tt, tt) $ sets ! (of_opd ! (get_in ! (fld ! refl (stop !)) (sub ! 1 refl (whole !)))) refl fa $
+        sets ! (of_opd ! (get_in ! (fld ! refl (stop !)) (sub ! 0 refl (whole !)))) refl (tt, tt) $ sets !
+        (of_opd ! (get_in ! (fld ! refl (stop !)) (sub ! 1 refl (whole !)))) refl fa $
         sets ! (bin ! (get ! refl) (lit ! tt) (tests_null (block_ptr b o) may)) refl (tt, tt) $
         first ! $ branches ! (get ! refl) (λ t. absurd t)
-        (λ t. skips ! $ exec ! 𝓣.C 𝓣.Λ (env code.function.locals ls) code.Mir.t-5 (at_ret (env code.function.locals ls) Post) $
+        (λ t. skips ! $ exec ! 𝓣.C 𝓣.Λ (env code.function.locals ls) code.Mir.t-5
+        (at_ret (env code.function.locals ls) Post) $
         sets ! (of_opd ! (get ! refl)) refl (tt, tt) $
         sets ! (agg ! (and_then ! (get ! refl) (and_then ! (get ! refl) (no_more !)))) refl typed $
-        sets ! (agg ! (and_then ! (lit ! tt) (and_then ! (get ! refl) (no_more !)))) refl (and_tt _ typed.0, (record { fits = lit< tt }, (typed.1, tt))) $
+        sets ! (agg ! (and_then ! (lit ! tt) (and_then ! (get ! refl) (no_more !)))) refl (
+          and_tt _ typed.0,
+          (record { fits = lit< tt }, (typed.1, tt)),
+        ) $
         returns ! (look_at ! 0 refl) $ free_all ! refl $
-        suffices ! _ (ends_at 𝓛 F.ended stayed (F.clauses 𝓛 at_mem run) z out (Some made) (tt, tt) (tt, tt)) $ says ! e $
+        suffices ! _ (ends_at 𝓛 F.ended stayed (F.clauses 𝓛 at_mem run) z out (Some made) (tt, tt)
+        (tt, tt)) $ says ! e $
         nothing ! $ nothing ! $ fjoin ! $ join ! $ nothing ! $ join ! $ done !)))
 
-    walk : ent 𝓤 ((walk_of 𝓛 F.ended stayed (F.clauses 𝓛 at_mem run)).pre z) (WpFn 𝓤 𝓛.H 𝓣.C 𝓣.Λ code.function (z.0.4.0 ++ []) Post)
+    walk : ent 𝓤 ((walk_of 𝓛 F.ended stayed (F.clauses 𝓛 at_mem run)).pre z)
+        (WpFn 𝓤 𝓛.H 𝓣.C 𝓣.Λ code.function (z.0.4.0 ++ []) Post)
     walk =
-        qed 𝓛 ((‵ ftrue ⊛ ‵ (fsep (H.own_val d z.0.4.0) ftrue)) ∷ raw (emp 𝓤) ∷ []) ∵ split ! $ drop ! $ fsplit ! $
+        qed 𝓛 ((‵ ftrue ⊛ ‵ (fsep (H.own_val d z.0.4.0) ftrue)) ∷ raw (emp 𝓤) ∷ []) ∵ split ! $
+        drop ! $ fsplit ! $
         handle_out ! d z.0.4.0 (λ hv ws fa. keep ! (0 ∷ 1 ∷ []) $
-        by ! (subst (λ (us : List Val). ent 𝓤 (sep 𝓤 (sem 𝓛 (held d.alloc d.at d.session)) (sem 𝓛 (handle E d.alloc hv))) (WpFn 𝓤 𝓛.H 𝓣.C 𝓣.Λ code.function (us ++ []) Post)) (sym ws)
+        by ! (subst (λ (us : List Val). ent 𝓤
+        (sep 𝓤 (sem 𝓛 (held d.alloc d.at d.session)) (sem 𝓛 (handle E d.alloc hv)))
+        (WpFn 𝓤 𝓛.H 𝓣.C 𝓣.Λ code.function (us ++ []) Post)) (sym ws)
         (at d.at d.session hv refl fa)))
 
 pub into_parts_spec : {M : Type 1} → stated.statement M
 unfolding tables_of
 into_parts_spec 𝓤 𝓛 𝓜 𝓡 wired =
     let 𝓣 : Tables 𝓤 𝓛.H = tables_of 𝓤 𝓛.H 𝓜 (tables 𝓤 𝓛.H 𝓜 𝓡 𝓡.env) in
-    entered 𝓤 𝓛.H (triple_of 𝓛 F.signature (F.spec 𝓛 𝓜.mem 𝓡.returns)) 𝓣.C 𝓣.Λ #self code.function (code.unfolded 𝓤 𝓛.H 𝓜 𝓡 wired)
-    (walk_Meets 𝓛 F.ended stayed (Goes-dropped 𝓛 0 From yes (λ κs x f. refl), tt) (F.clauses 𝓛 𝓜.mem 𝓡.returns) (WpFn 𝓤 𝓛.H 𝓣.C 𝓣.Λ code.function) (WpFn-mono 𝓤 𝓛.H 𝓛.laws 𝓣 code.function)
+    entered 𝓤 𝓛.H (triple_of 𝓛 F.signature (F.spec 𝓛 𝓜.mem 𝓡.returns)) 𝓣.C 𝓣.Λ #self code.function
+    (code.unfolded 𝓤 𝓛.H 𝓜 𝓡 wired)
+    (walk_Meets 𝓛 F.ended stayed (Goes-dropped 𝓛 0 From yes (λ κs x f. refl), tt)
+    (F.clauses 𝓛 𝓜.mem 𝓡.returns) (WpFn 𝓤 𝓛.H 𝓣.C 𝓣.Λ code.function)
+    (WpFn-mono 𝓤 𝓛.H 𝓛.laws 𝓣 code.function)
     (walk 𝓛 𝓜.mem 𝓡.returns 𝓣))

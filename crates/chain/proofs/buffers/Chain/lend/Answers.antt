@@ -27,14 +27,17 @@ returns g c =
     let addr : c.segment_at-rest.result.addr ≡ rest.addr = ap (λ (s : Segment). s.addr) is in
     let len : c.segment_at-rest.result.len ≡ rest.len = ap (λ (s : Segment). s.len) is in
     let some : 0 < rest.len = rest_some (segments_of true xs) c.args.from h in
-    let size : length c.part_mut.result.now ≡ min c.args.most rest.len = omega (arith, c.part_mut.ensures.len, c.min.ensures, len) in
+    let size : length c.part_mut.result.now ≡ min c.args.most rest.len =
+    omega (arith, c.part_mut.ensures.len, c.min.ensures, len) in
     let less : length c.part_mut.result.now ≤ rest.len = omega (arith, size) in (
       (refl, λ (w : List ℕ). ap (λ a. put c.args.mem.now a w) addr),
       record {
         writes_back = tt;
-        value = c.part_mut.ensures.value ∙ ap (λ a. part_of c.args.mem.now a c.min.result) addr ∙ ap (part_of c.args.mem.now rest.addr) (sym c.part_mut.ensures.len);
+        value = c.part_mut.ensures.value ∙ ap (λ a. part_of c.args.mem.now a c.min.result) addr
+            ∙ ap (part_of c.args.mem.now rest.addr) (sym c.part_mut.ensures.len);
         len = size;
         some = omega (arith, size, some, c.requires.some);
-        listed = λ (bytes : List ℕ) same. lent_writes c.args.mem.now xs c.args.from (length c.part_mut.result.now) bytes c.requires.inside h less same;
+        listed = λ (bytes : List ℕ) same. lent_writes c.args.mem.now xs c.args.from
+            (length c.part_mut.result.now) bytes c.requires.inside h less same;
       },
     )

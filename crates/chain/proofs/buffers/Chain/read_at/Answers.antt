@@ -20,13 +20,16 @@ loop-done-preserved g c =
     let part = c.read_part-part.result.now in
     let least = c.min-n.ensures in
     let copied : new ≡ take n part = c.copy_from_slice.ensures.after in
-    let size : length new ≡ n = ap (λ (l : List ℕ). length l) copied ∙ length-take-le n part (omega (arith, least)) in
+    let size : length new ≡ n = ap (λ (l : List ℕ). length l) copied
+    ∙ length-take-le n part (omega (arith, least)) in
     let k : done + n - done ≡ n = omega arith in
-    let e = take-put_mid done (done + n - done) into new (done + n) (omega (arith, size)) c.loop-done.invariant.within in
+    let e = take-put_mid done (done + n - done) into new (done + n) (omega (arith, size))
+    c.loop-done.invariant.within in
     let length_is = length-put_mid done (done + n - done) into new (size ∙ sym k) (omega (arith, least)) in
     record {
       within = omega (arith, length_is, least);
       size = length_is ∙ c.loop-done.invariant.size;
-      copied = read_run (readable_of c.args.mem.now c.args.self.now) part into _ c.args.from done n c.read_part-part.ensures.listed (omega (arith, least))
+      copied = read_run (readable_of c.args.mem.now c.args.self.now) part into _ c.args.from done n
+          c.read_part-part.ensures.listed (omega (arith, least))
           c.loop-done.invariant.copied (e ∙ ap (λ (l : List ℕ). take done into ++ l) copied);
     }

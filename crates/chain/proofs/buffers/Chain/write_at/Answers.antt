@@ -24,17 +24,21 @@ loop-done-preserved g c =
     let new = c.copy_from_slice.new.self in
     let h : c.args.from + done < len_of true xs = omega (arith, length-addresses_of true xs) in
     let run : new ≡ take n (drop done bytes) =
-    c.copy_from_slice.ensures.after ∙ take-take n (length bytes - done) (drop done bytes) (omega (arith, c.lend-part.ensures.len)) in
+    c.copy_from_slice.ensures.after
+    ∙ take-take n (length bytes - done) (drop done bytes) (omega (arith, c.lend-part.ensures.len)) in
     let less : n ≤ rest.len = omega (arith, c.lend-part.ensures.len) in
     let within = within_same c.args.mem.now m xs c.loop-done.invariant.same c.requires.inside in
     record {
       within = omega (arith, c.lend-part.ensures.len);
-      same = same_trans c.args.mem.now m (put m rest.addr new) c.loop-done.invariant.same (put_range m rest.addr new);
-      left = write_run m (put m rest.addr new) xs bytes c.args.from done n within h rest refl less (omega (arith, c.lend-part.ensures.len))
+      same = same_trans c.args.mem.now m (put m rest.addr new) c.loop-done.invariant.same
+          (put_range m rest.addr new);
+      left = write_run m (put m rest.addr new) xs bytes c.args.from done n within h rest refl less
+          (omega (arith, c.lend-part.ensures.len))
           (ap (put m rest.addr) run) ∙ c.loop-done.invariant.left;
     }
 
 pub returns-clause-written : goal.returns-clause-written
 returns-clause-written g c =
-    sym (scatter_done c.loop-done.mem (writable_of c.args.self.now) c.args.bytes.now (c.args.from + c.loop-done.done) c.loop-done.done c.loop-done-test.false)
+    sym (scatter_done c.loop-done.mem (writable_of c.args.self.now) c.args.bytes.now
+    (c.args.from + c.loop-done.done) c.loop-done.done c.loop-done-test.false)
     ∙ c.loop-done.invariant.left

@@ -10,33 +10,42 @@ use Rattle.console_device.proofs.device.ConsoleDevice.serve_transmit_piece.Goals
 
 pub returns-in-Ok-clause-ok : goal.returns-in-Ok-clause-ok
 returns-in-Ok-clause-ok g c =
-    serves_to (transmit_fitting (g.O.Outlet.limit c.args.out.now)) c.args.stage c.args.budget 1 (queue_at 1 c.args.window.now) c.in-Some.queue.now c.serve_queue.new.queue
+    serves_to (transmit_fitting (g.O.Outlet.limit c.args.out.now)) c.args.stage c.args.budget 1
+    (queue_at 1 c.args.window.now) c.in-Some.queue.now c.serve_queue.new.queue
     c.in-Ok.left c.show.result c.args.mem.now c.serve_queue.new.mem c.args.window.now c.show.new.window
     (g.O.Outlet.bytes c.args.out.now) (g.O.Outlet.bytes c.serve_queue.new.backend)
     c.in-Some.ensures.value c.show.ensures.progress c.show.ensures.after
-    (transmits (g.O.Outlet.limit c.args.out.now) c.args.stage c.args.budget c.in-Some.queue.now c.serve_queue.new.queue c.args.mem.now c.serve_queue.new.mem
-    (g.O.Outlet.bytes c.args.out.now) (g.O.Outlet.bytes c.serve_queue.new.backend) c.in-Ok.left c.in-Ok.ensures.leaves)
+    (transmits (g.O.Outlet.limit c.args.out.now) c.args.stage c.args.budget c.in-Some.queue.now
+    c.serve_queue.new.queue c.args.mem.now c.serve_queue.new.mem
+    (g.O.Outlet.bytes c.args.out.now) (g.O.Outlet.bytes c.serve_queue.new.backend) c.in-Ok.left
+    c.in-Ok.ensures.leaves)
 
 pub returns-in-Ok-clause-sound : goal.returns-in-Ok-clause-sound
 returns-in-Ok-clause-sound g c =
     c.show.ensures.sound c.serve_queue.new.mem
-    (sound_still c.args.mem.now c.serve_queue.new.mem c.args.window.now 1 c.in-Some.queue.now c.serve_queue.new.queue
+    (sound_still c.args.mem.now c.serve_queue.new.mem c.args.window.now 1 c.in-Some.queue.now
+    c.serve_queue.new.queue
     c.requires.sound c.serve_queue.ensures.range c.in-Some.ensures.value c.serve_queue.ensures.made)
 
 pub returns-in-Err-clause-no_memory : goal.returns-in-Err-clause-no_memory
 returns-in-Err-clause-no_memory g c =
     let within = transmit_within (g.O.Outlet.limit c.args.out.now) in
     refuses_to within c.args.stage c.args.budget 1
-    (λ out memory buffers why. within.LacksMemory out (readable_of memory buffers) (length (writable_of buffers)))
+    (λ out memory buffers why. within.LacksMemory out (readable_of memory buffers)
+    (length (writable_of buffers)))
     (queue_at 1 c.args.window.now) c.in-Some.queue.now c.serve_queue.new.queue c.close-wanted.new.self
     c.args.mem.now c.serve_queue.new.mem c.close-wanted.new.mem c.args.window.now c.show-in-Err.new.window
-    (g.O.Outlet.bytes c.args.out.now) (g.O.Outlet.bytes c.serve_queue.new.backend) c.serve_queue.new.chain c.in-Err.refused c.close-wanted.result
+    (g.O.Outlet.bytes c.args.out.now) (g.O.Outlet.bytes c.serve_queue.new.backend) c.serve_queue.new.chain
+    c.in-Err.refused c.close-wanted.result
     (λ out memory buffers why lacks. lacks) c.in-Some.ensures.value c.in-Err.ensures.refuses
-    c.close-wanted.ensures.closed c.close-wanted.ensures.shut c.close-wanted.ensures.wants c.show-in-Err.ensures.after
+    c.close-wanted.ensures.closed c.close-wanted.ensures.shut c.close-wanted.ensures.wants
+    c.show-in-Err.ensures.after
 
 pub returns-in-Err-clause-sound : goal.returns-in-Err-clause-sound
 returns-in-Err-clause-sound g c =
     c.show-in-Err.ensures.sound c.close-wanted.new.mem
-    (sound_still c.args.mem.now c.close-wanted.new.mem c.args.window.now 1 c.in-Some.queue.now c.close-wanted.new.self
-    c.requires.sound (same_trans c.args.mem.now c.serve_queue.new.mem c.close-wanted.new.mem c.serve_queue.ensures.range c.close-wanted.ensures.range)
+    (sound_still c.args.mem.now c.close-wanted.new.mem c.args.window.now 1 c.in-Some.queue.now
+    c.close-wanted.new.self
+    c.requires.sound (same_trans c.args.mem.now c.serve_queue.new.mem c.close-wanted.new.mem
+    c.serve_queue.ensures.range c.close-wanted.ensures.range)
     c.in-Some.ensures.value (c.close-wanted.ensures.made ∙ c.serve_queue.ensures.made))

@@ -39,18 +39,24 @@ made = record { bytes = null_ptr; len = 0; items = []; sized = refl; small = lit
 abbrev word : Val
 word = vstruct (of_list (vnull ∷ vint w64 0 ∷ []))
 
-module _ {M : Type 1} {𝓤 : Ura M} (𝓛 : Logic 𝓤) (at_mem : Memory → SProp 𝓤) (run : Routine → Fun 𝓤) (𝓣 : Tables 𝓤 𝓛.H) where
+module _ {M : Type 1} {𝓤 : Ura M} (𝓛 : Logic 𝓤) (at_mem : Memory → SProp 𝓤) (run : Routine
+    → Fun 𝓤) (𝓣 : Tables 𝓤 𝓛.H) where
   walk : (z : (walk_of 𝓛 F.ended tt (F.clauses 𝓛 at_mem run)).Ghost)
-      → ent 𝓤 ((walk_of 𝓛 F.ended tt (F.clauses 𝓛 at_mem run)).pre z) (WpFn 𝓤 𝓛.H 𝓣.C 𝓣.Λ code.function [] ((walk_of 𝓛 F.ended tt (F.clauses 𝓛 at_mem run)).post z))
+      → ent 𝓤 ((walk_of 𝓛 F.ended tt (F.clauses 𝓛 at_mem run)).pre z)
+      (WpFn 𝓤 𝓛.H 𝓣.C 𝓣.Λ code.function [] ((walk_of 𝓛 F.ended tt (F.clauses 𝓛 at_mem run)).post z))
   walk z =
       let Post = (walk_of 𝓛 F.ended tt (F.clauses 𝓛 at_mem run)).post z in
       qed 𝓛 ((‵ ftrue ⊛ ‵ ftrue) ∷ raw (emp 𝓤) ∷ []) ∵ split ! $ drop ! $ drop ! $ drop ! $
-      nothing ! $ nothing ! $ flt_i ! 0 (2 ^ 64) (lit< tt) $ feq_i ! (List Val) (vint w64 0 ∷ []) (vint w64 0 ∷ []) refl $ fjoin ! $ fjoin ! $
-      feq_i ! (List Val) (vnull ∷ []) (vnull ∷ []) refl $ fjoin ! $ feq_i ! (List Val) (word ∷ []) (word ∷ []) refl $ fjoin ! $
-      fpack ! (Valss (fields R.the_type)) (within (shape R.the_type) (to R.the_type made) (word ∷ [])) (vnull ∷ [], (vint w64 0 ∷ [], tt)) $ fjoin ! $
+      nothing ! $ nothing ! $ flt_i ! 0 (2 ^ 64) (lit< tt) $ feq_i ! (List Val) (vint w64 0 ∷ [])
+      (vint w64 0 ∷ []) refl $ fjoin ! $ fjoin ! $
+      feq_i ! (List Val) (vnull ∷ []) (vnull ∷ []) refl $ fjoin ! $ feq_i ! (List Val) (word ∷ [])
+      (word ∷ []) refl $ fjoin ! $
+      fpack ! (Valss (fields R.the_type)) (within (shape R.the_type) (to R.the_type made) (word ∷ []))
+      (vnull ∷ [], (vint w64 0 ∷ [], tt)) $ fjoin ! $
       use1 𝓛 (‵ ((R.the_row).own_val made (word ∷ []))) (id⊢ 𝓤 _) $
       enter ! 𝓣.C 𝓣.Λ code.function [] Post $ alloc_all ! (λ l. pass_all ! refl tt $
-      sets ! (agg ! (and_then ! (lit ! tt) (and_then ! (lit ! tt) (no_more !)))) refl (tt, (record { fits = lit< tt }, (record { fits = lit< tt }, tt))) $
+      sets ! (agg ! (and_then ! (lit ! tt) (and_then ! (lit ! tt) (no_more !)))) refl
+      (tt, (record { fits = lit< tt }, (record { fits = lit< tt }, tt))) $
       returns ! (look_at ! 0 refl) $ free_all ! refl $
       suffices ! _ (ends_at 𝓛 F.ended tt (F.clauses 𝓛 at_mem run) z word made tt tt) $ says ! refl $
       nothing ! $ join ! $ nothing ! $ join ! $ done !)
@@ -59,6 +65,8 @@ pub empty_spec : {M : Type 1} → stated.statement M
 unfolding tables_of
 empty_spec 𝓤 𝓛 𝓜 𝓡 wired =
     let 𝓣 : Tables 𝓤 𝓛.H = tables_of 𝓤 𝓛.H 𝓜 (tables 𝓤 𝓛.H 𝓜 𝓡 𝓡.env) in
-    entered 𝓤 𝓛.H (triple_of 𝓛 F.signature (F.spec 𝓛 𝓜.mem 𝓡.returns)) 𝓣.C 𝓣.Λ #self code.function (code.unfolded 𝓤 𝓛.H 𝓜 𝓡 wired)
-    (walk_Meets 𝓛 F.ended tt tt (F.clauses 𝓛 𝓜.mem 𝓡.returns) (WpFn 𝓤 𝓛.H 𝓣.C 𝓣.Λ code.function) (WpFn-mono 𝓤 𝓛.H 𝓛.laws 𝓣 code.function)
+    entered 𝓤 𝓛.H (triple_of 𝓛 F.signature (F.spec 𝓛 𝓜.mem 𝓡.returns)) 𝓣.C 𝓣.Λ #self code.function
+    (code.unfolded 𝓤 𝓛.H 𝓜 𝓡 wired)
+    (walk_Meets 𝓛 F.ended tt tt (F.clauses 𝓛 𝓜.mem 𝓡.returns) (WpFn 𝓤 𝓛.H 𝓣.C 𝓣.Λ code.function)
+    (WpFn-mono 𝓤 𝓛.H 𝓛.laws 𝓣 code.function)
     (walk 𝓛 𝓜.mem 𝓡.returns 𝓣))

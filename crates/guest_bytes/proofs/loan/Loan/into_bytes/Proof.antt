@@ -75,18 +75,24 @@ module _ {M : Type 1} {𝓤 : Ura M} (𝓛 : Logic 𝓤) (at_mem : Memory → SP
   abbrev at_none : Nones.Ghost
   at_none = ((tt, tt, tt, tt, tt), tt)
 
-  lend_goes : (b o n : ℕ) (xs : List ℕ) → n < 2 ^ 64 → n < 2 ^ 63 → ent 𝓤 (sem 𝓛 (lies_at (Array u8 n) full_share (block_ptr b o) xs)) (Lends.pre (at_lend b o n xs))
+  lend_goes : (b o n : ℕ) (xs : List ℕ) → n < 2 ^ 64 → n < 2 ^ 63
+      → ent 𝓤 (sem 𝓛 (lies_at (Array u8 n) full_share (block_ptr b o) xs)) (Lends.pre (at_lend b o n xs))
   lend_goes b o n xs fits small =
       qed 𝓛 (‵ (lies_at (Array u8 n) full_share (block_ptr b o) xs) ∷ []) ∵
-      use0 𝓛 (raw (fact 𝓤 (n < 2 ^ 63))) (fact_i 𝓤 (n < 2 ^ 63) (emp 𝓤) small) $ move ! (1 ∷ 0 ∷ []) $ join ! $
-      nothing ! $ flt_i ! n (2 ^ 64) fits $ feq_i ! (List Val) (vint w64 n ∷ []) (vint w64 n ∷ []) refl $ fjoin ! $ fjoin ! $
+      use0 𝓛 (raw (fact 𝓤 (n < 2 ^ 63))) (fact_i 𝓤 (n < 2 ^ 63) (emp 𝓤) small) $ move !
+      (1 ∷ 0 ∷ []) $ join ! $
+      nothing ! $ flt_i ! n (2 ^ 64) fits $ feq_i ! (List Val) (vint w64 n ∷ []) (vint w64 n ∷ []) refl $
+      fjoin ! $ fjoin ! $
       feq_i ! (List Val) (vptr b o ∷ []) (vptr b o ∷ []) refl $ fjoin ! $ nothing ! $ join ! $ join ! $ done !
 
   none_goes : ent 𝓤 (emp 𝓤) (Nones.pre at_none)
-  none_goes = qed 𝓛 [] ∵ use0 𝓛 (raw (emp 𝓤)) (id⊢ 𝓤 (emp 𝓤)) $ nothing ! $ nothing ! $ join ! $ join ! $ done !
+  none_goes = qed 𝓛 [] ∵ use0 𝓛 (raw (emp 𝓤)) (id⊢ 𝓤 (emp 𝓤)) $ nothing ! $ nothing ! $ join
+      ! $ join ! $ done !
 
-module _ {M : Type 1} {𝓤 : Ura M} (𝓛 : Logic 𝓤) (at_mem : Memory → SProp 𝓤) (run : Routine → Fun 𝓤) (𝓣 : Tables 𝓤 𝓛.H)
-    (called : Triple 𝓤 (𝓣.C key) (Lends 𝓛 at_mem run)) (none_called : Triple 𝓤 (𝓣.C none_key) (Nones 𝓛 at_mem run))
+module _ {M : Type 1} {𝓤 : Ura M} (𝓛 : Logic 𝓤) (at_mem : Memory → SProp 𝓤) (run : Routine
+    → Fun 𝓤) (𝓣 : Tables 𝓤 𝓛.H)
+    (called : Triple 𝓤 (𝓣.C key) (Lends 𝓛 at_mem run))
+    (none_called : Triple 𝓤 (𝓣.C none_key) (Nones 𝓛 at_mem run))
     (z : (walk_of 𝓛 F.ended stayed (F.clauses 𝓛 at_mem run)).Ghost) where
   open 𝓛 use {H}
 
@@ -97,44 +103,59 @@ module _ {M : Type 1} {𝓤 : Ura M} (𝓛 : Logic 𝓤) (at_mem : Memory → SP
   d = z.0.3.0
 
   -- from a loan of no bytes, wherever it lies
-  none_at : (w : Val) → T (has_ty ty_ptr w) → WT w → d.items ≡ [] → ent 𝓤 (sem 𝓛 ftrue) (WpFn 𝓤 H 𝓣.C 𝓣.Λ code.function (word w 0 ∷ []) Post)
+  none_at : (w : Val) → T (has_ty ty_ptr w) → WT w → d.items ≡ []
+      → ent 𝓤 (sem 𝓛 ftrue) (WpFn 𝓤 H 𝓣.C 𝓣.Λ code.function (word w 0 ∷ []) Post)
   none_at w typed wt is =
       qed 𝓛 (‵ ftrue ∷ []) ∵ drop ! $
-      enter ! 𝓣.C 𝓣.Λ code.function (word w 0 ∷ []) Post $ alloc_all ! (λ l. pass_all ! refl ((and_tt _ typed, (wt, (record { fits = lit< tt }, tt))), tt) $
+      enter ! 𝓣.C 𝓣.Λ code.function (word w 0 ∷ []) Post $ alloc_all !
+      (λ l. pass_all ! refl ((and_tt _ typed, (wt, (record { fits = lit< tt }, tt))), tt) $
       sets ! (of_opd ! (get_in ! (fld ! refl (stop !)) (sub ! 0 refl (whole !)))) refl (typed, wt) $
-      sets ! (of_opd ! (get_in ! (fld ! refl (stop !)) (sub ! 1 refl (whole !)))) refl (tt, record { fits = lit< tt }) $
+      sets ! (of_opd ! (get_in ! (fld ! refl (stop !)) (sub ! 1 refl (whole !)))) refl
+      (tt, record { fits = lit< tt }) $
       sets ! (bin ! (get ! refl) (lit ! tt) tt) refl (tt, tt) $
       first ! $ branches ! (get ! refl)
       (λ t. use0 𝓛 (raw ((Nones 𝓛 at_mem run).pre (at_none 𝓛 at_mem run))) (none_goes 𝓛 at_mem run) $
-      calls_at ! (fm_of 𝓤 H 𝓛.laws 𝓣) (Nones 𝓛 at_mem run) none_called (at_none 𝓛 at_mem run) (no_more !) (λ v.
+      calls_at ! (fm_of 𝓤 H 𝓛.laws 𝓣) (Nones 𝓛 at_mem run) none_called
+      (at_none 𝓛 at_mem run) (no_more !) (λ v.
       use1 𝓛 (later (some (λ (r : Vec ℕ Lodged). (‵ ftrue ⊛ ‵ (Lent.own_val r (v ∷ [])))
       ⊛ some (λ (ws : Unit {0}). ‵ (lasts N.ended tt tt ws) ⊛ raw (fact 𝓤 (r.items ≡ [])))))) (id⊢ 𝓤 _) $
-      await ! tt $ pick ! (λ r. split ! $ split ! $ drop ! $ move ! (1 ∷ []) $ pick ! (λ ws. split ! $ drop ! $ heard ! (r.items ≡ []) (λ same.
+      await ! tt $ pick ! (λ r. split ! $ split ! $ drop ! $ move ! (1 ∷ []) $ pick !
+      (λ ws. split ! $ drop ! $ heard ! (r.items ≡ []) (λ same.
       tells ! r v (λ u one good.
       let fine = subst Good (sym (ap only one)) good in
       rewrite ! 0 (λ w. ‵ (Lent.own_val r (w ∷ []))) (sym (ap only one)) refl $ lands_as ! refl refl fine $
       returns_within ! Post refl (look_at ! 0 refl) $ free_all ! refl $
-      suffices ! _ (ends_at 𝓛 F.ended stayed (F.clauses 𝓛 at_mem run) z v r (tt, tt) (tt, tt)) $ says ! (same ∙ sym is) $
+      suffices ! _ (ends_at 𝓛 F.ended stayed (F.clauses 𝓛 at_mem run) z v r (tt, tt) (tt, tt)) $ says
+      ! (same ∙ sym is) $
       nothing ! $ nothing ! $ fjoin ! $ join ! $ nothing ! $ join ! $ done !))))))
       (λ t. absurd t))
 
   -- from one of some bytes
-  some_at : (b o k : ℕ) → suc k < 2 ^ 64 → suc k < 2 ^ 63 → ent 𝓤 (sem 𝓛 (lies_at (Array u8 (suc k)) full_share (block_ptr b o) d.items)) (WpFn 𝓤 H 𝓣.C 𝓣.Λ code.function (word (vptr b o) (suc k) ∷ []) Post)
+  some_at : (b o k : ℕ) → suc k < 2 ^ 64 → suc k < 2 ^ 63
+      → ent 𝓤 (sem 𝓛 (lies_at (Array u8 (suc k)) full_share (block_ptr b o) d.items))
+      (WpFn 𝓤 H 𝓣.C 𝓣.Λ code.function (word (vptr b o) (suc k) ∷ []) Post)
   some_at b o k fits small =
       let n = suc k in let xs = d.items in
       let y = at_lend 𝓛 at_mem run b o n xs in
       qed 𝓛 (‵ (lies_at (Array u8 n) full_share (block_ptr b o) xs) ∷ []) ∵
-      enter ! 𝓣.C 𝓣.Λ code.function (word (vptr b o) n ∷ []) Post $ alloc_all ! (λ l. pass_all ! refl ((tt, (tt, (record { fits = fits }, tt))), tt) $
+      enter ! 𝓣.C 𝓣.Λ code.function (word (vptr b o) n ∷ []) Post $ alloc_all !
+      (λ l. pass_all ! refl ((tt, (tt, (record { fits = fits }, tt))), tt) $
       sets ! (of_opd ! (get_in ! (fld ! refl (stop !)) (sub ! 0 refl (whole !)))) refl (tt, tt) $
-      sets ! (of_opd ! (get_in ! (fld ! refl (stop !)) (sub ! 1 refl (whole !)))) refl (tt, record { fits = fits }) $
+      sets ! (of_opd ! (get_in ! (fld ! refl (stop !)) (sub ! 1 refl (whole !)))) refl
+      (tt, record { fits = fits }) $
       sets ! (bin ! (get ! refl) (lit ! tt) tt) refl (tt, tt) $
       first ! $ branches ! (get ! refl) (λ t. absurd (omega (arith, eqb→eq n 0 t)))
-      (λ t. skips ! $ exec ! 𝓣.C 𝓣.Λ (env code.function.locals l) code.Mir.t-5 (at_ret (env code.function.locals l) Post) $
-      first ! $ blocks ! $ use1 𝓛 (raw ((Lends 𝓛 at_mem run).pre y)) (lend_goes 𝓛 at_mem run b o n xs fits small) $
-      calls_at_last ! (fm_of 𝓤 H 𝓛.laws 𝓣) (Lends 𝓛 at_mem run) called y (and_then ! (get ! refl) (and_then ! (get ! refl) (no_more !))) (λ v.
+      (λ t. skips ! $ exec ! 𝓣.C 𝓣.Λ (env code.function.locals l) code.Mir.t-5
+      (at_ret (env code.function.locals l) Post) $
+      first ! $ blocks ! $ use1 𝓛 (raw ((Lends 𝓛 at_mem run).pre y))
+      (lend_goes 𝓛 at_mem run b o n xs fits small) $
+      calls_at_last ! (fm_of 𝓤 H 𝓛.laws 𝓣) (Lends 𝓛 at_mem run) called y
+      (and_then ! (get ! refl) (and_then ! (get ! refl) (no_more !))) (λ v.
       use1 𝓛 (later (some (λ (r : Vec ℕ Lodged). (‵ ftrue ⊛ ‵ (Lent.own_val r (v ∷ [])))
-      ⊛ some (λ (ws : Unit {0} × (Unit {0} × Unit {0})). ‵ (lasts G.ended tt (block_ptr b o, (n, tt)) ws) ⊛ raw (fact 𝓤 (r.items ≡ xs)))))) (id⊢ 𝓤 _) $
-      await ! tt $ pick ! (λ r. split ! $ split ! $ drop ! $ move ! (1 ∷ []) $ pick ! (λ ws. split ! $ drop ! $ heard ! (r.items ≡ xs) (λ same.
+      ⊛ some (λ (ws : Unit {0} × (Unit {0} × Unit {0})). ‵ (lasts G.ended tt (block_ptr b o, (n, tt)) ws) ⊛
+      raw (fact 𝓤 (r.items ≡ xs)))))) (id⊢ 𝓤 _) $
+      await ! tt $ pick ! (λ r. split ! $ split ! $ drop ! $ move ! (1 ∷ []) $ pick !
+      (λ ws. split ! $ drop ! $ heard ! (r.items ≡ xs) (λ same.
       tells ! r v (λ u one good.
       let fine = subst Good (sym (ap only one)) good in
       rewrite ! 0 (λ w. ‵ (Lent.own_val r (w ∷ []))) (sym (ap only one)) refl $ lands_last ! refl fine $
@@ -143,18 +164,25 @@ module _ {M : Type 1} {𝓤 : Ura M} (𝓛 : Logic 𝓤) (at_mem : Memory → SP
       suffices ! _ (ends_at 𝓛 F.ended stayed (F.clauses 𝓛 at_mem run) z v r (tt, tt) (tt, tt)) $ says ! same $
       nothing ! $ nothing ! $ fjoin ! $ join ! $ nothing ! $ join ! $ done !)))))))
 
-  at : (p : Ptr) (n : ℕ) → length d.items ≡ n → n < 2 ^ 64 → n < 2 ^ 63 → ent 𝓤 (sem 𝓛 (loaned p n d.items)) (WpFn 𝓤 H 𝓣.C 𝓣.Λ code.function (word (ptr_val p) n ∷ []) Post)
-  at null_ptr zero long fits small = none_at (ptr_val null_ptr) tt (record { fits = lit< tt }) (no_items d.items long)
+  at : (p : Ptr) (n : ℕ) → length d.items ≡ n → n < 2 ^ 64 → n < 2 ^ 63
+      → ent 𝓤 (sem 𝓛 (loaned p n d.items)) (WpFn 𝓤 H 𝓣.C 𝓣.Λ code.function (word (ptr_val p) n ∷ []) Post)
+  at null_ptr zero long fits small =
+      none_at (ptr_val null_ptr) tt (record { fits = lit< tt }) (no_items d.items long)
   at (block_ptr b o) zero long fits small = none_at (vptr b o) tt tt (no_items d.items long)
-  at null_ptr (suc k) long fits small = qed 𝓛 (‵ ffalse ∷ []) ∵ use1 𝓛 (given ⊥ (‵ ftrue)) (never_e 𝓤 _) $ learn ! (λ f. absurd f)
+  at null_ptr (suc k) long fits small =
+      qed 𝓛 (‵ ffalse ∷ []) ∵ use1 𝓛 (given ⊥ (‵ ftrue)) (never_e 𝓤 _) $ learn ! (λ f. absurd f)
   at (block_ptr b o) (suc k) long fits small = some_at b o k fits small
 
-  walk : ent 𝓤 ((walk_of 𝓛 F.ended stayed (F.clauses 𝓛 at_mem run)).pre z) (WpFn 𝓤 H 𝓣.C 𝓣.Λ code.function (z.0.4.0 ++ []) Post)
+  walk : ent 𝓤 ((walk_of 𝓛 F.ended stayed (F.clauses 𝓛 at_mem run)).pre z)
+      (WpFn 𝓤 H 𝓣.C 𝓣.Λ code.function (z.0.4.0 ++ []) Post)
   walk =
-      qed 𝓛 ((‵ ftrue ⊛ ‵ (fsep ((R.the_row).own_val d z.0.4.0) ftrue)) ∷ raw (emp 𝓤) ∷ []) ∵ split ! $ drop ! $ fsplit ! $
-      fsplit ! $ fpick ! (λ vss. fsplit ! $ feq_l ! (λ ev. fsplit ! $ feq_l ! (λ ep. fsplit ! $ fsplit ! $ feq_l ! (λ el. flt_l ! (λ fits. drop ! $
+      qed 𝓛 ((‵ ftrue ⊛ ‵ (fsep ((R.the_row).own_val d z.0.4.0) ftrue)) ∷ raw (emp 𝓤) ∷ []) ∵ split ! $
+      drop ! $ fsplit ! $
+      fsplit ! $ fpick ! (λ vss. fsplit ! $ feq_l !
+      (λ ev. fsplit ! $ feq_l ! (λ ep. fsplit ! $ fsplit ! $ feq_l ! (λ el. flt_l ! (λ fits. drop ! $
       keep ! (0 ∷ []) $
-      let is : z.0.4.0 ≡ word (ptr_val d.bytes) d.len ∷ [] = ev ∙ ap (λ ps. vstruct (of_list (ps ++ (vss.1.0 ++ []))) ∷ []) ep
+      let is : z.0.4.0 ≡ word (ptr_val d.bytes) d.len ∷ [] = ev
+      ∙ ap (λ ps. vstruct (of_list (ps ++ (vss.1.0 ++ []))) ∷ []) ep
       ∙ ap (λ ws. vstruct (of_list ((ptr_val d.bytes ∷ []) ++ (ws ++ []))) ∷ []) el in
       regoal ! (λ (us : List Val). prop (WpFn 𝓤 H 𝓣.C 𝓣.Λ code.function (us ++ []) Post)) is refl $
       by ! (at d.bytes d.len d.sized fits d.small))))))
@@ -163,8 +191,10 @@ pub into_bytes_spec : {M : Type 1} → stated.statement M
 unfolding tables_of
 into_bytes_spec 𝓤 𝓛 𝓜 𝓡 wired =
     let 𝓣 : Tables 𝓤 𝓛.H = tables_of 𝓤 𝓛.H 𝓜 (tables 𝓤 𝓛.H 𝓜 𝓡 𝓡.env) in
-    entered 𝓤 𝓛.H (triple_of 𝓛 F.signature (F.spec 𝓛 𝓜.mem 𝓡.returns)) 𝓣.C 𝓣.Λ #self code.function (code.unfolded 𝓤 𝓛.H 𝓜 𝓡 wired)
-    (walk_Meets 𝓛 F.ended stayed (Goes-dropped 𝓛 0 (plain (λ _. R.the_row)) yes (λ κs x f. refl), tt) (F.clauses 𝓛 𝓜.mem 𝓡.returns)
+    entered 𝓤 𝓛.H (triple_of 𝓛 F.signature (F.spec 𝓛 𝓜.mem 𝓡.returns)) 𝓣.C 𝓣.Λ #self code.function
+    (code.unfolded 𝓤 𝓛.H 𝓜 𝓡 wired)
+    (walk_Meets 𝓛 F.ended stayed (Goes-dropped 𝓛 0 (plain (λ _. R.the_row)) yes (λ κs x f. refl), tt)
+    (F.clauses 𝓛 𝓜.mem 𝓡.returns)
     (WpFn 𝓤 𝓛.H 𝓣.C 𝓣.Λ code.function) (WpFn-mono 𝓤 𝓛.H 𝓛.laws 𝓣 code.function)
     (walk 𝓛 𝓜.mem 𝓡.returns 𝓣 (callee.met 𝓤 𝓛 𝓜 𝓡 (code.calls-guest_bytes::lent::lend 𝓡.env wired))
     (none_met.met 𝓤 𝓛 𝓜 𝓡 (code.calls-guest_bytes::loan::none 𝓡.env wired))))

@@ -9,7 +9,8 @@ use Rattle.guest_memory.proofs.memory.GuestMemory.holds_elsewhere.Goals as goal
 pub returns-then-is_empty-clause-test : goal.returns-then-is_empty-clause-test
 returns-then-is_empty-clause-test g c =
     let own = c.self.inside.own in
-    let is = lent_view own.items c.self.inside.lent.items c.deref.result.now (vec_len own) c.is_empty.result c.args.self.now (omega (arith, own.ok.0))
+    let is = lent_view own.items c.self.inside.lent.items c.deref.result.now (vec_len own) c.is_empty.result
+    c.args.self.now (omega (arith, own.ok.0))
     c.is_empty.ensures c.if-is_empty.true c.self.view_is c.deref.ensures.value in
     same_test _ _ (Inside c.args.self.now c.args.addr c.args.n)
     (subst (λ (m : Memory). IsTrue c.holds.result ↔ Inside m c.args.addr c.args.n) is c.holds.ensures.inside)
@@ -18,8 +19,10 @@ returns-then-is_empty-clause-test g c =
 pub returns-clause-test : goal.returns-clause-test
 returns-clause-test g c =
     let own = c.self.inside.own in
-    let is = own_view own.items c.self.inside.lent.items c.deref-2.result.now (vec_len own) c.is_empty.result c.args.self.now (omega (arith, own.ok.0))
+    let is = own_view own.items c.self.inside.lent.items c.deref-2.result.now (vec_len own) c.is_empty.result
+    c.args.self.now (omega (arith, own.ok.0))
     c.is_empty.ensures c.if-is_empty.false c.self.view_is c.deref-2.ensures.value in
     same_test _ _ (Inside c.args.self.now c.args.addr c.args.n)
-    (subst (λ (m : Memory). IsTrue c.holds-2.result ↔ Inside m c.args.addr c.args.n) is c.holds-2.ensures.inside)
+    (subst (λ (m : Memory). IsTrue c.holds-2.result ↔ Inside m c.args.addr c.args.n) is
+    c.holds-2.ensures.inside)
     (is_inside-tells c.args.self.now c.args.addr c.args.n)

@@ -15,4 +15,5 @@ invariant_of-result g c =
 pub returns-in-Ok-clause-made : goal.returns-in-Ok-clause-made
 returns-in-Ok-clause-made g c =
     let zeros : List Region = record { base = c.args.base; bytes = replicate c.args.len 0 } ∷ [] in
-    ap (λ (own : List Region). memory_of (regions_of own c.new.result.items)) c.in-Ok.ensures ∙ zeroed_region zeros c.args.base c.args.len refl
+    ap (λ (own : List Region). memory_of (regions_of own c.new.result.items)) c.in-Ok.ensures
+    ∙ zeroed_region zeros c.args.base c.args.len refl

@@ -8,12 +8,14 @@ use Rattle.guest_memory.proofs.memory.GuestMemory.of_lent.Goals as goal
 
 pub invariant_of-result : goal.invariant_of-result
 invariant_of-result g c =
-    let same : c.deref-2.result.now ≡ map spec_of c.args.regions.items = c.deref-2.ensures.value ∙ c.in-Ok.ensures ∙ ap (map spec_of) c.deref.ensures.value in
+    let same : c.deref-2.result.now ≡ map spec_of c.args.regions.items = c.deref-2.ensures.value
+    ∙ c.in-Ok.ensures ∙ ap (map spec_of) c.deref.ensures.value in
     subst (λ (own : List Region). AreRegions (regions_of own c.args.regions.items)) (sym c.new.ensures.items)
     (good_regions c.args.regions.items (subst AreGood same (c.fault_of_regions.ensures.good.0 c.in-None.is)))
 
 pub returns-in-Some-clause-fault : goal.returns-in-Some-clause-fault
 returns-in-Some-clause-fault g c =
-    let same : c.deref-2.result.now ≡ map spec_of c.args.regions.items = c.deref-2.ensures.value ∙ c.in-Ok.ensures ∙ ap (map spec_of) c.deref.ensures.value in
+    let same : c.deref-2.result.now ≡ map spec_of c.args.regions.items = c.deref-2.ensures.value
+    ∙ c.in-Ok.ensures ∙ ap (map spec_of) c.deref.ensures.value in
     inr (subst (λ (rs : List RegionSpec). IsRefused rs c.in-Some.field-0.fault) same
     (record { place = c.in-Some.field-0.region; by_it = c.in-Some.ensures.fault }))

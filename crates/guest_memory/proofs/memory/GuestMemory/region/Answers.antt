@@ -7,5 +7,6 @@ slice-requires g c = (c.in_ok-room.ensures.room c.in_ok-room.room).0 (omega arit
 
 pub returns-clause-rest : goal.returns-clause-rest
 returns-clause-rest g c =
-    rest_is c.args.self.now c.args.addr c.in_ok-room.room c.slice.result.now c.in_ok-room.ensures.room c.slice.ensures.len
+    rest_is c.args.self.now c.args.addr c.in_ok-room.room c.slice.result.now c.in_ok-room.ensures.room
+    c.slice.ensures.len
     c.slice.ensures.value

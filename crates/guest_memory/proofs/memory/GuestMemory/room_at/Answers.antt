@@ -7,13 +7,17 @@ use Rattle.guest_memory.proofs.memory.GuestMemory.room_at.Goals as goal
 pub returns-then-is_empty-clause-room : goal.returns-then-is_empty-clause-room
 returns-then-is_empty-clause-room g c =
     let own = c.self.inside.own in
-    let is = lent_view own.items c.self.inside.lent.items c.deref.result.now (vec_len own) c.is_empty.result c.args.self.now (omega (arith, own.ok.0))
+    let is = lent_view own.items c.self.inside.lent.items c.deref.result.now (vec_len own) c.is_empty.result
+    c.args.self.now (omega (arith, own.ok.0))
     c.is_empty.ensures c.if-is_empty.true c.self.view_is c.deref.ensures.value in
-    subst (λ (m : Memory). IfSome c.room_at.result (λ room. (n : ℕ) → (n ≤ room) ↔ Inside m c.args.addr n)) is c.room_at.ensures.room
+    subst (λ (m : Memory). IfSome c.room_at.result (λ room. (n : ℕ) → (n ≤ room) ↔ Inside m c.args.addr n)) is
+    c.room_at.ensures.room
 
 pub returns-clause-room : goal.returns-clause-room
 returns-clause-room g c =
     let own = c.self.inside.own in
-    let is = own_view own.items c.self.inside.lent.items c.deref-2.result.now (vec_len own) c.is_empty.result c.args.self.now (omega (arith, own.ok.0))
+    let is = own_view own.items c.self.inside.lent.items c.deref-2.result.now (vec_len own) c.is_empty.result
+    c.args.self.now (omega (arith, own.ok.0))
     c.is_empty.ensures c.if-is_empty.false c.self.view_is c.deref-2.ensures.value in
-    subst (λ (m : Memory). IfSome c.room_at-2.result (λ room. (n : ℕ) → (n ≤ room) ↔ Inside m c.args.addr n)) is c.room_at-2.ensures.room
+    subst (λ (m : Memory). IfSome c.room_at-2.result (λ room. (n : ℕ) → (n ≤ room) ↔ Inside m c.args.addr n))
+    is c.room_at-2.ensures.room

@@ -16,7 +16,8 @@ invariant_of-result g c =
     let made : List Region = map zeroed_region c.args.regions.now in
     let are : AreRegions made = good_zeroed c.args.regions.now good in
     let own = regions_own made c.new.result.items (some_region made are.apart) in
-    subst (λ (own : List Region). AreRegions (regions_of own c.new.result.items)) (sym c.in-Ok.ensures) (subst AreRegions (sym own) are)
+    subst (λ (own : List Region). AreRegions (regions_of own c.new.result.items)) (sym c.in-Ok.ensures)
+    (subst AreRegions (sym own) are)
 
 pub returns-in-Ok-clause-made : goal.returns-in-Ok-clause-made
 returns-in-Ok-clause-made g c =

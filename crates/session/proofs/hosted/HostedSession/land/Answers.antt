@@ -7,13 +7,21 @@ use Rattle.session.proofs.hosted.HostedSession.land.Goals as goal
 pub invariant_of-self : goal.invariant_of-self
 invariant_of-self g c =
     c.self.invariant
-    ∙ sym (as_many_slots c.self.inside.board c.args.slot (Complete c.args.verdict) None c.complete.result.reply _ _ [] [] c.complete.new.self (c.complete.ensures.takes None []))
+    ∙ sym (as_many_slots c.self.inside.board c.args.slot (Complete c.args.verdict) None
+    c.complete.result.reply _ _ [] [] c.complete.new.self (c.complete.ensures.takes None []))
 
 pub returns-clause-call : goal.returns-clause-call
 returns-clause-call g c =
     rw (← c.self.view_is)
-    (quiet c.self.inside.board c.complete.new.self c.self.inside.outputs.items c.args.slot (Complete c.args.verdict) c.complete.result.reply
-    (record { block = c.complete.result.block_irq; console = c.complete.result.console_irq; takes = c.complete.ensures.takes }) c.complete.ensures.others)
+    (quiet c.self.inside.board c.complete.new.self c.self.inside.outputs.items c.args.slot
+    (Complete c.args.verdict) c.complete.result.reply
+    (record {
+      block = c.complete.result.block_irq;
+      console = c.complete.result.console_irq;
+      takes = c.complete.ensures.takes;
+    }) c.complete.ensures.others)
 
 pub returns-clause-suits : goal.returns-clause-suits
-returns-clause-suits g c = suits_completion c.self.inside.board c.args.slot c.args.verdict None c.complete.result.reply _ _ [] [] c.complete.new.self (c.complete.ensures.takes None [])
+returns-clause-suits g c =
+    suits_completion c.self.inside.board c.args.slot c.args.verdict None c.complete.result.reply _ _ [] []
+    c.complete.new.self (c.complete.ensures.takes None [])

@@ -9,7 +9,8 @@ use Rattle.session.proofs.hosted.HostedSession.new.Goals as goal
 
 pub of_board-requires : goal.of_board-requires
 of_board-requires g c =
-    ap length c.in_ok-board.ensures.made ∙ length-map (slots_of c.args.guests.now) hosted_opened ∙ length-map c.args.guests.now (λ guest. guest.slot)
+    ap length c.in_ok-board.ensures.made ∙ length-map (slots_of c.args.guests.now) hosted_opened
+    ∙ length-map c.args.guests.now (λ guest. guest.slot)
 
 pub returns-clause-made : goal.returns-clause-made
 returns-clause-made g c =
@@ -25,7 +26,8 @@ pub returns-clause-outlets : goal.returns-clause-outlets
 returns-clause-outlets g c = on_ok c.of_board.result _ (c.if-not-are_outlets.ensures.0 refl)
 
 pub returns-clause-fault : goal.returns-clause-fault
-returns-clause-fault g c = wanting c.of_board.result _ c.of_board.ensures.fault (c.if-not-are_outlets.ensures.0 refl)
+returns-clause-fault g c =
+    wanting c.of_board.result _ c.of_board.ensures.fault (c.if-not-are_outlets.ensures.0 refl)
 
 pub returns-clause-bad_outlet : goal.returns-clause-bad_outlet
 returns-clause-bad_outlet g c = (

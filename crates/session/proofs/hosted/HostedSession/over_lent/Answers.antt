@@ -11,7 +11,8 @@ use Rattle.session.proofs.hosted.HostedSession.over_lent.Goals as goal
 
 pub of_board-requires : goal.of_board-requires
 of_board-requires g c =
-    ap length c.in_ok-board.ensures.made_over ∙ length-made_over hosted_over (slots_of c.args.guests.now) (map vec_items c.args.bytes.items)
+    ap length c.in_ok-board.ensures.made_over
+    ∙ length-made_over hosted_over (slots_of c.args.guests.now) (map vec_items c.args.bytes.items)
     ∙ length-map c.args.guests.now (λ guest. guest.slot)
 
 pub returns-clause-made : goal.returns-clause-made
@@ -23,7 +24,8 @@ returns-clause-made g c =
 
 pub returns-clause-lent : goal.returns-clause-lent
 returns-clause-lent g c =
-    on_ok c.of_board.result _ (lent c.args.guests.now c.deref.result.now c.args.bytes.items c.deref.ensures.value (c.if-not-are_bytes_of.ensures.0 refl))
+    on_ok c.of_board.result _ (lent c.args.guests.now c.deref.result.now c.args.bytes.items
+    c.deref.ensures.value (c.if-not-are_bytes_of.ensures.0 refl))
 
 pub returns-clause-accepted : goal.returns-clause-accepted
 returns-clause-accepted g c = on_ok c.of_board.result _ c.in_ok-board.ensures.accepted
@@ -34,12 +36,14 @@ returns-clause-outlets g c = on_ok c.of_board.result _ (c.if-not-are_outlets.ens
 pub returns-clause-fault : goal.returns-clause-fault
 returns-clause-fault g c =
     wanting c.of_board.result _ c.of_board.ensures.fault (
-      lent c.args.guests.now c.deref.result.now c.args.bytes.items c.deref.ensures.value (c.if-not-are_bytes_of.ensures.0 refl),
+      lent c.args.guests.now c.deref.result.now c.args.bytes.items c.deref.ensures.value
+          (c.if-not-are_bytes_of.ensures.0 refl),
       c.if-not-are_outlets.ensures.0 refl,
     )
 
 pub returns-clause-exact : goal.returns-clause-exact
 returns-clause-exact g c =
     then_hosted_board c.args.guests.now (map vec_items c.args.bytes.items)
-    (lent c.args.guests.now c.deref.result.now c.args.bytes.items c.deref.ensures.value (c.if-not-are_bytes_of.ensures.0 refl)) c.of_board.result (c.if-not-are_outlets.ensures.0 refl)
+    (lent c.args.guests.now c.deref.result.now c.args.bytes.items c.deref.ensures.value
+    (c.if-not-are_bytes_of.ensures.0 refl)) c.of_board.result (c.if-not-are_outlets.ensures.0 refl)
     (λ fault is. absurd (c.in_ok-board.ensures.bad_board fault is))

@@ -3,25 +3,37 @@ use Rattle.session.proofs.Refusals.{handed_on, if_err, never_spent, on_ok, told_
 use Rattle.session.proofs.session.Session.new.Goals as goal
 
 pub returns-in_err-judge-clause-fault : goal.returns-in_err-judge-clause-fault
-returns-in_err-judge-clause-fault g c = if_err c.from_residual.result c.in_err-judge.field-0.0 _ (handed_on c.from_residual.result c.in_err-judge.field-0.0 c.from_residual.ensures.1) (c.in_err-judge.ensures.fault c.args.cache)
+returns-in_err-judge-clause-fault g c =
+    if_err c.from_residual.result c.in_err-judge.field-0.0 _
+    (handed_on c.from_residual.result c.in_err-judge.field-0.0 c.from_residual.ensures.1)
+    (c.in_err-judge.ensures.fault c.args.cache)
 
 pub returns-in_err-judge-clause-bad_image : goal.returns-in_err-judge-clause-bad_image
 returns-in_err-judge-clause-bad_image g c =
-    told_image c.args.guests.now c.args.image.now c.args.cache c.args.budget c.from_residual.result c.in_err-judge.field-0.0 (handed_on c.from_residual.result c.in_err-judge.field-0.0 c.from_residual.ensures.1) (c.in_err-judge.ensures.fault c.args.cache)
+    told_image c.args.guests.now c.args.image.now c.args.cache c.args.budget c.from_residual.result
+    c.in_err-judge.field-0.0 (handed_on c.from_residual.result c.in_err-judge.field-0.0
+    c.from_residual.ensures.1) (c.in_err-judge.ensures.fault c.args.cache)
 
 pub returns-in_err-judge-clause-bad_outlet : goal.returns-in_err-judge-clause-bad_outlet
 returns-in_err-judge-clause-bad_outlet g c =
-    told_outlet c.args.guests.now c.args.image.now c.args.cache c.args.budget c.from_residual.result c.in_err-judge.field-0.0 (handed_on c.from_residual.result c.in_err-judge.field-0.0 c.from_residual.ensures.1) (c.in_err-judge.ensures.fault c.args.cache)
+    told_outlet c.args.guests.now c.args.image.now c.args.cache c.args.budget c.from_residual.result
+    c.in_err-judge.field-0.0 (handed_on c.from_residual.result c.in_err-judge.field-0.0
+    c.from_residual.ensures.1) (c.in_err-judge.ensures.fault c.args.cache)
 
 pub returns-in_err-judge-clause-spent : goal.returns-in_err-judge-clause-spent
 returns-in_err-judge-clause-spent g c =
-    told_spent c.args.guests.now c.args.image.now c.args.cache c.args.budget c.from_residual.result c.in_err-judge.field-0.0 (handed_on c.from_residual.result c.in_err-judge.field-0.0 c.from_residual.ensures.1) (c.in_err-judge.ensures.fault c.args.cache)
+    told_spent c.args.guests.now c.args.image.now c.args.cache c.args.budget c.from_residual.result
+    c.in_err-judge.field-0.0 (handed_on c.from_residual.result c.in_err-judge.field-0.0
+    c.from_residual.ensures.1) (c.in_err-judge.ensures.fault c.args.cache)
 
 pub returns-clause-lasts : goal.returns-clause-lasts
 returns-clause-lasts g c = on_ok c.of_board.result _ c.in_ok-judge.ensures.good.2
 
 pub returns-clause-spent : goal.returns-clause-spent
-returns-clause-spent g c = (λ is. absurd (never_spent c.of_board.result c.of_board.ensures.fault is), λ bad. absurd (c.in_ok-judge.ensures.good.2 bad.2))
+returns-clause-spent g c = (
+  λ is. absurd (never_spent c.of_board.result c.of_board.ensures.fault is),
+  λ bad. absurd (c.in_ok-judge.ensures.good.2 bad.2),
+)
 
 pub returns-clause-bad_board : goal.returns-clause-bad_board
 returns-clause-bad_board g c = λ fault is. absurd (c.in_ok-board.ensures.bad_board fault is.other is.refused)

@@ -9,4 +9,5 @@ returns-in-Some-clause-piece c = piece_to_line c.args.bytes.now c.in-Some.i c.in
 pub returns-in-None-clause-piece : goal.returns-in-None-clause-piece
 returns-in-None-clause-piece c =
     let bytes = c.args.bytes.now in
-    subst (λ piece. IsPiece piece false) (sym (take_all (length bytes) bytes (le_refl _))) (piece_to_end bytes c.in-None.ensures)
+    subst (λ piece. IsPiece piece false) (sym (take_all (length bytes) bytes (le_refl _)))
+    (piece_to_end bytes c.in-None.ensures)

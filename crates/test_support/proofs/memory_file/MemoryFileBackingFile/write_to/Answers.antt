@@ -8,7 +8,8 @@ use Rattle.sector_cache.proofs.Stops.{touches_plain}
 use Rattle.test_support.proofs.memory_file.MemoryFileBackingFile.write_to.Goals as goal
 
 pub returns-clause-put : goal.returns-clause-put
-returns-clause-put c = wrote _ _ _ _ c.reach-start.result.0 _ (λ inside. (c.reach-start.ensures.at inside).0) (search rules) (search rules)
+returns-clause-put c = wrote _ _ _ _ c.reach-start.result.0 _ (λ inside. (c.reach-start.ensures.at inside).0)
+    (search rules) (search rules)
 
 pub returns-clause-touches : goal.returns-clause-touches
 returns-clause-touches c =
@@ -21,5 +22,6 @@ returns-clause-touches c =
     let put : c.copy_in.new.self.bytes.items ≡ with_bytes old start front = search rules in
     touches_plain c.args.at end old c.copy_in.new.self.bytes.items
     (subst (DiffersWithin c.args.at end old) (sym put)
-    (found_within old front c.args.at start (length c.args.from.now) (omega (arith, long, c.reach-start.ensures.within)) (omega (arith, long, c.reach-start.ensures.most))
+    (found_within old front c.args.at start (length c.args.from.now)
+    (omega (arith, long, c.reach-start.ensures.within)) (omega (arith, long, c.reach-start.ensures.most))
     (λ differ. omega (arith, long, c.reach-start.ensures.at_end differ))))

@@ -6,13 +6,15 @@ use Rattle.test_support.proofs.recorded_file.RecordedFileBackingFile.write_to.Go
 
 pub returns-in_default-clause-put : goal.returns-in_default-clause-put
 returns-in_default-clause-put c =
-    failed_to_write c.args.self.now.file.bytes.items c.record.new.self.file.bytes.items c.args.from.now c.args.at 0 refl (ap (λ f. f.bytes.items) c.record.ensures.file)
+    failed_to_write c.args.self.now.file.bytes.items c.record.new.self.file.bytes.items c.args.from.now
+    c.args.at 0 refl (ap (λ f. f.bytes.items) c.record.ensures.file)
 
 pub returns-clause-touches : goal.returns-clause-touches
 returns-clause-touches c =
     let end = c.args.at + length c.args.from.now in
     let past = c.in-Ok.ensures.ok in
     let new = c.write_to.new.self.bytes.items in
-    recorded c.args.at end c.args.self.now.past.items c.record.new.self.past.items past.0 c.args.self.now.file.bytes.items new past.1 past.2
+    recorded c.args.at end c.args.self.now.past.items c.record.new.self.past.items past.0
+    c.args.self.now.file.bytes.items new past.1 past.2
     (subst (λ old. DiffersWithin c.args.at end old new) (ap (λ f. f.bytes.items) c.record.ensures.file)
     (shown c.args.at end _ _ c.record.new.self.file.bytes.items new _ _ c.write_to.ensures.touches))

@@ -10,4 +10,5 @@ loop-run-init g c = sends_none _ (waiting c.args.buffer.now)
 pub loop-run-preserved : goal.loop-run-preserved
 loop-run-preserved g c =
     sends_same _ _ _ _ _ _ (others_more c.args.runs.now c.loop-run.run-index _ (omega arith))
-    (sends_more _ _ _ _ _ _ _ _ c.loop-run.invariant (sends_more _ _ _ _ _ _ _ _ c.put.ensures c.put_run.ensures))
+    (sends_more _ _ _ _ _ _ _ _ c.loop-run.invariant
+    (sends_more _ _ _ _ _ _ _ _ c.put.ensures c.put_run.ensures))

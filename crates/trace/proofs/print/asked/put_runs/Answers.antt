@@ -5,4 +5,5 @@ use Rattle.trace.proofs.print.asked.put_runs.Goals as goal
 
 pub returns : goal.returns
 returns g c =
-    sends_same _ _ _ _ _ _ (runs_are c.args.runs.now _ _ (omega arith) refl) (sends_more _ _ _ _ _ _ _ _ c.put_run.ensures c.put_others.ensures)
+    sends_same _ _ _ _ _ _ (runs_are c.args.runs.now _ _ (omega arith) refl)
+    (sends_more _ _ _ _ _ _ _ _ c.put_run.ensures c.put_others.ensures)

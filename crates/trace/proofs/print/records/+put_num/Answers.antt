@@ -7,12 +7,14 @@ use Rattle.trace.proofs.RecordLines.{two_digits}
 use Rattle.trace.proofs.print.records.+put_num.Goals as goal
 
 pub returns-then-n-lt16 : goal.returns-then-n-lt16
-returns-then-n-lt16 g t c = sends_same _ _ _ _ _ _ (ap (λ (d : ℕ). d ∷ []) c.digit_of.ensures ∙ sym (num_digit c.args.n (omega arith))) c.put.ensures
+returns-then-n-lt16 g t c = sends_same _ _ _ _ _ _ (ap (λ (d : ℕ). d ∷ []) c.digit_of.ensures
+    ∙ sym (num_digit c.args.n (omega arith))) c.put.ensures
 
 pub returns-then-n-lt256 : goal.returns-then-n-lt256
 returns-then-n-lt256 g t c =
     sends_same _ _ _ _ _ _
-    (two_digits c.args.n c.digit_of-then-n-lt256.result c.digit_of-low.result [] (omega arith) (omega arith) c.digit_of-then-n-lt256.ensures c.digit_of-low.ensures ∙ append-nil (num c.args.n))
+    (two_digits c.args.n c.digit_of-then-n-lt256.result c.digit_of-low.result [] (omega arith) (omega arith)
+    c.digit_of-then-n-lt256.ensures c.digit_of-low.ensures ∙ append-nil (num c.args.n))
     c.put-then-n-lt256.ensures
 
 pub returns : goal.returns

@@ -10,5 +10,6 @@ loop-entry-init g c = sends_same _ _ _ _ _ _ (sym joined_none) (sends_none _ (wa
 
 pub loop-entry-preserved : goal.loop-entry-preserved
 loop-entry-preserved g c =
-    sends_same _ _ _ _ _ _ (joined_more record_line [] c.args.records.now c.loop-entry.entry-index c.entry-item.result (omega arith) c.entry-item.is)
+    sends_same _ _ _ _ _ _ (joined_more record_line [] c.args.records.now c.loop-entry.entry-index
+    c.entry-item.result (omega arith) c.entry-item.is)
     (sends_more _ _ _ _ _ _ _ _ c.loop-entry.invariant c.put_record.ensures)

@@ -5,7 +5,9 @@ use Rattle.trace.proofs.read.events.take_event.Goals as goal
 
 pub returns-in-Some : goal.returns-in-Some
 returns-in-Some g c =
-    taken_parsed c.in-Some.taken.0 c.args.rest.now c.in-Some.taken.1.now c.in-Some.ensures.fine c.in-Some.ensures.each c.in-Some.ensures.line
+    taken_parsed c.in-Some.taken.0 c.args.rest.now c.in-Some.taken.1.now c.in-Some.ensures.fine
+    c.in-Some.ensures.each c.in-Some.ensures.line
 
 pub unreachable-requires : goal.unreachable-requires
-unreachable-requires g c = let more = some_lines c.requires.after in omega (arith, ap length (sym c.requires.cut ∙ c.in_default-take_line.ensures.none))
+unreachable-requires g c = let more = some_lines c.requires.after in
+    omega (arith, ap length (sym c.requires.cut ∙ c.in_default-take_line.ensures.none))

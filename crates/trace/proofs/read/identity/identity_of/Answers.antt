@@ -7,8 +7,10 @@ pub returns-then-field-clause-none : goal.returns-then-field-clause-none
 returns-then-field-clause-none c parsed =
     elim c.then-field.branch [
       | then-field-via-then-field w ↦ w.if-field.true (identity_len c.args.field.now parsed.0 parsed.1)
-      | then-field-via-else-field+then-not-are_digits w ↦ false≢true (w.if-not-are_digits.ensures.1 (identity_digits c.args.field.now parsed.0 parsed.1))
+      | then-field-via-else-field+then-not-are_digits w ↦ false≢true
+          (w.if-not-are_digits.ensures.1 (identity_digits c.args.field.now parsed.0 parsed.1))
     ]
 
 pub returns-clause-some : goal.returns-clause-some
-returns-clause-some c = identity_read c.args.field.now c.read_pairs.new.bytes c.if-field.false c.read_pairs.ensures.spelled c.read_pairs.ensures.fits
+returns-clause-some c = identity_read c.args.field.now c.read_pairs.new.bytes c.if-field.false
+    c.read_pairs.ensures.spelled c.read_pairs.ensures.fits

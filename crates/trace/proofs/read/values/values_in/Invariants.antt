@@ -10,5 +10,6 @@ use Rattle.trace.proofs.read.values.values_in.Given as goal
 abbrev pub invariant-loop-field : goal.invariant-loop-field
 invariant-loop-field l =
     (length l.values.items ≡ l.field-index)
-    × (fields_left (option_copied l.fn.rest) ≡ map value_text l.values.items ++ fields_left (option_copied l.rest))
+    × (fields_left (option_copied l.fn.rest) ≡ map value_text l.values.items
+    ++ fields_left (option_copied l.rest))
     × AreOf (map (shape_of l.width) (take l.field-index l.fields)) l.values.items

@@ -7,22 +7,31 @@ use Rattle.board.proofs.hosted.slot.HostedSlot.answer_own.Goals as goal
 pub invariant_of-self : goal.invariant_of-self
 invariant_of-self g c =
     let handled = c.answer_beside_disk in
-    sound_beside c.args.what.now c.self.inside.slot handled.new.self (in_rooms c.self.inside.flight c.self.inside.room c.self.inside.runs)
-    (subst (λ (s : HostedState). IsFree s.flight c.args.what.now) (sym c.self.view_is) (sym c.holds_up.ensures ∙ c.if-holds_up.false)) handled.ensures.block handled.ensures.device handled.ensures.range c.self.invariant
+    sound_beside c.args.what.now c.self.inside.slot handled.new.self
+    (in_rooms c.self.inside.flight c.self.inside.room c.self.inside.runs)
+    (subst (λ (s : HostedState). IsFree s.flight c.args.what.now) (sym c.self.view_is) (sym c.holds_up.ensures
+    ∙ c.if-holds_up.false)) handled.ensures.block handled.ensures.device
+    handled.ensures.range c.self.invariant
 
 pub invariant_of-self-in-None : goal.invariant_of-self-in-None
 invariant_of-self-in-None g c =
     let handled = c.answer_beside_disk in
-    sound_beside c.args.what.now c.self.inside.slot handled.new.self (in_rooms c.self.inside.flight c.self.inside.room c.self.inside.runs)
-    (subst (λ (s : HostedState). IsFree s.flight c.args.what.now) (sym c.self.view_is) (sym c.holds_up.ensures ∙ c.if-holds_up.false)) handled.ensures.block handled.ensures.device handled.ensures.range c.self.invariant
+    sound_beside c.args.what.now c.self.inside.slot handled.new.self
+    (in_rooms c.self.inside.flight c.self.inside.room c.self.inside.runs)
+    (subst (λ (s : HostedState). IsFree s.flight c.args.what.now) (sym c.self.view_is) (sym c.holds_up.ensures
+    ∙ c.if-holds_up.false)) handled.ensures.block handled.ensures.device
+    handled.ensures.range c.self.invariant
 
 pub returns-in-Some-Answered-clause-takes : goal.returns-in-Some-Answered-clause-takes
 returns-in-Some-Answered-clause-takes g c =
     let handled = c.answer_beside_disk in
     let slot = c.self.inside.slot in
     rw (← c.self.view_is)
-    (beside_slot slot handled.new.self (in_rooms c.self.inside.flight c.self.inside.room c.self.inside.runs) c.args.what.now c.in-Some-Answered.reply _ _ c.requires.own c.self.invariant.own handled.ensures.device
-    (subst (λ (s : HostedState). IsFree s.flight c.args.what.now) (sym c.self.view_is) (sym c.holds_up.ensures ∙ c.if-holds_up.false))
+    (beside_slot slot handled.new.self (in_rooms c.self.inside.flight c.self.inside.room c.self.inside.runs)
+    c.args.what.now c.in-Some-Answered.reply _ _ c.requires.own c.self.invariant.own
+    handled.ensures.device
+    (subst (λ (s : HostedState). IsFree s.flight c.args.what.now) (sym c.self.view_is) (sym c.holds_up.ensures
+    ∙ c.if-holds_up.false))
     (rw (c.in-Some-Answered.is) at (handled.ensures.notified (unseen slot.extent.count)))
     (rw (c.in-Some-Answered.field-0-is) at c.in-Some-Answered.ensures.serves))
 
@@ -30,7 +39,8 @@ pub returns-in-Some-Answered-clause-within : goal.returns-in-Some-Answered-claus
 returns-in-Some-Answered-clause-within g c =
     let handled = c.answer_beside_disk in
     rw (← c.self.view_is)
-    (beside_slot_within c.self.inside.slot handled.new.self c.args.what.now c.in-Some-Answered.reply _ _ _ handled.ensures.device
+    (beside_slot_within c.self.inside.slot handled.new.self c.args.what.now c.in-Some-Answered.reply _ _ _
+    handled.ensures.device
     (rw (c.in-Some-Answered.field-0-is) at c.in-Some-Answered.ensures.within))
 
 pub returns-in-None-clause-takes : goal.returns-in-None-clause-takes
@@ -38,7 +48,9 @@ returns-in-None-clause-takes g c =
     let handled = c.answer_beside_disk in
     let slot = c.self.inside.slot in
     rw (← c.self.view_is, c.in-None.ensures.silent)
-    (notified_slot slot handled.new.self (in_rooms c.self.inside.flight c.self.inside.room c.self.inside.runs) c.args.what.now c.notified.new.self _ c.requires.own handled.ensures.device
-    (subst (λ (s : HostedState). IsFree s.flight c.args.what.now) (sym c.self.view_is) (sym c.holds_up.ensures ∙ c.if-holds_up.false))
+    (notified_slot slot handled.new.self (in_rooms c.self.inside.flight c.self.inside.room c.self.inside.runs)
+    c.args.what.now c.notified.new.self _ c.requires.own handled.ensures.device
+    (subst (λ (s : HostedState). IsFree s.flight c.args.what.now) (sym c.self.view_is) (sym c.holds_up.ensures
+    ∙ c.if-holds_up.false))
     (rw (c.in-None.is) at (handled.ensures.notified (unseen slot.extent.count)))
     c.in-None.ensures.readied c.notified.ensures.looks c.notified.ensures.stays)

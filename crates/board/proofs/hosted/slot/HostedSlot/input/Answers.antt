@@ -14,7 +14,8 @@ returns g c = λ out.
     let slot = c.self.inside.slot in
     let flight = in_rooms c.self.inside.flight c.self.inside.room c.self.inside.runs in
     rw (← c.self.view_is)
-    (beside_slot slot c.input.new.self flight (Input c.args.bytes.now) (Took c.in-Answered-Took.taken) out out refl c.self.invariant.own (ap device_at c.input.ensures.rest) (no_wait _) refl
+    (beside_slot slot c.input.new.self flight (Input c.args.bytes.now) (Took c.in-Answered-Took.taken) out out
+    refl c.self.invariant.own (ap device_at c.input.ensures.rest) (no_wait _) refl
     (λ image health filled.
     comes_first (Input c.args.bytes.now) _ unlimited (state_of image slot) _ _ _ _ out refl
     (rw (c.in-Answered-Took.is, c.in-Answered-Took.field-0-is) at (c.input.ensures.comes image health))))

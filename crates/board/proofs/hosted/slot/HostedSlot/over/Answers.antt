@@ -9,4 +9,5 @@ use Rattle.board.proofs.hosted.slot.HostedSlot.over.Goals as goal
 pub returns : goal.returns
 returns g c =
     let at_rest : BoardSlot → HostedState = λ slot. record { slot = hosted_slot slot; flight = None } in
-    c.at_rest.ensures ∙ ap at_rest (c.in_ok-slot.ensures ∙ ap (λ (spec : SlotSpec). opened_over spec c.args.memory) c.own_disk.ensures)
+    c.at_rest.ensures ∙ ap at_rest (c.in_ok-slot.ensures
+    ∙ ap (λ (spec : SlotSpec). opened_over spec c.args.memory) c.own_disk.ensures)

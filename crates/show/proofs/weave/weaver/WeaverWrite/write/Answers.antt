@@ -13,6 +13,9 @@ returns-clause-bytes g c =
     elim c.if-not-is_inside.branch [
       | then-not-is_inside+in_ok-say_next w ↦
           let said = woven_records contents w.say_next.new.self.woven in
-          then_written first said last c.put.result c.args.bytes.now (Keeps-trans first passed said c.pass_on.ensures w.say_next.ensures) (rw w.self-is at c.put.ensures.bytes)
-      | else-not-is_inside w ↦ then_written first passed last c.put.result c.args.bytes.now c.pass_on.ensures (rw w.self-is at c.put.ensures.bytes)
+          then_written first said last c.put.result c.args.bytes.now
+          (Keeps-trans first passed said c.pass_on.ensures w.say_next.ensures)
+          (rw w.self-is at c.put.ensures.bytes)
+      | else-not-is_inside w ↦ then_written first passed last c.put.result c.args.bytes.now c.pass_on.ensures
+          (rw w.self-is at c.put.ensures.bytes)
     ]

@@ -4,4 +4,5 @@ use Rattle.show.proofs.weave.woven.Woven.begin.Goals as goal
 
 pub returns-in_ok-append-clause-kept : goal.returns-in_ok-append-clause-kept
 returns-in_ok-append-clause-kept g c =
-    begun_then c.args.self.now.is_inside _ _ _ _ (search rules) (ap g.W.Write.contents c.append.ensures.out) (search rules)
+    begun_then c.args.self.now.is_inside _ _ _ _ (search rules)
+    (ap g.W.Write.contents c.append.ensures.out) (search rules)
