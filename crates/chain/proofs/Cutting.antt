@@ -1,5 +1,5 @@
 -- Runs of a chain, one after another from the first place on.
-use Rattle.std.proofs.Common.{◌≡◌, ℕ, suc, true, false, ◌+◌, ◌-◌, ◌<◌, ◌≤◌, Bool, List, [], ◌∷◌, ◌++◌, length, length-append, take, drop, zero, refl, sym, ap, ◌∙◌, arith, inl, inr}
+use Rattle.std.proofs.Common.{◌≡◌, ℕ, suc, true, false, ◌+◌, ◌-◌, ◌<◌, ◌≤◌, Bool, if◌then◌else◌, List, [], ◌∷◌, ◌++◌, length, length-append, take, drop, zero, refl, sym, ap, ◌∙◌, arith, inl, inr}
 use Rattle.std.specs.Prelude.{min, All}
 use Rattle.std.specs.List.{filter, flat_map, range_with_len}
 use Rattle.std.proofs.Math.Nat.{sub-add-min_cancel}
@@ -76,20 +76,21 @@ length-cuts : (ss : List Segment) (from to : ℕ) → length (cuts from to ss) �
 length-cuts [] from to = refl
 length-cuts (s ∷ ss) from to = ap suc (length-cuts ss (from - s.len) (to - s.len))
 
+either_few : (w : Bool) (xs ys : List Segment) (n : ℕ) → length xs ≤ n → length ys ≤ n
+    → length (if w then xs else ys) ≤ n
+either_few true xs ys n few _ = few
+either_few false xs ys n _ few = few
+
 length-segments_of : (writable : Bool) (xs : List Buffer) → length (segments_of writable xs) ≤ length xs
 length-segments_of writable [] = omega arith
-length-segments_of true (b ∷ xs) = by_test b.writable (length-segments_of true xs)
-  where
-    by_test : (w : Bool) → length (segments_of true xs) ≤ length xs
-        → length (segments_of true (record { segment = b.segment; writable = w } ∷ xs)) ≤ length (b ∷ xs)
-    by_test true h = omega (arith, h)
-    by_test false h = omega (arith, h)
-length-segments_of false (b ∷ xs) = by_test b.writable (length-segments_of false xs)
-  where
-    by_test : (w : Bool) → length (segments_of false xs) ≤ length xs
-        → length (segments_of false (record { segment = b.segment; writable = w } ∷ xs)) ≤ length (b ∷ xs)
-    by_test true h = omega (arith, h)
-    by_test false h = omega (arith, h)
+length-segments_of true (b ∷ xs) =
+    let h = length-segments_of true xs in
+    either_few b.writable (b.segment ∷ segments_of true xs) (segments_of true xs) _
+    (omega (arith, h)) (omega (arith, h))
+length-segments_of false (b ∷ xs) =
+    let h = length-segments_of false xs in
+    either_few b.writable (segments_of false xs) (b.segment ∷ segments_of false xs) _
+    (omega (arith, h)) (omega (arith, h))
 
 pub runs_few : (writable : Bool) (xs : List Buffer) (from to : ℕ)
     → length (runs_of from to (segments_of writable xs)) ≤ length xs

@@ -37,20 +37,20 @@ start_behind : (old : List Buffer) (r w : ℕ) → r ≡ len_of false old → w 
 start_behind old r w f t = rw (f, t, take_all (length old) old (omega arith)) refl
 
 -- one more buffer, of either direction
-held_pushed : (old same new : List Buffer) (starts kept more : List Start) (r w r' w' addr len : ℕ)
-    (flag : Bool) → IsHeld old starts r w → same ≡ old → kept ≡ starts
-    → new ≡ same ++ buffer_of addr len flag ∷ [] → more ≡ kept ++ record { readable = r; writable = w } ∷ []
+held_pushed : (old same new : List Buffer) (starts more : List Start) (r w r' w' addr len : ℕ)
+    (flag : Bool) → IsHeld old starts r w → same ≡ old
+    → new ≡ same ++ buffer_of addr len flag ∷ [] → more ≡ starts ++ record { readable = r; writable = w } ∷ []
     → r' ≡ r + len_of false (buffer_of addr len flag ∷ [])
     → w' ≡ w + len_of true (buffer_of addr len flag ∷ []) → r' + w' ≡ r + w + len
     → r + w + len < 2 ^ 32 → addr + len ≤ 2 ^ 64 → IsHeld new more r' w'
-held_pushed old same new starts kept more r w r' w' addr len flag held s k n o readable
+held_pushed old same new starts more r w r' w' addr len flag held s n o readable
     writable all fits below =
     let b : Buffer = buffer_of addr len flag in
     let e : new ≡ old ++ b ∷ [] = rw (← s) n in
     let t = sum_by_push (λ (b : Buffer). b.segment.len) old b in
     let x = len_of-append false old (b ∷ []) in
     let y = len_of-append true old (b ∷ []) in
-    rw (e, o, k) (record {
+    rw (e, o) (record {
       readable_is = omega (arith, x, readable, held.readable_is);
       writable_is = omega (arith, y, writable, held.writable_is);
       as_many = omega (
@@ -67,18 +67,18 @@ held_pushed old same new starts kept more r w r' w' addr len flag held s k n o r
           held.addressable below;
     })
 
-pub held_writable : (old same new : List Buffer) (starts kept more : List Start) (r w addr len : ℕ)
-    (flag : Bool) → IsHeld old starts r w → same ≡ old → kept ≡ starts → flag ≡ true
-    → new ≡ same ++ buffer_of addr len flag ∷ [] → more ≡ kept ++ record { readable = r; writable = w } ∷ []
-    → r + w + len < 2 ^ 32 → addr + len ≤ 2 ^ 64 → IsHeld new more r (w + len)
-held_writable old same new starts kept more r w addr len flag held s k f n o fits below =
-    held_pushed old same new starts kept more r w r (w + len) addr len true held s k (rw (← f) n) o
-    (omega arith) (omega arith) (omega arith) fits below
+module _ {old same new : List Buffer} {starts more : List Start} {r w : ℕ} {flag : Bool} (addr len : ℕ)
+    (held : IsHeld old starts r w) (s : same ≡ old) where
+  pub held_writable : flag ≡ true → new ≡ same ++ buffer_of addr len flag ∷ []
+      → more ≡ starts ++ record { readable = r; writable = w } ∷ []
+      → r + w + len < 2 ^ 32 → addr + len ≤ 2 ^ 64 → IsHeld new more r (w + len)
+  held_writable f n o fits below =
+      held_pushed old same new starts more r w r (w + len) addr len true held s (rw (← f) n) o
+      (omega arith) (omega arith) (omega arith) fits below
 
-pub held_readable : (old same new : List Buffer) (starts kept more : List Start) (r w addr len : ℕ)
-    (flag : Bool) → IsHeld old starts r w → same ≡ old → kept ≡ starts → flag ≡ false
-    → new ≡ same ++ buffer_of addr len flag ∷ [] → more ≡ kept ++ record { readable = r; writable = w } ∷ []
-    → r + w + len < 2 ^ 32 → addr + len ≤ 2 ^ 64 → IsHeld new more (r + len) w
-held_readable old same new starts kept more r w addr len flag held s k f n o fits below =
-    held_pushed old same new starts kept more r w (r + len) w addr len false held s k (rw (← f) n) o
-    (omega arith) (omega arith) (omega arith) fits below
+  pub held_readable : flag ≡ false → new ≡ same ++ buffer_of addr len flag ∷ []
+      → more ≡ starts ++ record { readable = r; writable = w } ∷ []
+      → r + w + len < 2 ^ 32 → addr + len ≤ 2 ^ 64 → IsHeld new more (r + len) w
+  held_readable f n o fits below =
+      held_pushed old same new starts more r w (r + len) w addr len false held s (rw (← f) n) o
+      (omega arith) (omega arith) (omega arith) fits below

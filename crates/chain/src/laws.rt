@@ -17,6 +17,7 @@ pub fn one_by_one()
 {}
 
 /// A buffer is admitted or refused, never both, and it is refused for one cause.
+#[tactic(auto, using(crate::proofs::Admitting::admits_or_refuses))]
 pub fn one_refusal()
     ensures either { (m : Memory) (buffers : List Buffer) (b : Buffer) → Admits m buffers b ⊎ ((f : Fault) × Refuses m buffers b f) }
     ensures never_both { (m : Memory) (buffers : List Buffer) (b : Buffer) (f : Fault) → Admits m buffers b → ¬ Refuses m buffers b f }
@@ -44,6 +45,7 @@ pub fn runs_are_of_their_places()
 
 /// A piece within a budget serves as many chains as it allows, at most; its bytes are passed by the last chain
 /// alone. One that begins with something left and pauses has served a chain.
+#[tactic(auto, using(crate::proofs::Limits::few_chains, crate::proofs::Limits::few_bytes, crate::proofs::Limits::some_chain))]
 pub fn a_budget_is_kept()
     ensures chains { (budget : Budget) (most : ℕ) (chains : List (List Buffer)) →
         budget.chains ≡ Some most → AreWithin budget chains → length chains ≤ most }

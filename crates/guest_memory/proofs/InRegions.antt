@@ -7,10 +7,10 @@ use Rattle.std.proofs.lemmas.Bool.Decides.{nat_tests, same_from_decides}
 use Rattle.std.proofs.lemmas.List.{places, same_lists, length-replicate, length-set}
 use Rattle.std.specs.List.{position, position_or_len}
 use Rattle.std.proofs.lemmas.List.Quantifiers.{position-Some}
-use Rattle.guest_memory.specs.Memory.{Gap, Memory, Inside, MissesAll, IsRest, part_of, put_at, up_to_gap, put, zeroed}
+use Rattle.guest_memory.specs.Memory.{Gap, Memory, Inside, MissesAll, IsRest, is_inside, part_of, put_at, up_to_gap, put, zeroed}
 use Rattle.guest_memory.specs.Regions.{Region, end_of, in_front, memory_of, AreApart, AreRegions, IsIn, touches}
 use Rattle.guest_memory.proofs.Gaps.{misses-none, misses-more, misses-first, misses-rest, up_to_gap-none, up_to_gap-behind, up_to_gap-before}
-use Rattle.guest_memory.proofs.Ranges.{length-put_at, put_range}
+use Rattle.guest_memory.proofs.Ranges.{is_inside-tells, length-put_at, put_range}
 
 -- a region's bytes are others of the same number
 abbrev pub with_bytes : Region → List ℕ → Region
@@ -487,9 +487,10 @@ one_misses rs a n x t m same h one is tells test = (
       absurd (grind (arith, nat_tests, here.above, here.below, tells, test)),
 )
 
--- two tests of one fact answer alike
-pub same_test : (x y : Bool) (P : Type 0) → (IsTrue x ↔ P) → (IsTrue y ↔ P) → x ≡ y
-same_test x y P p q = same_from_decides x y p q
+-- a test that tells whether a range lies inside answers as is_inside does
+pub same_test : {x : Bool} {m : Memory} {a n : ℕ} → (IsTrue x ↔ Inside m a n) → x ≡ is_inside m a n
+same_test {x = x} {m = m} {a = a} {n = n} tells =
+    same_from_decides x (is_inside m a n) tells (is_inside-tells m a n)
 
 -- the bytes of a range in the region x
 pub part_in : (rs : List Region) (i a n : ℕ) (x : Region) (m : Memory) → memory_of rs ≡ m → AreApart rs
@@ -593,20 +594,19 @@ region_above [] i d h within = absurd (omega (arith, within))
 region_above (r ∷ rs) i d h within = omega (arith, first_base r rs, begins_above r rs i d h within)
 
 -- so the last region tells how many addresses the memory spans
-pub last_region : (rs : List Region) (x : Region) (i : ℕ) (m : Memory) → memory_of rs ≡ m → AreRegions rs
-    → suc i ≡ length rs → x ≡ get_or rs i x
-    → (end_of x ≡ m.base + length m.bytes) × (m.base ≤ x.base) × (length m.bytes < 2 ^ 64)
-last_region rs x i m same h last is = (
-  ap end_of is ∙ ends_last rs i x h.apart last ∙ ap (λ (m : Memory). m.base + length m.bytes) same,
-  omega (
-    arith,
-    ap (λ (y : Region). y.base) is,
-    region_above rs i x h.apart (omega (arith, last)),
-    ap
-        (λ (m : Memory). m.base) same,
-  ),
-  omega (arith, h.spans, ap (λ (m : Memory). length m.bytes) same),
-)
+pub last_region : {rs : List Region} {x : Region} → AreRegions rs → x ≡ get_or rs (length rs - 1) x
+    → (end_of x ≡ (memory_of rs).base + length (memory_of rs).bytes) × ((memory_of rs).base ≤ x.base)
+    × (length (memory_of rs).bytes < 2 ^ 64)
+last_region {rs = rs} {x = x} h is =
+    let last : suc (length rs - 1) ≡ length rs = omega (arith, some_region rs h.apart) in (
+      ap end_of is ∙ ends_last rs (length rs - 1) x h.apart last,
+      omega (
+        arith,
+        ap (λ (y : Region). y.base) is,
+        region_above rs (length rs - 1) x h.apart (omega (arith, last)),
+      ),
+      h.spans,
+    )
 
 -- how many bytes there are from a to the end of the region x: a range from there on lies inside where it has
 -- no more

@@ -1,12 +1,13 @@
 -- Of a memory's own regions and lent ones there is one kind. So a memory has one list of regions, whichever
 -- it is.
-use Rattle.std.proofs.Common.{◌≡◌, ◌==◌, ◌<◌, ◌≤◌, ◌+◌, ◌-◌, ◌^◌, ℕ, Bool, true, false, List, [], ◌∷◌, length, take, drop, get_or, set, refl, sym, ◌∙◌, ap, subst, arith}
+use Rattle.std.proofs.Common.{◌≡◌, ◌↔◌, ◌==◌, ◌<◌, ◌≤◌, ◌+◌, ◌-◌, ◌^◌, ℕ, Bool, true, false, List, [], ◌∷◌, length, take, drop, get_or, set, refl, sym, ◌∙◌, ap, subst, arith}
+use Rattle.std.specs.Prelude.{nat_le, IsTrue}
 use Rattle.std.proofs.lemmas.Bool.Decides.{nat_tests}
 use Rattle.std.proofs.lemmas.List.{length-set}
 use Rattle.guest_memory.specs.Memory.{Memory, Inside, part_of, put}
-use Rattle.guest_memory.specs.Regions.{Region, AreRegions, IsIn, memory_of}
+use Rattle.guest_memory.specs.Regions.{Region, AreRegions, IsIn, end_of, memory_of, touches}
 use Rattle.guest_memory.specs.Stock.{regions_of}
-use Rattle.guest_memory.proofs.InRegions.{only_inside, part_in, place_in, put_in, region_fits, regions-put_in, with_put}
+use Rattle.guest_memory.proofs.InRegions.{one_holds, one_misses, only_inside, part_in, place_in, put_in, region_fits, regions-put_in, with_put}
 
 -- none are its own: the lent ones
 pub lent_regions : (own lent : List Region) (count : ℕ) (test : Bool) → length own ≡ count
@@ -15,9 +16,9 @@ lent_regions [] lent count test size is empty = refl
 lent_regions (r ∷ rs) lent count test size is empty = absurd (grind (arith, nat_tests, size, is, empty))
 
 -- some are
-pub some_own : (own : List Region) (count : ℕ) (test : Bool) → length own ≡ count → test ≡ (count == 0)
+pub some_own : (own : List Region) {count : ℕ} {test : Bool} → length own ≡ count → test ≡ (count == 0)
     → test ≡ false → 0 < length own
-some_own own count test size is some = grind (arith, nat_tests, size, is, some)
+some_own own size is some = grind (arith, nat_tests, size, is, some)
 
 -- where there is one, they are its own
 pub regions_own : (own lent : List Region) → 0 < length own → regions_of own lent ≡ own
@@ -25,17 +26,19 @@ regions_own [] lent some = absurd (omega (arith, some))
 regions_own (r ∷ rs) lent some = refl
 
 -- the list xs that is searched has the memory's regions: the lent ones, or its own
-pub lent_view : (own lent xs : List Region) (count : ℕ) (test : Bool) (m : Memory) → length own ≡ count
+pub lent_view : (own lent : List Region) {xs : List Region} {count : ℕ} {test : Bool} {m : Memory}
+    → length own ≡ count
     → test ≡ (count == 0) → test ≡ true
     → memory_of (regions_of own lent) ≡ m → xs ≡ lent → memory_of xs ≡ m
-lent_view own lent xs count test m size is empty view same =
+lent_view own lent {count = count} {test = test} size is empty view same =
     ap memory_of (same ∙ sym (lent_regions own lent count test size is empty)) ∙ view
 
-pub own_view : (own lent xs : List Region) (count : ℕ) (test : Bool) (m : Memory) → length own ≡ count
+pub own_view : (own lent : List Region) {xs : List Region} {count : ℕ} {test : Bool} {m : Memory}
+    → length own ≡ count
     → test ≡ (count == 0) → test ≡ false
     → memory_of (regions_of own lent) ≡ m → xs ≡ own → memory_of xs ≡ m
-own_view own lent xs count test m size is some view same =
-    ap memory_of (same ∙ sym (regions_own own lent (some_own own count test size is some))) ∙ view
+own_view own lent {count = count} {test = test} size is some view same =
+    ap memory_of (same ∙ sym (regions_own own lent (some_own own size is some))) ∙ view
 
 -- the memory m has the regions rs, and where other regions ys stand in their list, it has those: all = λ ys.
 -- what is then its list
@@ -45,21 +48,21 @@ pub record IsStock (all : List Region → List Region) (rs : List Region) (m : M
   pub view : memory_of rs ≡ m
 
 -- its own ones, where it has some
-pub own_stock : (own lent : List Region) (m : Memory) → 0 < length own → AreRegions (regions_of own lent)
+pub own_stock : (own lent : List Region) {m : Memory} → 0 < length own → AreRegions (regions_of own lent)
     → memory_of (regions_of own lent) ≡ m
     → IsStock (λ ys. regions_of ys lent) own m
-own_stock own lent m some regions view = record {
+own_stock own lent some regions view = record {
   others = λ ys size. regions_own ys lent (omega (arith, some, size));
   regions = subst AreRegions (regions_own own lent some) regions;
   view = ap memory_of (sym (regions_own own lent some)) ∙ view;
 }
 
 -- the lent ones, where it has none
-pub lent_stock : (own lent : List Region) (count : ℕ) (test : Bool) (m : Memory) → length own ≡ count
+pub lent_stock : (own lent : List Region) {count : ℕ} {test : Bool} {m : Memory} → length own ≡ count
     → test ≡ (count == 0) → test ≡ true
     → AreRegions (regions_of own lent) → memory_of (regions_of own lent) ≡ m
     → IsStock (λ ys. regions_of own ys) lent m
-lent_stock own lent count test m size is empty regions view = record {
+lent_stock own lent {count = count} {test = test} size is empty regions view = record {
   others = λ ys _. lent_regions own ys count test size is empty;
   regions = subst AreRegions (lent_regions own lent count test size is empty) regions;
   view = ap memory_of (sym (lent_regions own lent count test size is empty)) ∙ view;
@@ -73,25 +76,44 @@ pub record IsFound (all : List Region → List Region) (rs : List Region) (m : M
   pub lies : IsIn (get_or rs i x) a n
   pub is : x ≡ get_or rs i x
 
--- of one region it is that one
-pub only_found : (all : List Region → List Region) (rs : List Region) (m : Memory) (a n : ℕ) (x : Region)
-    → IsStock all rs m
-    → length rs ≡ 1 → Inside m a n → x ≡ get_or rs 0 x → IsFound all rs m 0 a n x
-only_found all rs m a n x stock one inside is = record {
-  stock = stock;
-  place = omega (arith, one);
-  lies = only_inside rs a n x stock.regions.apart
-      (subst (λ (m : Memory). Inside m a n) (sym stock.view) inside) one;
-  is = is;
-}
+-- of one region of its own it is that one
+pub only_found : (own lent : List Region) {m : Memory} {a n : ℕ} {x : Region} → length own ≡ 1
+    → AreRegions (regions_of own lent) → memory_of (regions_of own lent) ≡ m
+    → Inside m a n → x ≡ get_or own 0 x → IsFound (λ ys. regions_of ys lent) own m 0 a n x
+only_found own lent {a = a} {n = n} {x = x} one regions view inside is =
+    let stock = own_stock own lent (omega (arith, one)) regions view in
+    record {
+      stock = stock;
+      place = omega (arith, one);
+      lies = only_inside own a n x stock.regions.apart
+          (subst (λ (m : Memory). Inside m a n) (sym stock.view) inside) one;
+      is = is;
+    }
 
 -- one that was searched for, in the same list under another name
-pub search_found : (all : List Region → List Region) (xs rs : List Region) (m : Memory) (i a n : ℕ)
-    (x : Region) → IsStock all rs m
+pub search_found : {all : List Region → List Region} {xs rs : List Region} {m : Memory} {i a n : ℕ}
+    {x : Region} → IsStock all rs m
     → xs ≡ rs → i < length xs → IsIn (get_or xs i x) a n → x ≡ get_or rs i x → IsFound all rs m i a n x
-search_found all xs rs m i a n x stock same within lies is =
+search_found {xs = xs} {rs = rs} {i = i} {a = a} {n = n} {x = x} stock same within lies is =
     let at = place_in xs rs i a n x same within lies in
     record { stock = stock; place = at.0; lies = at.1; is = is }
+
+-- the test of a range in the only region of its own, where the address lies in it or is its end
+pub own_holds : (own lent : List Region) (n room : ℕ) {m : Memory} {a : ℕ} {x : Region} → length own ≡ 1
+    → AreRegions (regions_of own lent) → memory_of (regions_of own lent) ≡ m
+    → x ≡ get_or own 0 x → touches a x ≡ true → a + room ≡ end_of x
+    → IsTrue (nat_le n room) ↔ Inside m a n
+own_holds own lent n room {m = m} {a = a} {x = x} one regions view is test rest =
+    let stock = own_stock own lent (omega (arith, one)) regions view in
+    one_holds own a n room x m stock.view stock.regions.apart one is test rest
+
+-- and where it doesn't
+pub own_misses : (own lent : List Region) (n : ℕ) {m : Memory} {a : ℕ} {x : Region} {t : Bool}
+    → length own ≡ 1 → AreRegions (regions_of own lent) → memory_of (regions_of own lent) ≡ m
+    → x ≡ get_or own 0 x → t ≡ touches a x → t ≡ false → IsTrue t ↔ Inside m a n
+own_misses own lent n {m = m} {a = a} {x = x} {t = t} one regions view is tells test =
+    let stock = own_stock own lent (omega (arith, one)) regions view in
+    one_misses own a n x t m stock.view stock.regions.apart one is tells test
 
 -- the range lies in that region, and ends by 2^64
 pub found_lies : {all : List Region → List Region} {rs : List Region} {m : Memory} {i a n : ℕ} {x : Region}

@@ -57,56 +57,50 @@ module _ (kind : TableKind) (negotiated : Bool) (m : Memory) (t : ℕ → Descri
     indirect = λ c _. absurd (omega (arith, c.room, e));
   }
 
-  -- it leads to an index outside the table
-  pub list_past : (before : List Buffer) (count i : ℕ) → count < n → n ≤ i → Reached m [] t n h count i before
-      → ListFails kind negotiated m t n h Index
-  list_past before count i room l r = record {
+  -- it has fewer than n members, and fails at an index
+  list_stops : (before : List Buffer) (count i : ℕ) (fault : Fault) → count < n
+      → Reached m [] t n h count i before → (n ≤ i → fault ≡ Index)
+      → (i < n → (t i).indirect ≡ false → Refuses m before (t i).buffer fault)
+      → (i < n → (t i).indirect ≡ true → TableRefused kind negotiated m before count (t i) fault)
+      → ListFails kind negotiated m t n h fault
+  list_stops before count i fault room r past plain indirect = record {
     count = count;
     at = i;
     before = before;
     reached = r;
     most = omega (arith, room);
     full = λ e. absurd (omega (arith, e, room));
-    past = λ _ _. refl;
-    plain = λ c _. absurd (omega (arith, c.below, l));
-    indirect = λ c _. absurd (omega (arith, c.below, l));
+    past = λ _. past;
+    plain = λ c. plain c.below;
+    indirect = λ c. indirect c.below;
   }
+
+  -- it leads to an index outside the table
+  pub list_past : (before : List Buffer) (count i : ℕ) → count < n → n ≤ i → Reached m [] t n h count i before
+      → ListFails kind negotiated m t n h Index
+  list_past before count i room l r =
+      list_stops before count i Index room r (λ _. refl) (λ below. absurd (omega (arith, below, l)))
+      (λ below. absurd (omega (arith, below, l)))
 
   -- the buffer of the plain descriptor that comes next is refused
   pub list_refused : (before : List Buffer) (count i : ℕ) (d : Descriptor) (fault : Fault) → d ≡ t i
       → count < n → i < n → d.indirect ≡ false
       → Refuses m before d.buffer fault → Reached m [] t n h count i before
       → ListFails kind negotiated m t n h fault
-  list_refused before count i d fault e room below plain refused r = record {
-    count = count;
-    at = i;
-    before = before;
-    reached = r;
-    most = omega (arith, room);
-    full = λ e. absurd (omega (arith, e, room));
-    past = λ _ l. absurd (omega (arith, below, l));
-    plain = λ _ _. rw e at refused;
-    indirect = λ _ is. let not : (t i).indirect ≡ false = ap (λ (d : Descriptor). d.indirect) (sym e)
-        ∙ plain in cc (is, not);
-  }
+  list_refused before count i d fault e room below plain refused r =
+      let not : (t i).indirect ≡ false = ap (λ (d : Descriptor). d.indirect) (sym e) ∙ plain in
+      list_stops before count i fault room r (λ l. absurd (omega (arith, below, l)))
+      (λ _ _. rw e at refused) (λ _ is. cc (is, not))
 
   -- the descriptor that comes next refers to a table, and is refused
   pub list_table_refused : (before : List Buffer) (count i : ℕ) (d : Descriptor) (fault : Fault) → d ≡ t i
       → count < n → i < n → d.indirect ≡ true
       → TableRefused kind negotiated m before count d fault → Reached m [] t n h count i before
       → ListFails kind negotiated m t n h fault
-  list_table_refused before count i d fault e room below is refused r = record {
-    count = count;
-    at = i;
-    before = before;
-    reached = r;
-    most = omega (arith, room);
-    full = λ e. absurd (omega (arith, e, room));
-    past = λ _ l. absurd (omega (arith, below, l));
-    plain = λ _ not. let here : (t i).indirect ≡ true = ap (λ (d : Descriptor). d.indirect) (sym e)
-        ∙ is in cc (here, not);
-    indirect = λ _ _. rw e at refused;
-  }
+  list_table_refused before count i d fault e room below indirect refused r =
+      let is : (t i).indirect ≡ true = ap (λ (d : Descriptor). d.indirect) (sym e) ∙ indirect in
+      list_stops before count i fault room r (λ l. absurd (omega (arith, below, l)))
+      (λ _ not. cc (is, not)) (λ _ _. rw e at refused)
 
   -- its three faults
   pub table_unknown : (before : List Buffer) (count : ℕ) (d : Descriptor) → negotiated ≡ false

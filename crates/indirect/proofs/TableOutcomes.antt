@@ -8,7 +8,7 @@ use Rattle.chain.specs.declared.fault.Fault.{Fault}
 use Rattle.chain.specs.Buffers.{Admits, AdmitsAll}
 use Rattle.chain.proofs.Admitting.{Admits-at, Admits-Refuses, AdmitsAll-front, Refuses-unique}
 use Rattle.indirect.specs.Descriptors.{split_table, packed_buffer, packed_buffers}
-use Rattle.indirect.specs.Tables.{IsTableLen, IsTable, IsNoTable, SplitTableResolves, SplitTableFails, PackedTableResolves, PackedFaultAt, PackedTableFails}
+use Rattle.indirect.specs.Tables.{IsTableLen, IsTable, IsNoTable, SplitTableResolves, SplitTableFails, PackedTableResolves, PackedFaultAt, PackedTableFails, TableFails}
 use Rattle.indirect.proofs.Entries.{packed_buffers-more}
 use Rattle.indirect.proofs.Outcomes.{one_fault, one_path, never_both}
 
@@ -47,18 +47,22 @@ one_no_table m addr len f g x y =
     ]
 
 module _ (m : Memory) (addr len : ℕ) (before : List Buffer) where
+  -- a range has one fault as a table, where going through it meets one
+  one_table_fault : (Meets : Fault → List Buffer → Type 0)
+      → ((f g : Fault) (a b : List Buffer) → Meets f a → Meets g b → (f ≡ g) × (a ≡ b))
+      → (f g : Fault) (a b : List Buffer) → TableFails m addr len before Meets f a
+      → TableFails m addr len before Meets g b → (f ≡ g) × (a ≡ b)
+  one_table_fault Meets once f g a b x y =
+      elim (table_cases m addr len) [
+        | inl table ↦ once f g a b (x.walked table) (y.walked table)
+        | inr none ↦ let left = x.no_table none in let right = y.no_table none in
+            (one_no_table m addr len f g left.0 right.0, left.1 ∙ sym right.1)
+      ]
+
   pub one_split_fault : (f g : Fault) (a b : List Buffer) → SplitTableFails m addr len before f a
       → SplitTableFails m addr len before g b → (f ≡ g) × (a ≡ b)
-  one_split_fault f g a b x y =
-      elim (table_cases m addr len) [
-        | inl table ↦ one_fault m before (split_table m addr) (len / 16) 0 f g a b
-            (x.walked table) (y.walked table)
-        | inr none ↦ (
-          one_no_table m addr len f g (x.no_table none).0 (y.no_table none).0,
-          (x.no_table none).1
-              ∙ sym (y.no_table none).1,
-        )
-      ]
+  one_split_fault = one_table_fault (FaultAt m before (split_table m addr) (len / 16) 0)
+      (one_fault m before (split_table m addr) (len / 16) 0)
 
   pub one_split_path : (a b : List Buffer) → SplitTableResolves m addr len before a
       → SplitTableResolves m addr len before b → a ≡ b
@@ -111,15 +115,7 @@ module _ (m : Memory) (addr len : ℕ) (before : List Buffer) where
 
   pub one_packed_fault : (f g : Fault) (a b : List Buffer) → PackedTableFails m addr len before f a
       → PackedTableFails m addr len before g b → (f ≡ g) × (a ≡ b)
-  one_packed_fault f g a b x y =
-      elim (table_cases m addr len) [
-        | inl table ↦ packed_fault_once (len / 16) f g a b (x.walked table) (y.walked table)
-        | inr none ↦ (
-          one_no_table m addr len f g (x.no_table none).0 (y.no_table none).0,
-          (x.no_table none).1
-              ∙ sym (y.no_table none).1,
-        )
-      ]
+  one_packed_fault = one_table_fault (PackedFaultAt m addr (len / 16) before) (packed_fault_once (len / 16))
 
   pub one_packed_list : (a b : List Buffer) → PackedTableResolves m addr len before a
       → PackedTableResolves m addr len before b → a ≡ b

@@ -10,8 +10,8 @@ use Rattle.chain.specs.Service.{Entry}
 use Rattle.chain.proofs.Admitting.{admits_or_refuses}
 use Rattle.indirect.specs.declared.descriptor.Descriptor.{Descriptor}
 use Rattle.indirect.specs.Descriptors.{split_table, packed_buffer}
-use Rattle.indirect.specs.Walks.{Reached, WalkHasOutcome}
-use Rattle.indirect.specs.Tables.{IsTable, IsNoTable, PackedFaultAt}
+use Rattle.indirect.specs.Walks.{FaultAt, Reached, WalkHasOutcome}
+use Rattle.indirect.specs.Tables.{IsTable, IsNoTable, SplitTableResolves, PackedTableResolves, PackedFaultAt, TableFails}
 use Rattle.indirect.specs.Lists.{TableKind, split_tables, packed_tables, TableHasOutcome, is_joined, ListFails, ListHasOutcome, ListOffers}
 use Rattle.indirect.specs.Outcomes.{HasOneTable, HasOneList}
 use Rattle.indirect.proofs.Entries.{Gathered, gathered_step}
@@ -89,20 +89,34 @@ module _ (m : Memory) (addr len : ℕ) (before : List Buffer) where
         )
       ]
 
-  split_table_has_outcome : TableHasOutcome split_tables m addr len before
-  split_table_has_outcome =
+  -- a range has an outcome as a table, where going through it has one
+  table_has_outcome : (Has : List Buffer → Type 0) (Meets : Fault → List Buffer → Type 0)
+      → (IsTable m addr len → ((after : List Buffer) × Has after)
+      ⊎ ((fault : Fault) × (left : List Buffer) × Meets fault left))
+      → ((after : List Buffer) × Has after)
+      ⊎ ((fault : Fault) × (left : List Buffer) × TableFails m addr len before Meets fault left)
+  table_has_outcome Has Meets walks =
       elim (table_cases m addr len) [
         | inr none ↦ let f = no_table_fault none in
             inr (f.0, before, record { no_table = λ _. (f.1, refl); walked = λ table. absurd (none table) })
-        | inl table ↦ elim (walk_has_outcome m before (split_table m addr) (len / 16) 0) [
-          | inl found ↦ inl (found.0, record { table = table; path = found.1 })
-          | inr stopped ↦ inr (
-            stopped.0,
-            stopped.1,
-            record { no_table = λ none. absurd (none table); walked = λ _. stopped.2 },
+        | inl table ↦ elim (walks table) [
+          | inl found ↦ inl found
+          | inr met ↦ inr (
+            met.0,
+            met.1,
+            record { no_table = λ none. absurd (none table); walked = λ _. met.2 },
           )
         ]
       ]
+
+  split_table_has_outcome : TableHasOutcome split_tables m addr len before
+  split_table_has_outcome =
+      table_has_outcome (SplitTableResolves m addr len before)
+      (FaultAt m before (split_table m addr) (len / 16) 0) (λ table.
+      elim (walk_has_outcome m before (split_table m addr) (len / 16) 0) [
+        | inl found ↦ inl (found.0, record { table = table; path = found.1 })
+        | inr met ↦ inr met
+      ])
 
   -- k descriptors are left until the end of the packed table
   gather_on : (n k i : ℕ) (buffers : List Buffer) → i + k ≡ n → Gathered m addr before i buffers
@@ -130,22 +144,12 @@ module _ (m : Memory) (addr len : ℕ) (before : List Buffer) where
 
   packed_table_has_outcome : TableHasOutcome packed_tables m addr len before
   packed_table_has_outcome =
-      elim (table_cases m addr len) [
-        | inr none ↦ let f = no_table_fault none in
-            inr (f.0, before, record { no_table = λ _. (f.1, refl); walked = λ table. absurd (none table) })
-        | inl table ↦ elim (gather_on (len / 16) (len / 16) 0 before (omega arith)
-            (record { admitted = tt; named = sym (append-nil before) })) [
-              | inl found ↦ inl (
-                found.0,
-                record { table = table; admitted = found.1.admitted; named = found.1.named },
-              )
-              | inr stopped ↦ inr (
-                stopped.0,
-                stopped.1,
-                record { no_table = λ none. absurd (none table); walked = λ _. stopped.2 },
-              )
-            ]
-      ]
+      table_has_outcome (PackedTableResolves m addr len before) (PackedFaultAt m addr (len / 16) before) (λ table.
+      elim (gather_on (len / 16) (len / 16) 0 before (omega arith)
+      (record { admitted = tt; named = sym (append-nil before) })) [
+        | inl found ↦ inl (found.0, record { table = table; admitted = found.1.admitted; named = found.1.named })
+        | inr met ↦ inr met
+      ])
 
 pub split_has_one_table : HasOneTable split_tables
 split_has_one_table = record {

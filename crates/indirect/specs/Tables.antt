@@ -29,11 +29,17 @@ pub record SplitTableResolves (m : Memory) (addr len : ℕ) (before after : List
   pub table : IsTable m addr len
   pub path : Resolves m before (split_table m addr) (len / 16) 0 after
 
--- the fault of a range as a split table behind the buffers before, and the buffers that stand before it
-pub record SplitTableFails (m : Memory) (addr len : ℕ) (before : List Buffer) (fault : Fault)
-    (after : List Buffer) : Type 0 where
+-- the fault of a range as a table behind the buffers before, and the buffers that stand before it, where Meets says
+-- what is met by going through a table
+pub record TableFails (m : Memory) (addr len : ℕ) (before : List Buffer) (Meets : Fault → List Buffer → Type 0)
+    (fault : Fault) (after : List Buffer) : Type 0 where
   pub no_table : ¬ IsTable m addr len → IsNoTable m addr len fault × (after ≡ before)
-  pub walked : IsTable m addr len → FaultAt m before (split_table m addr) (len / 16) 0 fault after
+  pub walked : IsTable m addr len → Meets fault after
+
+-- of a split table that is what its path meets
+abbrev pub SplitTableFails : Memory → ℕ → ℕ → List Buffer → Fault → List Buffer → Type 0
+SplitTableFails m addr len before fault after =
+    TableFails m addr len before (FaultAt m before (split_table m addr) (len / 16) 0) fault after
 
 -- the buffers of all descriptors of the packed table may stand behind those before, and with them they are
 -- those after
@@ -51,8 +57,7 @@ pub record PackedFaultAt (m : Memory) (addr n : ℕ) (before : List Buffer) (fau
   pub named : after ≡ before ++ packed_buffers m addr at
   pub refused : Refuses m after (packed_buffer m (addr + 16 * at)) fault
 
--- the fault of a range as a packed table behind the buffers before, and the buffers that stand before it
-pub record PackedTableFails (m : Memory) (addr len : ℕ) (before : List Buffer) (fault : Fault)
-    (after : List Buffer) : Type 0 where
-  pub no_table : ¬ IsTable m addr len → IsNoTable m addr len fault × (after ≡ before)
-  pub walked : IsTable m addr len → PackedFaultAt m addr (len / 16) before fault after
+-- of a packed table that is the first buffer that is refused
+abbrev pub PackedTableFails : Memory → ℕ → ℕ → List Buffer → Fault → List Buffer → Type 0
+PackedTableFails m addr len before fault after =
+    TableFails m addr len before (PackedFaultAt m addr (len / 16) before) fault after

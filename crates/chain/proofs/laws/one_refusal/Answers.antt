@@ -1,8 +1,5 @@
-use Rattle.chain.proofs.Admitting.{Admits-Refuses, Refuses-unique, admits_or_refuses}
+use Rattle.chain.proofs.Admitting.{Admits-Refuses, Refuses-unique}
 use Rattle.chain.proofs.laws.one_refusal.Goals as goal
-
-pub returns-clause-either : goal.returns-clause-either
-returns-clause-either c = admits_or_refuses
 
 pub returns-clause-never_both : goal.returns-clause-never_both
 returns-clause-never_both c = Admits-Refuses
