@@ -9,7 +9,7 @@ use Rattle.guest_memory.specs.Memory.{Memory}
 use Rattle.guest_memory.proofs.Ranges.{inside_cases}
 use Rattle.chain.specs.declared.segment.Buffer.{Buffer}
 use Rattle.chain.specs.declared.fault.Fault.{Fault}
-use Rattle.chain.specs.declared.fault.Fault.TheVariants.{Jump, Index, Loop, TooMany, Table, Nested, Joined, NoIndirect, Range, TooLong}
+use Rattle.chain.specs.declared.fault.Fault.TheVariants.{TooMany, Range, TooLong}
 use Rattle.chain.specs.Buffers.{Within, Good, Admits, AdmitsAll, Refuses, total_len}
 
 module _ (m : Memory) where
@@ -72,13 +72,7 @@ module _ (m : Memory) where
   Admits-Refuses buffers b Range a r = r a.inside
   Admits-Refuses buffers b TooMany a r = absurd (omega (arith, a.room, r.1))
   Admits-Refuses buffers b TooLong a r = absurd (omega (arith, a.fits, r.2))
-  Admits-Refuses buffers b Jump a r = r
-  Admits-Refuses buffers b Index a r = r
-  Admits-Refuses buffers b Loop a r = r
-  Admits-Refuses buffers b Table a r = r
-  Admits-Refuses buffers b Nested a r = r
-  Admits-Refuses buffers b Joined a r = r
-  Admits-Refuses buffers b NoIndirect a r = r
+  Admits-Refuses buffers b _ a r = r
 
   -- a buffer is refused for one cause: which one hangs on these two tests
   abbrev cause : (b : Buffer) (buffers : List Buffer) → Within m b ⊎ (¬ Within m b) → (length buffers < 256)
@@ -98,13 +92,7 @@ module _ (m : Memory) where
   is_cause buffers b TooLong (inr outside) room r = absurd (outside r.0)
   is_cause buffers b TooLong (inl inside) (inr full) r = absurd (omega (arith, r.1, full))
   is_cause buffers b TooLong (inl inside) (inl room) r = refl
-  is_cause buffers b Jump inside room r = absurd r
-  is_cause buffers b Index inside room r = absurd r
-  is_cause buffers b Loop inside room r = absurd r
-  is_cause buffers b Table inside room r = absurd r
-  is_cause buffers b Nested inside room r = absurd r
-  is_cause buffers b Joined inside room r = absurd r
-  is_cause buffers b NoIndirect inside room r = absurd r
+  is_cause buffers b _ inside room r = absurd r
 
   pub Refuses-unique : (buffers : List Buffer) (b : Buffer) (f g : Fault) → Refuses m buffers b f
       → Refuses m buffers b g → f ≡ g

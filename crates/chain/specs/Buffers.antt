@@ -3,7 +3,7 @@ use Rattle.std.specs.Prelude.{ℕ, ◌+◌, ◌^◌, ◌<◌, ◌≤◌, Bool, L
 use Rattle.guest_memory.specs.Memory.{Memory, Inside}
 use Rattle.chain.specs.declared.segment.Buffer.{Buffer}
 use Rattle.chain.specs.declared.fault.Fault.{Fault}
-use Rattle.chain.specs.declared.fault.Fault.TheVariants.{Jump, Index, Loop, TooMany, Table, Nested, Joined, NoIndirect, Range, TooLong}
+use Rattle.chain.specs.declared.fault.Fault.TheVariants.{TooMany, Range, TooLong}
 
 -- a buffer of len bytes from address addr on, to be written by the device or to be read
 abbrev pub buffer_of : ℕ → ℕ → Bool → Buffer
@@ -41,10 +41,4 @@ Refuses m buffers b Range = ¬ Within m b
 Refuses m buffers b TooMany = Within m b × (256 ≤ length buffers)
 Refuses m buffers b TooLong = Within m b × (length buffers < 256)
     × (2 ^ 32 ≤ total_len buffers + b.segment.len)
-Refuses m buffers b Jump = ⊥
-Refuses m buffers b Index = ⊥
-Refuses m buffers b Loop = ⊥
-Refuses m buffers b Table = ⊥
-Refuses m buffers b Nested = ⊥
-Refuses m buffers b Joined = ⊥
-Refuses m buffers b NoIndirect = ⊥
+Refuses m buffers b _ = ⊥

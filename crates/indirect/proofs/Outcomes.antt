@@ -5,7 +5,7 @@ use Rattle.std.proofs.lemmas.List.{append-nil, map-append}
 use Rattle.guest_memory.specs.Memory.{Memory}
 use Rattle.chain.specs.declared.segment.Buffer.{Buffer}
 use Rattle.chain.specs.declared.fault.Fault.{Fault}
-use Rattle.chain.specs.declared.fault.Fault.TheVariants.{Jump, Index, Loop, TooMany, Table, Nested, Joined, NoIndirect, Range, TooLong}
+use Rattle.chain.specs.declared.fault.Fault.TheVariants.{Index, Loop, TooMany, Nested, Range, TooLong}
 use Rattle.chain.specs.Buffers.{Admits, AdmitsAll}
 use Rattle.chain.proofs.Admitting.{Admits-at, Admits-Refuses, AdmitsAll-front, Refuses-unique}
 use Rattle.indirect.specs.declared.descriptor.Descriptor.{Descriptor}
@@ -81,102 +81,81 @@ goes_no_further m before t n count i j front ys counted stops a l g = go g.rest 
 stops_or_takes : (m : Memory) (buffers : List Buffer) (t : ℕ → Descriptor) (n count i : ℕ) (fault : Fault)
     → StopsAt m buffers t n count i fault
     → ComesNext n count i → (t i).indirect ≡ false → Admits m buffers (t i).buffer → ⊥
-stops_or_takes m buffers t n count i Jump s c p a = s
 stops_or_takes m buffers t n count i Index s c p a = omega (arith, s.1, c.below)
 stops_or_takes m buffers t n count i Loop s c p a = omega (arith, s, c.room)
 stops_or_takes m buffers t n count i TooMany s c p a =
     Admits-Refuses m buffers (t i).buffer TooMany a s.refused
-stops_or_takes m buffers t n count i Table s c p a = s
 stops_or_takes m buffers t n count i Nested s c p a = cc (s.indirect, p)
-stops_or_takes m buffers t n count i Joined s c p a = s
-stops_or_takes m buffers t n count i NoIndirect s c p a = s
 stops_or_takes m buffers t n count i Range s c p a = Admits-Refuses m buffers (t i).buffer Range a s.refused
 stops_or_takes m buffers t n count i TooLong s c p a =
     Admits-Refuses m buffers (t i).buffer TooLong a s.refused
+stops_or_takes m buffers t n count i _ s c p a = s
 
 -- it stops for one cause
 stops_loop : (m : Memory) (buffers : List Buffer) (t : ℕ → Descriptor) (n count i : ℕ) (e : count ≡ n)
     (g : Fault) → StopsAt m buffers t n count i g → Loop ≡ g
-stops_loop m buffers t n count i e Jump s = absurd s
 stops_loop m buffers t n count i e Index s = absurd (omega (arith, e, s.0))
 stops_loop m buffers t n count i e Loop s = refl
 stops_loop m buffers t n count i e TooMany s = absurd (omega (arith, e, s.comes.room))
-stops_loop m buffers t n count i e Table s = absurd s
 stops_loop m buffers t n count i e Nested s = absurd (omega (arith, e, s.comes.room))
-stops_loop m buffers t n count i e Joined s = absurd s
-stops_loop m buffers t n count i e NoIndirect s = absurd s
 stops_loop m buffers t n count i e Range s = absurd (omega (arith, e, s.comes.room))
 stops_loop m buffers t n count i e TooLong s = absurd (omega (arith, e, s.comes.room))
+stops_loop m buffers t n count i e _ s = absurd s
 
 stops_index : (m : Memory) (buffers : List Buffer) (t : ℕ → Descriptor) (n count i : ℕ) (e : (count < n)
     × (n ≤ i)) (g : Fault) → StopsAt m buffers t n count i g → Index ≡ g
-stops_index m buffers t n count i e Jump s = absurd s
 stops_index m buffers t n count i e Index s = refl
 stops_index m buffers t n count i e Loop s = absurd (omega (arith, e.0, s))
 stops_index m buffers t n count i e TooMany s = absurd (omega (arith, e.1, s.comes.below))
-stops_index m buffers t n count i e Table s = absurd s
 stops_index m buffers t n count i e Nested s = absurd (omega (arith, e.1, s.comes.below))
-stops_index m buffers t n count i e Joined s = absurd s
-stops_index m buffers t n count i e NoIndirect s = absurd s
 stops_index m buffers t n count i e Range s = absurd (omega (arith, e.1, s.comes.below))
 stops_index m buffers t n count i e TooLong s = absurd (omega (arith, e.1, s.comes.below))
+stops_index m buffers t n count i e _ s = absurd s
 
 stops_nested : (m : Memory) (buffers : List Buffer) (t : ℕ
     → Descriptor) (n count i : ℕ) (e : NextIndirect t n count i) (g : Fault)
     → StopsAt m buffers t n count i g → Nested ≡ g
-stops_nested m buffers t n count i e Jump s = absurd s
 stops_nested m buffers t n count i e Index s = absurd (omega (arith, e.comes.below, s.1))
 stops_nested m buffers t n count i e Loop s = absurd (omega (arith, e.comes.room, s))
 stops_nested m buffers t n count i e TooMany s = cc (e.indirect, s.plain)
-stops_nested m buffers t n count i e Table s = absurd s
 stops_nested m buffers t n count i e Nested s = refl
-stops_nested m buffers t n count i e Joined s = absurd s
-stops_nested m buffers t n count i e NoIndirect s = absurd s
 stops_nested m buffers t n count i e Range s = cc (e.indirect, s.plain)
 stops_nested m buffers t n count i e TooLong s = cc (e.indirect, s.plain)
+stops_nested m buffers t n count i e _ s = absurd s
 
 stops_refused : (m : Memory) (buffers : List Buffer) (t : ℕ → Descriptor) (n count i : ℕ) (f : Fault)
     (e : NextRefused m buffers t n count i f) (g : Fault) → StopsAt m buffers t n count i g → f ≡ g
-stops_refused m buffers t n count i f e Jump s = absurd s
 stops_refused m buffers t n count i f e Index s = absurd (omega (arith, e.comes.below, s.1))
 stops_refused m buffers t n count i f e Loop s = absurd (omega (arith, e.comes.room, s))
 stops_refused m buffers t n count i f e TooMany s =
     Refuses-unique m buffers (t i).buffer f TooMany e.refused s.refused
-stops_refused m buffers t n count i f e Table s = absurd s
 stops_refused m buffers t n count i f e Nested s = cc (e.plain, s.indirect)
-stops_refused m buffers t n count i f e Joined s = absurd s
-stops_refused m buffers t n count i f e NoIndirect s = absurd s
 stops_refused m buffers t n count i f e Range s =
     Refuses-unique m buffers (t i).buffer f Range e.refused s.refused
 stops_refused m buffers t n count i f e TooLong s =
     Refuses-unique m buffers (t i).buffer f TooLong e.refused s.refused
+stops_refused m buffers t n count i f e _ s = absurd s
 
 stops_once : (m : Memory) (buffers : List Buffer) (t : ℕ → Descriptor) (n count i : ℕ) (f g : Fault)
     → StopsAt m buffers t n count i f
     → StopsAt m buffers t n count i g → f ≡ g
-stops_once m buffers t n count i Jump g e s = absurd e
 stops_once m buffers t n count i Index g e s = stops_index m buffers t n count i e g s
 stops_once m buffers t n count i Loop g e s = stops_loop m buffers t n count i e g s
 stops_once m buffers t n count i TooMany g e s = stops_refused m buffers t n count i TooMany e g s
-stops_once m buffers t n count i Table g e s = absurd e
 stops_once m buffers t n count i Nested g e s = stops_nested m buffers t n count i e g s
-stops_once m buffers t n count i Joined g e s = absurd e
-stops_once m buffers t n count i NoIndirect g e s = absurd e
 stops_once m buffers t n count i Range g e s = stops_refused m buffers t n count i Range e g s
 stops_once m buffers t n count i TooLong g e s = stops_refused m buffers t n count i TooLong e g s
+stops_once m buffers t n count i _ g e s = absurd e
 
 stops_within : (m : Memory) (buffers : List Buffer) (t : ℕ → Descriptor) (n count i : ℕ) (f : Fault)
     → StopsAt m buffers t n count i f → count ≤ n
-stops_within m buffers t n count i Jump e = absurd e
 stops_within m buffers t n count i Index e = omega (arith, e.0)
 stops_within m buffers t n count i Loop e = omega (arith, e)
 stops_within m buffers t n count i TooMany e = omega (arith, e.comes.room)
-stops_within m buffers t n count i Table e = absurd e
 stops_within m buffers t n count i Nested e = omega (arith, e.comes.room)
-stops_within m buffers t n count i Joined e = absurd e
-stops_within m buffers t n count i NoIndirect e = absurd e
 stops_within m buffers t n count i Range e = omega (arith, e.comes.room)
 stops_within m buffers t n count i TooLong e = omega (arith, e.comes.room)
+stops_within m buffers t n count i _ e = absurd e
 
 module _ (m : Memory) (before : List Buffer) (t : ℕ → Descriptor) (n h : ℕ) where
   -- a front that passes the index at which a walk stops, with buffers that are admitted, isn't there

@@ -9,6 +9,7 @@ use Rattle.chain.specs.Buffers.{Admits, AdmitsAll}
 use Rattle.chain.proofs.Admitting.{Admits-at, Admits-Refuses, AdmitsAll-front, Refuses-unique}
 use Rattle.indirect.specs.Descriptors.{split_table, packed_buffer, packed_buffers}
 use Rattle.indirect.specs.Tables.{IsTableLen, IsTable, IsNoTable, SplitTableResolves, SplitTableFails, PackedTableResolves, PackedFaultAt, PackedTableFails, TableFails}
+use Rattle.indirect.specs.Walks.{FaultAt}
 use Rattle.indirect.proofs.Entries.{packed_buffers-more}
 use Rattle.indirect.proofs.Outcomes.{one_fault, one_path, never_both}
 

@@ -1,13 +1,15 @@
 -- A walk over linked descriptors, step by step.
-use Rattle.std.proofs.Common.{◌≡◌, ℕ, ◌+◌, ◌<◌, false, Some, None, List, [], ◌∷◌, ◌++◌, refl, sym, ap, ◌∙◌, append_assoc}
+use Rattle.std.proofs.Common.{◌≡◌, ℕ, ◌+◌, ◌/◌, ◌<◌, false, Some, None, List, [], ◌∷◌, ◌++◌, refl, sym, ap, ◌∙◌, append_assoc}
 use Rattle.std.proofs.lemmas.List.{length_push, append-nil, map-append}
 use Rattle.guest_memory.specs.Memory.{Memory}
 use Rattle.chain.specs.declared.segment.Buffer.{Buffer}
 use Rattle.chain.specs.Buffers.{Admits, AdmitsAll, Refuses}
 use Rattle.chain.specs.declared.fault.Fault.{Fault}
-use Rattle.chain.specs.declared.fault.Fault.TheVariants.{Jump, Index, Loop, TooMany, Table, Nested, Joined, NoIndirect, Range, TooLong}
+use Rattle.chain.specs.declared.fault.Fault.TheVariants.{TooMany, Range, TooLong}
 use Rattle.chain.proofs.Admitting.{AdmitsAll-push}
 use Rattle.indirect.specs.declared.descriptor.Descriptor.{Descriptor}
+use Rattle.indirect.specs.Descriptors.{split_table}
+use Rattle.indirect.specs.Tables.{IsTable, SplitTableFails}
 use Rattle.indirect.specs.Walks.{Follows, Leads, buffers_of, Reached, ComesNext, Resolves, StopsAt}
 
 -- one more member
@@ -100,10 +102,15 @@ refused_stops m buffers t n count i d fault e room below plain r = go fault (rw 
     go Range r = record { comes = comes; plain = is_plain; refused = r }
     go TooMany r = record { comes = comes; plain = is_plain; refused = r }
     go TooLong r = record { comes = comes; plain = is_plain; refused = r }
-    go Jump r = absurd r
-    go Index r = absurd r
-    go Loop r = absurd r
-    go Table r = absurd r
-    go Nested r = absurd r
-    go Joined r = absurd r
-    go NoIndirect r = absurd r
+    go _ r = absurd r
+
+-- a split table whose walk stops at an index fails there
+pub split_stops : (m : Memory) (addr len : ℕ) (before buffers after : List Buffer) (entries count i : ℕ)
+    (fault : Fault) → entries ≡ len / 16 → IsTable m addr len → after ≡ buffers
+    → Reached m before (split_table m addr) entries 0 count i buffers
+    → StopsAt m buffers (split_table m addr) entries count i fault
+    → SplitTableFails m addr len before fault after
+split_stops m addr len before buffers after entries count i fault is table same reached stops = record {
+  no_table = λ none. absurd (none table);
+  walked = λ _. rw (← is, same) (record { count = count; at = i; reached = reached; stops = stops });
+}

@@ -5,7 +5,7 @@ use Rattle.guest_memory.specs.Memory.{Memory}
 use Rattle.chain.specs.Buffers.{AdmitsAll, Refuses}
 use Rattle.chain.specs.declared.segment.Buffer.{Buffer}
 use Rattle.chain.specs.declared.fault.Fault.{Fault}
-use Rattle.chain.specs.declared.fault.Fault.TheVariants.{Jump, Index, Loop, TooMany, Table, Nested, Joined, NoIndirect, Range, TooLong}
+use Rattle.chain.specs.declared.fault.Fault.TheVariants.{Index, Loop, TooMany, Nested, Range, TooLong}
 use Rattle.indirect.specs.declared.descriptor.Descriptor.{Descriptor}
 
 -- the descriptor of index i is plain, has NEXT, and refers to j as the next one
@@ -80,10 +80,7 @@ StopsAt m buffers t n count i Nested = NextIndirect t n count i
 StopsAt m buffers t n count i Range = NextRefused m buffers t n count i Range
 StopsAt m buffers t n count i TooMany = NextRefused m buffers t n count i TooMany
 StopsAt m buffers t n count i TooLong = NextRefused m buffers t n count i TooLong
-StopsAt m buffers t n count i Jump = ⊥
-StopsAt m buffers t n count i Table = ⊥
-StopsAt m buffers t n count i Joined = ⊥
-StopsAt m buffers t n count i NoIndirect = ⊥
+StopsAt m buffers t n count i _ = ⊥
 
 -- the fault of a table walked from h behind the buffers before: a front with buffers that may stand there
 -- can't go on, and its buffers are those after

@@ -26,25 +26,16 @@ pub fn append_split<A: Allocator>(
     ensures fault { IfErr result (λ fault. SplitTableFails mem.now addr len chain.old fault chain.new) }
     ensures keeps { Good mem.now chain.old → Good mem.now chain.new }
 {
-    let entries = match entries_of(mem, addr, len) {
-        Ok(entries) => entries,
-        Err(fault) => return Err(fault),
-    };
+    let entries = entries_of(mem, addr, len)?;
     let mut index = 0;
     for _count in 0..entries {
         if index >= entries {
             return Err(Fault::Index);
         }
         let at = addr + u64::from(index * DESCRIPTOR_LEN);
-        let descriptor = match read_plain(mem, at) {
-            Ok(descriptor) => descriptor,
-            Err(fault) => return Err(fault),
-        };
+        let descriptor = read_plain(mem, at)?;
         let segment = descriptor.buffer.segment;
-        match chain.push(mem, segment.addr, segment.len, descriptor.buffer.writable) {
-            Ok(()) => {}
-            Err(fault) => return Err(fault),
-        }
+        chain.push(mem, segment.addr, segment.len, descriptor.buffer.writable)?;
         match descriptor.next {
             None => return Ok(()),
             Some(next) => index = u32::from(next),
@@ -82,18 +73,12 @@ pub fn append_packed<A: Allocator>(
     ensures fault { IfErr result (λ fault. PackedTableFails mem.now addr len chain.old fault chain.new) }
     ensures keeps { Good mem.now chain.old → Good mem.now chain.new }
 {
-    let entries = match entries_of(mem, addr, len) {
-        Ok(entries) => entries,
-        Err(fault) => return Err(fault),
-    };
+    let entries = entries_of(mem, addr, len)?;
     for index in 0..entries {
         let at = addr + u64::from(index * DESCRIPTOR_LEN);
         let buffer = PackedDescriptor::read(mem, at).buffer;
         let segment = buffer.segment;
-        match chain.push(mem, segment.addr, segment.len, buffer.writable) {
-            Ok(()) => {}
-            Err(fault) => return Err(fault),
-        }
+        chain.push(mem, segment.addr, segment.len, buffer.writable)?;
     }
     Ok(())
 }

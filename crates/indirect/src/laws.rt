@@ -29,6 +29,7 @@ pub fn front_is_longest()
 {}
 
 /// A range of memory has one outcome as a table of either kind: its buffers, or a fault with the buffers before it.
+#[tactic(auto, using(crate::proofs::Totality::split_has_one_table, crate::proofs::Totality::packed_has_one_table))]
 pub fn one_outcome_of_table()
     ensures split { HasOneTable split_tables }
     ensures packed { HasOneTable packed_tables }
@@ -36,6 +37,7 @@ pub fn one_outcome_of_table()
 
 /// The list of a ring has one outcome: its buffers, or a fault. The front before a fault is the longest of those
 /// whose buffers a chain may hold.
+#[tactic(auto, using(crate::proofs::Totality::split_has_one_list, crate::proofs::Totality::packed_has_one_list))]
 pub fn one_outcome_of_list()
     ensures split { HasOneList split_tables }
     ensures packed { HasOneList packed_tables }

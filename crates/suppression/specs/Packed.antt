@@ -32,11 +32,11 @@ pub record IsEventPlace (m : Memory) (driver_area n place : ℕ) : Type 0 where
   pub position : position_of n place ≡ event_offset m driver_area
   pub wrap : wrap_counter_of n place ≡ event_wrap m driver_area
 
--- the place that the driver names is one of those passed
-pub record PassesEvent (m : Memory) (driver_area n from passed : ℕ) : Type 0 where
+-- the place that the driver names is in this set
+pub record NamesOneOf (m : Memory) (driver_area n : ℕ) (Passes : ℕ → Type 0) : Type 0 where
   pub place : ℕ
   pub named : IsEventPlace m driver_area n place
-  pub among : Passed (2 * n) from passed place
+  pub among : Passes place
 
 -- the driver wants a notification of the places passed from a place on; flags of 0 and 3, and 2 where
 -- VIRTIO_F_EVENT_IDX wasn't negotiated, ask for one of any place
@@ -47,4 +47,5 @@ pub record PackedWants (m : Memory) (driver_area n : ℕ) (event_idx : Bool) (fr
   pub flag : event_flags m driver_area ≢ disable
   -- where the driver asks for one place's notification, that place was passed
   pub event :
-      OnTrue event_idx (event_flags m driver_area ≡ at_descriptor → PassesEvent m driver_area n from passed)
+      OnTrue event_idx (event_flags m driver_area ≡ at_descriptor
+      → NamesOneOf m driver_area n (Passed (2 * n) from passed))

@@ -1,8 +1,0 @@
-use Rattle.indirect.proofs.Totality.{split_has_one_list, packed_has_one_list}
-use Rattle.indirect.proofs.laws.one_outcome_of_list.Goals as goal
-
-pub returns-clause-split : goal.returns-clause-split
-returns-clause-split c = split_has_one_list
-
-pub returns-clause-packed : goal.returns-clause-packed
-returns-clause-packed c = packed_has_one_list
