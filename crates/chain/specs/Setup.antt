@@ -21,7 +21,13 @@ pub record FitsIn (m : Memory) (setup : Setup) (areas : Areas) : Type 0 where
   pub aligned : IsAligned setup areas
   pub lies : LiesIn m setup areas
 
--- the tests whether they do
+-- a ring may be set up so: its size is one of its layout, its areas are aligned and lie in the memory
+pub record IsUsable (IsQueueSize : ℕ → Type 0) (areas_of : ℕ
+    → Areas) (m : Memory) (setup : Setup) : Type 0 where
+  pub number : IsQueueSize setup.size
+  pub fits : FitsIn m setup (areas_of setup.size)
+
+-- the tests whether areas are aligned, and lie in the memory
 abbrev pub is_aligned : Setup → Areas → Bool
 is_aligned setup areas = setup.desc % 16 == 0 && setup.driver % areas.driver_alignment == 0 &&
     setup.device % 4 == 0

@@ -1,12 +1,9 @@
 -- The places that a service passes, list by list.
 use Rattle.std.proofs.Common.{◌≡◌, ℕ, ◌+◌, ◌*◌, ◌<◌, ◌≤◌, ◌↔◌, ◌⊎◌, arith}
-use Rattle.guest_memory.specs.Memory.{Memory}
 use Rattle.suppression.specs.Places.{Passed}
-use Rattle.suppression.specs.Sets.{PackedWantsOf}
 use Rattle.suppression.proofs.Going.{back_from_ahead, ahead_of_first, passed_more}
-use Rattle.suppression.proofs.Sets.{packed_wants_of}
 use Rattle.chain.specs.Setup.{RingState}
-use Rattle.packed_ring.specs.Kind.{HasPassed, Wants, first_passed, opened, past}
+use Rattle.packed_ring.specs.Kind.{HasPassed, first_passed, past}
 
 pub same_first : (ring : RingState) (length : ℕ) → ring.used_count + length ≤ 2 * ring.setup.size
     → first_passed (past ring length) ≡ first_passed ring
@@ -21,11 +18,3 @@ passes_its_places ring length place below most =
     let here = ahead_of_first m ring.place ring.used_count below (omega (arith, most)) in
     let more = passed_more m (first_passed ring) ring.used_count length place in
     rw (same_first ring length most) (rw here at more)
-
-pub none_yet : (m : Memory) (ring : RingState) (place : ℕ) → ¬ HasPassed (opened m ring) place
-none_yet m ring place p = omega (arith, p.within)
-
-pub wanted_of : (m : Memory) (ring : RingState) → Wants m ring
-    ↔ PackedWantsOf m ring.setup.driver ring.setup.size ring.setup.event_idx (HasPassed ring)
-wanted_of m ring = packed_wants_of m ring.setup.driver ring.setup.size ring.setup.event_idx
-    (first_passed ring) ring.used_count

@@ -6,10 +6,11 @@ ghost use Rattle.guest_memory.specs.Memory.{Memory};
 ghost use Rattle.suppression.specs.Places.{Passed};
 ghost use Rattle.suppression.specs.Sets.{PackedWantsOf};
 ghost use Rattle.chain.specs.Setup.{RingState};
-ghost use Rattle.packed_ring.specs.Kind.{HasPassed, Wants, first_passed, opened, packed_kind, past};
+ghost use Rattle.packed_ring.specs.Kind.{HasPassed, first_passed, packed_kind, past};
 
 /// A packed ring has one chain or one fault at each place: at most one chain, at most one fault, not both, and
 /// one of the two.
+#[tactic(auto, using(crate::proofs::Outcomes::has_at_most_one_chain, crate::proofs::Outcomes::has_some_chain))]
 pub fn one_chain_or_fault_at_a_place()
     ensures at_most_one { HasAtMostOneChain packed_kind }
     ensures some { HasSomeChain packed_kind }
@@ -17,6 +18,7 @@ pub fn one_chain_or_fault_at_a_place()
 
 /// What a service has passed are the places of its lists: behind one more list it has the same first place, and
 /// has passed the places of that list beside those before.
+#[tactic(auto, using(crate::proofs::Passing::same_first))]
 pub fn a_list_passes_its_places()
     ensures first { (ring : RingState) (length : ℕ) → ring.used_count + length ≤ 2 * ring.setup.size
         → first_passed (past ring length) ≡ first_passed ring }
@@ -26,8 +28,9 @@ pub fn a_list_passes_its_places()
 
 /// Whether a notification is wanted turns on the set of places that the service has passed, of which there are none
 /// as it opens.
+#[tactic(auto, using(suppression::proofs::Going::none_passed, suppression::proofs::Sets::packed_wants_of))]
 pub fn a_notification_is_wanted_of_the_places_passed()
-    ensures none_yet { (m : Memory) (ring : RingState) (place : ℕ) → ¬ HasPassed (opened m ring) place }
-    ensures wanted_of { (m : Memory) (ring : RingState) → Wants m ring
+    ensures none_yet { (m : Memory) (ring : RingState) (place : ℕ) → ¬ HasPassed (packed_kind.opened m ring) place }
+    ensures wanted_of { (m : Memory) (ring : RingState) → packed_kind.Wants m ring
         ↔ PackedWantsOf m ring.setup.driver ring.setup.size ring.setup.event_idx (HasPassed ring) }
 {}

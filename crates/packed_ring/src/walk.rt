@@ -44,16 +44,11 @@ pub(crate) fn append_list<A: Allocator>(
     for count in 0..table.size {
         let descriptor = read_descriptor(mem, table, index);
         if descriptor.indirect {
-            return match append_table(mem, table.indirect, count, descriptor, chain) {
-                Ok(()) => Ok(End { count, last: index }),
-                Err(fault) => Err(fault),
-            };
+            append_table(mem, table.indirect, count, descriptor, chain)?;
+            return Ok(End { count, last: index });
         }
         let segment = descriptor.buffer.segment;
-        match chain.push(mem, segment.addr, segment.len, descriptor.buffer.writable) {
-            Ok(()) => {}
-            Err(fault) => return Err(fault),
-        }
+        chain.push(mem, segment.addr, segment.len, descriptor.buffer.writable)?;
         match descriptor.next {
             None => return Ok(End { count, last: index }),
             Some(next) => index = next,

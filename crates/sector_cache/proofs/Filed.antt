@@ -167,6 +167,22 @@ long_as sector from done old mid inside put =
     ∙ omega (arith, put.long, length-drop (512 * (sector + 1)) old) in
     omega (arith, rest, length-take-le (512 * sector) old (omega (arith, inside)), inside))
 
+-- the bytes that are left fit into the file
+part_fits : (sector done at : ℕ) (from part old mid : List ℕ) → length from ≡ 512 → done ≤ 512
+    → at ≡ sector * 512 + done → part ≡ drop done from → 512 * (sector + 1) ≤ length old
+    → IsPutTo sector from done old mid → at + length part ≤ length mid
+part_fits sector done at from part old mid long within place rest inside put =
+    omega (
+      arith,
+      long_as sector from done old mid inside put,
+      ap length rest,
+      length-drop done from,
+      long,
+      within,
+      place,
+      inside,
+    )
+
 pub put_more : {E : Type 0} (count : Result ℕ E) (sector done n at : ℕ) (from part : List ℕ)
     (old mid new : Option (List ℕ)) → n ≡ count_of count → length from ≡ 512 → done ≤ 512
     → at ≡ sector * 512 + done → part ≡ drop done from → PutsTo sector from done old mid
@@ -178,29 +194,11 @@ put_more count sector done n at from part (Some old) None new counted long withi
     λ inside. search (before inside)
 put_more count sector done n at from part (Some old) (Some mid) None counted long within place rest
     before puts = λ inside.
-    puts (omega (
-      arith,
-      long_as sector from done old mid inside (before inside),
-      ap length rest,
-      length-drop done from,
-      long,
-      within,
-      place,
-      inside,
-    ))
+    puts (part_fits sector done at from part old mid long within place rest inside (before inside))
 put_more count sector done n at from part (Some old) (Some mid) (Some new) counted long within place rest
     before puts = λ inside.
     let put : IsPut at part (count_of count) mid new =
-    puts (omega (
-      arith,
-      long_as sector from done old mid inside (before inside),
-      ap length rest,
-      length-drop done from,
-      long,
-      within,
-      place,
-      inside,
-    )) in
+    puts (part_fits sector done at from part old mid long within place rest inside (before inside)) in
     further sector done n at from old mid new long inside within (omega (arith, place)) (before inside)
     (subst (λ k. IsPut at (drop done from) k mid new) (sym counted)
     (subst (λ xs. IsPut at xs (count_of count) mid new) rest put))

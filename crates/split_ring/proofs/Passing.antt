@@ -1,12 +1,9 @@
 -- The places that a service passes, chain by chain.
 use Rattle.std.proofs.Common.{◌≡◌, ℕ, ◌<◌, ◌↔◌, ◌⊎◌, inl, inr, arith}
-use Rattle.guest_memory.specs.Memory.{Memory}
 use Rattle.suppression.specs.Places.{Passed, idx_modulus}
-use Rattle.suppression.specs.Sets.{SplitWantsOf}
 use Rattle.suppression.proofs.Going.{back_from_ahead, ahead_of_first, passed_more, passed_one}
-use Rattle.suppression.proofs.Sets.{split_wants_of}
 use Rattle.chain.specs.Setup.{RingState}
-use Rattle.split_ring.specs.Kind.{Wants, first_passed, opened, past}
+use Rattle.split_ring.specs.Kind.{first_passed, past}
 use Rattle.split_ring.specs.Passing.{HasPassed}
 
 pub same_first : (ring : RingState) → ring.used_count < idx_modulus
@@ -32,11 +29,3 @@ passes_its_place ring place below most =
     one_then : {A B C : Type 0} → (B ↔ C) → A ⊎ C → A ⊎ B
     one_then one (inl a) = inl a
     one_then one (inr c) = inr (one.1 c)
-
-pub none_yet : (m : Memory) (ring : RingState) (place : ℕ) → ¬ HasPassed (opened m ring) place
-none_yet m ring place p = omega (arith, p.within)
-
-pub wanted_of : (m : Memory) (ring : RingState) → Wants m ring
-    ↔ SplitWantsOf m ring.setup.driver ring.setup.size ring.setup.event_idx (HasPassed ring)
-wanted_of m ring = split_wants_of m ring.setup.driver ring.setup.size ring.setup.event_idx
-    (first_passed ring) ring.used_count

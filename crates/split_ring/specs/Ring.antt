@@ -5,7 +5,7 @@ use Rattle.guest_memory.specs.Memory.{Memory, num, put_num}
 use Rattle.chain.specs.declared.setup.Areas.{Areas}
 use Rattle.chain.specs.declared.setup.Setup.{Setup}
 use Rattle.chain.specs.Setup as setups
-use Rattle.chain.specs.Setup.{FitsIn, RingState, fits_in}
+use Rattle.chain.specs.Setup.{RingState, fits_in}
 use Rattle.indirect.specs.declared.descriptor.Descriptor.{Descriptor}
 use Rattle.indirect.specs.Descriptors.{split_table}
 use Rattle.suppression.specs.Places.{idx_modulus, place_ahead}
@@ -31,9 +31,8 @@ abbrev pub is_queue_size : ℕ → Bool
 is_queue_size n = nat_le n 256 && is_power_of_two n
 
 -- a ring may be set up so: its number is a queue size, its areas are aligned and lie in the memory
-pub record IsUsable (m : Memory) (setup : Setup) : Type 0 where
-  pub number : IsQueueSize setup.size
-  pub fits : FitsIn m setup (areas_of setup.size)
+abbrev pub IsUsable : Memory → Setup → Type 0
+IsUsable = setups.IsUsable IsQueueSize areas_of
 
 -- the test whether a ring may be set up so
 abbrev pub can_set_up : Memory → Setup → Bool

@@ -6,11 +6,12 @@ ghost use Rattle.chain.specs.Service.{HasAtMostOneChain, HasSomeChain};
 ghost use Rattle.suppression.specs.Places.{idx_modulus};
 ghost use Rattle.suppression.specs.Sets.{SplitWantsOf};
 ghost use Rattle.chain.specs.Setup.{RingState};
-ghost use Rattle.split_ring.specs.Kind.{Wants, first_passed, opened, past, split_kind};
+ghost use Rattle.split_ring.specs.Kind.{first_passed, past, split_kind};
 ghost use Rattle.split_ring.specs.Passing.{HasPassed};
 
 /// A split ring has one chain or one fault at each place: at most one chain, at most one fault, not both, and
 /// one of the two.
+#[tactic(auto, using(crate::proofs::Outcomes::has_at_most_one_chain, crate::proofs::Outcomes::has_some_chain))]
 pub fn one_chain_or_fault_at_a_place()
     ensures at_most_one { HasAtMostOneChain split_kind }
     ensures some { HasSomeChain split_kind }
@@ -18,6 +19,7 @@ pub fn one_chain_or_fault_at_a_place()
 
 /// What a service has passed are the places of its chains: behind one more chain it has the same first place, and
 /// has passed that chain's place beside those before.
+#[tactic(auto, using(crate::proofs::Passing::same_first))]
 pub fn a_chain_passes_its_place()
     ensures first { (ring : RingState) → ring.used_count < idx_modulus → first_passed (past ring) ≡ first_passed ring }
     ensures passed { (ring : RingState) (place : ℕ) → ring.place < idx_modulus → ring.used_count < idx_modulus
@@ -26,8 +28,9 @@ pub fn a_chain_passes_its_place()
 
 /// Whether a notification is wanted turns on the set of places that the service has passed, of which there are none
 /// as it opens.
+#[tactic(auto, using(suppression::proofs::Going::none_passed, suppression::proofs::Sets::split_wants_of))]
 pub fn a_notification_is_wanted_of_the_places_passed()
-    ensures none_yet { (m : Memory) (ring : RingState) (place : ℕ) → ¬ HasPassed (opened m ring) place }
-    ensures wanted_of { (m : Memory) (ring : RingState) → Wants m ring
+    ensures none_yet { (m : Memory) (ring : RingState) (place : ℕ) → ¬ HasPassed (split_kind.opened m ring) place }
+    ensures wanted_of { (m : Memory) (ring : RingState) → split_kind.Wants m ring
         ↔ SplitWantsOf m ring.setup.driver ring.setup.size ring.setup.event_idx (HasPassed ring) }
 {}

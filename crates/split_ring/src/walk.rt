@@ -45,10 +45,7 @@ pub(crate) fn append_path<A: Allocator>(
             return append_table(mem, table.indirect, descriptor, chain);
         }
         let segment = descriptor.buffer.segment;
-        match chain.push(mem, segment.addr, segment.len, descriptor.buffer.writable) {
-            Ok(()) => {}
-            Err(fault) => return Err(fault),
-        }
+        chain.push(mem, segment.addr, segment.len, descriptor.buffer.writable)?;
         match descriptor.next {
             None => return Ok(()),
             Some(next) => index = next,

@@ -55,6 +55,10 @@ passed_more m first passed length place = (apart, joined)
           ∙ further m first passed p.steps;
     }
 
+-- of no places none is passed
+pub none_passed : (m from place : ℕ) → ¬ Passed m from 0 place
+none_passed m from place p = omega (arith, p.within)
+
 -- one place from a place on is that place
 pub passed_one : (m from place : ℕ) → from < m → Passed m from 1 place ↔ (place ≡ from)
 passed_one m from place below = (

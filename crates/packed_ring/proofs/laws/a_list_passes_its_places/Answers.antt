@@ -1,8 +1,5 @@
-use Rattle.packed_ring.proofs.Passing.{same_first, passes_its_places}
+use Rattle.packed_ring.proofs.Passing.{passes_its_places}
 use Rattle.packed_ring.proofs.laws.a_list_passes_its_places.Goals as goal
-
-pub returns-clause-first : goal.returns-clause-first
-returns-clause-first c = same_first
 
 pub returns-clause-passed : goal.returns-clause-passed
 returns-clause-passed c = passes_its_places

@@ -18,6 +18,6 @@ loop-count-preserved g c =
       walk = reached_step m [] c.loop-count.chain c.push.new.self (ring_descriptor m a n) n c.args.first
           c.loop-count.count i c.in-Some.next
           d e c.loop-count.invariant.below c.if-descriptor.false c.in-Some.is
-          c.in-Ok-push.ensures.ok c.in-Ok-push.ensures.pushed c.loop-count.invariant.walk;
+          c.in_ok-push.ensures.ok c.in_ok-push.ensures.pushed c.loop-count.invariant.walk;
       below = next_below m a n i c.in-Some.next c.loop-count.invariant.below next;
     }

@@ -1,4 +1,4 @@
-use Rattle.std.proofs.Common.{ℕ, ◌*◌, [], arith}
+use Rattle.std.proofs.Common.{ℕ, ◌*◌, [], arith, rules}
 use Rattle.std.proofs.lemmas.Result.{on_ok_weaker}
 use Rattle.indirect.specs.Descriptors.{split_table}
 use Rattle.indirect.specs.Lists.{split_tables, EndsInTable}
@@ -9,29 +9,28 @@ use Rattle.split_ring.proofs.walk.append_path.Goals as goal
 
 pub loop-count-preserved : goal.loop-count-preserved
 loop-count-preserved g c =
-    let m = c.args.mem.now in
-    let a = c.args.table.addr in
     let i = c.loop-count.index in
     let d = c.read_split-descriptor.result in
-    let e = entry_is m a (16 * c.from-in-loop-count.result) i d
+    let e = entry_is c.args.mem.now c.args.table.addr (16 * c.from-in-loop-count.result) i d
     c.read_split-descriptor.ensures (omega arith) in
-    reached_step m [] c.loop-count.chain c.push.new.self (split_table m a) c.args.table.size c.args.head
+    reached_step c.args.mem.now [] c.loop-count.chain c.push.new.self
+    (split_table c.args.mem.now c.args.table.addr) c.args.table.size c.args.head
     c.loop-count._count i c.in-Some.next
     d e c.if-index-table.false c.if-descriptor.false c.in-Some.is
-    c.in-Ok.ensures.ok c.in-Ok.ensures.pushed c.loop-count.invariant
+    c.in_ok-push.ensures.ok c.in_ok-push.ensures.pushed c.loop-count.invariant
 
-pub returns-in-Err-clause-fault : goal.returns-in-Err-clause-fault
-returns-in-Err-clause-fault g c =
-    let m = c.args.mem.now in
-    let a = c.args.table.addr in
+pub returns-in_err-push-clause-fault : goal.returns-in_err-push-clause-fault
+returns-in_err-push-clause-fault g c =
     let i = c.loop-count.index in
     let d = c.read_split-descriptor.result in
-    let e = entry_is m a (16 * c.from-in-loop-count.result) i d
+    let e = entry_is c.args.mem.now c.args.table.addr (16 * c.from-in-loop-count.result) i d
     c.read_split-descriptor.ensures (omega arith) in
-    list_refused split_tables c.args.table.indirect m (split_table m a) c.args.table.size c.args.head
-    c.loop-count.chain c.loop-count._count i d c.in-Err.fault
-    e c.loop-count-test.true c.if-index-table.false c.if-descriptor.false c.in-Err.ensures.fault
-    c.loop-count.invariant
+    let fails = list_refused split_tables c.args.table.indirect c.args.mem.now
+    (split_table c.args.mem.now c.args.table.addr) c.args.table.size c.args.head
+    c.loop-count.chain c.loop-count._count i d _
+    e c.loop-count-test.true c.if-index-table.false c.if-descriptor.false c.in_err-push.ensures.fault
+    c.loop-count.invariant in
+    search (rules, fails)
 
 pub returns-then-descriptor-clause-ok : goal.returns-then-descriptor-clause-ok
 returns-then-descriptor-clause-ok g c =
