@@ -115,10 +115,8 @@ same_map [] [] hx hy e = refl
 same_map [] (y ∷ ys) hx hy e = absurd cc
 same_map (x ∷ xs) [] hx hy e = absurd cc
 same_map (x ∷ xs) (y ∷ ys) hx hy e =
-    let head : digit x ≡ digit y = cc in
-    let tail : map digit xs ≡ map digit ys = cc in
-    let a = same_digit x y hx.0 hy.0 head in
-    let b = same_map xs ys hx.1 hy.1 tail in
+    let a = same_digit x y hx.0 hy.0 cc in
+    let b = same_map xs ys hx.1 hy.1 cc in
     cc
 
 -- a spelling is one number's

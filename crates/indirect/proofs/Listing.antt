@@ -15,32 +15,31 @@ use Rattle.indirect.specs.Outcomes.{HasOneTable}
 use Rattle.indirect.proofs.Outcomes.{GoesOn, fronts, goes_no_further, same_front}
 
 module _ (kind : TableKind) (negotiated : Bool) (m : Memory) (t : ℕ → Descriptor) (n h : ℕ) where
-  -- the list ends at a plain descriptor
+  -- the list ends at the descriptor that comes next
+  list_ends : (before after : List Buffer) (count i : ℕ) → count < n → i < n
+      → EndsBy kind negotiated m (t i).indirect before count (t i) after → Reached m [] t n h count i before
+      → ListResolves kind negotiated m t n h count i after
+  list_ends before after count i room below ends r =
+      record { before = before; reached = r; comes = record { room = room; below = below }; ends = ends }
+
+  -- that is a plain one
   pub list_plain : (before after : List Buffer) (count i : ℕ) (d : Descriptor) → d ≡ t i → count < n → i < n
       → d.indirect ≡ false → d.next ≡ None
       → Admits m before d.buffer → after ≡ before ++ d.buffer ∷ [] → Reached m [] t n h count i before
       → ListResolves kind negotiated m t n h count i after
   list_plain before after count i d e room below plain ends a named r =
-      record {
-        before = before;
-        reached = r;
-        comes = record { room = room; below = below };
-        ends = rw (← e, plain) (record { ends = ends; admitted = a; named = named });
-      }
+      list_ends before after count i room below
+      (rw (← e, plain) (record { ends = ends; admitted = a; named = named })) r
 
-  -- it ends at a descriptor that refers to a table
+  -- or one that refers to a table
   pub list_table : (before after : List Buffer) (count i : ℕ) (d : Descriptor) → d ≡ t i → count < n → i < n
       → d.indirect ≡ true → negotiated ≡ true
       → is_joined kind count d ≡ false
       → kind.HasBuffers m d.buffer.segment.addr d.buffer.segment.len before after
       → Reached m [] t n h count i before → ListResolves kind negotiated m t n h count i after
   list_table before after count i d e room below indirect known apart table r =
-      record {
-        before = before;
-        reached = r;
-        comes = record { room = room; below = below };
-        ends = rw (← e, indirect) (record { known = known; apart = apart; table = table });
-      }
+      list_ends before after count i room below
+      (rw (← e, indirect) (record { known = known; apart = apart; table = table })) r
 
   -- it has n members and goes on
   pub list_full : (before : List Buffer) (count i : ℕ) → count ≡ n → Reached m [] t n h count i before

@@ -51,16 +51,16 @@ module _ (m : Memory) (addr len : ℕ) (before : List Buffer) where
   -- a range has one fault as a table, where going through it meets one
   one_table_fault : (Meets : Fault → List Buffer → Type 0)
       → ((f g : Fault) (a b : List Buffer) → Meets f a → Meets g b → (f ≡ g) × (a ≡ b))
-      → (f g : Fault) (a b : List Buffer) → TableFails m addr len before Meets f a
+      → (a b : List Buffer) (f g : Fault) → TableFails m addr len before Meets f a
       → TableFails m addr len before Meets g b → (f ≡ g) × (a ≡ b)
-  one_table_fault Meets once f g a b x y =
+  one_table_fault Meets once a b f g x y =
       elim (table_cases m addr len) [
         | inl table ↦ once f g a b (x.walked table) (y.walked table)
         | inr none ↦ let left = x.no_table none in let right = y.no_table none in
             (one_no_table m addr len f g left.0 right.0, left.1 ∙ sym right.1)
       ]
 
-  pub one_split_fault : (f g : Fault) (a b : List Buffer) → SplitTableFails m addr len before f a
+  pub one_split_fault : (a b : List Buffer) (f g : Fault) → SplitTableFails m addr len before f a
       → SplitTableFails m addr len before g b → (f ≡ g) × (a ≡ b)
   one_split_fault = one_table_fault (FaultAt m before (split_table m addr) (len / 16) 0)
       (one_fault m before (split_table m addr) (len / 16) 0)
@@ -69,9 +69,9 @@ module _ (m : Memory) (addr len : ℕ) (before : List Buffer) where
       → SplitTableResolves m addr len before b → a ≡ b
   one_split_path a b x y = one_path m before (split_table m addr) (len / 16) 0 a b x.path y.path
 
-  pub never_both_split : (f : Fault) (a b : List Buffer) → SplitTableFails m addr len before f a
+  pub never_both_split : (a b : List Buffer) (f : Fault) → SplitTableFails m addr len before f a
       → SplitTableResolves m addr len before b → ⊥
-  never_both_split f a b x y =
+  never_both_split a b f x y =
       never_both m before (split_table m addr) (len / 16) 0 f a b (x.walked y.table) y.path
 
   -- the buffer of a descriptor of a packed table whose first n buffers are admitted
@@ -114,7 +114,7 @@ module _ (m : Memory) (addr len : ℕ) (before : List Buffer) where
         same,
       )
 
-  pub one_packed_fault : (f g : Fault) (a b : List Buffer) → PackedTableFails m addr len before f a
+  pub one_packed_fault : (a b : List Buffer) (f g : Fault) → PackedTableFails m addr len before f a
       → PackedTableFails m addr len before g b → (f ≡ g) × (a ≡ b)
   one_packed_fault = one_table_fault (PackedFaultAt m addr (len / 16) before) (packed_fault_once (len / 16))
 
@@ -122,9 +122,9 @@ module _ (m : Memory) (addr len : ℕ) (before : List Buffer) where
       → PackedTableResolves m addr len before b → a ≡ b
   one_packed_list a b x y = x.named ∙ sym y.named
 
-  pub never_both_packed : (f : Fault) (a b : List Buffer) → PackedTableFails m addr len before f a
+  pub never_both_packed : (a b : List Buffer) (f : Fault) → PackedTableFails m addr len before f a
       → PackedTableResolves m addr len before b → ⊥
-  never_both_packed f a b x y =
+  never_both_packed a b f x y =
       let w = x.walked y.table in
       let l = not_among (len / 16) (len / 16) f a w y.admitted in
       absurd (omega (arith, l, w.below))

@@ -109,8 +109,8 @@ module _ (m : Memory) (addr len : ℕ) (before : List Buffer) where
         ]
       ]
 
-  split_table_has_outcome : TableHasOutcome split_tables m addr len before
-  split_table_has_outcome =
+  some_split : TableHasOutcome split_tables m addr len before
+  some_split =
       table_has_outcome (SplitTableResolves m addr len before)
       (FaultAt m before (split_table m addr) (len / 16) 0) (λ table.
       elim (walk_has_outcome m before (split_table m addr) (len / 16) 0) [
@@ -142,30 +142,36 @@ module _ (m : Memory) (addr len : ℕ) (before : List Buffer) where
             ++ b ∷ []) i b refl admits refl g)
       ]
 
-  packed_table_has_outcome : TableHasOutcome packed_tables m addr len before
-  packed_table_has_outcome =
-      table_has_outcome (PackedTableResolves m addr len before) (PackedFaultAt m addr (len / 16) before) (λ table.
+  some_packed : TableHasOutcome packed_tables m addr len before
+  some_packed =
+      table_has_outcome (PackedTableResolves m addr len before)
+      (PackedFaultAt m addr (len / 16) before) (λ table.
       elim (gather_on (len / 16) (len / 16) 0 before (omega arith)
       (record { admitted = tt; named = sym (append-nil before) })) [
-        | inl found ↦ inl (found.0, record { table = table; admitted = found.1.admitted; named = found.1.named })
+        | inl found ↦ inl (
+          found.0,
+          record { table = table; admitted = found.1.admitted; named = found.1.named },
+        )
         | inr met ↦ inr met
       ])
 
 pub split_has_one_table : HasOneTable split_tables
-split_has_one_table = record {
-  buffers = one_split_path;
-  fault = λ m addr len before a b f g x y. one_split_fault m addr len before f g a b x y;
-  not_both = λ m addr len before a b f x y. never_both_split m addr len before f a b x y;
-  some = split_table_has_outcome;
-}
+split_has_one_table =
+    record {
+      buffers = one_split_path;
+      fault = one_split_fault;
+      not_both = never_both_split;
+      some = some_split;
+    }
 
 pub packed_has_one_table : HasOneTable packed_tables
-packed_has_one_table = record {
-  buffers = one_packed_list;
-  fault = λ m addr len before a b f g x y. one_packed_fault m addr len before f g a b x y;
-  not_both = λ m addr len before a b f x y. never_both_packed m addr len before f a b x y;
-  some = packed_table_has_outcome;
-}
+packed_has_one_table =
+    record {
+      buffers = one_packed_list;
+      fault = one_packed_fault;
+      not_both = never_both_packed;
+      some = some_packed;
+    }
 
 module _ (kind : TableKind) (one : HasOneTable kind) where
   module _ (negotiated : Bool) (m : Memory) (t : ℕ → Descriptor) (n h : ℕ) where

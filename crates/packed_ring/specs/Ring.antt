@@ -28,10 +28,6 @@ pub record IsQueueSize (n : ℕ) : Type 0 where
 abbrev pub is_queue_size : ℕ → Bool
 is_queue_size n = nat_lt 0 n && nat_le n 256
 
--- a ring may be set up so: its number is a queue size, its areas are aligned and lie in the memory
-abbrev pub IsUsable : Memory → Setup → Type 0
-IsUsable = setups.IsUsable IsQueueSize areas_of
-
 -- the test whether a ring may be set up so
 abbrev pub can_set_up : Memory → Setup → Bool
 can_set_up m setup = is_queue_size setup.size && fits_in m setup (areas_of setup.size)

@@ -2,8 +2,8 @@
 
 ghost use Rattle.std.specs.Prelude.{◌≡◌, ◌*◌, ◌<◌, ◌≤◌, ◌↔◌, if◌then◌else◌, IsTrue, IsSome, IfSome};
 ghost use Rattle.guest_memory.specs.Memory.{SameRange};
-ghost use Rattle.chain.specs.Setup.{new_ring};
-ghost use Rattle.packed_ring.specs.Ring.{IsQueueSize, IsUsable, LiesIn, areas_of, can_set_up, descriptor_addr, head_of, id_of, is_available, is_queue_size, used_flags, with_used, wrap_counter};
+ghost use Rattle.chain.specs.Setup.{IsUsable, new_ring};
+ghost use Rattle.packed_ring.specs.Ring.{IsQueueSize, LiesIn, areas_of, can_set_up, descriptor_addr, head_of, id_of, is_available, is_queue_size, used_flags, with_used, wrap_counter};
 ghost use Rattle.packed_ring.specs.Kind.{IsTaken, entry_of, first_passed, packed_kind};
 
 mod reached;
@@ -70,7 +70,7 @@ impl PackedRing {
     /// is none where `n` is no queue size, or an area isn't aligned or isn't inside the memory (2.8).
     pub fn new<A: Allocator>(mem: &GuestMemory<A>, setup: Setup) -> Option<PackedRing>
         ensures value { result ≡ (if can_set_up mem.now setup then Some (new_ring setup) else None) }
-        ensures usable { IsSome result ↔ IsUsable mem.now setup }
+        ensures usable { IsSome result ↔ IsUsable IsQueueSize areas_of mem.now setup }
         ensures lies { IfSome result (λ ring. LiesIn mem.now ring.setup) }
     {
         if !is_queue_size(setup.size) || !setup.fits_in(mem, areas_of(setup.size)) {

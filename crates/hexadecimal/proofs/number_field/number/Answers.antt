@@ -20,13 +20,17 @@ returns-then-n-eq0-clause-none c h =
     (omega arith) h.1.spelled
 
 pub overflow_mul-n : goal.overflow_mul-n
-overflow_mul-n c = let r =
-    room c.args.field.now c.loop-i.i c.loop-i.n 16 c.loop-i.invariant.below (omega arith) in omega arith
+overflow_mul-n c =
+    omega (arith, room c.args.field.now c.loop-i.i c.loop-i.n 16 c.loop-i.invariant.below (omega arith))
 
 pub overflow_add-n : goal.overflow_add-n
-overflow_add-n c = let r =
-    room c.args.field.now c.loop-i.i c.loop-i.n 16 c.loop-i.invariant.below (omega arith) in
-    omega (arith, c.in_ok-value_of.ensures.some, c.from.ensures)
+overflow_add-n c =
+    omega (
+      arith,
+      room c.args.field.now c.loop-i.i c.loop-i.n 16 c.loop-i.invariant.below (omega arith),
+      c.in_ok-value_of.ensures.some,
+      c.from.ensures,
+    )
 
 pub returns-in_err-value_of-clause-none : goal.returns-in_err-value_of-clause-none
 returns-in_err-value_of-clause-none c =
