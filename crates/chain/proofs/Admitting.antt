@@ -101,11 +101,6 @@ module _ (m : Memory) where
       let room = cases_lt (length buffers) 256 in
       is_cause buffers b f inside room r ∙ sym (is_cause buffers b g inside room s)
 
-  -- the same buffer under another name
-  pub Refuses-at : (buffers : List Buffer) (b c : Buffer) (f : Fault) → b ≡ c → Refuses m buffers b f
-      → Refuses m buffers c f
-  Refuses-at buffers b c f e r = rw e at r
-
   -- what may stand behind these buffers, without its end
   pub AdmitsAll-front : (before xs ys : List Buffer) → AdmitsAll m before (xs ++ ys) → AdmitsAll m before xs
   AdmitsAll-front before [] ys h = tt

@@ -3,6 +3,7 @@ use Rattle.std.specs.Prelude.{◌≡◌, ℕ, ◌%◌, Bool, ◌&&◌, ◌==◌}
 use Rattle.guest_memory.specs.Memory.{Memory, Inside, is_inside}
 use Rattle.chain.specs.declared.setup.Setup.{Setup}
 use Rattle.chain.specs.declared.setup.Areas.{Areas}
+pub use Rattle.chain.specs.declared.state.RingState.{RingState}
 
 -- the three areas lie in the memory
 pub record LiesIn (m : Memory) (setup : Setup) (areas : Areas) : Type 0 where
@@ -39,19 +40,14 @@ lies_in m setup areas = is_inside m setup.desc areas.desc && is_inside m setup.d
 abbrev pub fits_in : Memory → Setup → Areas → Bool
 fits_in m setup areas = is_aligned setup areas && lies_in m setup areas
 
--- a ring as it is set up, and how far it is served
-pub record RingState : Type 0 where
-  pub setup : Setup
-  -- the place of the next chain
-  pub place : ℕ
-  -- how much its service may still take, and how much it has used: chains of a split ring, places of a packed
-  -- one
-  pub pending : ℕ
-  pub used_count : ℕ
-
 -- a ring before its first service
 abbrev pub new_ring : Setup → RingState
 new_ring setup = record { setup = setup; place = 0; pending = 0; used_count = 0 }
+
+-- the ring, served so far
+abbrev pub served_so_far : ℕ → ℕ → ℕ → RingState → RingState
+served_so_far place pending used_count ring =
+    record ring { place = place; pending = pending; used_count = used_count }
 
 -- the ring after a fault: nothing more is taken in this service
 abbrev pub stopped : RingState → RingState

@@ -16,6 +16,7 @@ mod laws;
 mod runs;
 mod segment;
 mod setup;
+mod state;
 mod virtqueue;
 
 pub use budget::{Budget, Progress};
@@ -28,4 +29,5 @@ pub use laws::{
 pub use runs::Runs;
 pub use segment::{Buffer, Segment};
 pub use setup::{Areas, Setup};
+pub use state::RingState;
 pub use virtqueue::Virtqueue;

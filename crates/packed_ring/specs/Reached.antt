@@ -1,6 +1,6 @@
 -- A ring that takes up where another of its setup stood.
 use Rattle.std.specs.Prelude.{ℕ, Bool, ◌+◌, ◌*◌, ◌&&◌, ◌||◌, ◌==◌, nat_le, nat_lt, if◌then◌else◌, Option, Some, None}
-use Rattle.chain.specs.Setup.{RingState}
+use Rattle.chain.specs.Setup.{RingState, served_so_far}
 
 -- a place of the ring; a service has passed fewer places than twice the ring's size, and while it goes on it
 -- ends
@@ -16,5 +16,5 @@ is_reached size place pending used_count =
 abbrev pub served_to : ℕ → ℕ → ℕ → RingState → Option RingState
 served_to place pending used_count ring =
     if is_reached ring.setup.size place pending used_count
-    then Some (record ring { place = place; pending = pending; used_count = used_count })
+    then Some (served_so_far place pending used_count ring)
     else None

@@ -4,13 +4,14 @@ ghost use Rattle.std.specs.Prelude.{◌≡◌, ◌*◌, ◌<◌, ◌≤◌, ◌�
 ghost use Rattle.guest_memory.specs.Memory.{SameRange};
 ghost use Rattle.chain.specs.Setup.{IsUsable, new_ring};
 ghost use Rattle.packed_ring.specs.Ring.{IsQueueSize, LiesIn, areas_of, can_set_up, descriptor_addr, head_of, id_of, is_available, is_queue_size, used_flags, with_used, wrap_counter};
+ghost use Rattle.packed_ring.specs.Reached.{served_to};
 ghost use Rattle.packed_ring.specs.Kind.{IsTaken, entry_of, first_passed, packed_kind};
 
 mod reached;
 mod view;
 
 use crate::walk::{Table, append_list};
-use chain::{Areas, Chain, Fault, Setup, Virtqueue};
+use chain::{Areas, Chain, Fault, RingState, Setup, Virtqueue};
 use guest_memory::GuestMemory;
 use indirect::WRITE;
 use std::alloc::Allocator;
@@ -31,10 +32,7 @@ const USED: u16 = 1 << 15;
 /// to each call, and the areas lie in it.
 #[derive(Drop)]
 pub struct PackedRing {
-    setup: Setup,
-    place: u16,
-    pending: u16,
-    used_count: u16,
+    state: RingState,
 }
 
 impl Model for PackedRing {
@@ -44,13 +42,13 @@ impl Model for PackedRing {
 
     ghost Value = { RingState };
 
-    ghost view = { λ r. record { setup = r.setup; place = r.place; pending = r.pending; used_count = r.used_count } };
+    ghost view = { λ r. r.state };
 
     ghost invariant = { λ r. record {
-      number : IsQueueSize r.setup.size;
-      below : r.place < 2 * r.setup.size;
-      fewer : r.used_count < 2 * r.setup.size;
-      most : 0 < r.pending → r.used_count + r.pending ≤ r.setup.size;
+      number : IsQueueSize r.state.setup.size;
+      below : r.state.place < 2 * r.state.setup.size;
+      fewer : r.state.used_count < 2 * r.state.setup.size;
+      most : 0 < r.state.pending → r.state.used_count + r.state.pending ≤ r.state.setup.size;
     } };
 }
 
@@ -77,10 +75,7 @@ impl PackedRing {
             return None;
         }
         Some(PackedRing {
-            setup,
-            place: 0,
-            pending: 0,
-            used_count: 0,
+            state: RingState::new(setup),
         })
     }
 
@@ -88,7 +83,17 @@ impl PackedRing {
     pub fn lies_in<A: Allocator>(&self, mem: &GuestMemory<A>) -> bool
         ensures { IsTrue result ↔ LiesIn mem.now self.now.setup }
     {
-        self.setup.lies_in(mem, areas_of(self.setup.size))
+        self.state
+            .setup
+            .lies_in(mem, areas_of(self.state.setup.size))
+    }
+
+    /// How it is set up, and how far it is served.
+    pub fn state(&self) -> RingState
+        ensures value { result ≡ self.now }
+        ensures reached { served_to self.now.place self.now.pending self.now.used_count self.now ≡ Some self.now }
+    {
+        self.state
     }
 
     // The number of descriptors.
@@ -97,7 +102,7 @@ impl PackedRing {
         ensures some { 0 < result }
         ensures most { result ≤ 256 }
     {
-        self.setup.size as u16
+        self.state.setup.size as u16
     }
 
     /// The position of the ring's place.
@@ -105,14 +110,14 @@ impl PackedRing {
         ensures value { result ≡ head_of self.now }
         ensures below { result < self.now.setup.size }
     {
-        self.place % self.size()
+        self.state.place % self.size()
     }
 
     /// The wrap counter of the ring's place, as whether it is 1 (2.8.1).
     fn wrap_counter(&self) -> bool
         ensures { wrap_counter self.now ≡ (if result then 1 else 0) }
     {
-        self.place < self.size()
+        self.state.place < self.size()
     }
 
     #[tactic(auto, using(guest_memory::proofs::Ranges::inside_part, guest_memory::proofs::Ranges::inside_same))]
@@ -122,8 +127,8 @@ impl PackedRing {
         ensures { result ≡ is_available mem.now self.now }
     {
         let offset = 16 * u64::from(self.head());
-        prove!(mem.holds(self.setup.desc, 16 * u64::from(self.setup.size)));
-        let flags = mem.read_u16(self.setup.desc + offset + 14);
+        prove!(mem.holds(self.state.setup.desc, 16 * u64::from(self.state.setup.size)));
+        let flags = mem.read_u16(self.state.setup.desc + offset + 14);
         (flags & AVAIL != 0) == self.wrap_counter() && (flags & USED != 0) != self.wrap_counter()
     }
 
@@ -135,8 +140,8 @@ impl PackedRing {
         ensures { result ≡ id_of mem.now (descriptor_addr self.now.setup.desc position) }
     {
         let offset = 16 * u64::from(position);
-        prove!(mem.holds(self.setup.desc, 16 * u64::from(self.setup.size)));
-        mem.read_u16(self.setup.desc + offset + 12)
+        prove!(mem.holds(self.state.setup.desc, 16 * u64::from(self.state.setup.size)));
+        mem.read_u16(self.state.setup.desc + offset + 12)
     }
 
     #[tactic(auto, using(guest_memory::proofs::Ranges::inside_part, guest_memory::proofs::Ranges::inside_same))]
@@ -147,8 +152,8 @@ impl PackedRing {
         ensures range { SameRange mem.old mem.new }
     {
         let offset = 16 * u64::from(self.head());
-        prove!(mem.holds(self.setup.desc, 16 * u64::from(self.setup.size)));
-        let descriptor = self.setup.desc + offset;
+        prove!(mem.holds(self.state.setup.desc, 16 * u64::from(self.state.setup.size)));
+        let descriptor = self.state.setup.desc + offset;
         mem.write_u32(descriptor + 8, len);
         mem.write_u16(descriptor + 12, id);
         mem.write_u16(descriptor + 14, flags_of_used(self.wrap_counter(), wrote));
@@ -160,7 +165,7 @@ impl PackedRing {
         ensures below { result < 2 * self.now.setup.size }
     {
         let places = 2 * self.size();
-        (self.place + (places - self.used_count)) % places
+        (self.state.place + (places - self.state.used_count)) % places
     }
 }
 
@@ -183,8 +188,8 @@ impl Virtqueue for PackedRing {
     /// so it never has a fault.
     fn open<A: Allocator>(&mut self, mem: &GuestMemory<A>) -> Result<(), Fault> {
         let _ = mem;
-        self.pending = self.size();
-        self.used_count = 0;
+        self.state.pending = self.size();
+        self.state.used_count = 0;
         Ok(())
     }
 
@@ -195,23 +200,23 @@ impl Virtqueue for PackedRing {
         chain: &mut Chain,
     ) -> Result<Option<Token>, Fault> {
         chain.clear();
-        if self.pending == 0 || !self.is_available(mem) {
+        if self.state.pending == 0 || !self.is_available(mem) {
             return Ok(None);
         }
         let table = Table {
-            addr: self.setup.desc,
+            addr: self.state.setup.desc,
             size: self.size(),
-            indirect: self.setup.indirect,
+            indirect: self.state.setup.indirect,
         };
         match append_list(mem, table, self.head(), chain) {
             Ok(end) => Ok(Some(Token {
-                place: self.place,
+                place: self.state.place,
                 id: self.id(mem, end.last),
                 length: end.count + 1,
             })),
             Err(fault) => {
                 chain.clear();
-                self.pending = 0;
+                self.state.stop();
                 Err(fault)
             }
         }
@@ -226,24 +231,23 @@ impl Virtqueue for PackedRing {
         wrote: bool,
     ) {
         self.put_used(mem, token.id, len, wrote);
-        self.place = (self.place + token.length) % (2 * self.size());
-        self.pending = self.pending.saturating_sub(token.length);
-        self.used_count += token.length;
+        self.state.place = (self.state.place + token.length) % (2 * self.size());
+        self.state.pending = self.state.pending.saturating_sub(token.length);
+        self.state.used_count += token.length;
     }
 
     /// The closing write comes first (2.8.10), then the test.
     fn close<A: Allocator>(&mut self, mem: &mut GuestMemory<A>) -> bool {
-        mem.write_u32(self.setup.device, 0);
+        mem.write_u32(self.state.setup.device, 0);
         let wanted = packed_wants(
             mem,
-            self.setup.driver,
+            self.state.setup.driver,
             self.size(),
-            self.setup.event_idx,
+            self.state.setup.event_idx,
             self.first_passed(),
-            self.used_count,
+            self.state.used_count,
         );
-        self.pending = 0;
-        self.used_count = 0;
+        self.state.shut();
         wanted
     }
 }

@@ -138,8 +138,8 @@ fn mistake_of(ahead: Ahead) -> Option<Mistake> {
 // The place of a queue, where it is ready.
 fn place_of(board: &Watched, served: SlotQueue) -> Option<u16> {
     match ring_of(board, served)? {
-        Queue::Split(ring) => Some(ring.place()),
-        Queue::Packed(ring) => Some(ring.place()),
+        Queue::Split(ring) => Some(ring.state().place),
+        Queue::Packed(ring) => Some(ring.state().place),
     }
 }
 
@@ -147,11 +147,11 @@ fn place_of(board: &Watched, served: SlotQueue) -> Option<u16> {
 fn opened_at(board: &Watched, served: SlotQueue) -> Option<u16> {
     let (_, registers) = queue_of(board, served)?;
     match &registers.ring {
-        Some(Queue::Split(ring)) => Some(ring.place().wrapping_sub(ring.used_count())),
+        Some(Queue::Split(ring)) => Some(ring.state().place.wrapping_sub(ring.state().used_count)),
         Some(Queue::Packed(ring)) => {
             let size = size_of(registers);
-            let back = size.wrapping_mul(2).wrapping_sub(ring.used_count());
-            Some(next_place(ring.place(), back, size))
+            let back = size.wrapping_mul(2).wrapping_sub(ring.state().used_count);
+            Some(next_place(ring.state().place, back, size))
         }
         None => None,
     }

@@ -1,6 +1,6 @@
 -- A ring that takes up where another of its setup stood.
 use Rattle.std.specs.Prelude.{ℕ, ◌+◌, nat_le, if◌then◌else◌, Option, Some, None}
-use Rattle.chain.specs.Setup.{RingState}
+use Rattle.chain.specs.Setup.{RingState, served_so_far}
 
 -- the ring, served so far: at this place, with so many chains that its service may still take, and so many
 -- that it has
@@ -8,5 +8,4 @@ use Rattle.chain.specs.Setup.{RingState}
 abbrev pub served_to : ℕ → ℕ → ℕ → RingState → Option RingState
 served_to place pending used_count ring =
     if nat_le (used_count + pending) ring.setup.size then Some
-    (record ring { place = place; pending = pending; used_count = used_count })
-    else None
+    (served_so_far place pending used_count ring) else None

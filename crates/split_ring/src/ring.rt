@@ -4,13 +4,14 @@ ghost use Rattle.std.specs.Prelude.{◌≡◌, ◌%◌, ◌<◌, ◌↔◌, if�
 ghost use Rattle.guest_memory.specs.Memory.{SameRange};
 ghost use Rattle.chain.specs.Setup.{IsUsable, new_ring};
 ghost use Rattle.split_ring.specs.Ring.{IsQueueSize, LiesIn, head_of, areas_of, can_set_up, is_queue_size, next_place, with_used};
+ghost use Rattle.split_ring.specs.Reached.{served_to};
 ghost use Rattle.split_ring.specs.Kind.{IsTaken, entry_of, split_kind};
 
 mod reached;
 mod view;
 
 use crate::walk::{Table, append_path};
-use chain::{Areas, Chain, Fault, Setup, Virtqueue};
+use chain::{Areas, Chain, Fault, RingState, Setup, Virtqueue};
 use guest_memory::GuestMemory;
 use std::alloc::Allocator;
 use std::marker::Model;
@@ -23,10 +24,7 @@ const MOST_DESCRIPTORS: u32 = 256;
 /// to each call, and the areas lie in it.
 #[derive(Drop)]
 pub struct SplitRing {
-    setup: Setup,
-    place: u16,
-    pending: u16,
-    used_count: u16,
+    state: RingState,
 }
 
 impl Model for SplitRing {
@@ -36,9 +34,9 @@ impl Model for SplitRing {
 
     ghost Value = { RingState };
 
-    ghost view = { λ r. record { setup = r.setup; place = r.place; pending = r.pending; used_count = r.used_count } };
+    ghost view = { λ r. r.state };
 
-    ghost invariant = { λ r. record { number : IsQueueSize r.setup.size; most : r.used_count + r.pending ≤ r.setup.size } };
+    ghost invariant = { λ r. record { number : IsQueueSize r.state.setup.size; most : r.state.used_count + r.state.pending ≤ r.state.setup.size } };
 }
 
 /// A chain that was taken and not yet given back.
@@ -62,10 +60,7 @@ impl SplitRing {
             return None;
         }
         Some(SplitRing {
-            setup,
-            place: 0,
-            pending: 0,
-            used_count: 0,
+            state: RingState::new(setup),
         })
     }
 
@@ -73,7 +68,17 @@ impl SplitRing {
     pub fn lies_in<A: Allocator>(&self, mem: &GuestMemory<A>) -> bool
         ensures { IsTrue result ↔ LiesIn mem.now self.now.setup }
     {
-        self.setup.lies_in(mem, areas_of(self.setup.size))
+        self.state
+            .setup
+            .lies_in(mem, areas_of(self.state.setup.size))
+    }
+
+    /// How it is set up, and how far it is served.
+    pub fn state(&self) -> RingState
+        ensures value { result ≡ self.now }
+        ensures reached { served_to self.now.place self.now.pending self.now.used_count self.now ≡ Some self.now }
+    {
+        self.state
     }
 
     // The number of descriptors.
@@ -81,7 +86,7 @@ impl SplitRing {
         ensures value { result ≡ self.now.setup.size }
         ensures some { 0 < result }
     {
-        self.setup.size as u16
+        self.state.setup.size as u16
     }
 
     // The entry of a place in the available ring and in the used one.
@@ -98,9 +103,12 @@ impl SplitRing {
         requires { LiesIn mem.now self.now.setup }
         ensures { result ≡ head_of mem.now self.now }
     {
-        let entry = 2 * self.entry_at(self.place);
-        prove!(mem.holds(self.setup.driver, 6 + 2 * u64::from(self.setup.size)));
-        mem.read_u16(self.setup.driver + 4 + entry)
+        let entry = 2 * self.entry_at(self.state.place);
+        prove!(mem.holds(
+            self.state.setup.driver,
+            6 + 2 * u64::from(self.state.setup.size)
+        ));
+        mem.read_u16(self.state.setup.driver + 4 + entry)
     }
 
     #[tactic(auto, using(guest_memory::proofs::Ranges::inside_part, guest_memory::proofs::Ranges::inside_same))]
@@ -111,12 +119,15 @@ impl SplitRing {
         ensures used { mem.new ≡ with_used mem.old self.now head len }
         ensures range { SameRange mem.old mem.new }
     {
-        let offset = 8 * self.entry_at(self.place);
-        prove!(mem.holds(self.setup.device, 6 + 8 * u64::from(self.setup.size)));
-        let entry = self.setup.device + 4 + offset;
+        let offset = 8 * self.entry_at(self.state.place);
+        prove!(mem.holds(
+            self.state.setup.device,
+            6 + 8 * u64::from(self.state.setup.size)
+        ));
+        let entry = self.state.setup.device + 4 + offset;
         mem.write_u32(entry, u32::from(head));
         mem.write_u32(entry + 4, len);
-        mem.write_u16(self.setup.device + 2, next);
+        mem.write_u16(self.state.setup.device + 2, next);
     }
 
     #[tactic(auto, using(guest_memory::proofs::Ranges::inside_part, guest_memory::proofs::Ranges::inside_same))]
@@ -126,11 +137,11 @@ impl SplitRing {
         ensures closed { mem.new ≡ split_kind.closed mem.old self.now }
         ensures range { SameRange mem.old mem.new }
     {
-        let entries = 8 * u64::from(self.setup.size);
-        prove!(mem.holds(self.setup.device, 6 + entries));
-        mem.write_u16(self.setup.device, 0);
-        if self.setup.event_idx {
-            mem.write_u16(self.setup.device + 4 + entries, self.place);
+        let entries = 8 * u64::from(self.state.setup.size);
+        prove!(mem.holds(self.state.setup.device, 6 + entries));
+        mem.write_u16(self.state.setup.device, 0);
+        if self.state.setup.event_idx {
+            mem.write_u16(self.state.setup.device + 4 + entries, self.state.place);
         }
     }
 }
@@ -155,14 +166,16 @@ impl Virtqueue for SplitRing {
     /// queue has descriptors are a `Jump`.
     fn open<A: Allocator>(&mut self, mem: &GuestMemory<A>) -> Result<(), Fault> {
         // So no address in the area passes 2^64.
-        prove!(mem.holds(self.setup.driver, 6));
-        let offered = mem.read_u16(self.setup.driver + 2).wrapping_sub(self.place);
-        self.used_count = 0;
+        prove!(mem.holds(self.state.setup.driver, 6));
+        let offered = mem
+            .read_u16(self.state.setup.driver + 2)
+            .wrapping_sub(self.state.place);
+        self.state.used_count = 0;
         if offered > self.size() {
-            self.pending = 0;
+            self.state.pending = 0;
             return Err(Fault::Jump);
         }
-        self.pending = offered;
+        self.state.pending = offered;
         Ok(())
     }
 
@@ -173,23 +186,23 @@ impl Virtqueue for SplitRing {
         chain: &mut Chain,
     ) -> Result<Option<Token>, Fault> {
         chain.clear();
-        if self.pending == 0 {
+        if self.state.pending == 0 {
             return Ok(None);
         }
         let head = self.head(mem);
         let table = Table {
-            addr: self.setup.desc,
+            addr: self.state.setup.desc,
             size: self.size(),
-            indirect: self.setup.indirect,
+            indirect: self.state.setup.indirect,
         };
         match append_path(mem, table, head, chain) {
             Ok(()) => Ok(Some(Token {
-                place: self.place,
+                place: self.state.place,
                 head,
             })),
             Err(fault) => {
                 chain.clear();
-                self.pending = 0;
+                self.state.stop();
                 Err(fault)
             }
         }
@@ -203,27 +216,26 @@ impl Virtqueue for SplitRing {
         len: u32,
         wrote: bool,
     ) {
-        let next = self.place.wrapping_add(1);
+        let next = self.state.place.wrapping_add(1);
         self.put_used(mem, token.head, len, next);
-        self.place = next;
-        self.pending -= 1;
-        self.used_count += 1;
+        self.state.place = next;
+        self.state.pending -= 1;
+        self.state.used_count += 1;
     }
 
     /// The closing writes come first (2.7.10), then the test (2.7.7).
     fn close<A: Allocator>(&mut self, mem: &mut GuestMemory<A>) -> bool {
         self.put_closing(mem);
-        let first = self.place.wrapping_sub(self.used_count);
+        let first = self.state.place.wrapping_sub(self.state.used_count);
         let wanted = split_wants(
             mem,
-            self.setup.driver,
+            self.state.setup.driver,
             self.size(),
-            self.setup.event_idx,
+            self.state.setup.event_idx,
             first,
-            self.used_count,
+            self.state.used_count,
         );
-        self.pending = 0;
-        self.used_count = 0;
+        self.state.shut();
         wanted
     }
 }

@@ -6,6 +6,7 @@ ghost use Rattle.mmio_window.specs.Saved.{reached_of, served_to};
 
 use crate::queue::Queue;
 use crate::saved::Reached;
+use chain::RingState;
 
 impl Queue {
     /// How far it is served.
@@ -14,16 +15,8 @@ impl Queue {
         ensures back { served_to result (made_as self.now) ≡ Some self.now }
     {
         match self {
-            Queue::Split(ring) => Reached {
-                place: ring.place(),
-                pending: ring.pending(),
-                used_count: ring.used_count(),
-            },
-            Queue::Packed(ring) => Reached {
-                place: ring.place(),
-                pending: ring.pending(),
-                used_count: ring.used_count(),
-            },
+            Queue::Split(ring) => reached_of(ring.state()),
+            Queue::Packed(ring) => reached_of(ring.state()),
         }
     }
 
@@ -42,5 +35,16 @@ impl Queue {
                 .served_to(place, pending, used_count)
                 .map(Queue::Packed),
         }
+    }
+}
+
+/// How far a ring is served in this state.
+fn reached_of(state: RingState) -> Reached
+    ensures { result ≡ record { place = state.place; pending = state.pending; used_count = state.used_count } }
+{
+    Reached {
+        place: state.place,
+        pending: state.pending,
+        used_count: state.used_count,
     }
 }

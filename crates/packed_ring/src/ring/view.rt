@@ -16,20 +16,7 @@ impl PackedRing {
     pub fn copied(&self) -> PackedRing
         ensures { result ≡ self.now }
     {
-        PackedRing {
-            setup: self.setup,
-            place: self.place,
-            pending: self.pending,
-            used_count: self.used_count,
-        }
-    }
-
-    /// The place of the next list: its position where the wrap counter is 1, and as many more as the ring has
-    /// descriptors where that is 0.
-    pub fn place(&self) -> u16
-        ensures { result ≡ self.now.place }
-    {
-        self.place
+        PackedRing { state: self.state }
     }
 
     /// The position of the next list.
@@ -46,18 +33,11 @@ impl PackedRing {
         ensures place { result.0 ≡ num mem.now self.now.setup.driver 2 }
         ensures flags { result.1 ≡ num mem.now (self.now.setup.driver + 2) 2 }
     {
-        prove!(mem.holds(self.setup.driver, 4));
+        prove!(mem.holds(self.state.setup.driver, 4));
         (
-            mem.read_u16(self.setup.driver),
-            mem.read_u16(self.setup.driver + 2),
+            mem.read_u16(self.state.setup.driver),
+            mem.read_u16(self.state.setup.driver + 2),
         )
-    }
-
-    /// Whether EVENT_IDX was negotiated.
-    pub fn event_idx(&self) -> bool
-        ensures { result ≡ self.now.setup.event_idx }
-    {
-        self.setup.event_idx
     }
 
     #[tactic(auto, using(guest_memory::proofs::Ranges::inside_part, guest_memory::proofs::Ranges::inside_same))]
@@ -77,8 +57,8 @@ impl PackedRing {
             return None;
         }
         let offset = 16 * u64::from(position);
-        prove!(mem.holds(self.setup.desc, 16 * u64::from(self.setup.size)));
-        let descriptor = PackedDescriptor::read(mem, self.setup.desc + offset);
+        prove!(mem.holds(self.state.setup.desc, 16 * u64::from(self.state.setup.size)));
+        let descriptor = PackedDescriptor::read(mem, self.state.setup.desc + offset);
         Some((descriptor.buffer, descriptor.id, descriptor.flags))
     }
 

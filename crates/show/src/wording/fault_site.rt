@@ -51,7 +51,7 @@ fn say_jump(text: &mut Text, mem: &GuestMemory, ring: &SplitRing, size: u16)
     text.say(": available idx ");
     text.count(u64::from(ring.available_idx(mem)));
     text.say(" where ");
-    text.count(u64::from(ring.place()));
+    text.count(u64::from(ring.state().place));
     text.say(" were used, of a queue of ");
     text.count(u64::from(size));
 }

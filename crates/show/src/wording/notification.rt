@@ -51,7 +51,7 @@ fn say_split(
     if passed > size || !mem.holds(area, 6 + 2 * u64::from(size)) {
         return;
     }
-    let event_idx = ring.event_idx();
+    let event_idx = ring.state().setup.event_idx;
     say_wanted(text, split_wants(mem, area, size, event_idx, first, passed));
     if event_idx {
         text.say("used_event ");
@@ -84,7 +84,7 @@ fn say_packed(
     if size > 256 || first >= places || passed >= places || !mem.holds(area, 4) {
         return;
     }
-    let event_idx = ring.event_idx();
+    let event_idx = ring.state().setup.event_idx;
     say_wanted(
         text,
         packed_wants(mem, area, size, event_idx, first, passed),

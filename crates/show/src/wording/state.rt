@@ -126,11 +126,11 @@ fn ring_seen(mem: &GuestMemory, queue: &Queue, size: u16) -> Option<RingSeen> {
     }
     match queue {
         Queue::Split(ring) => Some(RingSeen::Split {
-            place: ring.place(),
+            place: ring.state().place,
             available_idx: ring.available_idx(mem),
             used_idx: ring.used_idx(mem),
             flags: ring.available_flags(mem),
-            used_event: if ring.event_idx() {
+            used_event: if ring.state().setup.event_idx {
                 Some(ring.used_event(mem))
             } else {
                 None
@@ -139,7 +139,7 @@ fn ring_seen(mem: &GuestMemory, queue: &Queue, size: u16) -> Option<RingSeen> {
         Queue::Packed(ring) => {
             let (event_place, event_flags) = ring.driver_events(mem);
             Some(RingSeen::Packed {
-                place: ring.place(),
+                place: ring.state().place,
                 available: available_place(mem, ring, size),
                 event_place,
                 event_flags,
@@ -153,13 +153,13 @@ fn available_place(mem: &GuestMemory, ring: &PackedRing, size: u16) -> u16
     requires { LiesIn mem.now ring.now.setup }
 {
     for step in 0..size {
-        let place = next_place(ring.place(), step, size);
+        let place = next_place(ring.state().place, step, size);
         match ring.descriptor_of(mem, place) {
             Some((_, _, flags)) if is_available(flags, place < size) => {}
             _ => return place,
         }
     }
-    next_place(ring.place(), size, size)
+    next_place(ring.state().place, size, size)
 }
 
 /// Says what of a window isn't as it was, a line each.

@@ -91,7 +91,7 @@ impl Table {
             return 0;
         };
         for step in 0..size {
-            let place = next_place(ring.place(), step, size);
+            let place = next_place(ring.state().place, step, size);
             let number = place.checked_rem(size).unwrap_or(0);
             let at = usize::from(number) * DESCRIPTOR_LEN + 14;
             let is_on_offer = match self.bytes.get(at..at + 2) {
@@ -207,9 +207,9 @@ pub fn say_on_offer(
 fn say_heads(text: &mut Text, mem: &GuestMemory, ring: &SplitRing, driver_area: u64, size: u16)
     requires { LiesIn mem.now ring.now.setup }
 {
-    let offered = ring.available_idx(mem).wrapping_sub(ring.place());
+    let offered = ring.available_idx(mem).wrapping_sub(ring.state().place);
     for step in 0..offered.min(MOST_LISTED) {
-        let entry = entry_of(ring.place().wrapping_add(step), size);
+        let entry = entry_of(ring.state().place.wrapping_add(step), size);
         if let Some(head) = mem.get_u16(driver_area.wrapping_add(entry)) {
             text.say(" ");
             text.count(u64::from(head));
@@ -226,7 +226,7 @@ fn say_lists(text: &mut Text, mem: &GuestMemory, ring: &PackedRing, size: u16)
 {
     let mut begins = true;
     for step in 0..size {
-        let place = next_place(ring.place(), step, size);
+        let place = next_place(ring.state().place, step, size);
         let Some((_, _, flags)) = ring.descriptor_of(mem, place) else {
             return;
         };

@@ -14,19 +14,7 @@ impl SplitRing {
     pub fn copied(&self) -> SplitRing
         ensures { result ≡ self.now }
     {
-        SplitRing {
-            setup: self.setup,
-            place: self.place,
-            pending: self.pending,
-            used_count: self.used_count,
-        }
-    }
-
-    /// How many chains were used since the ring was made, modulo 65536.
-    pub fn place(&self) -> u16
-        ensures { result ≡ self.now.place }
-    {
-        self.place
+        SplitRing { state: self.state }
     }
 
     #[tactic(auto, using(guest_memory::proofs::Ranges::inside_part, guest_memory::proofs::Ranges::inside_same))]
@@ -35,8 +23,8 @@ impl SplitRing {
         requires { LiesIn mem.now self.now.setup }
         ensures { result ≡ avail_idx mem.now self.now }
     {
-        prove!(mem.holds(self.setup.driver, 6));
-        mem.read_u16(self.setup.driver + 2)
+        prove!(mem.holds(self.state.setup.driver, 6));
+        mem.read_u16(self.state.setup.driver + 2)
     }
 
     #[tactic(auto, using(guest_memory::proofs::Ranges::inside_part, guest_memory::proofs::Ranges::inside_same))]
@@ -45,8 +33,8 @@ impl SplitRing {
         requires { LiesIn mem.now self.now.setup }
         ensures { result ≡ num mem.now (self.now.setup.device + 2) 2 }
     {
-        prove!(mem.holds(self.setup.device, 6));
-        mem.read_u16(self.setup.device + 2)
+        prove!(mem.holds(self.state.setup.device, 6));
+        mem.read_u16(self.state.setup.device + 2)
     }
 
     #[tactic(auto, using(guest_memory::proofs::Ranges::inside_part, guest_memory::proofs::Ranges::inside_same))]
@@ -55,8 +43,8 @@ impl SplitRing {
         requires { LiesIn mem.now self.now.setup }
         ensures { result ≡ num mem.now self.now.setup.driver 2 }
     {
-        prove!(mem.holds(self.setup.driver, 6));
-        mem.read_u16(self.setup.driver)
+        prove!(mem.holds(self.state.setup.driver, 6));
+        mem.read_u16(self.state.setup.driver)
     }
 
     #[tactic(auto, using(guest_memory::proofs::Ranges::inside_part, guest_memory::proofs::Ranges::inside_same))]
@@ -65,16 +53,9 @@ impl SplitRing {
         requires { LiesIn mem.now self.now.setup }
         ensures { result ≡ num mem.now (self.now.setup.driver + 4 + 2 * self.now.setup.size) 2 }
     {
-        let entries = 2 * u64::from(self.setup.size);
-        prove!(mem.holds(self.setup.driver, 6 + entries));
-        mem.read_u16(self.setup.driver + 4 + entries)
-    }
-
-    /// Whether EVENT_IDX was negotiated.
-    pub fn event_idx(&self) -> bool
-        ensures { result ≡ self.now.setup.event_idx }
-    {
-        self.setup.event_idx
+        let entries = 2 * u64::from(self.state.setup.size);
+        prove!(mem.holds(self.state.setup.driver, 6 + entries));
+        mem.read_u16(self.state.setup.driver + 4 + entries)
     }
 
     #[tactic(auto, using(guest_memory::proofs::Ranges::inside_part, guest_memory::proofs::Ranges::inside_same))]
@@ -85,8 +66,11 @@ impl SplitRing {
         ensures len { result.1 ≡ num mem.now (self.now.setup.device + 4 + 8 * (place % self.now.setup.size) + 4) 4 }
     {
         let offset = 8 * self.entry_at(place);
-        prove!(mem.holds(self.setup.device, 6 + 8 * u64::from(self.setup.size)));
-        let entry = self.setup.device + 4 + offset;
+        prove!(mem.holds(
+            self.state.setup.device,
+            6 + 8 * u64::from(self.state.setup.size)
+        ));
+        let entry = self.state.setup.device + 4 + offset;
         (mem.read_u32(entry), mem.read_u32(entry + 4))
     }
 
@@ -100,7 +84,7 @@ impl SplitRing {
         if index >= self.size() {
             return None;
         }
-        prove!(mem.holds(self.setup.desc, 16 * u64::from(self.setup.size)));
-        Some(Descriptor::read_split(mem, self.setup.desc + 16 * u64::from(index)))
+        prove!(mem.holds(self.state.setup.desc, 16 * u64::from(self.state.setup.size)));
+        Some(Descriptor::read_split(mem, self.state.setup.desc + 16 * u64::from(index)))
     }
 }
