@@ -181,7 +181,7 @@ impl Flight {
         let room = chain.writable_len() - 1;
         let done = Done::by(self.operation.kind, verdict, room);
         let used = finish(mem, chain, done);
-        queue.give(mem, self.token, used.len, used.wrote);
+        queue.give(mem, self.token, used);
         chain.count(used.len);
     }
 }

@@ -3,7 +3,7 @@ use Rattle.std.specs.Prelude.{◌≡◌, ℕ, ◌%◌, Bool, ◌&&◌, ◌==◌}
 use Rattle.guest_memory.specs.Memory.{Memory, Inside, is_inside}
 use Rattle.chain.specs.declared.setup.Setup.{Setup}
 use Rattle.chain.specs.declared.setup.Areas.{Areas}
-pub use Rattle.chain.specs.declared.state.RingState.{RingState}
+use Rattle.chain.specs.declared.state.RingState.{RingState}
 
 -- the three areas lie in the memory
 pub record LiesIn (m : Memory) (setup : Setup) (areas : Areas) : Type 0 where

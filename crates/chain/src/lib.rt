@@ -30,4 +30,4 @@ pub use runs::Runs;
 pub use segment::{Buffer, Segment};
 pub use setup::{Areas, Setup};
 pub use state::RingState;
-pub use virtqueue::Virtqueue;
+pub use virtqueue::{Used, Virtqueue};

@@ -11,6 +11,23 @@ use crate::fault::Fault;
 use guest_memory::GuestMemory;
 use std::alloc::Allocator;
 
+/// What the used entry of a chain says.
+#[derive(Clone, Copy)]
+pub struct Used {
+    /// How many of the first writable bytes were written without a gap.
+    pub len: u32,
+    /// Whether any byte was written.
+    pub wrote: bool,
+}
+
+impl Used {
+    /// Nothing was written.
+    pub const UNWRITTEN: Used = Used {
+        len: 0,
+        wrote: false,
+    };
+}
+
 /// A virtqueue of one guest, served by its device. The guest's memory is handed to each call, and the queue's
 /// areas lie in it.
 ///
@@ -71,18 +88,11 @@ pub trait Virtqueue {
         ensures lies { LiesIn mem.now self.new }
         ensures made { made_as self.new ≡ made_as self.old };
 
-    /// Gives the chain that was taken last back to the driver as used, with `len` bytes written without a gap
-    /// from its first writable one on; `wrote` is whether any byte was written.
-    fn give<A: Allocator>(
-        &mut self,
-        mem: &mut GuestMemory<A>,
-        token: Self::Token,
-        len: u32,
-        wrote: bool,
-    )
+    /// Gives the chain that was taken last back to the driver as used.
+    fn give<A: Allocator>(&mut self, mem: &mut GuestMemory<A>, token: Self::Token, used: Used)
         requires lies { LiesIn mem.old self.old }
         requires taken { IsTaken self.old token }
-        ensures used { mem.new ≡ kind.used mem.old self.old (entry_of token) len wrote }
+        ensures used { mem.new ≡ kind.used mem.old self.old (entry_of token) used.len used.wrote }
         ensures past { self.new ≡ kind.past self.old (entry_of token) }
         ensures fewer { left_of self.new < left_of self.old }
         ensures range { SameRange mem.old mem.new }

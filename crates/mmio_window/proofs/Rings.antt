@@ -2,7 +2,8 @@
 use Rattle.std.proofs.Common.{◌≡◌, ℕ, Bool, true, false, cond, Some, None, refl, sym, ap, subst}
 use Rattle.guest_memory.specs.Memory.{Memory, SameRange}
 use Rattle.chain.specs.declared.setup.Setup.{Setup}
-use Rattle.chain.specs.Setup.{RingState, new_ring}
+use Rattle.chain.specs.Setup.{new_ring}
+use Rattle.chain.specs.declared.state.RingState.{RingState}
 use Rattle.chain.proofs.Setups.{LiesIn-from_SameRange, LiesIn-from_test}
 use Rattle.negotiation.specs.Features.{ring_packed}
 use Rattle.negotiation.specs.Sets.{has}

@@ -4,7 +4,8 @@ use Rattle.std.proofs.lemmas.Bool.{eqb-true}
 use Rattle.std.specs.Option.{option_and_then, option_map}
 use Rattle.guest_memory.specs.Memory.{Memory}
 use Rattle.chain.specs.declared.setup.Setup.{Setup}
-use Rattle.chain.specs.Setup.{RingState, new_ring}
+use Rattle.chain.specs.Setup.{new_ring}
+use Rattle.chain.specs.declared.state.RingState.{RingState}
 use Rattle.negotiation.specs.Negotiation.{NegotiationState, negotiated_of, standing}
 use Rattle.negotiation.specs.Sets.{has, Has}
 use Rattle.negotiation.specs.Status.{features_ok}

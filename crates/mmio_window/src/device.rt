@@ -7,26 +7,9 @@ ghost use Rattle.chain.specs.Buffers.{Good};
 ghost use Rattle.chain.specs.Service as service;
 ghost use Rattle.chain.specs.Service.{Does};
 
-use chain::Chain;
+use chain::{Chain, Used};
 use guest_memory::GuestMemory;
 use std::alloc::Allocator;
-
-/// What the used entry of a chain says.
-#[derive(Clone, Copy)]
-pub struct Used {
-    /// How many of the first writable bytes were written without a gap.
-    pub len: u32,
-    /// Whether any byte was written.
-    pub wrote: bool,
-}
-
-impl Used {
-    /// Nothing was written.
-    pub const UNWRITTEN: Used = Used {
-        len: 0,
-        wrote: false,
-    };
-}
 
 /// A device over a backend `B`, as an image or a stream of bytes.
 pub trait Device<B> {

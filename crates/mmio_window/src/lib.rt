@@ -21,8 +21,9 @@ mod stage;
 mod window;
 
 pub use action::Action;
+pub use chain::Used;
 pub use configuration::{CONFIGURATION_LEN, CONFIGURATION_OFFSET};
-pub use device::{Device, Used};
+pub use device::Device;
 pub use device_kind::DeviceKind;
 pub use laws::{
     generation_stays, next_place_is_ignored, one_chain_or_fault_at_a_place,

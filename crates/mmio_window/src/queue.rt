@@ -5,7 +5,7 @@ ghost use Rattle.mmio_window.specs.Queue.{IsTaken, LiesIn, entry_of, left_of, ma
 mod reached;
 mod view;
 
-use chain::{Chain, Fault, Virtqueue};
+use chain::{Chain, Fault, Used, Virtqueue};
 use guest_memory::GuestMemory;
 use packed_ring::PackedRing;
 use split_ring::SplitRing;
@@ -63,16 +63,10 @@ impl Virtqueue for Queue {
     }
 
     #[inline(always)]
-    fn give<A: Allocator>(
-        &mut self,
-        mem: &mut GuestMemory<A>,
-        token: Token,
-        len: u32,
-        wrote: bool,
-    ) {
+    fn give<A: Allocator>(&mut self, mem: &mut GuestMemory<A>, token: Token, used: Used) {
         match (self, token) {
-            (Queue::Split(ring), Token::Split(token)) => ring.give(mem, token, len, wrote),
-            (Queue::Packed(ring), Token::Packed(token)) => ring.give(mem, token, len, wrote),
+            (Queue::Split(ring), Token::Split(token)) => ring.give(mem, token, used),
+            (Queue::Packed(ring), Token::Packed(token)) => ring.give(mem, token, used),
             _ => unreachable!(),
         }
     }

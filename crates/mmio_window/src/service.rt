@@ -119,7 +119,7 @@ fn serve_chains<B, D: Device<B>, M: Allocator>(
                 left.spend(chain);
                 match device.serve(mem, chain, backend) {
                     Ok(used) => {
-                        queue.give(mem, token, used.len, used.wrote);
+                        queue.give(mem, token, used);
                         chain.count(used.len);
                     }
                     Err(why) => return Err(Refused { token, why }),

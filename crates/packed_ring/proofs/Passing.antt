@@ -2,7 +2,7 @@
 use Rattle.std.proofs.Common.{◌≡◌, ℕ, ◌+◌, ◌*◌, ◌<◌, ◌≤◌, ◌↔◌, ◌⊎◌, arith}
 use Rattle.suppression.specs.Places.{Passed}
 use Rattle.suppression.proofs.Going.{back_from_ahead, ahead_of_first, passed_more}
-use Rattle.chain.specs.Setup.{RingState}
+use Rattle.chain.specs.declared.state.RingState.{RingState}
 use Rattle.packed_ring.specs.Kind.{HasPassed, first_passed, past}
 
 pub same_first : (ring : RingState) (length : ℕ) → ring.used_count + length ≤ 2 * ring.setup.size

@@ -2,7 +2,8 @@
 use Rattle.std.specs.Prelude.{◌≡◌, ℕ, ◌+◌, ◌-◌, ◌*◌, ◌<◌, ◌≤◌, nat_lt, ◌&&◌, None}
 use Rattle.guest_memory.specs.Memory.{put_num}
 use Rattle.chain.specs.Service.{Entry, Kind}
-use Rattle.chain.specs.Setup.{RingState, shut, stopped}
+use Rattle.chain.specs.Setup.{shut, stopped}
+use Rattle.chain.specs.declared.state.RingState.{RingState}
 use Rattle.indirect.specs.Lists.{packed_tables, ListOffers, ListFails}
 use Rattle.suppression.specs.Places.{Passed, place_back}
 use Rattle.suppression.specs.Packed.{PackedWants}

@@ -1,6 +1,7 @@
 -- A ring that takes up where another of its setup stood.
 use Rattle.std.specs.Prelude.{ℕ, Bool, ◌+◌, ◌*◌, ◌&&◌, ◌||◌, ◌==◌, nat_le, nat_lt, if◌then◌else◌, Option, Some, None}
-use Rattle.chain.specs.Setup.{RingState, served_so_far}
+use Rattle.chain.specs.Setup.{served_so_far}
+use Rattle.chain.specs.declared.state.RingState.{RingState}
 
 -- a place of the ring; a service has passed fewer places than twice the ring's size, and while it goes on it
 -- ends

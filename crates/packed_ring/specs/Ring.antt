@@ -4,7 +4,8 @@ use Rattle.guest_memory.specs.Memory.{Memory, num, put_num}
 use Rattle.chain.specs.declared.setup.Areas.{Areas}
 use Rattle.chain.specs.declared.setup.Setup.{Setup}
 use Rattle.chain.specs.Setup as setups
-use Rattle.chain.specs.Setup.{RingState, fits_in}
+use Rattle.chain.specs.Setup.{fits_in}
+use Rattle.chain.specs.declared.state.RingState.{RingState}
 use Rattle.indirect.specs.declared.descriptor.Descriptor.{Descriptor}
 use Rattle.indirect.specs.Descriptors.{packed_buffer, next_flag, write_flag, indirect_flag, has_flag}
 use Rattle.suppression.specs.Places.{place_ahead, position_of, wrap_counter_of}

@@ -5,7 +5,7 @@ ghost use Rattle.chain.specs.Service.{HasAtMostOneChain, HasSomeChain};
 ghost use Rattle.guest_memory.specs.Memory.{Memory};
 ghost use Rattle.suppression.specs.Places.{Passed};
 ghost use Rattle.suppression.specs.Sets.{PackedWantsOf};
-ghost use Rattle.chain.specs.Setup.{RingState};
+ghost use Rattle.chain.specs.declared.state.RingState.{RingState};
 ghost use Rattle.packed_ring.specs.Kind.{HasPassed, first_passed, packed_kind, past};
 
 /// A packed ring has one chain or one fault at each place: at most one chain, at most one fault, not both, and

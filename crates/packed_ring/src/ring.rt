@@ -11,7 +11,7 @@ mod reached;
 mod view;
 
 use crate::walk::{Table, append_list};
-use chain::{Areas, Chain, Fault, RingState, Setup, Virtqueue};
+use chain::{Areas, Chain, Fault, RingState, Setup, Used, Virtqueue};
 use guest_memory::GuestMemory;
 use indirect::WRITE;
 use std::alloc::Allocator;
@@ -37,7 +37,7 @@ pub struct PackedRing {
 
 impl Model for PackedRing {
     ghost use Rattle.std.specs.Prelude.{◌<◌, ◌≤◌, ◌+◌, ◌*◌};
-    ghost use Rattle.chain.specs.Setup.{RingState};
+    ghost use Rattle.chain.specs.declared.state.RingState.{RingState};
     ghost use Rattle.packed_ring.specs.Ring.{IsQueueSize};
 
     ghost Value = { RingState };
@@ -223,14 +223,8 @@ impl Virtqueue for PackedRing {
     }
 
     /// The used descriptor tells whether any byte was written, too (2.8.3, 2.8.4).
-    fn give<A: Allocator>(
-        &mut self,
-        mem: &mut GuestMemory<A>,
-        token: Token,
-        len: u32,
-        wrote: bool,
-    ) {
-        self.put_used(mem, token.id, len, wrote);
+    fn give<A: Allocator>(&mut self, mem: &mut GuestMemory<A>, token: Token, used: Used) {
+        self.put_used(mem, token.id, used.len, used.wrote);
         self.state.place = (self.state.place + token.length) % (2 * self.size());
         self.state.pending = self.state.pending.saturating_sub(token.length);
         self.state.used_count += token.length;

@@ -4,7 +4,7 @@
 use Rattle.std.proofs.Common.{◌≡◌, ℕ, ◌+◌, ◌-◌, ◌*◌, ◌<◌, ◌≤◌, ◌⊎◌, ◌≢◌, inl, inr, List, ◌++◌, length, take, drop, get_or, sym, ◌∙◌, ap, arith}
 use Rattle.std.proofs.Math.Seq.{take-add}
 use Rattle.std.proofs.lemmas.Bool.{cases_lt}
-use Rattle.std.proofs.lemmas.List.{length-take-le, length-take, length-drop, length-append, get_or-take, get_or-drop, get_or_append_left, get_or-append_right, drop-drop, drop-take, take-take, take-append-drop, take_at, drop_at, same_lists}
+use Rattle.std.proofs.lemmas.List.{length-take-le, length-take, length-drop, length-append, get_or-take, get_or-drop, get_or_append_left, get_or-append_right, drop-drop, drop-take, take-take, take_at, drop_at, same_lists}
 use borrow.Rule.Slice.PartMut.{put_mid}
 use Rattle.sector_cache.specs.Sector.{extent_of, sector_of, with_sector, with_sectors}
 

@@ -2,7 +2,7 @@
 use Rattle.std.proofs.Common.{◌≡◌, ℕ, ◌<◌, ◌↔◌, ◌⊎◌, inl, inr, arith}
 use Rattle.suppression.specs.Places.{Passed, idx_modulus}
 use Rattle.suppression.proofs.Going.{back_from_ahead, ahead_of_first, passed_more, passed_one}
-use Rattle.chain.specs.Setup.{RingState}
+use Rattle.chain.specs.declared.state.RingState.{RingState}
 use Rattle.split_ring.specs.Kind.{first_passed, past}
 use Rattle.split_ring.specs.Passing.{HasPassed}
 

@@ -3,7 +3,8 @@ use Rattle.std.specs.Prelude.{◌≡◌, ℕ, ◌+◌, ◌-◌, ◌*◌, ◌<◌
 use Rattle.guest_memory.specs.Memory.{put_num}
 use Rattle.chain.specs.declared.fault.Fault.TheVariants.{Jump}
 use Rattle.chain.specs.Service.{Entry, Kind}
-use Rattle.chain.specs.Setup.{RingState, shut, stopped}
+use Rattle.chain.specs.Setup.{shut, stopped}
+use Rattle.chain.specs.declared.state.RingState.{RingState}
 use Rattle.indirect.specs.Lists.{split_tables, ListOffers, ListFails}
 use Rattle.suppression.specs.Places.{idx_modulus, place_back}
 use Rattle.suppression.specs.Split.{SplitWants}

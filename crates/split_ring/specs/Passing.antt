@@ -1,7 +1,7 @@
 -- The places that a service of a split ring has passed.
 use Rattle.std.specs.Prelude.{ℕ}
 use Rattle.suppression.specs.Places.{Passed, idx_modulus}
-use Rattle.chain.specs.Setup.{RingState}
+use Rattle.chain.specs.declared.state.RingState.{RingState}
 use Rattle.split_ring.specs.Kind.{first_passed}
 
 -- the place is one of those that the service has passed

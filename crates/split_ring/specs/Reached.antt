@@ -1,6 +1,7 @@
 -- A ring that takes up where another of its setup stood.
 use Rattle.std.specs.Prelude.{ℕ, ◌+◌, nat_le, if◌then◌else◌, Option, Some, None}
-use Rattle.chain.specs.Setup.{RingState, served_so_far}
+use Rattle.chain.specs.Setup.{served_so_far}
+use Rattle.chain.specs.declared.state.RingState.{RingState}
 
 -- the ring, served so far: at this place, with so many chains that its service may still take, and so many
 -- that it has

@@ -5,7 +5,8 @@ use Rattle.guest_memory.specs.Memory.{Memory, num, put_num}
 use Rattle.chain.specs.declared.setup.Areas.{Areas}
 use Rattle.chain.specs.declared.setup.Setup.{Setup}
 use Rattle.chain.specs.Setup as setups
-use Rattle.chain.specs.Setup.{RingState, fits_in}
+use Rattle.chain.specs.Setup.{fits_in}
+use Rattle.chain.specs.declared.state.RingState.{RingState}
 use Rattle.indirect.specs.declared.descriptor.Descriptor.{Descriptor}
 use Rattle.indirect.specs.Descriptors.{split_table}
 use Rattle.suppression.specs.Places.{idx_modulus, place_ahead}

@@ -5,7 +5,7 @@ ghost use Rattle.guest_memory.specs.Memory.{Memory};
 ghost use Rattle.chain.specs.Service.{HasAtMostOneChain, HasSomeChain};
 ghost use Rattle.suppression.specs.Places.{idx_modulus};
 ghost use Rattle.suppression.specs.Sets.{SplitWantsOf};
-ghost use Rattle.chain.specs.Setup.{RingState};
+ghost use Rattle.chain.specs.declared.state.RingState.{RingState};
 ghost use Rattle.split_ring.specs.Kind.{first_passed, past, split_kind};
 ghost use Rattle.split_ring.specs.Passing.{HasPassed};
 

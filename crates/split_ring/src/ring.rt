@@ -11,7 +11,7 @@ mod reached;
 mod view;
 
 use crate::walk::{Table, append_path};
-use chain::{Areas, Chain, Fault, RingState, Setup, Virtqueue};
+use chain::{Areas, Chain, Fault, RingState, Setup, Used, Virtqueue};
 use guest_memory::GuestMemory;
 use std::alloc::Allocator;
 use std::marker::Model;
@@ -29,7 +29,7 @@ pub struct SplitRing {
 
 impl Model for SplitRing {
     ghost use Rattle.std.specs.Prelude.{◌≤◌, ◌+◌};
-    ghost use Rattle.chain.specs.Setup.{RingState};
+    ghost use Rattle.chain.specs.declared.state.RingState.{RingState};
     ghost use Rattle.split_ring.specs.Ring.{IsQueueSize};
 
     ghost Value = { RingState };
@@ -209,15 +209,9 @@ impl Virtqueue for SplitRing {
     }
 
     /// Whether any byte was written is of no account here (2.7.8).
-    fn give<A: Allocator>(
-        &mut self,
-        mem: &mut GuestMemory<A>,
-        token: Token,
-        len: u32,
-        wrote: bool,
-    ) {
+    fn give<A: Allocator>(&mut self, mem: &mut GuestMemory<A>, token: Token, used: Used) {
         let next = self.state.place.wrapping_add(1);
-        self.put_used(mem, token.head, len, next);
+        self.put_used(mem, token.head, used.len, next);
         self.state.place = next;
         self.state.pending -= 1;
         self.state.used_count += 1;

@@ -4,7 +4,7 @@ use crate::calls::answer::{put_result, put_word, written};
 use crate::calls::chains::Chains;
 use crate::calls::subject::{Answered, Stuck, Subject};
 use crate::calls::words::Words;
-use chain::{Chain, Fault, Setup, Virtqueue};
+use chain::{Chain, Fault, Setup, Used, Virtqueue};
 use guest_memory::GuestMemory;
 use mmio_window::{Queue, Token};
 use packed_ring::PackedRing;
@@ -72,13 +72,6 @@ impl Rings {
     }
 }
 
-/// What a device says of a chain that it gives back.
-#[derive(Clone, Copy)]
-struct Used {
-    len: u32,
-    wrote: bool,
-}
-
 fn open(queue: &mut Queue, mem: &GuestMemory) -> Result<Result<(), Fault>, Stuck> {
     if !queue.lies_in(mem) {
         return Err(Stuck::Conditions);
@@ -128,7 +121,7 @@ fn use_next(
     if !queue.lies_in(mem) {
         return Err(Stuck::Conditions);
     }
-    queue.give(mem, token, used.len, used.wrote);
+    queue.give(mem, token, used);
     Ok(Ok(true))
 }
 
