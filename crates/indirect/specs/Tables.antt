@@ -29,8 +29,8 @@ pub record SplitTableResolves (m : Memory) (addr len : ℕ) (before after : List
   pub table : IsTable m addr len
   pub path : Resolves m before (split_table m addr) (len / 16) 0 after
 
--- the fault of a range as a table behind the buffers before, and the buffers that stand before it, where Meets
--- says what is met by going through a table
+-- the fault of a range as a table behind the buffers before, and the buffers that stand before it;
+-- Meets says what is met by going through a table
 pub record TableFails (m : Memory) (addr len : ℕ) (before : List Buffer)
     (Meets : Fault → List Buffer → Type 0) (fault : Fault) (after : List Buffer) : Type 0 where
   pub no_table : ¬ IsTable m addr len → IsNoTable m addr len fault × (after ≡ before)
