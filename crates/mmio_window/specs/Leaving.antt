@@ -21,11 +21,8 @@ use Rattle.mmio_window.specs.declared.stage.Stage.{Stage}
 use Rattle.mmio_window.specs.Pieces.{EndsAt, PausesAt, fault_at, opened_at}
 use Rattle.mmio_window.specs.Queue.{IsTaken, LiesIn, entry_of, made_as, queue_kind}
 use Rattle.mmio_window.specs.Serving.{after_service, ending_of}
+pub use Rattle.mmio_window.specs.Serving.{site_at}
 use Rattle.mmio_window.specs.Window.{WindowState}
-
--- where a service stands: the guest's memory, the queue, and the device's state
-abbrev pub site_at : {State : Type 0} → Memory → Queue → State → Site Queue State
-site_at m queue state = record { memory = m; ring = queue; state = state }
 
 -- the queue stays one of the same registers, in a memory of the same range
 pub record QueueStays (old new : Memory) (queue last : Queue) : Type 0 where

@@ -13,15 +13,14 @@ use Rattle.mmio_window.specs.declared.queue.Queue.{Queue}
 use Rattle.mmio_window.specs.declared.stage.Stage.{Stage}
 use Rattle.mmio_window.specs.declared.stage.Stage.TheVariants.{First, Next}
 use Rattle.mmio_window.specs.Queue.{queue_kind}
-use Rattle.mmio_window.specs.Serving.{NothingHappens, after_service}
+use Rattle.mmio_window.specs.Serving.{NothingHappens, after_service, site_at}
 use Rattle.mmio_window.specs.Window.{WindowState, with_ring}
 
 -- Some chains of this queue were served, in one piece or more, and it stands open.
 pub record IsPaused {State : Type 0} (device : Device State) (q : ℕ) (queue : Queue) (old new : Memory)
     (before after : WindowState) (s s' : State) : Type 0 where
   pub last : Queue
-  pub part : IsPart queue_kind device (record { memory = old; ring = queue; state = s })
-      (record { memory = new; ring = last; state = s' })
+  pub part : IsPart queue_kind device (site_at old queue s) (site_at new last s')
   pub window : after ≡ with_ring q before last
 
 module _ {State : Type 0} (device : Device State) (budget : Budget) (q : ℕ) (queue : Queue)
@@ -29,31 +28,28 @@ module _ {State : Type 0} (device : Device State) (budget : Budget) (q : ℕ) (q
   -- The device begins to serve this queue, and pauses.
   pub record PausesIn : Type 0 where
     pub last : Queue
-    pub begins : BeginsWithin queue_kind device budget (record { memory = old; ring = queue; state = s })
-        (record { memory = new; ring = last; state = s' })
+    pub begins : BeginsWithin queue_kind device budget (site_at old queue s) (site_at new last s')
     pub window : after ≡ with_ring q before last
 
   -- It goes on with this queue, which stands open, and pauses again.
   pub record GoesOnIn : Type 0 where
     pub last : Queue
-    pub pauses : Pauses queue_kind device budget (record { memory = old; ring = queue; state = s })
-        (record { memory = new; ring = last; state = s' })
+    pub pauses : Pauses queue_kind device budget (site_at old queue s) (site_at new last s')
     pub window : after ≡ with_ring q before last
 
   -- It goes on with this queue to the end of its service.
   pub record EndsIn (ending : Ending) : Type 0 where
     pub last : Queue
     pub wanted : Bool
-    pub ends : EndsWithin queue_kind device budget (record { memory = old; ring = queue; state = s })
-        (record { memory = new; ring = last; state = s' }) ending wanted
+    pub ends : EndsWithin queue_kind device budget (site_at old queue s) (site_at new last s') ending wanted
     pub window : after ≡ after_service ending wanted (with_ring q before last)
 
   -- It serves this queue in one piece.
   pub record ServesWithin (ending : Ending) : Type 0 where
     pub last : Queue
     pub wanted : Bool
-    pub service : IsServiceWithin queue_kind device budget (record { memory = old; ring = queue; state = s })
-        (record { memory = new; ring = last; state = s' }) ending wanted
+    pub service : IsServiceWithin queue_kind device budget (site_at old queue s)
+        (site_at new last s') ending wanted
     pub window : after ≡ after_service ending wanted (with_ring q before last)
 
 -- What a piece does that ends so: the first one or one behind a pause, by the queue that the device may
