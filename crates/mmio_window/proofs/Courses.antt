@@ -48,7 +48,8 @@ module _ {State : Type 0} (device : Device State) where
       → IsInCourse device budget left' start m' first queue' s t'
   in_course_goes_on budget left left' start m served m' first queue taken queue' s t t' buffers entry len any
       h some spends takes offers offered same does used past range range' lies made = record {
-        piece = piece_goes_on queue_kind device budget left left' (site_at start first s) m served m' queue queue'
+        piece = piece_goes_on queue_kind device budget left left' (site_at start first s) m
+            served m' queue queue'
             t t' buffers entry len any
             h.piece some spends takes offers offered does
             (used ∙ ap (λ q. queue_kind.used served q entry len any) same) (past
@@ -66,52 +67,47 @@ module _ {State : Type 0} (device : Device State) where
       → (device.takes t && offers) ≡ false
   not_offered t offers e f = rw (e, f) refl
 
-  pub stops_unwanted : (budget left : Budget) (start m : Memory) (first queue : Queue) (s t : State)
-      → IsInCourse device budget left start m first queue s t
-      → device.takes t ≡ false → Stops device budget (site_at start first s) (site_at m queue t) (End None)
-  stops_unwanted budget left start m first queue s t h none =
+module _ {State : Type 0} {device : Device State} {budget left : Budget} {start m : Memory}
+    {first queue : Queue} {s t : State} (h : IsInCourse device budget left start m first queue s t) where
+  pub stops_unwanted : device.takes t ≡ false
+      → Stops device budget (site_at start first s) (site_at m queue t) (End None)
+  stops_unwanted none =
       piece_runs_out queue_kind device budget left (site_at start first s) m queue queue t h.piece
-      (not_taken t (queue_kind.offers m queue) none) refl
+      (not_taken device t (queue_kind.offers m queue) none) refl
 
-  pub stops_spent : (budget left : Budget) (start m : Memory) (first queue last : Queue) (s t : State)
-      → IsInCourse device budget left start m first queue s t
-      → device.takes t ≡ true → queue_kind.offers m queue ≡ false → last ≡ queue
+  pub stops_spent : (last : Queue) → device.takes t ≡ true → queue_kind.offers m queue ≡ false → last ≡ queue
       → Stops device budget (site_at start first s) (site_at m last t) (End None)
-  stops_spent budget left start m first queue last s t h takes none same =
+  stops_spent last takes none same =
       piece_runs_out queue_kind device budget left (site_at start first s) m queue last t h.piece
-      (not_offered t (queue_kind.offers m queue) takes none) same
+      (not_offered device t (queue_kind.offers m queue) takes none) same
 
   -- the chain on offer has a fault
-  pub stops_by_fault : (budget left : Budget) (start m : Memory) (first queue last : Queue) (s t : State)
-      (fault : Fault) → IsInCourse device budget left start m first queue s t
-      → device.takes t ≡ true → queue_kind.offers m queue ≡ true → queue_kind.HasFault m queue fault
-      → last ≡ queue_kind.stopped queue
+  pub stops_by_fault : (last : Queue) (fault : Fault) → device.takes t ≡ true
+      → queue_kind.offers m queue ≡ true → queue_kind.HasFault m queue fault → last ≡ queue_kind.stopped queue
       → Stops device budget (site_at start first s) (site_at m last t) (End (Some fault))
-  stops_by_fault budget left start m first queue last s t fault h takes offers has same =
+  stops_by_fault last fault takes offers has same =
       piece_runs_into queue_kind device budget left (site_at start first s) m queue last t fault h.piece
       (both (device.takes t) (queue_kind.offers m queue) takes offers) has same
 
   -- nothing is left of the budget
-  pub stops_paused : (budget left : Budget) (start m : Memory) (first queue last : Queue) (s t : State)
-      (buffers : List Buffer) (entry : Entry) → IsInCourse device budget left start m first queue s t
-      → IsSpent left → device.takes t ≡ true → queue_kind.offers m queue ≡ true
+  pub stops_paused : (last : Queue) (buffers : List Buffer) (entry : Entry) → IsSpent left
+      → device.takes t ≡ true → queue_kind.offers m queue ≡ true
       → queue_kind.Offers m queue buffers entry → last ≡ queue
       → Stops device budget (site_at start first s) (site_at m last t) Pause
-  stops_paused budget left start m first queue last s t buffers entry h spent takes offers offered same =
+  stops_paused last buffers entry spent takes offers offered same =
       piece_pauses queue_kind device budget left (site_at start first s) m queue last t buffers entry h.piece
       spent (both (device.takes t) (queue_kind.offers m queue) takes offers) offered same
 
   -- the device leaves it on offer
-  pub left_at : {E : Type 0} (Refuses : State → Memory → List Buffer → E → Type 0) (budget left : Budget)
-      (start m m' : Memory) (first queue last : Queue) (s t t' : State) (buffers : List Buffer)
-      (token : Token) (why : E) → IsInCourse device budget left start m first queue s t
+  pub left_at : {E : Type 0} (Refuses : State → Memory → List Buffer → E → Type 0) (m' : Memory)
+      (last : Queue) (t' : State) (buffers : List Buffer) (token : Token) (why : E)
       → device.takes t ≡ true → queue_kind.offers m queue ≡ true
       → queue_kind.Offers m queue buffers (entry_of token) → IsTaken queue token → Good m buffers
       → Refuses t m buffers why → m' ≡ m → t' ≡ t → last ≡ queue
       → IsLeftAt device Refuses budget (site_at start first s) (site_at m' last t') buffers
       (record { token = token; why = why })
-  left_at {E} Refuses budget left start m m' first queue last s t t' buffers token why h takes offers offered
-      named good refuses unwritten kept same =
+  left_at {E} Refuses m' last t' buffers token why takes offers offered named good refuses unwritten
+      kept same =
       let here : IsLeftAt device Refuses budget (site_at start first s) (site_at m queue t) buffers
       (record { token = token; why = why }) = record {
         course = h.piece.course;

@@ -22,7 +22,7 @@ use Rattle.mmio_window.specs.declared.register.Register.{Register}
 use Rattle.mmio_window.specs.declared.stage.Stage.{Stage}
 use Rattle.mmio_window.specs.declared.stage.Stage.TheVariants.{First, Next}
 use Rattle.mmio_window.specs.DeviceKind.{configuration_changes, queue_of}
-use Rattle.mmio_window.specs.Pieces.{IsRefusedAt, ServesTo}
+use Rattle.mmio_window.specs.Pieces.{CompletesAt, IsRefusedAt, ServesTo}
 use Rattle.mmio_window.specs.QueueRegisters.{queue_written}
 use Rattle.mmio_window.specs.Reading.{configuration_offset}
 use Rattle.mmio_window.specs.Registers.{register_at}
@@ -74,10 +74,10 @@ status_by_test false w n same = record { kind = refl; offered = same }
 register_kept : (register : Register) (value : ℕ) (m : Memory) (w : WindowState)
     → KeepsDevice w (register_written register value m w)
 register_kept register value m w =
-    written_by_cases (KeepsDevice w) value m w
-    (λ (r : Register). with_registers_kept (queue_of w.kind w.queue_sel)
+    written_by_cases (KeepsDevice w) (λ r. Unit {0}) value m w
+    (λ (r : Register) is. with_registers_kept (queue_of w.kind w.queue_sel)
     (queue_written r value m w.negotiation) w)
-    (status_by_test (value == 0) w (with_status_written value w.negotiation)
+    (λ is. status_by_test (value == 0) w (with_status_written value w.negotiation)
     (status_kept (value == 0) w.negotiation _))
     (record {
       kind = refl;
@@ -86,7 +86,7 @@ register_kept register value m w =
     })
     (λ (device_sel driver_sel queue_sel shm_sel : ℕ) (interrupts : Interrupts).
     record { kind = refl; offered = refl })
-    (KeepsDevice-self w) register
+    (KeepsDevice-self w) register tt
 
 by_register : (register : Option Register) (value : ℕ) (m : Memory) (w : WindowState)
     → KeepsDevice w (option_map_or (λ r. register_written r value m w) register w)
@@ -140,36 +140,36 @@ service_kept q ending wanted w last =
     (KeepsDevice-trans ring used (after_ending ending used) (used_kept wanted ring) (ending_kept ending used))
 
 module _ {State : Type 0} (device : Device State) (budget : Budget) (q : ℕ) where
-  -- a piece of a service keeps it
+  -- a piece of a service that ends keeps it
+  completed_kept : (stage : Stage) (queue : Option Queue) (ending : Ending) (old new : Memory)
+      (before after : WindowState) (s s' : State)
+      → CompletesAt stage device budget q queue ending old new before after s s' → KeepsDevice before after
+  completed_kept First None ending old new before after s s' h =
+      KeepsDevice-at before before after h.1.window (KeepsDevice-self before)
+  completed_kept Next None ending old new before after s s' h =
+      KeepsDevice-at before before after h.1.window (KeepsDevice-self before)
+  completed_kept First (Some queue) ending old new before after s s' h =
+      KeepsDevice-at before _ after h.window (service_kept q ending h.wanted before h.last)
+  completed_kept Next (Some queue) ending old new before after s s' h =
+      KeepsDevice-at before _ after h.window (service_kept q ending h.wanted before h.last)
+
+  -- and so does every piece
   pub KeepsDevice-served : (stage : Stage) (queue : Option Queue) (progress : Progress) (old new : Memory)
       (before after : WindowState) (s s' : State)
       → ServesTo stage device budget q queue progress old new before after s s' → KeepsDevice before after
-  KeepsDevice-served First None Done old new before after s s' h =
-      KeepsDevice-at before before after h.notified.1.window (KeepsDevice-self before)
-  KeepsDevice-served First (Some queue) Done old new before after s s' h =
-      KeepsDevice-at before _ after h.notified.window
-      (service_kept q h.ending h.notified.wanted before h.notified.last)
+  KeepsDevice-served First queue Done old new before after s s' h =
+      completed_kept First queue h.ending old new before after s s' h.notified
+  KeepsDevice-served Next queue Done old new before after s s' h =
+      completed_kept Next queue h.ending old new before after s s' h.finished
   KeepsDevice-served First None More old new before after s s' h = absurd h
+  KeepsDevice-served Next None More old new before after s s' h = absurd h
   KeepsDevice-served First (Some queue) More old new before after s s' h =
       KeepsDevice-at before _ after h.window (with_ring_kept q before h.last)
-  KeepsDevice-served Next None Done old new before after s s' h =
-      KeepsDevice-at before before after h.finished.1.window (KeepsDevice-self before)
-  KeepsDevice-served Next (Some queue) Done old new before after s s' h =
-      KeepsDevice-at before _ after h.finished.window
-      (service_kept q h.ending h.finished.wanted before h.finished.last)
-  KeepsDevice-served Next None More old new before after s s' h = absurd h
   KeepsDevice-served Next (Some queue) More old new before after s s' h =
       KeepsDevice-at before _ after h.window (with_ring_kept q before h.last)
 
-  -- and one that is refused
+  -- one that is refused too
   pub KeepsDevice-refused : (stage : Stage) (queue : Option Queue) (old new : Memory)
       (before after : WindowState) (s s' : State)
       → IsRefusedAt stage device budget q queue old new before after s s' → KeepsDevice before after
-  KeepsDevice-refused First None old new before after s s' h =
-      KeepsDevice-at before before after h.1.window (KeepsDevice-self before)
-  KeepsDevice-refused First (Some queue) old new before after s s' h =
-      KeepsDevice-at before _ after h.window (service_kept q Refused h.wanted before h.last)
-  KeepsDevice-refused Next None old new before after s s' h =
-      KeepsDevice-at before before after h.1.window (KeepsDevice-self before)
-  KeepsDevice-refused Next (Some queue) old new before after s s' h =
-      KeepsDevice-at before _ after h.window (service_kept q Refused h.wanted before h.last)
+  KeepsDevice-refused stage queue = completed_kept stage queue Refused

@@ -103,7 +103,7 @@ module _ {State : Type 0} (device : Device State) where
   pub paused_to_end : (budget : Budget) (q : ℕ) (queue : Queue) (ending : Ending) (m0 m1 m2 : Memory)
       (w0 w1 w2 : WindowState) (s0 s1 s2 : State)
       → (p : IsPaused device q queue m0 m1 w0 w1 s0 s1)
-      → EndsIn device budget q p.last ending m1 m2 w1 w2 s1 s2
+      → EndsIn device budget q p.last m1 m2 w1 w2 s1 s2 ending
       → ServesQueue device q queue ending m0 m2 w0 w2 s0 s2
   paused_to_end budget q queue ending m0 m1 m2 w0 w1 w2 s0 s1 s2 p g = record {
     last = g.last;

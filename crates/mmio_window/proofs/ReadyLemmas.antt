@@ -13,7 +13,7 @@ use Rattle.mmio_window.specs.declared.interrupts.Interrupts.{Interrupts}
 use Rattle.mmio_window.specs.declared.queue.Queue.{Queue}
 use Rattle.mmio_window.specs.declared.queue_registers.QueueRegisters.{QueueRegisters}
 use Rattle.mmio_window.specs.declared.register.Register.{Register}
-use Rattle.mmio_window.specs.declared.register.Register.TheVariants.{DriverFeatures, QueueNum, QueueReady, Status, QueueDescLow, QueueDescHigh, QueueDriverLow, QueueDriverHigh, QueueDeviceLow, QueueDeviceHigh}
+use Rattle.mmio_window.specs.declared.register.Register.TheVariants.{QueueReady}
 use Rattle.mmio_window.specs.DeviceKind.{queue_of}
 use Rattle.mmio_window.specs.QueueRegisters.{queue_written, ring_of, set_up}
 use Rattle.mmio_window.specs.Reading.{configuration_offset}
@@ -90,13 +90,13 @@ Stays-status_written value w false =
 Stays-register_written : (register : Register) (value : ℕ) (m : Memory) (w : WindowState)
     → Stays w (register_written register value m w)
 Stays-register_written register value m w =
-    written_by_cases (Stays w) value m w
-    (λ (r : Register). Stays-queue_written r value m w (queue_of w.kind w.queue_sel))
-    (Stays-status_written value w (value == 0))
+    written_by_cases (Stays w) (λ r. Unit {0}) value m w
+    (λ (r : Register) is. Stays-queue_written r value m w (queue_of w.kind w.queue_sel))
+    (λ is. Stays-status_written value w (value == 0))
     (record { kind = refl; generation = refl; queue_0 = λ was is. refl; queue_1 = λ was is. refl })
     (λ (device_sel driver_sel queue_sel shm_sel : ℕ) (interrupts : Interrupts).
     record { kind = refl; generation = refl; queue_0 = λ was is. refl; queue_1 = λ was is. refl })
-    (Stays-self w) register
+    (Stays-self w) register tt
 
 Stays-written : (answered : Bool) (register : Option Register) (value : ℕ) (m : Memory) (w : WindowState)
     → Stays w (cond answered (option_map_or (λ r. register_written r value m w) register w) w)
@@ -177,31 +177,20 @@ live_by_test false n accepted = refl
 
 Holds-register_written : (register : Register) (value : ℕ) (m : Memory) (w : WindowState)
     → stops_queues register ≡ false → Holds w (register_written register value m w)
-Holds-register_written QueueReady value m w stops = cc
-Holds-register_written Status value m w stops = cc
-Holds-register_written QueueNum value m w stops =
-    Holds-queue QueueNum value m w (queue_of w.kind w.queue_sel) refl
-Holds-register_written QueueDescLow value m w stops =
-    Holds-queue QueueDescLow value m w (queue_of w.kind w.queue_sel) refl
-Holds-register_written QueueDescHigh value m w stops =
-    Holds-queue QueueDescHigh value m w (queue_of w.kind w.queue_sel) refl
-Holds-register_written QueueDriverLow value m w stops =
-    Holds-queue QueueDriverLow value m w (queue_of w.kind w.queue_sel) refl
-Holds-register_written QueueDriverHigh value m w stops =
-    Holds-queue QueueDriverHigh value m w (queue_of w.kind w.queue_sel) refl
-Holds-register_written QueueDeviceLow value m w stops =
-    Holds-queue QueueDeviceLow value m w (queue_of w.kind w.queue_sel) refl
-Holds-register_written QueueDeviceHigh value m w stops =
-    Holds-queue QueueDeviceHigh value m w (queue_of w.kind w.queue_sel) refl
-Holds-register_written DriverFeatures value m w stops = record {
-  kind = refl;
-  live = live_by_test (has w.negotiation.status features_ok) w.negotiation
-      (with_feature_word w.driver_features_sel value w.negotiation.accepted);
-  queue_0 = λ was. refl;
-  queue_1 = λ was. refl;
-}
-Holds-register_written register value m w stops =
-    record { kind = refl; live = refl; queue_0 = λ was. refl; queue_1 = λ was. refl }
+Holds-register_written register value m w =
+    written_by_cases (Holds w) (λ r. stops_queues r ≡ false) value m w
+    (λ (r : Register) stops. Holds-queue r value m w (queue_of w.kind w.queue_sel) stops)
+    (λ stops. cc)
+    (record {
+      kind = refl;
+      live = live_by_test (has w.negotiation.status features_ok) w.negotiation
+          (with_feature_word w.driver_features_sel value w.negotiation.accepted);
+      queue_0 = λ was. refl;
+      queue_1 = λ was. refl;
+    })
+    (λ (device_sel driver_sel queue_sel shm_sel : ℕ) (interrupts : Interrupts).
+    record { kind = refl; live = refl; queue_0 = λ was. refl; queue_1 = λ was. refl })
+    (Holds-self w) register
 
 Holds-written : (answered : Bool) (register : Option Register) (value : ℕ) (m : Memory) (w : WindowState)
     → option_map_or stops_queues register false ≡ false

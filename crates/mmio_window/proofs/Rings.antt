@@ -27,29 +27,21 @@ made_by_test m fresh false ring is_made made = cc
 made_by_test m fresh true ring is_made made = let same : fresh ≡ ring = cc in
     subst (IsMade m) same (is_made refl)
 
-split_is_made : (m : Memory) (setup : Setup) (ring : Queue)
-    → split_ring_of m setup ≡ Some ring → IsMade m ring
-split_is_made m setup ring made =
-    made_by_test m (Split (new_ring setup)) (split.can_set_up m setup) ring
-    (λ usable. record { fresh = refl; lies = LiesIn-from_test m setup (split.areas_of setup.size) _ usable })
-    made
-
-packed_is_made : (m : Memory) (setup : Setup) (ring : Queue)
-    → packed_ring_of m setup ≡ Some ring → IsMade m ring
-packed_is_made m setup ring made =
-    made_by_test m (Packed (new_ring setup)) (packed.can_set_up m setup) ring
-    (λ usable. record { fresh = refl; lies = LiesIn-from_test m setup (packed.areas_of setup.size) _ usable })
-    made
-
-made_by_kind : (m : Memory) (setup : Setup) (is_packed : Bool) (ring : Queue)
-    → cond is_packed (packed_ring_of m setup) (split_ring_of m setup) ≡ Some ring → IsMade m ring
-made_by_kind m setup true ring made = packed_is_made m setup ring made
-made_by_kind m setup false ring made = split_is_made m setup ring made
+-- of either layout: its areas lie in the memory where its test passes
+module _ (m : Memory) (setup : Setup) (ring : Queue) where
+  made_by_kind : (is_packed : Bool)
+      → cond is_packed (packed_ring_of m setup) (split_ring_of m setup) ≡ Some ring → IsMade m ring
+  made_by_kind true =
+      made_by_test m (Packed (new_ring setup)) (packed.can_set_up m setup) ring
+      (λ test. record { fresh = refl; lies = LiesIn-from_test m setup (packed.areas_of setup.size) _ test })
+  made_by_kind false =
+      made_by_test m (Split (new_ring setup)) (split.can_set_up m setup) ring
+      (λ test. record { fresh = refl; lies = LiesIn-from_test m setup (split.areas_of setup.size) _ test })
 
 pub is_made : (m : Memory) (features : ℕ) (registers : QueueRegisters) (ring : Queue)
     → ring_of m features registers ≡ Some ring → IsMade m ring
 is_made m features registers ring made =
-    made_by_kind m (setup_of features registers) (has features ring_packed) ring made
+    made_by_kind m (setup_of features registers) ring (has features ring_packed) made
 
 -- in a memory of the same range the same rings are made
 pub ring_of-same : (m m' : Memory) (features : ℕ) (registers : QueueRegisters) → SameRange m m'

@@ -15,9 +15,11 @@ use Rattle.chain.proofs.Simulating.{DoesAs, ServedAlike, ServedAs, ending_as, mo
 use Rattle.mmio_window.specs.declared.queue.Queue.{Queue}
 use Rattle.mmio_window.specs.declared.stage.Stage.{Stage}
 use Rattle.mmio_window.specs.declared.stage.Stage.TheVariants.{First, Next}
-use Rattle.mmio_window.specs.Pieces.{ServesTo}
+use Rattle.mmio_window.specs.Leaving.{site_at}
+use Rattle.mmio_window.specs.Pieces.{CompletesAt, EndsAt, PausesAt, ServesTo}
 use Rattle.mmio_window.specs.Queue.{queue_kind}
 use Rattle.mmio_window.specs.Window.{WindowState}
+use Rattle.mmio_window.proofs.Stages.{completes_as, pauses_as}
 
 module _ {S T : Type 0} (device : Device S) (other : Device T) (seen : S
     → T) (likewise : DoesAs device other (λ s t. t ≡ seen s)) where
@@ -115,65 +117,47 @@ module _ {S T : Type 0} (device : Device S) (other : Device T) (seen : S
           within = λ opens. ends_seen (open_site queue_kind device old) new ending wanted (p.within opens);
         }
 
+    -- a piece, whichever it is
+    pauses_at_seen : (stage : Stage) (old now : Site Queue S) → PausesAt stage device budget old now
+        → PausesAt stage other budget (at old) (at now)
+    pauses_at_seen First old now p = begins_seen old now p
+    pauses_at_seen Next old now p = pauses_seen old now p
+
+    ends_at_seen : (stage : Stage) (old new : Site Queue S) (ending : Ending) (wanted : Bool)
+        → EndsAt stage device budget old new ending wanted
+        → EndsAt stage other budget (at old) (at new) ending wanted
+    ends_at_seen First old new ending wanted p = service_seen old new ending wanted p
+    ends_at_seen Next old new ending wanted p = ends_seen old new ending wanted p
+
+    module _ (stage : Stage) (q : ℕ) (m m' : Memory) (w w' : WindowState) (s s' : S) where
+      completes_seen : (found : Option Queue) (ending : Ending)
+          → CompletesAt stage device budget q found ending m m' w w' s s'
+          → CompletesAt stage other budget q found ending m m' w w' (seen s) (seen s')
+      completes_seen found ending =
+          completes_as device other budget q m m' w w' s s' (seen s) (seen s') stage found ending (ap seen)
+          (λ queue last wanted. ends_at_seen stage (site_at m queue s) (site_at m' last s') ending wanted)
+
+      paused_seen : (queue : Queue) → ServesTo stage device budget q (Some queue) More m m' w w' s s'
+          → ServesTo stage other budget q (Some queue) More m m' w w' (seen s) (seen s')
+      paused_seen queue =
+          pauses_as device other budget q m m' w w' s s' (seen s) (seen s') stage queue
+          (λ last. pauses_at_seen stage (site_at m queue s) (site_at m' last s'))
+
     pub serves_seen : (stage : Stage) (q : ℕ) (found : Option Queue) (progress : Progress) (m m' : Memory)
         (w w' : WindowState) (s s' : S)
         → ServesTo stage device budget q found progress m m' w w' s s'
         → ServesTo stage other budget q found progress m m' w w' (seen s) (seen s')
-    serves_seen First q None Done m m' w w' s s' h = record {
-      ending = h.ending;
-      notified = (
-        h.notified.0,
+    serves_seen First q found Done m m' w w' s s' h =
         record {
-          memory = h.notified.1.memory;
-          window = h.notified.1.window;
-          state = ap seen h.notified.1.state;
-        },
-      );
-    }
-    serves_seen First q (Some queue) Done m m' w w' s s' h = record {
-      ending = h.ending;
-      notified = record {
-        last = h.notified.last;
-        wanted = h.notified.wanted;
-        service = service_seen (record { memory = m; ring = queue; state = s })
-            (record { memory = m'; ring = h.notified.last; state = s' }) h.ending h.notified.wanted
-            h.notified.service;
-        window = h.notified.window;
-      };
-    }
+          ending = h.ending;
+          notified = completes_seen First q m m' w w' s s' found h.ending h.notified;
+        }
+    serves_seen Next q found Done m m' w w' s s' h =
+        record {
+          ending = h.ending;
+          finished = completes_seen Next q m m' w w' s s' found h.ending h.finished;
+        }
     serves_seen First q None More m m' w w' s s' h = h
-    serves_seen First q (Some queue) More m m' w w' s s' h = record {
-      last = h.last;
-      begins = begins_seen (record { memory = m; ring = queue; state = s })
-          (record { memory = m'; ring = h.last; state = s' }) h.begins;
-      window = h.window;
-    }
-    serves_seen Next q None Done m m' w w' s s' h = record {
-      ending = h.ending;
-      finished = (
-        h.finished.0,
-        record {
-          memory = h.finished.1.memory;
-          window = h.finished.1.window;
-          state = ap seen h.finished.1.state;
-        },
-      );
-    }
-    serves_seen Next q (Some queue) Done m m' w w' s s' h = record {
-      ending = h.ending;
-      finished = record {
-        last = h.finished.last;
-        wanted = h.finished.wanted;
-        ends = ends_seen (record { memory = m; ring = queue; state = s })
-            (record { memory = m'; ring = h.finished.last; state = s' }) h.ending
-            h.finished.wanted h.finished.ends;
-        window = h.finished.window;
-      };
-    }
     serves_seen Next q None More m m' w w' s s' h = h
-    serves_seen Next q (Some queue) More m m' w w' s s' h = record {
-      last = h.last;
-      pauses = pauses_seen (record { memory = m; ring = queue; state = s })
-          (record { memory = m'; ring = h.last; state = s' }) h.pauses;
-      window = h.window;
-    }
+    serves_seen First q (Some queue) More m m' w w' s s' h = paused_seen First q m m' w w' s s' queue h
+    serves_seen Next q (Some queue) More m m' w w' s s' h = paused_seen Next q m m' w w' s s' queue h

@@ -1,16 +1,13 @@
--- Notifications of a queue: of a device that does as another does, of one whose failures didn't rise, and
--- what
--- one leaves that ends for want of memory.
-use Rattle.std.proofs.Common.{◌≡◌, ◌≢◌, ℕ, Bool, Option, Some, None, List, refl, sym, subst}
-use Rattle.std.specs.Prelude.{if◌then◌else◌}
+-- Notifications of a queue: of a device that does as another does, and of one whose failures didn't rise.
+use Rattle.std.proofs.Common.{◌≡◌, ◌≢◌, ℕ, Option, Some, None, List, refl, sym, subst}
 use Rattle.guest_memory.specs.Memory.{Memory}
-use Rattle.chain.specs.Service.{Device, Ending, Refused, Site, IsRefusedService, IsExactUnless}
-use Rattle.chain.proofs.Servicing.{exact_service, never_refused, refused_service}
+use Rattle.chain.specs.Service.{Device, Ending, Refused, Site, IsExactUnless}
+use Rattle.chain.proofs.Servicing.{exact_service, never_refused}
 use Rattle.chain.proofs.Simulating.{DoesAs, ServedAs, service_as}
 use Rattle.mmio_window.specs.declared.queue.Queue.{Queue}
 use Rattle.mmio_window.specs.Queue.{queue_kind}
-use Rattle.mmio_window.specs.Serving.{Notified, ServesQueue}
-use Rattle.mmio_window.specs.Window.{WindowState, with_ring, with_used_interrupt}
+use Rattle.mmio_window.specs.Serving.{Notified}
+use Rattle.mmio_window.specs.Window.{WindowState}
 
 -- the other device is notified in the same way, and left in a like state
 pub record NotifiedAs {S T : Type 0} (other : Device T) (Alike : S → T
@@ -54,30 +51,6 @@ module _ {State : Type 0} (device : Device State) where
   notified_not_refused never q (Some queue) ending old new before after s s' h e =
       never_refused queue_kind device (record { memory = old; ring = queue; state = s })
       (record { memory = new; ring = h.last; state = s' }) ending h.wanted never h.service e
-
-  -- what a service leaves that ends for want of memory: the chains before are given back, their notification
-  -- is
-  -- owed where it is wanted, and no reset is asked for
-  pub record RefusedServiceLeaves (q : ℕ) (queue : Queue) (old new : Memory) (before after : WindowState)
-      (s s' : State) : Type 0 where
-    pub last : Queue
-    pub wanted : Bool
-    pub service : IsRefusedService queue_kind device (record { memory = old; ring = queue; state = s })
-        (record { memory = new; ring = last; state = s' }) wanted
-    pub window : after ≡ (if wanted then with_used_interrupt (with_ring q before last) else
-        with_ring q before last)
-
-  pub refused_service_leaves : (q : ℕ) (queue : Queue) (old new : Memory)
-      (before after : WindowState) (s s' : State)
-      → ServesQueue device q queue Refused old new before after s s'
-      → RefusedServiceLeaves q queue old new before after s s'
-  refused_service_leaves q queue old new before after s s' h = record {
-    last = h.last;
-    wanted = h.wanted;
-    service = refused_service queue_kind device (record { memory = old; ring = queue; state = s })
-        (record { memory = new; ring = h.last; state = s' }) h.wanted h.service;
-    window = h.window;
-  }
 
 module _ {State : Type 0} (device exact : Device State) (count : State
     → ℕ) (is_exact : IsExactUnless device exact count) where

@@ -159,14 +159,14 @@ status_by_test value m w false e sound =
 pub IsSound-register_written : (register : Register) (value : ℕ) (m : Memory) (w : WindowState) → IsSound m w
     → IsSound m (register_written register value m w)
 IsSound-register_written register value m w sound =
-    written_by_cases (λ (new : WindowState). IsSound m new) value m w
-    (λ (r : Register). IsSound-queue_written r value m w sound)
-    (status_by_test value m w (value == 0) refl sound)
+    written_by_cases (λ (new : WindowState). IsSound m new) (λ r. Unit {0}) value m w
+    (λ (r : Register) is. IsSound-queue_written r value m w sound)
+    (λ is. status_by_test value m w (value == 0) refl sound)
     (IsSound-negotiation m w (with_features_written w.driver_features_sel value w.negotiation)
     (Keeps-changed w.negotiation (FeaturesWritten w.driver_features_sel value) refl) sound)
     (λ (device_sel driver_sel queue_sel shm_sel : ℕ) (interrupts : Interrupts).
     record { queue_0 = sound.queue_0; queue_1 = sound.queue_1 })
-    sound register
+    sound register tt
 
 -- ---- a service
 

@@ -1,38 +1,27 @@
 -- A piece of a service, whichever it is, from its opening to what its window shows.
-use Rattle.std.proofs.Common.{◌≡◌, ◌≢◌, ◌↔◌, ℕ, Bool, Option, Some, None, refl, sym, subst}
+use Rattle.std.proofs.Common.{◌≡◌, ◌≢◌, ◌↔◌, ℕ, Bool, Option, Some, None, refl, subst}
 use Rattle.std.specs.Prelude.{IsTrue}
 use Rattle.guest_memory.specs.Memory.{Memory}
 use Rattle.chain.specs.declared.budget.Budget.{Budget}
 use Rattle.chain.specs.declared.budget.Progress.TheVariants.{More, Done}
 use Rattle.chain.specs.declared.fault.Fault.{Fault}
-use Rattle.chain.specs.Pieces.{EndsWithin, Pauses}
+use Rattle.chain.specs.Pieces.{EndsWithin}
 use Rattle.chain.specs.Service.{Device, Ending, Faulted, Refused, Site, Works, IsExactUnless}
 use Rattle.chain.proofs.Budgets.{fault_within}
 use Rattle.chain.proofs.Likewise.{begins_exact, ends_exact, pauses_exact, service_within_exact}
 use Rattle.mmio_window.specs.declared.queue.Queue.{Queue}
 use Rattle.mmio_window.specs.declared.stage.Stage.{Stage}
 use Rattle.mmio_window.specs.declared.stage.Stage.TheVariants.{First, Next}
-use Rattle.mmio_window.specs.Pieces.{EndsAt, IsRefusedAt, PausesAt, ServesTo, fault_at, opened_at}
+use Rattle.mmio_window.specs.Pieces.{CompletesAt, EndsAt, IsRefusedAt, PausesAt, ServesTo, fault_at, opened_at}
 use Rattle.mmio_window.specs.Queue.{queue_kind}
-use Rattle.mmio_window.specs.Serving.{after_service}
+use Rattle.mmio_window.specs.Leaving.{site_at}
+use Rattle.mmio_window.specs.Serving.{NothingHappens, after_service}
 use Rattle.mmio_window.specs.Window.{WindowState, with_ring}
 
 -- ---- its opening
 
 module _ {State : Type 0} (device : Device State) (budget : Budget) (stage : Stage) (m : Memory)
     (queue opened : Queue) (s : State) (is : opened ≡ opened_at stage m queue) where
-  pub pauses_at : (now : Site Queue State) → None ≡ fault_at stage m queue
-      → Pauses queue_kind device budget (record { memory = m; ring = opened; state = s }) now
-      → PausesAt stage device budget (record { memory = m; ring = queue; state = s }) now
-  pauses_at now none h = by_stage stage (sym none) (rw is at h)
-    where
-      by_stage : (stage : Stage) → fault_at stage m queue ≡ None
-          → Pauses queue_kind device budget
-          (record { memory = m; ring = opened_at stage m queue; state = s }) now
-          → PausesAt stage device budget (record { memory = m; ring = queue; state = s }) now
-      by_stage First opens h = record { opens = opens; pauses = h }
-      by_stage Next opens h = h
-
   pub ends_at : (new : Site Queue State) (ending : Ending) (wanted : Bool) → None ≡ fault_at stage m queue
       → EndsWithin queue_kind device budget
       (record { memory = m; ring = opened; state = s }) new ending wanted
@@ -122,3 +111,43 @@ module _ {State : Type 0} (device exact : Device State) (count : State
       wanted answered stood h
   ends_exactly Next ending wanted answered h =
       ends_exact queue_kind device exact count is_exact budget old new ending wanted answered stood h
+
+-- ---- another device whose chains do likewise
+
+module _ {S T : Type 0} (device : Device S) (other : Device T) (budget : Budget) (q : ℕ) (m m' : Memory)
+    (w w' : WindowState) (s s' : S) (t t' : T) where
+  -- a piece that pauses
+  pub pauses_as : (stage : Stage) (queue : Queue)
+      → ((last : Queue) → PausesAt stage device budget (site_at m queue s) (site_at m' last s')
+      → PausesAt stage other budget (site_at m queue t) (site_at m' last t'))
+      → ServesTo stage device budget q (Some queue) More m m' w w' s s'
+      → ServesTo stage other budget q (Some queue) More m m' w w' t t'
+  pauses_as First queue likewise h =
+      record { last = h.last; begins = likewise h.last h.begins; window = h.window }
+  pauses_as Next queue likewise h =
+      record { last = h.last; pauses = likewise h.last h.pauses; window = h.window }
+
+  nothing_as : (s' ≡ s → t' ≡ t) → NothingHappens m m' w w' s s' → NothingHappens m m' w w' t t'
+  nothing_as same h = record { memory = h.memory; window = h.window; state = same h.state }
+
+  -- one that ends
+  pub completes_as : (stage : Stage) (found : Option Queue) (ending : Ending) → (s' ≡ s → t' ≡ t)
+      → ((queue last : Queue) (wanted : Bool)
+      → EndsAt stage device budget (site_at m queue s) (site_at m' last s') ending wanted
+      → EndsAt stage other budget (site_at m queue t) (site_at m' last t') ending wanted)
+      → CompletesAt stage device budget q found ending m m' w w' s s'
+      → CompletesAt stage other budget q found ending m m' w w' t t'
+  completes_as First None ending same likewise h = (h.0, nothing_as same h.1)
+  completes_as Next None ending same likewise h = (h.0, nothing_as same h.1)
+  completes_as First (Some queue) ending same likewise h = record {
+    last = h.last;
+    wanted = h.wanted;
+    service = likewise queue h.last h.wanted h.service;
+    window = h.window;
+  }
+  completes_as Next (Some queue) ending same likewise h = record {
+    last = h.last;
+    wanted = h.wanted;
+    ends = likewise queue h.last h.wanted h.ends;
+    window = h.window;
+  }

@@ -2,7 +2,7 @@
 -- the device
 -- leaves on offer.
 use Rattle.std.specs.Prelude.{◌≡◌, None, List, [], ◌∷◌}
-use Rattle.guest_memory.specs.Memory.{Memory}
+use Rattle.guest_memory.specs.Memory.{Memory, SameRange}
 use Rattle.chain.specs.declared.budget.Budget.{Budget}
 use Rattle.chain.specs.declared.budget.Progress.{Progress}
 use Rattle.chain.specs.declared.budget.Progress.TheVariants.{More, Done}
@@ -19,13 +19,16 @@ use Rattle.mmio_window.specs.declared.service.Stop.TheVariants.{Pause, End}
 use Rattle.mmio_window.specs.declared.queue.Queue.{Queue}
 use Rattle.mmio_window.specs.declared.stage.Stage.{Stage}
 use Rattle.mmio_window.specs.Pieces.{EndsAt, PausesAt, fault_at, opened_at}
-use Rattle.mmio_window.specs.Queue.{IsTaken, entry_of, queue_kind}
+use Rattle.mmio_window.specs.Queue.{IsTaken, LiesIn, entry_of, made_as, queue_kind}
 use Rattle.mmio_window.specs.Serving.{after_service, ending_of}
+pub use Rattle.mmio_window.specs.Serving.{site_at}
 use Rattle.mmio_window.specs.Window.{WindowState}
 
--- where a service stands: the guest's memory, the queue, and the device's state
-abbrev pub site_at : {State : Type 0} → Memory → Queue → State → Site Queue State
-site_at m queue state = record { memory = m; ring = queue; state = state }
+-- the queue stays one of the same registers, in a memory of the same range
+pub record QueueStays (old new : Memory) (queue last : Queue) : Type 0 where
+  pub range : SameRange old new
+  pub lies : LiesIn new last
+  pub made : made_as last ≡ made_as queue
 
 -- the chains of a piece
 abbrev pub Stops : {State : Type 0} → Device State → Budget → Site Queue State

@@ -13,68 +13,66 @@ use Rattle.mmio_window.specs.declared.queue.Queue.{Queue}
 use Rattle.mmio_window.specs.declared.stage.Stage.{Stage}
 use Rattle.mmio_window.specs.declared.stage.Stage.TheVariants.{First, Next}
 use Rattle.mmio_window.specs.Queue.{queue_kind}
-use Rattle.mmio_window.specs.Serving.{NothingHappens, after_service}
+use Rattle.mmio_window.specs.Serving.{NothingHappens, after_service, site_at}
 use Rattle.mmio_window.specs.Window.{WindowState, with_ring}
 
 -- Some chains of this queue were served, in one piece or more, and it stands open.
 pub record IsPaused {State : Type 0} (device : Device State) (q : ℕ) (queue : Queue) (old new : Memory)
     (before after : WindowState) (s s' : State) : Type 0 where
   pub last : Queue
-  pub part : IsPart queue_kind device (record { memory = old; ring = queue; state = s })
-      (record { memory = new; ring = last; state = s' })
+  pub part : IsPart queue_kind device (site_at old queue s) (site_at new last s')
   pub window : after ≡ with_ring q before last
 
--- The device begins to serve this queue, and pauses.
-pub record PausesIn {State : Type 0} (device : Device State) (budget : Budget) (q : ℕ) (queue : Queue)
-    (old new : Memory) (before after : WindowState) (s s' : State) : Type 0 where
-  pub last : Queue
-  pub begins : BeginsWithin queue_kind device budget (record { memory = old; ring = queue; state = s })
-      (record { memory = new; ring = last; state = s' })
-  pub window : after ≡ with_ring q before last
+module _ {State : Type 0} (device : Device State) (budget : Budget) (q : ℕ) (queue : Queue)
+    (old new : Memory) (before after : WindowState) (s s' : State) where
+  -- The device begins to serve this queue, and pauses.
+  pub record PausesIn : Type 0 where
+    pub last : Queue
+    pub begins : BeginsWithin queue_kind device budget (site_at old queue s) (site_at new last s')
+    pub window : after ≡ with_ring q before last
 
--- It goes on with this queue, which stands open, and pauses again.
-pub record GoesOnIn {State : Type 0} (device : Device State) (budget : Budget) (q : ℕ) (queue : Queue)
-    (old new : Memory) (before after : WindowState) (s s' : State) : Type 0 where
-  pub last : Queue
-  pub pauses : Pauses queue_kind device budget (record { memory = old; ring = queue; state = s })
-      (record { memory = new; ring = last; state = s' })
-  pub window : after ≡ with_ring q before last
+  -- It goes on with this queue, which stands open, and pauses again.
+  pub record GoesOnIn : Type 0 where
+    pub last : Queue
+    pub pauses : Pauses queue_kind device budget (site_at old queue s) (site_at new last s')
+    pub window : after ≡ with_ring q before last
 
--- It goes on with this queue to the end of its service.
-pub record EndsIn {State : Type 0} (device : Device State) (budget : Budget) (q : ℕ) (queue : Queue)
-    (ending : Ending) (old new : Memory) (before after : WindowState) (s s' : State) : Type 0 where
-  pub last : Queue
-  pub wanted : Bool
-  pub ends : EndsWithin queue_kind device budget (record { memory = old; ring = queue; state = s })
-      (record { memory = new; ring = last; state = s' }) ending wanted
-  pub window : after ≡ after_service ending wanted (with_ring q before last)
+  -- It goes on with this queue to the end of its service.
+  pub record EndsIn (ending : Ending) : Type 0 where
+    pub last : Queue
+    pub wanted : Bool
+    pub ends : EndsWithin queue_kind device budget (site_at old queue s) (site_at new last s') ending wanted
+    pub window : after ≡ after_service ending wanted (with_ring q before last)
 
--- It serves this queue in one piece.
-pub record ServesWithin {State : Type 0} (device : Device State) (budget : Budget) (q : ℕ) (queue : Queue)
-    (ending : Ending) (old new : Memory) (before after : WindowState) (s s' : State) : Type 0 where
-  pub last : Queue
-  pub wanted : Bool
-  pub service : IsServiceWithin queue_kind device budget (record { memory = old; ring = queue; state = s })
-      (record { memory = new; ring = last; state = s' }) ending wanted
-  pub window : after ≡ after_service ending wanted (with_ring q before last)
+  -- It serves this queue in one piece.
+  pub record ServesWithin (ending : Ending) : Type 0 where
+    pub last : Queue
+    pub wanted : Bool
+    pub service : IsServiceWithin queue_kind device budget (site_at old queue s)
+        (site_at new last s') ending wanted
+    pub window : after ≡ after_service ending wanted (with_ring q before last)
 
--- What a notification of the queue q does that isn't paused, by the queue that the device may serve. Where
--- there is
--- none nothing happens.
+-- What a piece does that ends so: the first one or one behind a pause, by the queue that the device may
+-- serve.
+-- Where there is none nothing happens.
+abbrev pub CompletesAt : {State : Type 0} → Stage → Device State → Budget → ℕ → Option Queue → Ending → Memory
+    → Memory → WindowState → WindowState → State → State → Type 0
+CompletesAt stage device budget q None ending old new before after s s' = (ending ≡ Spent)
+    × NothingHappens old new before after s s'
+CompletesAt First device budget q (Some queue) ending old new before after s s' =
+    ServesWithin device budget q queue old new before after s s' ending
+CompletesAt Next device budget q (Some queue) ending old new before after s s' =
+    EndsIn device budget q queue old new before after s s' ending
+
+-- a notification of the queue q that isn't paused
 abbrev pub NotifiedWithin : {State : Type 0} → Device State → Budget → ℕ → Option Queue → Ending → Memory
     → Memory → WindowState → WindowState → State → State → Type 0
-NotifiedWithin device budget q None ending old new before after s s' = (ending ≡ Spent)
-    × NothingHappens old new before after s s'
-NotifiedWithin device budget q (Some queue) ending old new before after s s' =
-    ServesWithin device budget q queue ending old new before after s s'
+NotifiedWithin device = CompletesAt First device
 
--- What comes of going on to the end, likewise.
+-- what comes of going on to the end
 abbrev pub FinishesWithin : {State : Type 0} → Device State → Budget → ℕ → Option Queue → Ending → Memory
     → Memory → WindowState → WindowState → State → State → Type 0
-FinishesWithin device budget q None ending old new before after s s' = (ending ≡ Spent)
-    × NothingHappens old new before after s s'
-FinishesWithin device budget q (Some queue) ending old new before after s s' =
-    EndsIn device budget q queue ending old new before after s s'
+FinishesWithin device = CompletesAt Next device
 
 -- The same where nobody is told why the service ended.
 pub record IsNotifiedWithin {State : Type 0} (device : Device State) (budget : Budget) (q : ℕ)
@@ -87,23 +85,32 @@ pub record IsFinishedWithin {State : Type 0} (device : Device State) (budget : B
   pub ending : Ending
   pub finished : FinishesWithin device budget q queue ending old new before after s s'
 
--- A notification within a budget, by how it came out.
+-- The first piece of a service within a budget, or one behind a pause, and whether more is to come.
+abbrev pub ServesTo : {State : Type 0} → Stage → Device State → Budget → ℕ → Option Queue → Progress → Memory
+    → Memory → WindowState → WindowState → State → State → Type 0
+ServesTo First device budget q queue Done old new before after s s' =
+    IsNotifiedWithin device budget q queue old new before after s s'
+ServesTo Next device budget q queue Done old new before after s s' =
+    IsFinishedWithin device budget q queue old new before after s s'
+ServesTo stage device budget q None More old new before after s s' = ⊥
+ServesTo First device budget q (Some queue) More old new before after s s' =
+    PausesIn device budget q queue old new before after s s'
+ServesTo Next device budget q (Some queue) More old new before after s s' =
+    GoesOnIn device budget q queue old new before after s s'
+
+-- a notification within a budget, and going on within one
 abbrev pub BeginsTo : {State : Type 0} → Device State → Budget → ℕ → Option Queue → Progress → Memory → Memory
     → WindowState → WindowState → State → State → Type 0
-BeginsTo device budget q queue Done old new before after s s' =
-    IsNotifiedWithin device budget q queue old new before after s s'
-BeginsTo device budget q None More old new before after s s' = ⊥
-BeginsTo device budget q (Some queue) More old new before after s s' =
-    PausesIn device budget q queue old new before after s s'
+BeginsTo device = ServesTo First device
 
--- Going on within a budget, likewise.
 abbrev pub GoesOnTo : {State : Type 0} → Device State → Budget → ℕ → Option Queue → Progress → Memory → Memory
     → WindowState → WindowState → State → State → Type 0
-GoesOnTo device budget q queue Done old new before after s s' =
-    IsFinishedWithin device budget q queue old new before after s s'
-GoesOnTo device budget q None More old new before after s s' = ⊥
-GoesOnTo device budget q (Some queue) More old new before after s s' =
-    GoesOnIn device budget q queue old new before after s s'
+GoesOnTo device = ServesTo Next device
+
+-- one that ends since there is no memory for the chain on offer
+abbrev pub IsRefusedAt : {State : Type 0} → Stage → Device State → Budget → ℕ → Option Queue → Memory → Memory
+    → WindowState → WindowState → State → State → Type 0
+IsRefusedAt stage device budget q queue = CompletesAt stage device budget q queue Refused
 
 -- ---- a piece, whichever it is
 
@@ -127,19 +134,3 @@ abbrev pub EndsAt : {State : Type 0} → Stage → Device State → Budget → S
 EndsAt First device budget old new ending wanted =
     IsServiceWithin queue_kind device budget old new ending wanted
 EndsAt Next device budget old new ending wanted = EndsWithin queue_kind device budget old new ending wanted
-
--- The first piece of a service within a budget, or one behind a pause, and whether more is to come.
-abbrev pub ServesTo : {State : Type 0} → Stage → Device State → Budget → ℕ → Option Queue → Progress → Memory
-    → Memory → WindowState → WindowState → State → State → Type 0
-ServesTo First device budget q queue progress old new before after s s' =
-    BeginsTo device budget q queue progress old new before after s s'
-ServesTo Next device budget q queue progress old new before after s s' =
-    GoesOnTo device budget q queue progress old new before after s s'
-
--- one that ends since there is no memory for the chain on offer
-abbrev pub IsRefusedAt : {State : Type 0} → Stage → Device State → Budget → ℕ → Option Queue → Memory → Memory
-    → WindowState → WindowState → State → State → Type 0
-IsRefusedAt First device budget q queue old new before after s s' =
-    NotifiedWithin device budget q queue Refused old new before after s s'
-IsRefusedAt Next device budget q queue old new before after s s' =
-    FinishesWithin device budget q queue Refused old new before after s s'

@@ -12,6 +12,7 @@ use Rattle.mmio_window.specs.declared.queue.Queue.{Queue}
 use Rattle.mmio_window.specs.declared.queue.Queue.TheVariants.{Split, Packed}
 use Rattle.mmio_window.specs.declared.queue_registers.QueueRegisters.{QueueRegisters}
 use Rattle.mmio_window.specs.declared.saved.Reached.{Reached}
+use Rattle.mmio_window.specs.declared.saved.SavedNegotiation.{SavedNegotiation}
 use Rattle.mmio_window.specs.declared.saved.SavedQueue.{SavedQueue}
 use Rattle.mmio_window.specs.declared.saved.SavedWindow.{SavedWindow}
 use Rattle.mmio_window.specs.QueueRegisters.{ring_of}
@@ -75,22 +76,25 @@ queue_restored m n saved = queue_at_reached m n saved saved.reached
 
 abbrev pub saved_window : WindowState → SavedWindow
 saved_window w = record {
-  offered = w.negotiation.offered;
-  status = w.negotiation.status;
-  accepted = w.negotiation.accepted;
-  device_features_sel = w.device_features_sel;
-  driver_features_sel = w.driver_features_sel;
-  queue_sel = w.queue_sel;
+  negotiation = record {
+    offered = w.negotiation.offered;
+    status = w.negotiation.status;
+    accepted = w.negotiation.accepted;
+  };
+  selectors = record {
+    device_features = w.device_features_sel;
+    driver_features = w.driver_features_sel;
+    queue = w.queue_sel;
+    shm = w.shm_sel;
+  };
   queue_0 = saved_queue w.queue_0;
   queue_1 = saved_queue w.queue_1;
-  used_buffer = w.interrupts.used_buffer;
-  configuration_change = w.interrupts.configuration_change;
-  shm_sel = w.shm_sel;
+  interrupts = w.interrupts;
   config_generation = w.config_generation;
 }
 
-abbrev pub saved_negotiation : SavedWindow → NegotiationState
-saved_negotiation saved = record { status = saved.status; offered = saved.offered; accepted = saved.accepted }
+abbrev pub saved_negotiation : SavedNegotiation → NegotiationState
+saved_negotiation n = record { status = n.status; offered = n.offered; accepted = n.accepted }
 
 -- the window of a device of this kind with this negotiation and these queues, and the rest as it was saved
 abbrev pub window_with : DeviceKind → SavedWindow → NegotiationState → QueueRegisters
@@ -98,13 +102,13 @@ abbrev pub window_with : DeviceKind → SavedWindow → NegotiationState → Que
 window_with kind saved n queue_0 queue_1 = record {
   kind = kind;
   negotiation = n;
-  device_features_sel = saved.device_features_sel;
-  driver_features_sel = saved.driver_features_sel;
-  queue_sel = saved.queue_sel;
+  device_features_sel = saved.selectors.device_features;
+  driver_features_sel = saved.selectors.driver_features;
+  queue_sel = saved.selectors.queue;
   queue_0 = queue_0;
   queue_1 = queue_1;
-  interrupts = record { used_buffer = saved.used_buffer; configuration_change = saved.configuration_change };
-  shm_sel = saved.shm_sel;
+  interrupts = saved.interrupts;
+  shm_sel = saved.selectors.shm;
   config_generation = saved.config_generation;
 }
 
@@ -117,4 +121,4 @@ window_restored kind m saved =
     option_and_then (λ queue_0.
     option_map (λ queue_1. window_with kind saved n queue_0 queue_1) (queue_restored m n saved.queue_1))
     (queue_restored m n saved.queue_0))
-    (standing (saved_negotiation saved))
+    (standing (saved_negotiation saved.negotiation))

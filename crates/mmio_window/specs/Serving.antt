@@ -3,10 +3,14 @@
 use Rattle.std.specs.Prelude.{◌≡◌, ℕ, Bool, if◌then◌else◌, Option, None, Some}
 use Rattle.guest_memory.specs.Memory.{Memory}
 use Rattle.chain.specs.declared.fault.Fault.{Fault}
-use Rattle.chain.specs.Service.{Device, Ending, Spent, Faulted, Refused, IsService}
+use Rattle.chain.specs.Service.{Device, Ending, Spent, Faulted, Refused, Site, IsService}
 use Rattle.mmio_window.specs.declared.queue.Queue.{Queue}
 use Rattle.mmio_window.specs.Queue.{queue_kind}
 use Rattle.mmio_window.specs.Window.{WindowState, with_ring, with_used_interrupt, with_reset_asked}
+
+-- where a service stands: the guest's memory, the queue, and the device's state
+abbrev pub site_at : {State : Type 0} → Memory → Queue → State → Site Queue State
+site_at m queue state = record { memory = m; ring = queue; state = state }
 
 -- why a service ends that isn't refused, by the fault that it met
 abbrev pub ending_of : Option Fault → Ending
@@ -29,8 +33,7 @@ pub record ServesQueue {State : Type 0} (device : Device State) (q : ℕ) (queue
     (old new : Memory) (before after : WindowState) (s s' : State) : Type 0 where
   pub last : Queue
   pub wanted : Bool
-  pub service : IsService queue_kind device (record { memory = old; ring = queue; state = s })
-      (record { memory = new; ring = last; state = s' }) ending wanted
+  pub service : IsService queue_kind device (site_at old queue s) (site_at new last s') ending wanted
   pub window : after ≡ after_service ending wanted (with_ring q before last)
 
 -- nothing happens

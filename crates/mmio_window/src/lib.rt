@@ -25,6 +25,7 @@ pub use chain::Used;
 pub use configuration::{CONFIGURATION_LEN, CONFIGURATION_OFFSET};
 pub use device::Device;
 pub use device_kind::DeviceKind;
+pub use interrupts::Interrupts;
 pub use laws::{
     generation_stays, next_place_is_ignored, one_chain_or_fault_at_a_place,
     ready_queue_is_its_ring, ready_queue_outlasts, ready_queue_stays, serving_keeps_sound,
@@ -33,7 +34,7 @@ pub use laws::{
 pub use queue::{Queue, Token};
 pub use queue_registers::QueueRegisters;
 pub use register::{Register, may_stop_queues};
-pub use saved::{Reached, SavedQueue, SavedWindow};
+pub use saved::{Reached, SavedNegotiation, SavedQueue, SavedSelectors, SavedWindow};
 pub use service::{Left, Refused, serve_queue, show};
 pub use stage::Stage;
 pub use window::Window;

@@ -1,5 +1,7 @@
 //! What a window keeps, as plain numbers: as it is saved from one window, and restored to another.
 
+use crate::interrupts::Interrupts;
+
 /// How far a ready queue is served.
 #[derive(Clone, Copy, Debug, PartialEq, Eq)]
 pub struct Reached {
@@ -26,31 +28,43 @@ pub struct SavedQueue {
     pub reached: Option<Reached>,
 }
 
-/// All that a window keeps beside the kind of its device.
+/// What device and driver have settled.
 #[derive(Clone, Copy, Debug, PartialEq, Eq)]
-pub struct SavedWindow {
+pub struct SavedNegotiation {
     /// The bits of the features that the device offers.
     pub offered: u64,
     /// Status.
     pub status: u8,
     /// The bits of the features that the driver accepts.
     pub accepted: u64,
+}
+
+/// The registers by which a driver selects what others show.
+#[derive(Clone, Copy, Debug, PartialEq, Eq)]
+pub struct SavedSelectors {
     /// DeviceFeaturesSel.
-    pub device_features_sel: u32,
+    pub device_features: u32,
     /// DriverFeaturesSel.
-    pub driver_features_sel: u32,
+    pub driver_features: u32,
     /// QueueSel.
-    pub queue_sel: u32,
+    pub queue: u32,
+    /// SHMSel.
+    pub shm: u32,
+}
+
+/// All that a window keeps beside the kind of its device.
+#[derive(Clone, Copy, Debug, PartialEq, Eq)]
+pub struct SavedWindow {
+    /// Status and features.
+    pub negotiation: SavedNegotiation,
+    /// The selectors.
+    pub selectors: SavedSelectors,
     /// The registers of queue 0.
     pub queue_0: SavedQueue,
     /// The registers of queue 1.
     pub queue_1: SavedQueue,
-    /// Bit 0 of InterruptStatus.
-    pub used_buffer: bool,
-    /// Bit 1 of InterruptStatus.
-    pub configuration_change: bool,
-    /// SHMSel.
-    pub shm_sel: u32,
+    /// InterruptStatus.
+    pub interrupts: Interrupts,
     /// ConfigGeneration.
     pub config_generation: u32,
 }

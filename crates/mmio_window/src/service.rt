@@ -3,7 +3,7 @@
 
 ghost use Rattle.std.specs.Prelude.{◌≡◌, IfOk, IfErr};
 ghost use Rattle.guest_memory.specs.Memory.{Memory, SameRange};
-ghost use Rattle.mmio_window.specs.Leaving.{IsKept, IsLeftAt, LeavesQueue, RefusesAt, Stops, progress_of, shown, site_at};
+ghost use Rattle.mmio_window.specs.Leaving.{IsKept, IsLeftAt, LeavesQueue, QueueStays, RefusesAt, Stops, progress_of, shown, site_at};
 ghost use Rattle.mmio_window.specs.Queue.{LiesIn, made_as};
 ghost use Rattle.mmio_window.specs.Soundness.{IsSound};
 
@@ -105,9 +105,7 @@ fn serve_chains<B, D: Device<B>, M: Allocator>(
     ensures setup { D.setup device.new backend.new ≡ D.setup device.old backend.old }
     ensures keeps { IsKept D.Keeps device.old backend.old device.new backend.new }
     ensures ready { D.IsReady device.new backend.new }
-    ensures range { SameRange mem.old mem.new }
-    ensures lies { LiesIn mem.new queue.new }
-    ensures made { made_as queue.new ≡ made_as queue.old }
+    ensures stays { QueueStays mem.old mem.new queue.old queue.new }
 {
     let mut left = budget;
     while device.takes(backend) {

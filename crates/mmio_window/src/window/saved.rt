@@ -6,9 +6,8 @@ ghost use Rattle.mmio_window.specs.Saved.{saved_window, window_restored};
 ghost use Rattle.mmio_window.specs.Soundness.{IsSound};
 
 use crate::device_kind::DeviceKind;
-use crate::interrupts::Interrupts;
 use crate::queue_registers::QueueRegisters;
-use crate::saved::SavedWindow;
+use crate::saved::{SavedNegotiation, SavedSelectors, SavedWindow};
 use crate::window::Window;
 use guest_memory::GuestMemory;
 use negotiation::{Features, Flags, Negotiation, Status};
@@ -22,17 +21,20 @@ impl Window {
             window_restored self.now.kind m result ≡ Some self.now }
     {
         SavedWindow {
-            offered: self.negotiation.offered().bits(),
-            status: self.negotiation.status().bits(),
-            accepted: self.negotiation.accepted().bits(),
-            device_features_sel: self.device_features_sel,
-            driver_features_sel: self.driver_features_sel,
-            queue_sel: self.queue_sel,
+            negotiation: SavedNegotiation {
+                offered: self.negotiation.offered().bits(),
+                status: self.negotiation.status().bits(),
+                accepted: self.negotiation.accepted().bits(),
+            },
+            selectors: SavedSelectors {
+                device_features: self.device_features_sel,
+                driver_features: self.driver_features_sel,
+                queue: self.queue_sel,
+                shm: self.shm_sel,
+            },
             queue_0: self.queue_0.saved(),
             queue_1: self.queue_1.saved(),
-            used_buffer: self.interrupts.used_buffer,
-            configuration_change: self.interrupts.configuration_change,
-            shm_sel: self.shm_sel,
+            interrupts: self.interrupts,
             config_generation: self.config_generation,
         }
     }
@@ -49,25 +51,22 @@ impl Window {
         ensures sound { IfSome result (IsSound mem.now) }
         ensures again { IfSome result (λ window. saved_window window ≡ from.now) }
     {
-        let offered = Features::from_bits_retain(from.offered);
-        let status = Status::from_bits_retain(from.status);
-        let accepted = Features::from_bits_retain(from.accepted);
+        let offered = Features::from_bits_retain(from.negotiation.offered);
+        let status = Status::from_bits_retain(from.negotiation.status);
+        let accepted = Features::from_bits_retain(from.negotiation.accepted);
         let negotiation = Negotiation::standing(status, offered, accepted)?;
         let queue_0 = QueueRegisters::restored(&from.queue_0, &negotiation, mem)?;
         let queue_1 = QueueRegisters::restored(&from.queue_1, &negotiation, mem)?;
         Some(Window {
             kind,
             negotiation,
-            device_features_sel: from.device_features_sel,
-            driver_features_sel: from.driver_features_sel,
-            queue_sel: from.queue_sel,
+            device_features_sel: from.selectors.device_features,
+            driver_features_sel: from.selectors.driver_features,
+            queue_sel: from.selectors.queue,
             queue_0,
             queue_1,
-            interrupts: Interrupts {
-                used_buffer: from.used_buffer,
-                configuration_change: from.configuration_change,
-            },
-            shm_sel: from.shm_sel,
+            interrupts: from.interrupts,
+            shm_sel: from.selectors.shm,
             config_generation: from.config_generation,
         })
     }

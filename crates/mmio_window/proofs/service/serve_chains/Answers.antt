@@ -42,29 +42,20 @@ loop-left-preserved g c =
 
 pub returns-then-is_spent-clause-stops : goal.returns-then-is_spent-clause-stops
 returns-then-is_spent-clause-stops g c =
-    let same = c.loop-left.invariant.1 in
-    stops_paused (g.D.Device.device (g.D.Device.setup c.args.device.now c.args.backend.now)) c.args.budget
-    c.loop-left.left c.args.mem.now c.loop-left.mem c.args.queue.now c.loop-left.queue c.take.new.self
-    (g.D.Device.state c.args.device.now c.args.backend.now)
-    (g.D.Device.state c.loop-left.device c.loop-left.backend) c.take.new.chain
-    (entry_of c.in-Ok-Some.token)
-    c.loop-left.invariant.0 (c.is_spent.ensures.0 c.if-is_spent.true) (rw (← same) (sym c.takes.ensures
-    ∙ c.loop-left-test.true))
+    stops_paused c.loop-left.invariant.0 c.take.new.self c.take.new.chain (entry_of c.in-Ok-Some.token)
+    (c.is_spent.ensures.0 c.if-is_spent.true)
+    (rw (← c.loop-left.invariant.1) (sym c.takes.ensures ∙ c.loop-left-test.true))
     (rw c.in-Ok-Some.field-0-is at c.in-Ok-Some.ensures.on_offer)
     (rw c.in-Ok-Some.field-0-is at c.in-Ok-Some.ensures.offered) c.in-Ok-Some.ensures.same
 
 pub returns-in-Err-serve-clause-refuses : goal.returns-in-Err-serve-clause-refuses
 returns-in-Err-serve-clause-refuses g c =
     let same = c.loop-left.invariant.1 in
-    left_at (g.D.Device.device (g.D.Device.setup c.args.device.now c.args.backend.now))
+    left_at c.loop-left.invariant.0
     (g.D.Device.Refuses (g.D.Device.setup c.args.device.now c.args.backend.now))
-    c.args.budget c.loop-left.left c.args.mem.now c.loop-left.mem c.serve.new.mem c.args.queue.now
-    c.loop-left.queue c.take.new.self
-    (g.D.Device.state c.args.device.now c.args.backend.now)
-    (g.D.Device.state c.loop-left.device c.loop-left.backend)
-    (g.D.Device.state c.serve.new.self c.serve.new.backend) c.take.new.chain
+    c.serve.new.mem c.take.new.self (g.D.Device.state c.serve.new.self c.serve.new.backend) c.take.new.chain
     c.in-Ok-Some.token c.in-Err-serve.why
-    c.loop-left.invariant.0 (rw (← same) (sym c.takes.ensures ∙ c.loop-left-test.true))
+    (rw (← same) (sym c.takes.ensures ∙ c.loop-left-test.true))
     (rw c.in-Ok-Some.field-0-is at c.in-Ok-Some.ensures.on_offer)
     (rw c.in-Ok-Some.field-0-is at c.in-Ok-Some.ensures.offered)
     (rw c.in-Ok-Some.field-0-is at c.in-Ok-Some.ensures.taken) c.take.ensures.good
@@ -73,32 +64,20 @@ returns-in-Err-serve-clause-refuses g c =
 
 pub returns-in-Ok-None-clause-stops : goal.returns-in-Ok-None-clause-stops
 returns-in-Ok-None-clause-stops g c =
-    let same = c.loop-left.invariant.1 in
-    stops_spent (g.D.Device.device (g.D.Device.setup c.args.device.now c.args.backend.now)) c.args.budget
-    c.loop-left.left c.args.mem.now c.loop-left.mem c.args.queue.now c.loop-left.queue c.take.new.self
-    (g.D.Device.state c.args.device.now c.args.backend.now)
-    (g.D.Device.state c.loop-left.device c.loop-left.backend)
-    c.loop-left.invariant.0 (rw (← same) (sym c.takes.ensures ∙ c.loop-left-test.true))
+    stops_spent c.loop-left.invariant.0 c.take.new.self
+    (rw (← c.loop-left.invariant.1) (sym c.takes.ensures ∙ c.loop-left-test.true))
     (rw c.in-Ok-None.field-0-is at c.in-Ok-None.ensures.on_offer) c.in-Ok-None.ensures.same
 
 pub returns-in-Err-clause-stops : goal.returns-in-Err-clause-stops
 returns-in-Err-clause-stops g c =
-    let same = c.loop-left.invariant.1 in
-    stops_by_fault (g.D.Device.device (g.D.Device.setup c.args.device.now c.args.backend.now)) c.args.budget
-    c.loop-left.left c.args.mem.now c.loop-left.mem c.args.queue.now c.loop-left.queue c.take.new.self
-    (g.D.Device.state c.args.device.now c.args.backend.now)
-    (g.D.Device.state c.loop-left.device c.loop-left.backend) c.in-Err.fault
-    c.loop-left.invariant.0 (rw (← same) (sym c.takes.ensures ∙ c.loop-left-test.true))
+    stops_by_fault c.loop-left.invariant.0 c.take.new.self c.in-Err.fault
+    (rw (← c.loop-left.invariant.1) (sym c.takes.ensures ∙ c.loop-left-test.true))
     c.in-Err.ensures.met c.in-Err.ensures.fault c.in-Err.ensures.stopped
 
 pub returns-clause-stops : goal.returns-clause-stops
 returns-clause-stops g c =
-    let same = c.loop-left.invariant.1 in
-    stops_unwanted (g.D.Device.device (g.D.Device.setup c.args.device.now c.args.backend.now)) c.args.budget
-    c.loop-left.left c.args.mem.now c.loop-left.mem c.args.queue.now c.loop-left.queue
-    (g.D.Device.state c.args.device.now c.args.backend.now)
-    (g.D.Device.state c.loop-left.device c.loop-left.backend)
-    c.loop-left.invariant.0 (rw (← same) (sym c.takes.ensures ∙ c.loop-left-test.false))
+    stops_unwanted c.loop-left.invariant.0
+    (rw (← c.loop-left.invariant.1) (sym c.takes.ensures ∙ c.loop-left-test.false))
 
 pub returns-in-Err-serve-clause-keeps : goal.returns-in-Err-serve-clause-keeps
 returns-in-Err-serve-clause-keeps g c =

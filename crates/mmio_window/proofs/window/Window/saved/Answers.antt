@@ -9,17 +9,16 @@ returns-clause-back c = λ m.
     rw (← c.self.view_is) (λ sound.
     window-back m (the_view c.self.inside)
     (record {
-      offered = c.bits.result;
-      status = c.bits-2.result;
-      accepted = c.bits-3.result;
-      device_features_sel = c.self.inside.device_features_sel;
-      driver_features_sel = c.self.inside.driver_features_sel;
-      queue_sel = c.self.inside.queue_sel;
+      negotiation = record { offered = c.bits.result; status = c.bits-2.result; accepted = c.bits-3.result };
+      selectors = record {
+        device_features = c.self.inside.device_features_sel;
+        driver_features = c.self.inside.driver_features_sel;
+        queue = c.self.inside.queue_sel;
+        shm = c.self.inside.shm_sel;
+      };
       queue_0 = c.saved.result;
       queue_1 = c.saved-2.result;
-      used_buffer = c.self.inside.interrupts.used_buffer;
-      configuration_change = c.self.inside.interrupts.configuration_change;
-      shm_sel = c.self.inside.shm_sel;
+      interrupts = c.self.inside.interrupts;
       config_generation = c.self.inside.config_generation;
     }) (grind (arith, common_steps)) c.accepted.ensures.stands
     (rw c.saved.ensures.value at (c.saved.ensures.back m c.self.inside.negotiation sound.queue_0))
