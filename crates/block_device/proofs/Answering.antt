@@ -11,7 +11,7 @@ use Rattle.chain.specs.Buffers.{Good}
 use Rattle.chain.specs.Bytes.{readable_of, writable_of, scatter}
 use Rattle.chain.specs.Service.{Given, Does, used_len, wrote}
 use Rattle.chain.proofs.Directions.{length-readable_of, length-addresses_of, len_of-le}
-use Rattle.chain.proofs.Partial.{scattered-nil, scattered-run, scattered-then_byte, used_len-run, wrote-append}
+use Rattle.chain.proofs.Partial.{scattered-run, scattered-then_byte, used_len-run, wrote-append}
 use Rattle.sector_cache.specs.Disk.{Disk, failed, flushed}
 use Rattle.block_device.specs.declared.device.BlockDevice.{BlockDevice}
 use Rattle.block_device.specs.declared.request.RequestStatus.{RequestStatus}
@@ -125,20 +125,6 @@ used_len-found found room x some =
 -- the status itself is written
 wrote-status : (front : List (Option ℕ)) (x : ℕ) → true ≡ wrote (front ++ Some x ∷ [])
 wrote-status front x = sym (or-true (wrote front)) ∙ sym (wrote-append front (Some x ∷ []))
-
--- A chain without a writable byte is used as it is.
-pub nothing_does : (device : BlockDevice) (m : Memory) (buffers : List Buffer) (disk : Disk)
-    → length (writable_of buffers) ≡ 0
-    → Does (block_device device) m m buffers disk disk 0 false
-nothing_does device m buffers disk none = record {
-  written = [];
-  gives = subst (λ w. GivesBy (Ends device.identity) device disk (readable_of m buffers) w
-      (record { state = disk; written = [] })) (sym none) refl;
-  each = sym none;
-  memory = sym (scattered-nil m (writable_of buffers));
-  len_is = refl;
-  any_is = refl;
-}
 
 -- A request that is done is answered once its status is written in the last place.
 pub answer_does : (device : BlockDevice) (m done new : Memory) (buffers : List Buffer) (disk disk' : Disk)

@@ -13,7 +13,6 @@ use Rattle.block_device.specs.Asking.{EndsUnasked, asks_image, unasked_device}
 use Rattle.block_device.specs.Device.{GivesBy, block_device}
 use Rattle.block_device.specs.Outcome.{Ends}
 use Rattle.block_device.specs.Request.{request_of}
-use Rattle.block_device.proofs.Answering.{nothing_does}
 
 pub served_gives : (device : BlockDevice) (disk : Disk) (readable : List ℕ) (w : ℕ) (given : Given Disk)
     → GivesBy (EndsUnasked device.identity) device disk readable w given

@@ -1,5 +1,5 @@
 -- A request that puts nothing in the writable places, but for its status.
-use Rattle.std.proofs.Common.{◌≡◌, ℕ, ◌+◌, ◌∙◌, Bool, if◌then◌else◌, List, [], refl, sym, ap, arith}
+use Rattle.std.proofs.Common.{◌≡◌, ℕ, ◌+◌, ◌∙◌, if◌then◌else◌, List, [], refl, sym, ap, arith}
 use Rattle.std.specs.Prelude.{OnErr, OnOk, Result, Err, Ok}
 use Rattle.guest_memory.specs.Memory.{Memory}
 use Rattle.chain.specs.declared.segment.Buffer.{Buffer}

@@ -1,5 +1,5 @@
 -- Sectors that were moved so far, and what the request is once they all are, or once the image fails.
-use Rattle.std.proofs.Common.{◌≡◌, inl, inr, ℕ, ◌+◌, ◌*◌, ◌<◌, ◌≤◌, true, false, Option, None, Some, List, [], ◌++◌, length, map, take, drop, refl, sym, ap, ◌∙◌, arith, length-take, length-drop, length-append}
+use Rattle.std.proofs.Common.{◌≡◌, inl, inr, ℕ, ◌+◌, ◌*◌, ◌<◌, ◌≤◌, Option, None, Some, List, [], ◌++◌, length, map, take, drop, refl, sym, ap, ◌∙◌, arith, length-take, length-drop, length-append}
 use Rattle.std.specs.Prelude.{IfSome, IsSomeAnd, OnErr, OnOk, Result, Ok, Err}
 use Rattle.std.proofs.lemmas.List.{length-take-le, take_all, take-take, drop-drop}
 use Rattle.std.proofs.lemmas.List.{length-map, map-append}

@@ -1,5 +1,5 @@
 -- A chain in flight of a disk that the host serves.
-use Rattle.std.proofs.Common.{ℕ, ◌-◌, false, true, inl, inr, length, refl, arith}
+use Rattle.std.proofs.Common.{◌-◌, false, true, inl, inr, length, refl, arith}
 use Rattle.chain.specs.declared.budget.Budget.{Budget}
 use Rattle.chain.specs.Budget.{IsSpent}
 use Rattle.chain.proofs.Budgets.{IsInPiece, piece_goes_on}

@@ -1,7 +1,6 @@
 use Rattle.block_device.proofs.Answering.{flushing_ends, read_fits, write_fits, zeroes_fit}
 use Rattle.chain.specs.Bytes.{readable_of}
 use Rattle.block_device.specs.Request.{payload_of}
-use Rattle.block_device.specs.Touching.{on_image, written_sectors}
 use Rattle.block_device.proofs.Touching.{own_write, own_zeroes, written_none}
 use Rattle.block_device.proofs.device.BlockDevice.perform.Goals as goal
 
