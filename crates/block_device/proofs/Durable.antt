@@ -13,9 +13,9 @@ use Rattle.block_device.specs.declared.request.RequestStatus.{RequestStatus}
 use Rattle.block_device.specs.declared.request.RequestStatus.TheVariants.{Success, IoError, Unsupported}
 use Rattle.block_device.specs.Device.{GivesBy, block_device}
 use Rattle.block_device.specs.Durable.{Completion, IsCommitted, IsUnwritten, KeepsWordIn, Medium, ends_by_flush, must_last}
-use Rattle.block_device.specs.Outcome.{Ends, Fails, Outcome, completed}
+use Rattle.block_device.specs.Outcome.{Completes, Ends, Fails, Outcome, completed}
 use Rattle.block_device.specs.Request.{code_of, payload_of, request_of}
-use Rattle.block_device.proofs.Requests.{fails_counted, gives_rises}
+use Rattle.block_device.proofs.Requests.{fails_counted, gives_exact, gives_rises}
 
 -- ---- a request
 
@@ -29,6 +29,15 @@ completed_clean Flush payload found disk clean = refl
 completed_clean GetId payload found disk clean = clean
 completed_clean (WriteZeroes segments) payload found disk clean = refl
 
+pub exact_clean : (device : BlockDevice) (disk : Disk) (readable : List ℕ) (w : ℕ) (given : Given Disk)
+    → disk.dirty ≡ false → GivesBy (Completes device.identity) device disk readable w given
+    → given.state.dirty ≡ false
+exact_clean device disk readable zero given clean h = ap (λ (g : Given Disk). g.state.dirty) h ∙ clean
+exact_clean device disk readable (suc room) given clean h =
+    ap (λ (g : Given Disk). g.state.dirty) h.given_is
+    ∙ ap (λ (o : Outcome). o.disk.dirty) h.is.is
+    ∙ completed_clean (request_of device readable room) (payload_of readable) h.is.found disk clean
+
 pub ends_clean : (identity : List ℕ) (request : Request) (payload : List ℕ) (disk : Disk) (outcome : Outcome)
     → Ends identity request payload disk outcome → KeepsClean disk outcome.disk
 ends_clean identity request payload disk outcome (inl c) = λ same clean.
@@ -38,11 +47,8 @@ ends_clean identity request payload disk outcome (inr f) = λ same clean.
 
 gives_clean : (device : BlockDevice) (disk : Disk) (readable : List ℕ) (w : ℕ) (given : Given Disk)
     → GivesBy (Ends device.identity) device disk readable w given → KeepsClean disk given.state
-gives_clean device disk readable zero given h = λ same clean. ap (λ (g : Given Disk). g.state.dirty) h ∙ clean
-gives_clean device disk readable (suc room) given h = λ same clean.
-    ap (λ (g : Given Disk). g.state.dirty) h.given_is
-    ∙ ends_clean device.identity (request_of device readable room) (payload_of readable) disk h.outcome h.is
-    (sym (ap (λ (g : Given Disk). g.state.failures) h.given_is) ∙ same) clean
+gives_clean device disk readable w given h =
+    λ e clean. exact_clean device disk readable w given clean (gives_exact device disk readable w given h e)
 
 -- one that ends by a flush leaves the disk clean, also where it was dirty
 completed_flushed : (request : Request) (payload found : List ℕ) (disk : Disk) → ends_by_flush request ≡ true
