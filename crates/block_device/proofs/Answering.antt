@@ -1,7 +1,7 @@
 -- From a request that is done to a chain that is served: the status is written last.
 use Rattle.std.proofs.Common.{◌≡◌, Bool, inl, inr, ℕ, zero, suc, ◌+◌, ◌-◌, ◌*◌, ◌^◌, ◌<◌, ◌≤◌, true, false, Option, Some, None, List, [], ◌∷◌, ◌++◌, length, map, drop, replicate, refl, sym, ap, subst, ◌∙◌, arith, append_assoc, length-append, length-drop}
 use Rattle.std.proofs.Math.Bool.{or-true}
-use Rattle.std.specs.Prelude.{◌≢◌}
+use Rattle.std.specs.Prelude.{◌≢◌, OnErr, OnOk, Result}
 use Rattle.std.proofs.lemmas.Bool.{cases_lt}
 use Rattle.std.proofs.lemmas.Bool.Decides.{nat_tests}
 use Rattle.std.proofs.lemmas.List.{length-map, length-replicate}
@@ -11,16 +11,15 @@ use Rattle.chain.specs.Buffers.{Good}
 use Rattle.chain.specs.Bytes.{readable_of, writable_of, scatter}
 use Rattle.chain.specs.Service.{Given, Does, used_len, wrote}
 use Rattle.chain.proofs.Directions.{length-readable_of, length-addresses_of, len_of-le}
-use Rattle.chain.proofs.Partial.{scattered-nil, scattered-run, scattered-then_byte, used_len-run, wrote-append}
+use Rattle.chain.proofs.Partial.{scattered-run, scattered-then_byte, used_len-run, wrote-append}
 use Rattle.sector_cache.specs.Disk.{Disk, failed, flushed}
 use Rattle.block_device.specs.declared.device.BlockDevice.{BlockDevice}
-use Rattle.block_device.specs.declared.extent.Extent.{Extent}
 use Rattle.block_device.specs.declared.request.RequestStatus.{RequestStatus}
-use Rattle.block_device.specs.declared.request.RequestStatus.TheVariants.{Success, IoError}
+use Rattle.block_device.specs.declared.request.RequestStatus.TheVariants.{Success}
 use Rattle.block_device.specs.declared.request.Request.{Request}
 use Rattle.block_device.specs.declared.request.Request.TheVariants.{Rejected, Read, Write, Flush, GetId, WriteZeroes}
 use Rattle.block_device.specs.Extent.{extent_disk}
-use Rattle.block_device.specs.Request.{request_of, payload_of, code_of}
+use Rattle.block_device.specs.Request.{request_of, payload_of, code_of, status_of}
 use Rattle.block_device.specs.Outcome.{Ends}
 use Rattle.block_device.specs.Asking.{asks_image, found_by, used_by, with_status}
 use Rattle.block_device.specs.declared.operation.OperationKind.{OperationKind}
@@ -28,8 +27,9 @@ use Rattle.block_device.specs.declared.operation.OperationKind.TheVariants as ki
 use Rattle.block_device.specs.declared.operation.Verdict.{Verdict}
 use Rattle.block_device.specs.declared.operation.Verdict.TheVariants as verdict
 use Rattle.block_device.specs.Device.{block_device, GivesBy}
-use Rattle.block_device.specs.Progress.{IsServable, IsDone}
-use Rattle.block_device.proofs.Endings.{nothing_found}
+use Rattle.block_device.specs.Progress.{IsServable, IsDone, IsWritten}
+use Rattle.block_device.proofs.Endings.{flush_ends, nothing_found}
+use Rattle.block_device.proofs.Extents.{KeepsOutside-same}
 
 -- a chain's bytes are few
 pub writable_few : (m : Memory) (buffers : List Buffer) → Good m buffers
@@ -74,18 +74,16 @@ done_rejected request buffers m disk status is =
     rw is (nothing_found (Rejected status) buffers m disk disk status
     (inl (record { found = []; finds = refl; is = refl })))
 
-pub done_flushed : {identity : List ℕ} (extent : Extent) (request : Request) (buffers : List Buffer)
-    (m : Memory) (disk disk' : Disk) → request ≡ Flush → disk' ≡ flushed disk
-    → IsDone identity request buffers m m (extent_disk extent disk) (extent_disk extent disk') 0 Success
-done_flushed extent request buffers m disk disk' is flushes =
-    rw (is, flushes) (nothing_found Flush buffers m (extent_disk extent disk) _ Success
-    (inl (record { found = []; finds = refl; is = refl })))
-
-pub done_unflushed : {identity : List ℕ} (extent : Extent) (request : Request) (buffers : List Buffer)
-    (m : Memory) (disk disk' : Disk) → request ≡ Flush → disk' ≡ failed disk
-    → IsDone identity request buffers m m (extent_disk extent disk) (extent_disk extent disk') 0 IoError
-done_unflushed extent request buffers m disk disk' is fails =
-    rw (is, fails) (nothing_found Flush buffers m (extent_disk extent disk) _ IoError (inr refl))
+-- the flush has come out
+pub flushing_ends : {E : Type 0} (device : BlockDevice) (request : Request)
+    (buffers : List Buffer) (m : Memory)
+    (disk disk' : Disk) (result : Result (Unit {0}) E) → request ≡ Flush
+    → OnOk result (disk' ≡ flushed disk) → OnErr result (disk' ≡ failed disk)
+    → IsWritten device request buffers m (status_of result) disk disk'
+flushing_ends device request buffers m disk disk' result is ok err =
+    rw is (flush_ends device Flush buffers m disk disk (extent_disk device.extent disk) refl refl
+    (KeepsOutside-same device.extent disk disk refl refl) disk' result ok err
+    (inl (record { found = []; finds = refl; is = refl })) (inr refl))
 
 -- the identity is written
 pub done_identity : (identity : List ℕ) (request : Request) (buffers : List Buffer) (m new : Memory)
@@ -127,20 +125,6 @@ used_len-found found room x some =
 -- the status itself is written
 wrote-status : (front : List (Option ℕ)) (x : ℕ) → true ≡ wrote (front ++ Some x ∷ [])
 wrote-status front x = sym (or-true (wrote front)) ∙ sym (wrote-append front (Some x ∷ []))
-
--- A chain without a writable byte is used as it is.
-pub nothing_does : (device : BlockDevice) (m : Memory) (buffers : List Buffer) (disk : Disk)
-    → length (writable_of buffers) ≡ 0
-    → Does (block_device device) m m buffers disk disk 0 false
-nothing_does device m buffers disk none = record {
-  written = [];
-  gives = subst (λ w. GivesBy (Ends device.identity) device disk (readable_of m buffers) w
-      (record { state = disk; written = [] })) (sym none) refl;
-  each = sym none;
-  memory = sym (scattered-nil m (writable_of buffers));
-  len_is = refl;
-  any_is = refl;
-}
 
 -- A request that is done is answered once its status is written in the last place.
 pub answer_does : (device : BlockDevice) (m done new : Memory) (buffers : List Buffer) (disk disk' : Disk)

@@ -4,7 +4,9 @@ use Rattle.std.proofs.Common.{◌≡◌, ℕ, zero, suc, Bool, false, Option, So
 use Rattle.guest_memory.specs.Memory.{Memory}
 use Rattle.chain.specs.declared.budget.Budget.{Budget}
 use Rattle.chain.specs.declared.budget.Progress.{Progress}
+use Rattle.chain.specs.declared.budget.Progress.TheVariants.{Done, More}
 use Rattle.chain.specs.declared.segment.Buffer.{Buffer}
+use Rattle.chain.specs.declared.segment.Segment.{Segment}
 use Rattle.chain.specs.Bytes.{readable_of}
 use Rattle.chain.specs.Service.{Does, Given}
 use Rattle.chain.proofs.Simulating.{DoesAs}
@@ -24,7 +26,8 @@ use Rattle.block_device.specs.declared.request.Request.TheVariants.{Rejected, Re
 use Rattle.block_device.specs.Asking.{EndsUnasked, IsAsked, asks_image, unasked_device}
 use Rattle.block_device.specs.Device.{GivesBy}
 use Rattle.block_device.specs.Extent.{extent_disk}
-use Rattle.block_device.specs.Hosting.{AsksAt, hosted_device, site_of}
+use Rattle.block_device.specs.declared.hosting.Flight.{Flight}
+use Rattle.block_device.specs.Hosting.{AsksAt, HostsTo, IfAsks, hosted_by, hosted_device, site_of}
 use Rattle.block_device.specs.Outcome.{Completes, Outcome}
 use Rattle.block_device.specs.Request.{payload_of, request_of}
 use Rattle.block_device.proofs.OneLook.{completes_from}
@@ -115,16 +118,29 @@ asks_at device stage budget m m' queue last buffers refused h disk =
     }
 
 -- and a piece that asks for nothing is one over any disk
-pub hosts_to : (device : BlockDevice) (stage : Stage) (budget : Budget) (found : Option Queue)
-    (queue last : Queue) (left : Left) (progress : Progress)
-    (m m' : Memory) (w w' : WindowState) (disk : Disk)
-    → Some queue ≡ found → progress ≡ progress_of left → w' ≡ shown left (with_ring 0 w last)
-    → LeavesQueue (hosted_device device) stage budget (site_at m queue tt) (site_at m' last tt) left
+hosts_by : (device : BlockDevice) (stage : Stage) (budget : Budget) (found : Option Queue)
+    (progress : Progress)
+    (m m' : Memory) (w w' : WindowState) (buffers : List Buffer) (runs : List Segment) (disk : Disk)
     → ServesTo stage (unasked_device device) budget 0 found progress m m' w w'
     (extent_disk device.extent disk) (extent_disk device.extent disk)
-hosts_to device stage budget found queue last left progress m m' w w' disk is contents shows h =
+    → HostsTo device stage budget found (hosted_by progress) m m' w w' buffers runs disk
+hosts_by device stage budget found More m m' w w' buffers runs disk h = h
+hosts_by device stage budget found Done m m' w w' buffers runs disk h = h
+
+pub hosts_to : (device : BlockDevice) (stage : Stage) (budget : Budget) (found : Option Queue)
+    (queue last : Queue) (left : Left) (progress : Progress)
+    (m m' : Memory) (w w' : WindowState) (buffers : List Buffer) (runs : List Segment) (disk : Disk)
+    → Some queue ≡ found → progress ≡ progress_of left → w' ≡ shown left (with_ring 0 w last)
+    → LeavesQueue (hosted_device device) stage budget (site_at m queue tt) (site_at m' last tt) left
+    → HostsTo device stage budget found (hosted_by progress) m m' w w' buffers runs disk
+hosts_to device stage budget found queue last left progress m m' w w' buffers runs disk is contents shows h =
     let seen = extent_disk device.extent disk in
-    serves_seen (hosted_device device) (unasked_device device) (λ state. seen) (hosted_anywhere device seen)
+    hosts_by device stage budget found progress m m' w w' buffers runs disk
+    (serves_seen (hosted_device device) (unasked_device device) (λ state. seen) (hosted_anywhere device seen)
     budget stage 0 found progress m m' w w' tt tt
     (serves_to (hosted_device device) stage budget 0 found queue last left progress m m' w w' tt tt
-    is contents shows h)
+    is contents shows h))
+
+pub none_asks : (P : Flight → Type 0) (progress : Progress) → IfAsks P (hosted_by progress)
+none_asks P More = tt
+none_asks P Done = tt

@@ -13,7 +13,6 @@ use Rattle.block_device.specs.Asking.{EndsUnasked, asks_image, unasked_device}
 use Rattle.block_device.specs.Device.{GivesBy, block_device}
 use Rattle.block_device.specs.Outcome.{Ends}
 use Rattle.block_device.specs.Request.{request_of}
-use Rattle.block_device.proofs.Answering.{nothing_does}
 
 pub served_gives : (device : BlockDevice) (disk : Disk) (readable : List ℕ) (w : ℕ) (given : Given Disk)
     → GivesBy (EndsUnasked device.identity) device disk readable w given
@@ -64,25 +63,13 @@ unasked_does device m new buffers s t len any none d = record {
   any_is = d.any_is;
 }
 
--- a chain without a place for a status asks for nothing, and one whose request doesn't
-pub no_status : (device : BlockDevice) (readable : List ℕ) (w : ℕ) → w ≡ 0 → AsksNothing device readable w
-no_status device readable w none room some = absurd (omega (arith, none, some))
-
+-- a chain whose request asks for nothing
 pub asks_nothing : (device : BlockDevice) (readable : List ℕ) (w at : ℕ) (request : Request) → w ≡ at + 1
     → request ≡ request_of device readable at → asks_image request ≡ false → AsksNothing device readable w
 asks_nothing device readable w at request all is none room some =
     let same : room ≡ at = omega (arith, all, some) in
     subst (λ (k : ℕ). asks_image (request_of device readable k) ≡ false) (sym same)
     (ap (λ (r : Request). asks_image r) (sym is) ∙ none)
-
--- a chain without a writable byte is used as it is
-pub nothing_asked : (device : BlockDevice) (m : Memory) (buffers : List Buffer) (disk : Disk)
-    → length (writable_of buffers) ≡ 0
-    → Does (unasked_device device) m m buffers disk disk 0 false
-nothing_asked device m buffers disk none =
-    unasked_does device m m buffers disk disk 0 false
-    (no_status device (readable_of m buffers) (length (writable_of buffers)) none)
-    (nothing_does device m buffers disk none)
 
 served_all : (device : BlockDevice) (start now : Site Queue Disk) (chains : List (Served Disk))
     → ServesAll queue_kind (unasked_device device) start chains now

@@ -15,7 +15,7 @@ use Rattle.block_device.specs.Device.{GivesBy, block_device}
 use Rattle.block_device.specs.Durable.{Completion, IsCommitted, IsUnwritten, KeepsWordIn, Medium, ends_by_flush, must_last}
 use Rattle.block_device.specs.Outcome.{Completes, Ends, Fails, Outcome, completed}
 use Rattle.block_device.specs.Request.{code_of, payload_of, request_of}
-use Rattle.block_device.proofs.Requests.{gives_exact, gives_rises}
+use Rattle.block_device.proofs.Requests.{fails_counted, gives_exact, gives_rises}
 
 -- ---- a request
 
@@ -38,7 +38,14 @@ exact_clean device disk readable (suc room) given clean h =
     ∙ ap (λ (o : Outcome). o.disk.dirty) h.is.is
     ∙ completed_clean (request_of device readable room) (payload_of readable) h.is.found disk clean
 
-pub gives_clean : (device : BlockDevice) (disk : Disk) (readable : List ℕ) (w : ℕ) (given : Given Disk)
+pub ends_clean : (identity : List ℕ) (request : Request) (payload : List ℕ) (disk : Disk) (outcome : Outcome)
+    → Ends identity request payload disk outcome → KeepsClean disk outcome.disk
+ends_clean identity request payload disk outcome (inl c) = λ same clean.
+    ap (λ (o : Outcome). o.disk.dirty) c.is ∙ completed_clean request payload c.found disk clean
+ends_clean identity request payload disk outcome (inr f) = λ same clean.
+    let more = fails_counted request payload disk outcome f in absurd (omega (arith, more, same))
+
+gives_clean : (device : BlockDevice) (disk : Disk) (readable : List ℕ) (w : ℕ) (given : Given Disk)
     → GivesBy (Ends device.identity) device disk readable w given → KeepsClean disk given.state
 gives_clean device disk readable w given h =
     λ e clean. exact_clean device disk readable w given clean (gives_exact device disk readable w given h e)

@@ -4,7 +4,7 @@ use Rattle.std.specs.Prelude.{IfSome}
 use Rattle.std.specs.Option.{option_map}
 use Rattle.std.proofs.Math.Seq.{take-add}
 use Rattle.std.proofs.lemmas.List.{places, same_lists, take-append-drop}
-use Rattle.sector_cache.specs.Sector.{extent_of, sector_of, with_sector}
+use Rattle.sector_cache.specs.Sector.{extent_of, sector_of}
 use Rattle.sector_cache.specs.Disk.{Disk, IsWhole, written, written_from}
 use Rattle.sector_cache.proofs.Sectors.{extent_of-more, extent_of-extent_of}
 use Rattle.block_device.specs.declared.extent.Extent.{Extent}
@@ -19,15 +19,6 @@ length-with_sectors bytes sector new inside = simp (length-append, length-take, 
 pub with_sectors-nil : (bytes : List ℕ) (sector : ℕ) → with_sectors bytes sector [] ≡ bytes
 with_sectors-nil bytes sector =
     ap (λ n. take (512 * sector) bytes ++ drop n bytes) (omega arith) ∙ take-append-drop (512 * sector) bytes
-
--- one sector more
-pub with_sector-with_sectors : (bytes : List ℕ) (sector done : ℕ) (front chunk : List ℕ)
-    → length front ≡ 512 * done → length chunk ≡ 512 → 512 * (sector + done + 1) ≤ length bytes
-    → with_sector (with_sectors bytes sector front) (sector + done) chunk
-    ≡ with_sectors bytes sector (front ++ chunk)
-with_sector-with_sectors bytes sector done front chunk long whole inside =
-    same_lists _ _ (simp (length-append, length-take, length-drop) (omega arith))
-    (λ k d h. grind (arith, places))
 
 -- some sectors more
 pub with_sectors-with_sectors : (bytes : List ℕ) (sector done : ℕ) (front chunk : List ℕ)
@@ -86,24 +77,6 @@ filled-nil sector disk = same_disk disk.sector_count disk.failures disk.contents
     same_contents None = refl
     same_contents (Some bytes) = ap Some (sym (with_sectors-nil bytes sector))
 
--- one sector more is written
-pub written-filled : (disk : Disk) (sector done : ℕ) (front chunk : List ℕ) → IsWhole disk
-    → length front ≡ 512 * done → length chunk ≡ 512 → sector + done < disk.sector_count
-    → written (sector + done) chunk (filled sector front disk) ≡ filled sector (front ++ chunk) disk
-written-filled disk sector done front chunk is_whole long whole inside =
-    same_disk disk.sector_count disk.failures _ _ true (dirty_after (front ++ chunk) disk.dirty)
-    (same_contents disk.contents is_whole)
-    (dirty_after-chunk front chunk disk.dirty (omega (arith, whole)))
-  where
-    same_contents : (contents : Option (List ℕ))
-        → IfSome contents (λ bytes. length bytes ≡ 512 * disk.sector_count)
-        → option_map (λ bytes. with_sector bytes (sector + done) chunk)
-        (option_map (λ bytes. with_sectors bytes sector front) contents)
-        ≡ option_map (λ bytes. with_sectors bytes sector (front ++ chunk)) contents
-    same_contents None h = refl
-    same_contents (Some bytes) h =
-        ap Some (with_sector-with_sectors bytes sector done front chunk long whole (omega arith))
-
 -- some sectors more are written in place
 pub written_from-filled : (disk : Disk) (sector done n : ℕ) (front chunk : List ℕ) → IsWhole disk
     → length front ≡ 512 * done
@@ -123,6 +96,25 @@ written_from-filled disk sector done n front chunk is_whole long size some insid
     same_contents (Some bytes) h =
         ap Some (with_sectors-with_sectors bytes sector done front chunk long
         (omega (arith, h, size, inside)))
+
+-- a sector that is written is a run of one
+pub written-run : (sector : ℕ) (new : List ℕ) (disk : Disk) → length new ≡ 512
+    → written sector new disk ≡ written_from sector new disk
+written-run sector new disk whole =
+    let behind : 512 * (sector + 1) ≡ 512 * sector + length new = omega (arith, whole) in
+    ap (λ n. record disk {
+      contents = option_map (λ bytes. take (512 * sector) bytes ++ (new ++ drop n bytes)) disk.contents;
+      dirty = true;
+    }) behind
+
+-- and so one sector more is
+pub written-filled : (disk : Disk) (sector done : ℕ) (front chunk : List ℕ) → IsWhole disk
+    → length front ≡ 512 * done → length chunk ≡ 512 → sector + done < disk.sector_count
+    → written (sector + done) chunk (filled sector front disk) ≡ filled sector (front ++ chunk) disk
+written-filled disk sector done front chunk is_whole long whole inside =
+    written-run (sector + done) chunk (filled sector front disk) whole
+    ∙ written_from-filled disk sector done 1 front chunk is_whole long whole (omega arith)
+    (omega (arith, inside))
 
 -- the extent of a disk that was written within it
 pub extent_disk-filled : (extent : Extent) (disk : Disk) (sector : ℕ) (new : List ℕ) → IsWhole disk
@@ -211,12 +203,7 @@ AreSectorContents-extent extent disk sector count found within h =
     same_contents (Some bytes) h = h
         ∙ sym (extent_of-extent_of bytes extent.start extent.count sector count within)
 
--- the sectors' bytes in front, and one sector more
-pub take-sector : (payload : List ℕ) (done : ℕ) → take (512 * done) payload
-    ++ take 512 (drop (512 * done) payload) ≡ take (512 * (done + 1)) payload
-take-sector payload done = sym (take-add (512 * done) 512 payload) ∙ ap (λ n. take n payload) (omega arith)
-
--- and some sectors more
+-- the sectors' bytes in front, and some sectors more
 pub take-sectors : (payload : List ℕ) (done n : ℕ)
     → take (512 * done) payload ++ take (512 * n) (drop (512 * done) payload)
     ≡ take (512 * (done + n)) payload

@@ -1,5 +1,5 @@
 -- The device as its guest knows it: where its extent lies, and how the image fares, are never seen.
-use Rattle.std.proofs.Common.{◌≡◌, ℕ, zero, suc, Option, List, [], ◌∷◌, replicate, refl, sym, ap, subst, ◌∙◌}
+use Rattle.std.proofs.Common.{◌≡◌, ℕ, zero, suc, Bool, Option, List, [], ◌∷◌, replicate, refl, sym, ap, subst, ◌∙◌}
 use Rattle.std.specs.Prelude.{IfSome}
 use Rattle.std.specs.Option.{option_map}
 use Rattle.chain.specs.Service.{Given}
@@ -7,6 +7,7 @@ use Rattle.chain.proofs.Simulating.{DoesAs, Matches}
 use Rattle.sector_cache.specs.Sector.{extent_of, with_sector}
 use Rattle.sector_cache.specs.Disk.{Disk, written}
 use Rattle.block_device.specs.declared.device.BlockDevice.{BlockDevice}
+use Rattle.block_device.specs.declared.request.RequestStatus.{RequestStatus}
 use Rattle.block_device.specs.declared.request.Request.{Request}
 use Rattle.block_device.specs.declared.request.Request.TheVariants.{Rejected, Read, Write, Flush, GetId, WriteZeroes}
 use Rattle.block_device.specs.Request.{request_of, payload_of}
@@ -59,16 +60,20 @@ finds_same identity Flush s t found same h = h
 finds_same identity GetId s t found same h = h
 finds_same identity (WriteZeroes segments) s t found same h = h
 
+-- what a request does to the contents alone
+pub same_by : (f : List ℕ → List ℕ) (s t : Disk) {n k : ℕ} {d e : Bool} → SameSectors s t
+    → SameSectors
+    (record { contents = option_map f s.contents; sector_count = s.sector_count; failures = n; dirty = d })
+    (record { contents = option_map f t.contents; sector_count = t.sector_count; failures = k; dirty = e })
+same_by f s t same = record { contents = ap (option_map f) same.contents; sectors = same.sectors }
+
 pub zeroed_same : (sectors : List ℕ) (s t : Disk) → SameSectors s t
     → SameSectors (zeroed_sectors sectors s) (zeroed_sectors sectors t)
 zeroed_same [] s t same = same
 zeroed_same (sector ∷ sectors) s t same =
     let zeros : List ℕ = replicate 512 0 in
     zeroed_same sectors (written sector zeros s) (written sector zeros t)
-    (record {
-      contents = ap (option_map (λ bytes. with_sector bytes sector zeros)) same.contents;
-      sectors = same.sectors;
-    })
+    (same_by (λ bytes. with_sector bytes sector zeros) s t same)
 
 -- what is told to the driver is the same, and so are the sectors afterwards
 pub record SameOutcome (one other : Outcome) : Type 0 where
@@ -76,72 +81,86 @@ pub record SameOutcome (one other : Outcome) : Type 0 where
   pub found : other.found ≡ one.found
   pub status : other.status ≡ one.status
 
+pub on_disks : {s t : Disk} {found : List ℕ} {status : RequestStatus} → SameSectors s t
+    → SameOutcome (record { disk = s; found = found; status = status })
+    (record { disk = t; found = found; status = status })
+on_disks same = record { disk = same; found = refl; status = refl }
+
 completed_same : (request : Request) (payload found : List ℕ) (s t : Disk) → SameSectors s t
     → SameOutcome (completed request payload found s) (completed request payload found t)
-completed_same (Rejected status) payload found s t same = record { disk = same; found = refl; status = refl }
-completed_same (Read sector count) payload found s t same =
-    record { disk = same; found = refl; status = refl }
-completed_same (Write sector count) payload found s t same = record {
-  disk = record {
-    contents = ap (option_map (λ bytes. with_sectors bytes sector payload)) same.contents;
-    sectors = same.sectors;
-  };
-  found = refl;
-  status = refl;
-}
+completed_same (Rejected status) payload found s t same = on_disks same
+completed_same (Read sector count) payload found s t same = on_disks same
+completed_same (Write sector count) payload found s t same =
+    on_disks (same_by (λ bytes. with_sectors bytes sector payload) s t same)
 completed_same Flush payload found s t same =
-    record { disk = record { contents = same.contents; sectors = same.sectors }; found = refl; status = refl }
-completed_same GetId payload found s t same = record { disk = same; found = refl; status = refl }
+    on_disks (record { contents = same.contents; sectors = same.sectors })
+completed_same GetId payload found s t same = on_disks same
 completed_same (WriteZeroes segments) payload found s t same =
     let after = zeroed_same (all_sectors (segments_in payload)) s t same in
-    record {
-      disk = record { contents = after.contents; sectors = after.sectors };
-      found = refl;
-      status = refl;
-    }
+    on_disks (record { contents = after.contents; sectors = after.sectors })
 
-pub same_written : (room : ℕ) (one other : Outcome) → SameOutcome one other
+same_written : (room : ℕ) (one other : Outcome) → SameOutcome one other
     → (given_of room one).written ≡ (given_of room other).written
 same_written room one other same = rw (same.found, same.status) refl
 
 -- what was written, with another state
-abbrev pub given_with : Disk → List (Option ℕ) → Given Disk
+abbrev given_with : Disk → List (Option ℕ) → Given Disk
 given_with disk written = record { state = disk; written = written }
 
-pub gives_same : (device : BlockDevice) (s t : Disk) (readable : List ℕ) (w : ℕ) (given : Given Disk)
-    → SameSectors s t → GivesBy (Completes device.identity) device s readable w given
-    → Matches (exact_device device) SameSectors t readable w given
-gives_same device s t readable zero given same h = record {
+-- A request that ends so ends so over each other disk of the same sectors, with the same outcome.
+pub record EndsAlike (Way : Request → List ℕ → Disk → Outcome → Type 0) (request : Request)
+    (payload : List ℕ) (t : Disk) (outcome : Outcome) : Type 0 where
+  pub other : Outcome
+  pub is : Way request payload t other
+  pub same : SameOutcome outcome other
+
+abbrev pub SeesSectors : (Request → List ℕ → Disk → Outcome → Type 0) → Type 0
+SeesSectors Way = (request : Request) (payload : List ℕ) (s t : Disk) (outcome : Outcome) → SameSectors s t
+    → Way request payload s outcome → EndsAlike Way request payload t outcome
+
+-- and so does a device that ends each request so
+gives_same : (Way : Request → List ℕ → Disk → Outcome → Type 0) (device : BlockDevice) (s t : Disk)
+    (readable : List ℕ) (w : ℕ) (given : Given Disk) → SeesSectors Way
+    → SameSectors s t → GivesBy Way device s readable w given
+    → Matches (device_by Way device) SameSectors t readable w given
+gives_same Way device s t readable zero given sees same h = record {
   state = t;
   alike = subst (λ (d : Disk). SameSectors d t) (sym (ap (λ (g : Given Disk). g.state) h)) same;
   gives = ap (λ (written : List (Option ℕ)). given_with t written) (ap (λ (g : Given Disk). g.written) h);
 }
-gives_same device s t readable (suc room) given same h =
-    let request = request_of device readable room in
-    let payload = payload_of readable in
-    let other : Outcome = completed request payload h.is.found t in
-    let outcomes : SameOutcome h.outcome other =
-    subst (λ (o : Outcome). SameOutcome o other) (sym h.is.is)
-    (completed_same request payload h.is.found s t same) in
+gives_same Way device s t readable (suc room) given sees same h =
+    let o = sees (request_of device readable room) (payload_of readable) s t h.outcome same h.is in
     record {
-      state = other.disk;
-      alike = subst (λ (d : Disk). SameSectors d other.disk)
-          (sym (ap (λ (g : Given Disk). g.state) h.given_is)) outcomes.disk;
+      state = o.other.disk;
+      alike = subst (λ (d : Disk). SameSectors d o.other.disk)
+          (sym (ap (λ (g : Given Disk). g.state) h.given_is)) o.same.disk;
       gives = record {
-        outcome = other;
-        is = record {
-          found = h.is.found;
-          finds = finds_same device.identity request s t h.is.found same h.is.finds;
-          is = refl;
-        };
-        given_is = ap (given_with other.disk) (ap (λ (g : Given Disk). g.written) h.given_is
-            ∙ same_written room h.outcome other outcomes);
+        outcome = o.other;
+        is = o.is;
+        given_is = ap (given_with o.other.disk) (ap (λ (g : Given Disk). g.written) h.given_is
+            ∙ same_written room h.outcome o.other o.same);
       };
     }
 
-pub exact_same : (device : BlockDevice) → DoesAs (exact_device device) (exact_device device) SameSectors
-exact_same device = record {
+pub device_same : (Way : Request → List ℕ → Disk → Outcome → Type 0) (device : BlockDevice)
+    → SeesSectors Way → DoesAs (device_by Way device) (device_by Way device) SameSectors
+device_same Way device sees = record {
   takes = λ s t same. refl;
-  gives = λ s t readable w given same h. gives_same device s t readable w given same h;
+  gives = λ s t readable w given same h. gives_same Way device s t readable w given sees same h;
   lacks_memory = λ s t readable w same h. h;
 }
+
+pub completes_same : (identity : List ℕ) → SeesSectors (Completes identity)
+completes_same identity request payload s t outcome same h = record {
+  other = completed request payload h.found t;
+  is = record {
+    found = h.found;
+    finds = finds_same identity request s t h.found same h.finds;
+    is = refl;
+  };
+  same = rw h.is (completed_same request payload h.found s t same);
+}
+
+pub exact_same : (device : BlockDevice) → DoesAs (exact_device device) (exact_device device) SameSectors
+exact_same device =
+    device_same (Completes device.identity) device (completes_same device.identity)

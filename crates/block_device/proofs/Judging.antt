@@ -93,27 +93,23 @@ at_index payload index below =
     (segment_at payload index) below (omega arith)
 
 -- where all can be zeroed, each can
-segment_fits : (capacity : ℕ) (payload : List ℕ) (index : ℕ) (segment : WriteZeroesSegment)
-    → list_all (has_sectors_within capacity) (segments_in payload) ≡ true
-    → segment ≡ segment_at payload index → index < length payload / 16
-    → has_sectors_within capacity segment ≡ true
-segment_fits capacity payload index segment all is below =
-    let d = segment_at payload index in
-    let there : index < length (segments_in payload) =
-    omega (arith, length-map-range_with_len (segment_at payload) 0 (length payload / 16)) in
-    ap (has_sectors_within capacity) (is ∙ sym (at_index payload index below))
-    ∙ AllPass-from_list_all (has_sectors_within capacity) (segments_in payload) all index d there
+module _ (capacity : ℕ) (payload : List ℕ) (segments index : ℕ) (segment : WriteZeroesSegment)
+    (all : list_all (has_sectors_within capacity) (segments_in payload) ≡ true)
+    (size : length payload ≡ 16 * segments) (below : index < segments)
+    (is : segment ≡ segment_at payload index)
+  where
+    segment_fits : has_sectors_within capacity segment ≡ true
+    segment_fits =
+        let d = segment_at payload index in
+        let among : index < length payload / 16 = omega (arith, size, below) in
+        let there : index < length (segments_in payload) =
+        omega (arith, among, length-map-range_with_len (segment_at payload) 0 (length payload / 16)) in
+        ap (has_sectors_within capacity) (is ∙ sym (at_index payload index among))
+        ∙ AllPass-from_list_all (has_sectors_within capacity) (segments_in payload) all index d there
 
--- it lies on the disk, and has few sectors
-pub segment_within : (capacity : ℕ) (payload : List ℕ) (index : ℕ) (segment : WriteZeroesSegment)
-    → list_all (has_sectors_within capacity) (segments_in payload) ≡ true
-    → segment ≡ segment_at payload index → index < length payload / 16
-    → segment.sector + segment.count ≤ capacity
-segment_within capacity payload index segment all is below =
-    let own = segment_fits capacity payload index segment all is below in grind (arith, nat_tests, own)
+    -- it lies on the disk, and has few sectors
+    pub segment_within : segment.sector + segment.count ≤ capacity
+    segment_within = grind (arith, nat_tests, segment_fits)
 
-pub segment_few : (capacity : ℕ) (payload : List ℕ) (index : ℕ) (segment : WriteZeroesSegment)
-    → list_all (has_sectors_within capacity) (segments_in payload) ≡ true
-    → segment ≡ segment_at payload index → index < length payload / 16 → segment.count ≤ 65536
-segment_few capacity payload index segment all is below =
-    let own = segment_fits capacity payload index segment all is below in grind (arith, nat_tests, own)
+    pub segment_few : segment.count ≤ 65536
+    segment_few = grind (arith, nat_tests, segment_fits)

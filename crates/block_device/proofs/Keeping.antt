@@ -6,20 +6,25 @@ use Rattle.std.proofs.lemmas.Bool.Decides.{nat_tests}
 use Rattle.guest_memory.specs.Memory.{Memory}
 use Rattle.chain.specs.declared.segment.Buffer.{Buffer}
 use Rattle.chain.specs.Bytes.{readable_of}
-use Rattle.chain.specs.Service.{Does}
 use Rattle.chain.proofs.Simulating.{DoesAs}
 use Rattle.sector_cache.specs.Disk.{Disk, KeepsClean}
+use Rattle.sector_cache.specs.Stop.{TouchesSectors}
 use Rattle.mmio_window.specs.Leaving.{IsKept}
 use Rattle.mmio_window.proofs.Keeping.{kept_all}
 use Rattle.block_device.specs.declared.cached.Cached.{Cached}
 use Rattle.block_device.specs.declared.device.BlockDevice.{BlockDevice}
+use Rattle.block_device.specs.declared.request.Request.{Request}
+use Rattle.block_device.specs.declared.request.RequestStatus.{RequestStatus}
+use Rattle.block_device.specs.Asking.{IsAsked}
 use Rattle.block_device.specs.Device.{block_device}
-use Rattle.block_device.specs.Extent.{CallsWithin, TouchesExtent, extent_disk}
+use Rattle.block_device.specs.Extent.{CallsWithin, extent_disk}
 use Rattle.block_device.specs.Keeping.{KeepsImage}
-use Rattle.block_device.specs.Touching.{device_over}
-use Rattle.block_device.proofs.Durable.{gives_clean}
+use Rattle.block_device.specs.Progress.{IsDone}
+use Rattle.block_device.specs.Request.{is_io_error, payload_of}
+use Rattle.block_device.specs.Touching.{device_over, on_image, written_sectors}
+use Rattle.block_device.proofs.Durable.{ends_clean}
 use Rattle.block_device.proofs.Extents.{KeepsOutside-same, outside_trans}
-use Rattle.block_device.proofs.Touching.{touched_more, untouched}
+use Rattle.block_device.proofs.Touching.{own_extent, touched_more, untouched}
 
 -- ---- whether the number of failures rose
 
@@ -96,25 +101,29 @@ module _ {I : Type 0} (disk : I → Disk) (moment : I → ℕ) (may_leave : I �
   keeps_on device device' device'' failed failed' failed'' a b c h k =
       on_same device device' device'' failed failed' failed'' a b c h.same h k
 
-  -- one chain
-  pub answer_keeps : (device : BlockDevice) (failed more : Bool) (m m' : Memory) (buffers : List Buffer)
-      (len : ℕ) (any : Bool) (old new : I)
-      → Does (block_device device) m m' buffers (extent_disk device.extent (disk old))
-      (extent_disk device.extent (disk new)) len any
-      → CallsWithin device.extent more (disk old) (disk new)
-      → TouchesExtent moment may_leave left_since device.extent old new
-      → Keeps device device failed (failed || more) old new
-  answer_keeps device failed more m m' buffers len any old new does calls touches = record {
-    same = refl;
-    stays = record {
-      rises = rises_by more (disk old).failures (disk new).failures calls.counted;
-      clean = λ same clean. gives_clean device (extent_disk device.extent (disk old)) (readable_of m buffers)
-          _ _ does.gives same clean;
-      outside = calls.outside;
-    };
-    touches = touches;
-    counted = ap (λ b. failed || b) (one_less more (disk old).failures (disk new).failures calls.counted);
-  }
+  -- one chain that asked for the image
+  pub asked_keeps : (device : BlockDevice) (failed failed' : Bool) (m done : Memory) (buffers : List Buffer)
+      (request : Request) (asked : IsAsked device m buffers request) (len : ℕ) (status : RequestStatus)
+      (old new : I)
+      → IsDone device.identity request buffers m done (extent_disk device.extent (disk old))
+      (extent_disk device.extent (disk new)) len status
+      → CallsWithin device.extent (is_io_error status) (disk old) (disk new)
+      → TouchesSectors moment may_leave left_since
+      (on_image device.extent (written_sectors request (payload_of (readable_of m buffers)))) old new
+      → failed' ≡ (failed || is_io_error status) → Keeps device device failed failed' old new
+  asked_keeps device failed failed' m done buffers request asked len status old new is calls touches latch =
+      record {
+        same = refl;
+        stays = record {
+          rises = rises_by (is_io_error status) (disk old).failures (disk new).failures calls.counted;
+          clean = λ same clean. ends_clean device.identity request (payload_of (readable_of m buffers))
+              (extent_disk device.extent (disk old)) _ is.ends same clean;
+          outside = calls.outside;
+        };
+        touches = own_extent device m buffers request asked touches;
+        counted = latch ∙ ap (λ b. failed || b) (one_less (is_io_error status) (disk old).failures
+            (disk new).failures calls.counted);
+      }
 
   -- the chains of a piece
   pub kept_image : (here there : Cached) (cache later : I)

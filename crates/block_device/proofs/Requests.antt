@@ -73,7 +73,7 @@ completes_counted identity request payload disk outcome h =
     ap (λ (o : Outcome). o.disk.failures) h.is ∙ completed_failures request payload h.found disk
 
 -- one that fails raises it by one
-fails_counted : (request : Request) (payload : List ℕ) (disk : Disk) (outcome : Outcome)
+pub fails_counted : (request : Request) (payload : List ℕ) (disk : Disk) (outcome : Outcome)
     → Fails request payload disk outcome → outcome.disk.failures ≡ disk.failures + 1
 fails_counted (Rejected status) payload disk outcome h = absurd h
 fails_counted (Read sector count) payload disk outcome h = ap (λ (o : Outcome). o.disk.failures) h.is

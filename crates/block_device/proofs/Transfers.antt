@@ -1,6 +1,6 @@
 -- Sectors that were moved so far, and what the request is once they all are, or once the image fails.
-use Rattle.std.proofs.Common.{◌≡◌, inl, inr, ℕ, ◌+◌, ◌*◌, ◌<◌, ◌≤◌, true, false, Option, None, Some, List, [], ◌++◌, length, map, take, drop, refl, sym, ap, ◌∙◌, arith, length-take, length-drop, length-append}
-use Rattle.std.specs.Prelude.{IfSome, IsSomeAnd, Result, Ok, Err}
+use Rattle.std.proofs.Common.{◌≡◌, inl, inr, ℕ, ◌+◌, ◌*◌, ◌<◌, ◌≤◌, Option, None, Some, List, [], ◌++◌, length, map, take, drop, refl, sym, ap, ◌∙◌, arith, length-take, length-drop, length-append}
+use Rattle.std.specs.Prelude.{IfSome, IsSomeAnd, OnErr, OnOk, Result, Ok, Err}
 use Rattle.std.proofs.lemmas.List.{length-take-le, take_all, take-take, drop-drop}
 use Rattle.std.proofs.lemmas.List.{length-map, map-append}
 use Rattle.std.proofs.Math.Seq.{take-add}
@@ -12,15 +12,16 @@ use Rattle.chain.proofs.Partial.{scattered-run, scattered-then_run, scattered-ni
 use Rattle.sector_cache.specs.Sector.{extent_of, sector_of}
 use Rattle.sector_cache.specs.Lending.{IsReadThrough}
 use Rattle.sector_cache.specs.Disk.{Disk, IsWhole, IsTorn, Tells, failed, flushed, written, written_from}
+use Rattle.block_device.specs.declared.device.BlockDevice.{BlockDevice}
 use Rattle.block_device.specs.declared.extent.Extent.{Extent}
 use Rattle.block_device.specs.declared.request.RequestStatus.TheVariants.{Success, IoError}
 use Rattle.block_device.specs.declared.request.Request.TheVariants.{Read, Write}
-use Rattle.block_device.specs.Extent.{IsWithin, extent_disk, CallsWithin}
-use Rattle.block_device.specs.Request.{payload_of}
+use Rattle.block_device.specs.Extent.{IsWithin, extent_disk}
+use Rattle.block_device.specs.Request.{payload_of, status_of}
 use Rattle.block_device.specs.Outcome.{AreSectorContents, filled}
-use Rattle.block_device.specs.Progress.{IsDone}
-use Rattle.block_device.proofs.Endings.{nothing_found}
-use Rattle.block_device.proofs.Extents.{filled-nil, written-filled, extent_disk-filled, KeepsOutside-filled, AreSectorContents-none, AreSectorContents-more, AreSectorContents-extent, take-sector, take-sectors, written_from-filled}
+use Rattle.block_device.specs.Progress.{IsDone, IsWritten}
+use Rattle.block_device.proofs.Endings.{flush_ends, nothing_found}
+use Rattle.block_device.proofs.Extents.{filled-nil, written-filled, written-run, extent_disk-filled, KeepsOutside-filled, AreSectorContents-none, AreSectorContents-more, AreSectorContents-extent, take-sectors, written_from-filled}
 
 -- the disk after a sector was lent, and after a read that failed
 pub after_lent : {X E : Type 0} (result : Result X E) (x : X) (old new : Disk) → result ≡ Ok x
@@ -166,27 +167,6 @@ pub record IsWriting (disk disk' : Disk) (sector : ℕ) (payload : List ℕ) (do
 pub writing_start : (disk : Disk) (sector : ℕ) (payload : List ℕ) → IsWriting disk disk sector payload 0
 writing_start disk sector payload = record { is = filled-nil sector disk }
 
-pub writing_more : (disk d d' : Disk) (sector count done : ℕ) (readable chunk : List ℕ) → IsWhole disk
-    → IsWriting disk d sector (payload_of readable) done
-    → done < count → length (payload_of readable) ≡ 512 * count → sector + done < disk.sector_count
-    → chunk ≡ take 512 (drop (16 + 512 * done) readable) → d' ≡ written (sector + done) chunk d
-    → IsWriting disk d' sector (payload_of readable) (done + 1)
-writing_more disk d d' sector count done readable chunk is_whole w sooner size inside read put =
-    let payload = payload_of readable in
-    let same : chunk ≡ take 512 (drop (512 * done) payload) = read
-    ∙ ap (take 512) (ap (λ n. drop n readable) (omega arith)
-    ∙ sym (drop-drop (512 * done) 16 readable)) in
-    let long : length (take (512 * done) payload) ≡ 512 * done = simp length-take (omega arith) in
-    let whole : length chunk ≡ 512 = ap length same
-    ∙ simp (length-take, length-drop) (omega (arith, sooner, size, length-drop 16 readable)) in
-    record {
-      is =
-          put ∙ ap (written (sector + done) chunk) w.is
-          ∙ written-filled disk sector done (take (512 * done) payload) chunk is_whole long whole inside
-          ∙ ap (λ bytes. filled sector bytes disk) (ap (λ c. take (512 * done) payload ++ c) same
-          ∙ take-sector payload done);
-    }
-
 -- some sectors more are written in place
 pub writing_run : (disk d d' : Disk) (sector count done n : ℕ) (readable : List ℕ) → IsWhole disk
     → IsWriting disk d sector (payload_of readable) done
@@ -214,18 +194,31 @@ writing_run disk d d' sector count done n readable is_whole w some within size i
           ∙ take-sectors payload done n);
     }
 
+-- or one sector
+pub writing_more : (disk d d' : Disk) (sector count done : ℕ) (readable chunk : List ℕ) → IsWhole disk
+    → IsWriting disk d sector (payload_of readable) done
+    → done < count → length (payload_of readable) ≡ 512 * count → sector + done < disk.sector_count
+    → chunk ≡ take 512 (drop (16 + 512 * done) readable) → d' ≡ written (sector + done) chunk d
+    → IsWriting disk d' sector (payload_of readable) (done + 1)
+writing_more disk d d' sector count done readable chunk is_whole w sooner size inside read put =
+    let whole : length chunk ≡ 512 = ap length read
+    ∙ simp (length-take, length-drop) (omega (arith, sooner, size, length-drop 16 readable)) in
+    writing_run disk d d' sector count done 1 readable is_whole w (omega arith) (omega (arith, sooner)) size
+    (omega (arith, inside))
+    (put ∙ written-run (sector + done) chunk d whole
+    ∙ ap (λ bytes. written_from (sector + done) bytes d) read)
+
 -- the image fails at a sector
-pub writing_fails : (identity : List ℕ) (extent : Extent) (buffers : List Buffer) (m : Memory)
-    (disk d disk' : Disk) (sector count done : ℕ) → IsWhole disk → IsWithin disk.sector_count extent
-    → IsWriting disk d (extent.start + sector) (payload_of (readable_of m buffers)) done → done < count
-    → sector + count ≤ extent.count
+pub writing_fails : (device : BlockDevice) (buffers : List Buffer) (m : Memory)
+    (disk d disk' : Disk) (sector count done : ℕ) → IsWhole disk → IsWithin disk.sector_count device.extent
+    → IsWriting disk d (device.extent.start + sector) (payload_of (readable_of m buffers)) done → done < count
+    → sector + count ≤ device.extent.count
     → length (payload_of (readable_of m buffers)) ≡ 512 * count
-    → IsTorn (extent.start + sector + done) d disk'
-    → IsDone identity (Write sector count) buffers m m (extent_disk extent disk) (extent_disk extent disk') 0
-    IoError × CallsWithin extent true disk disk'
-writing_fails identity extent buffers m disk d disk' sector count done is_whole lies w sooner within size t =
-    let payload = payload_of (readable_of m buffers) in
-    let front = take (512 * done) payload in
+    → IsTorn (device.extent.start + sector + done) d disk'
+    → IsWritten device (Write sector count) buffers m IoError disk disk'
+writing_fails device buffers m disk d disk' sector count done is_whole lies w sooner within size t =
+    let extent = device.extent in
+    let front = take (512 * done) (payload_of (readable_of m buffers)) in
     let long : length front ≡ 512 * done = simp length-take (omega arith) in
     let all : disk' ≡ failed (filled (extent.start + sector) (front ++ t.left) disk) =
     t.torn ∙ ap (λ d. failed (written (extent.start + sector + done) t.left d)) w.is
@@ -235,71 +228,42 @@ writing_fails identity extent buffers m disk d disk' sector count done is_whole 
     omega (arith, length-append front t.left, long, t.whole) in
     let seen : extent_disk extent disk' ≡ failed (filled sector (front ++ t.left) (extent_disk extent disk)) =
     ap (extent_disk extent) all
-    ∙ ap failed (extent_disk-filled extent disk sector (front ++ t.left) is_whole lies fits) in (
-      nothing_found (Write sector count) buffers m (extent_disk extent disk) (extent_disk extent disk')
+    ∙ ap failed (extent_disk-filled extent disk sector (front ++ t.left) is_whole lies fits) in record {
+      done = nothing_found (Write sector count) buffers m (extent_disk extent disk) (extent_disk extent disk')
           IoError (inr (inl (record {
             done = done;
             sooner = sooner;
             torn = t.left;
             whole = t.whole;
             is = rw seen refl;
-          }))),
-      record {
+          })));
+      calls = record {
         counted = ap (λ (d : Disk). d.failures) all;
         outside = KeepsOutside-filled extent disk disk' sector (front
             ++ t.left) is_whole lies fits (ap (λ (d : Disk). d.contents) all)
             (ap (λ (d : Disk). d.sector_count) all);
-      },
-    )
+      };
+    }
 
--- all are written
-module _ (identity : List ℕ) (extent : Extent) (buffers : List Buffer) (m : Memory) (disk d disk' : Disk)
-    (sector count done : ℕ) (is_whole : IsWhole disk) (lies : IsWithin disk.sector_count extent)
-    (w : IsWriting disk d (extent.start + sector) (payload_of (readable_of m buffers)) done)
-    (all : done ≡ count) (within : sector + count ≤ extent.count)
-    (size : length (payload_of (readable_of m buffers)) ≡ 512 * count) where
-  abbrev payload : List ℕ
-  payload = payload_of (readable_of m buffers)
-
-  so_far : d ≡ filled (extent.start + sector) payload disk
-  so_far = w.is ∙ ap (λ bytes. filled (extent.start + sector) bytes disk)
-      (take_all (512 * done) payload (omega (arith, size, all)))
-
-  fits : 512 * sector + length payload ≤ 512 * extent.count
-  fits = omega (arith, size)
-
-  -- and flushed
-  pub writing_done : disk' ≡ flushed d
-      → IsDone identity (Write sector count) buffers m m (extent_disk extent disk) (extent_disk extent disk')
-      0 Success × CallsWithin extent false disk disk'
-  writing_done flushes =
-      let is : disk' ≡ flushed (filled (extent.start + sector) payload disk) = flushes ∙ ap flushed so_far in
-      let seen : extent_disk extent disk' ≡ flushed (filled sector payload (extent_disk extent disk)) =
-      ap (extent_disk extent) is
-      ∙ ap flushed (extent_disk-filled extent disk sector payload is_whole lies fits) in (
-        nothing_found (Write sector count) buffers m (extent_disk extent disk) (extent_disk extent disk')
-            Success (inl (record { found = []; finds = refl; is = rw seen refl })),
-        record {
-          counted = ap (λ (d : Disk). d.failures) is ∙ omega arith;
-          outside = KeepsOutside-filled extent disk disk' sector payload is_whole lies fits
-              (ap (λ (d : Disk). d.contents) is) (ap (λ (d : Disk). d.sector_count) is);
-        },
-      )
-
-  -- or the flush fails
-  pub writing_unflushed : disk' ≡ failed d
-      → IsDone identity (Write sector count) buffers m m (extent_disk extent disk) (extent_disk extent disk')
-      0 IoError × CallsWithin extent true disk disk'
-  writing_unflushed fails =
-      let is : disk' ≡ failed (filled (extent.start + sector) payload disk) = fails ∙ ap failed so_far in
-      let seen : extent_disk extent disk' ≡ failed (filled sector payload (extent_disk extent disk)) =
-      ap (extent_disk extent) is
-      ∙ ap failed (extent_disk-filled extent disk sector payload is_whole lies fits) in (
-        nothing_found (Write sector count) buffers m (extent_disk extent disk) (extent_disk extent disk')
-            IoError (inr (inr (rw seen refl))),
-        record {
-          counted = ap (λ (d : Disk). d.failures) is;
-          outside = KeepsOutside-filled extent disk disk' sector payload is_whole lies fits
-              (ap (λ (d : Disk). d.contents) is) (ap (λ (d : Disk). d.sector_count) is);
-        },
-      )
+-- all are written, and the flush has come out
+pub writing_ends : {E : Type 0} (device : BlockDevice) (buffers : List Buffer) (m : Memory)
+    (disk d disk' : Disk) (sector count done : ℕ) (result : Result (Unit {0}) E)
+    → IsWhole disk → IsWithin disk.sector_count device.extent
+    → IsWriting disk d (device.extent.start + sector) (payload_of (readable_of m buffers)) done
+    → done ≡ count → sector + count ≤ device.extent.count
+    → length (payload_of (readable_of m buffers)) ≡ 512 * count
+    → OnOk result (disk' ≡ flushed d) → OnErr result (disk' ≡ failed d)
+    → IsWritten device (Write sector count) buffers m (status_of result) disk disk'
+writing_ends device buffers m disk d disk' sector count done result is_whole lies w all within size ok err =
+    let extent = device.extent in
+    let payload = payload_of (readable_of m buffers) in
+    let so_far : d ≡ filled (extent.start + sector) payload disk =
+    w.is ∙ ap (λ bytes. filled (extent.start + sector) bytes disk)
+    (take_all (512 * done) payload (omega (arith, size, all))) in
+    let fits : 512 * sector + length payload ≤ 512 * extent.count = omega (arith, size, within) in
+    flush_ends device (Write sector count) buffers m disk d (filled sector payload (extent_disk extent disk))
+    (ap (extent_disk extent) so_far ∙ extent_disk-filled extent disk sector payload is_whole lies fits)
+    (ap (λ (d : Disk). d.failures) so_far)
+    (KeepsOutside-filled extent disk d sector payload is_whole lies fits
+    (ap (λ (d : Disk). d.contents) so_far) (ap (λ (d : Disk). d.sector_count) so_far))
+    disk' result ok err (inl (record { found = []; finds = refl; is = refl })) (inr (inr refl))

@@ -1,8 +1,7 @@
 -- Sectors that were zeroed so far, and what the request is once they all are, or once the image fails.
-use Rattle.std.proofs.Common.{◌≡◌, inl, inr, ℕ, zero, suc, ◌+◌, ◌-◌, ◌*◌, ◌/◌, ◌<◌, ◌≤◌, Bool, true, false, ◌&&◌, List, [], ◌∷◌, ◌++◌, length, map, take, drop, replicate, refl, sym, ap, ◌∙◌, arith, subst, append_assoc, append-nil}
+use Rattle.std.proofs.Common.{◌≡◌, inl, inr, ℕ, zero, suc, ◌+◌, ◌-◌, ◌*◌, ◌/◌, ◌<◌, ◌≤◌, Bool, true, false, ◌&&◌, List, [], ◌∷◌, ◌++◌, length, map, replicate, refl, sym, ap, ◌∙◌, arith, subst, append_assoc, append-nil}
 use Rattle.std.specs.List.{AllByRecursion, list_all, range_with_len}
-use Rattle.std.specs.Option.{option_map}
-use Rattle.std.specs.Prelude.{Contains, Option, Some, None}
+use Rattle.std.specs.Prelude.{Contains, OnErr, OnOk, Result}
 use Rattle.std.proofs.lemmas.Bool.Decides.{nat_tests}
 use Rattle.std.proofs.lemmas.List.{length-replicate, map-append}
 use Rattle.std.proofs.lemmas.List.Elements.{Contains-append_left, Contains-append_right}
@@ -10,20 +9,19 @@ use Rattle.std.proofs.lemmas.List.FromFn.{map-range_with_len_more}
 use Rattle.guest_memory.specs.Memory.{Memory}
 use Rattle.chain.specs.declared.segment.Buffer.{Buffer}
 use Rattle.chain.specs.Bytes.{readable_of}
-use Rattle.sector_cache.specs.Sector.{with_sector}
 use Rattle.sector_cache.specs.Disk.{Disk, IsWhole, IsTorn, failed, flushed, written}
+use Rattle.block_device.specs.declared.device.BlockDevice.{BlockDevice}
 use Rattle.block_device.specs.declared.extent.Extent.{Extent}
-use Rattle.block_device.specs.declared.request.RequestStatus.{RequestStatus}
-use Rattle.block_device.specs.declared.request.RequestStatus.TheVariants.{Success, IoError}
+use Rattle.block_device.specs.declared.request.RequestStatus.TheVariants.{IoError}
 use Rattle.block_device.specs.declared.request.Request.TheVariants.{WriteZeroes}
 use Rattle.block_device.specs.declared.zeroes.WriteZeroesSegment.{WriteZeroesSegment}
-use Rattle.block_device.specs.Extent.{IsWithin, extent_disk, CallsWithin, KeepsOutside}
-use Rattle.block_device.specs.Request.{payload_of}
-use Rattle.block_device.specs.Outcome.{filled, with_sectors}
-use Rattle.block_device.specs.Progress.{IsDone}
-use Rattle.block_device.specs.Zeroes.{IsStopped, all_sectors, has_sectors_within, sectors_of, segment_at, segments_in, zeroed_sectors}
-use Rattle.block_device.proofs.Endings.{nothing_found}
-use Rattle.block_device.proofs.Extents.{extent_disk-filled, KeepsOutside-filled, KeepsOutside-same, lies_still, dirty_after-chunk, outside_trans, same_disk}
+use Rattle.block_device.specs.Extent.{IsWithin, extent_disk}
+use Rattle.block_device.specs.Request.{payload_of, status_of}
+use Rattle.block_device.specs.Outcome.{filled}
+use Rattle.block_device.specs.Progress.{IsWritten}
+use Rattle.block_device.specs.Zeroes.{IsStopped, IsZeroed, StopsZeroing, all_sectors, has_sectors_within, sectors_of, segment_at, segments_in, zeroed_sectors}
+use Rattle.block_device.proofs.Endings.{flush_ends, nothing_found}
+use Rattle.block_device.proofs.Extents.{extent_disk-filled, KeepsOutside-filled, KeepsOutside-same, lies_still, dirty_after-chunk, outside_trans, same_disk, written-run}
 
 abbrev zeros : List ℕ
 zeros = replicate 512 0
@@ -105,15 +103,9 @@ stopped-failures sectors old new s =
 written-filled_once : (disk : Disk) (sector : ℕ) (new : List ℕ) → length new ≡ 512
     → written sector new disk ≡ filled sector new disk
 written-filled_once disk sector new whole =
-    same_disk disk.sector_count disk.failures _ _ true _ (same_contents disk.contents)
+    written-run sector new disk whole
+    ∙ same_disk disk.sector_count disk.failures _ _ true _ refl
     (dirty_after-chunk [] new disk.dirty (omega (arith, whole)))
-  where
-    same_contents : (contents : Option (List ℕ)) → option_map (λ bytes. with_sector bytes sector new) contents
-        ≡ option_map (λ bytes. with_sectors bytes sector new) contents
-    same_contents None = refl
-    same_contents (Some bytes) =
-        let behind : 512 * (sector + 1) ≡ 512 * sector + length new = omega arith in
-        ap (λ n. Some (take (512 * sector) bytes ++ (new ++ drop n bytes))) behind
 
 -- the extent of a disk of which a sector within it was written
 extent_disk-written : (extent : Extent) (disk : Disk) (sector : ℕ) (new : List ℕ) → IsWhole disk
@@ -125,19 +117,14 @@ extent_disk-written extent disk sector new is_whole lies below whole =
     ∙ extent_disk-filled extent disk sector new is_whole lies (omega arith)
     ∙ sym (written-filled_once (extent_disk extent disk) sector new whole)
 
--- these sectors of the extent were zeroed
-pub record IsZeroing (extent : Extent) (old new : Disk) (sectors : List ℕ) : Type 0 where
-  pub seen : extent_disk extent new ≡ zeroed_sectors sectors (extent_disk extent old)
-  pub outside : KeepsOutside extent old new
-
-pub zeroing_start : (extent : Extent) (disk : Disk) → IsZeroing extent disk disk []
+pub zeroing_start : (extent : Extent) (disk : Disk) → IsZeroed extent [] disk disk
 zeroing_start extent disk = record { seen = refl; outside = KeepsOutside-same extent disk disk refl refl }
 
 -- one sector more
 pub zeroing_more : (extent : Extent) (old d d' : Disk) (sectors : List ℕ) (sector place : ℕ)
-    → IsZeroing extent old d sectors → IsWhole d → IsWithin old.sector_count extent
+    → IsZeroed extent sectors old d → IsWhole d → IsWithin old.sector_count extent
     → sector < extent.count → place ≡ extent.start + sector → d' ≡ written place zeros d
-    → IsZeroing extent old d' (sectors ++ sector ∷ [])
+    → IsZeroed extent (sectors ++ sector ∷ []) old d'
 zeroing_more extent old d d' sectors sector place z whole lies below at put =
     let long : length zeros ≡ 512 = length-replicate {A = ℕ} 512 0 in
     let lies_d : IsWithin d.sector_count extent = lies_still extent old d z.outside lies in
@@ -156,17 +143,16 @@ zeroing_more extent old d d' sectors sector place z whole lies below at put =
 
 -- the image fails at a sector
 pub zeroing_stops : (extent : Extent) (old d d' : Disk) (all sectors later : List ℕ) (sector place : ℕ)
-    → IsZeroing extent old d sectors → IsWhole d → IsWithin old.sector_count extent
+    → IsZeroed extent sectors old d → IsWhole d → IsWithin old.sector_count extent
     → sector < extent.count → place ≡ extent.start + sector → all ≡ sectors ++ sector ∷ later
-    → IsTorn place d d'
-    → IsStopped all (extent_disk extent old) (extent_disk extent d') × KeepsOutside extent old d'
+    → IsTorn place d d' → StopsZeroing extent all old d'
 zeroing_stops extent old d d' all sectors later sector place z whole lies below at listed t =
     let lies_d : IsWithin d.sector_count extent = lies_still extent old d z.outside lies in
     let is : d' ≡ failed (written (extent.start + sector) t.left d) = t.torn
     ∙ ap (λ n. failed (written n t.left d)) at in
     let run : d' ≡ failed (filled (extent.start + sector) t.left d) = is
-    ∙ ap failed (written-filled_once d (extent.start + sector) t.left t.whole) in (
-      record {
+    ∙ ap failed (written-filled_once d (extent.start + sector) t.left t.whole) in record {
+      stopped = record {
         before = sectors;
         sector = sector;
         later = later;
@@ -179,11 +165,11 @@ zeroing_stops extent old d d' all sectors later sector place z whole lies below 
               ∙ ap failed (extent_disk-written extent d sector t.left whole lies_d below t.whole)
               ∙ ap (λ d. failed (written sector t.left d)) z.seen;
         };
-      },
-      outside_trans extent old d d' z.outside
+      };
+      outside = outside_trans extent old d d' z.outside
           (KeepsOutside-filled extent d d' sector t.left whole lies_d (omega (arith, t.whole))
-          (ap (λ (d : Disk). d.contents) run) (ap (λ (d : Disk). d.sector_count) run)),
-    )
+          (ap (λ (d : Disk). d.contents) run) (ap (λ (d : Disk). d.sector_count) run));
+    }
 
 -- ---- the sectors of one segment
 
@@ -245,127 +231,92 @@ segment-listed payload n segment is below sector here =
 
 -- one segment more
 pub zeroing_joins : (extent : Extent) (old d d' : Disk) (payload : List ℕ) (n : ℕ)
-    (segment : WriteZeroesSegment) → IsZeroing extent old d (all_sectors (first_segments payload n))
-    → segment ≡ segment_at payload n
-    → extent_disk extent d' ≡ zeroed_sectors (sectors_of segment) (extent_disk extent d)
-    → KeepsOutside extent d d'
-    → IsZeroing extent old d' (all_sectors (first_segments payload (n + 1)))
-zeroing_joins extent old d d' payload n segment z is seen outside = record {
+    (segment : WriteZeroesSegment) → IsZeroed extent (all_sectors (first_segments payload n)) old d
+    → segment ≡ segment_at payload n → IsZeroed extent (sectors_of segment) d d'
+    → IsZeroed extent (all_sectors (first_segments payload (n + 1))) old d'
+zeroing_joins extent old d d' payload n segment z is more = record {
   seen =
-      seen ∙ ap (λ s. zeroed_sectors (sectors_of s) (extent_disk extent d)) is
+      more.seen ∙ ap (λ s. zeroed_sectors (sectors_of s) (extent_disk extent d)) is
       ∙ ap (zeroed_sectors (sectors_of (segment_at payload n))) z.seen
       ∙ sym (zeroed-append (all_sectors (first_segments payload n)) (sectors_of (segment_at payload n))
       (extent_disk extent old))
       ∙ ap (λ l. zeroed_sectors l (extent_disk extent old)) (sym (sectors-more payload n));
-  outside = outside_trans extent old d d' z.outside outside;
+  outside = outside_trans extent old d d' z.outside more.outside;
 }
 
 -- the image fails in a segment
 pub segment_stops : (extent : Extent) (old d d' : Disk) (payload : List ℕ) (n : ℕ)
-    (segment : WriteZeroesSegment) → IsZeroing extent old d (all_sectors (first_segments payload n))
+    (segment : WriteZeroesSegment) → IsZeroed extent (all_sectors (first_segments payload n)) old d
     → segment ≡ segment_at payload n → n < length payload / 16
-    → IsStopped (sectors_of segment) (extent_disk extent d) (extent_disk extent d')
-    → IsStopped (all_sectors (segments_in payload)) (extent_disk extent old) (extent_disk extent d')
-segment_stops extent old d d' payload n segment z is below s =
+    → StopsZeroing extent (sectors_of segment) d d'
+    → StopsZeroing extent (all_sectors (segments_in payload)) old d'
+segment_stops extent old d d' payload n segment z is below stops =
+    let s = stops.stopped in
     let count = length payload / 16 in
     let done : List ℕ = all_sectors (first_segments payload n) in
     let rest : List ℕ = all_sectors (map (segment_at payload) (range_with_len (n + 1) (count - n - 1))) in
     let within : sectors_of (segment_at payload n) ≡ s.before ++ s.sector ∷ s.later =
     sym (ap sectors_of is) ∙ s.listed in
     record {
-      before = done ++ s.before;
-      sector = s.sector;
-      later = s.later ++ rest;
-      listed =
-          ap all_sectors (segments-at payload n count below)
-          ∙ flat-append (first_segments payload n) (segment_at payload n
-          ∷ map (segment_at payload) (range_with_len (n + 1) (count - n - 1)))
-          ∙ ap (λ l. done ++ (l ++ rest)) within
-          ∙ ap (λ l. done ++ l) (append_assoc s.before (s.sector ∷ s.later) rest)
-          ∙ sym (append_assoc done s.before (s.sector ∷ (s.later ++ rest)));
-      torn = record {
-        left = s.torn.left;
-        whole = s.torn.whole;
-        torn =
-            s.torn.torn
-            ∙ ap (λ d. failed (written s.sector s.torn.left d)) (ap (zeroed_sectors s.before) z.seen
-            ∙ sym (zeroed-append done s.before (extent_disk extent old)));
+      stopped = record {
+        before = done ++ s.before;
+        sector = s.sector;
+        later = s.later ++ rest;
+        listed =
+            ap all_sectors (segments-at payload n count below)
+            ∙ flat-append (first_segments payload n) (segment_at payload n
+            ∷ map (segment_at payload) (range_with_len (n + 1) (count - n - 1)))
+            ∙ ap (λ l. done ++ (l ++ rest)) within
+            ∙ ap (λ l. done ++ l) (append_assoc s.before (s.sector ∷ s.later) rest)
+            ∙ sym (append_assoc done s.before (s.sector ∷ (s.later ++ rest)));
+        torn = record {
+          left = s.torn.left;
+          whole = s.torn.whole;
+          torn =
+              s.torn.torn
+              ∙ ap (λ d. failed (written s.sector s.torn.left d)) (ap (zeroed_sectors s.before) z.seen
+              ∙ sym (zeroed-append done s.before (extent_disk extent old)));
+        };
       };
+      outside = outside_trans extent old d d' z.outside stops.outside;
     }
 
 -- ---- the request
 
 -- these segments were zeroed so far
-module _ (identity : List ℕ) (extent : Extent) (buffers : List Buffer) (m : Memory)
-    (disk d disk' : Disk) (segments n : ℕ)
-    (z : IsZeroing extent disk d (all_sectors (first_segments (payload_of (readable_of m buffers)) n))) where
+module _ (device : BlockDevice) (buffers : List Buffer) (m : Memory) (disk d disk' : Disk) (segments n : ℕ)
+    (z : IsZeroed device.extent
+    (all_sectors (first_segments (payload_of (readable_of m buffers)) n)) disk d) where
   abbrev payload : List ℕ
   payload = payload_of (readable_of m buffers)
 
-  abbrev IsEnd : RequestStatus → Bool → Type 0
-  IsEnd status failed =
-      IsDone identity (WriteZeroes segments) buffers m m (extent_disk extent disk) (extent_disk extent disk')
-      0 status × CallsWithin extent failed disk disk'
-
-  no_failure : d.failures ≡ disk.failures
-  no_failure = ap (λ (d : Disk). d.failures) z.seen
-      ∙ zeroed-failures (all_sectors (first_segments payload n)) (extent_disk extent disk)
+  abbrev shown : Disk → Disk
+  shown disk = extent_disk device.extent disk
 
   -- the image fails in the next one
   pub zeroes_stopped : (segment : WriteZeroesSegment) → segment ≡ segment_at payload n
-      → n < length payload / 16
-      → IsStopped (sectors_of segment) (extent_disk extent d) (extent_disk extent disk')
-      → KeepsOutside extent d disk' → IsEnd IoError true
-  zeroes_stopped segment is below stops outside =
-      let s = segment_stops extent disk d disk' payload n segment z is below stops in (
-        nothing_found (WriteZeroes segments) buffers m (extent_disk extent disk) (extent_disk extent disk')
-            IoError (inr (inl (record { left = extent_disk extent disk'; stopped = s; is = refl }))),
-        record {
-          counted = stopped-failures (all_sectors (segments_in payload)) (extent_disk extent disk)
-              (extent_disk extent disk') s;
-          outside = outside_trans extent disk d disk' z.outside outside;
-        },
-      )
+      → n < length payload / 16 → StopsZeroing device.extent (sectors_of segment) d disk'
+      → IsWritten device (WriteZeroes segments) buffers m IoError disk disk'
+  zeroes_stopped segment is below stops =
+      let s = segment_stops device.extent disk d disk' payload n segment z is below stops in
+      record {
+        done = nothing_found (WriteZeroes segments) buffers m (shown disk) (shown disk') IoError
+            (inr (inl (record { left = shown disk'; stopped = s.stopped; is = refl })));
+        calls = record {
+          counted = stopped-failures (all_sectors (segments_in payload)) (shown disk) (shown disk') s.stopped;
+          outside = s.outside;
+        };
+      }
 
-  -- all of them are zeroed
-  all_zeroed : length payload ≡ 16 * segments → n ≡ segments
-      → extent_disk extent d ≡ zeroed_sectors (all_sectors (segments_in payload)) (extent_disk extent disk)
-  all_zeroed size all =
+  -- all of them are zeroed, and the flush has come out
+  pub zeroes_end : {E : Type 0} (result : Result (Unit {0}) E) → length payload ≡ 16 * segments → n ≡ segments
+      → OnOk result (disk' ≡ flushed d) → OnErr result (disk' ≡ failed d)
+      → IsWritten device (WriteZeroes segments) buffers m (status_of result) disk disk'
+  zeroes_end result size all ok err =
+      let sectors : List ℕ = all_sectors (segments_in payload) in
       let whole : n ≡ length payload / 16 = omega (arith, size, all) in
-      z.seen ∙ ap (λ k. zeroed_sectors (all_sectors (first_segments payload k))
-      (extent_disk extent disk)) whole
-
-  flush_outside : disk'.contents ≡ d.contents → disk'.sector_count ≡ d.sector_count
-      → KeepsOutside extent disk disk'
-  flush_outside contents sectors =
-      outside_trans extent disk d disk' z.outside (KeepsOutside-same extent d disk' contents sectors)
-
-  -- and flushed
-  pub zeroes_done : length payload ≡ 16 * segments → n ≡ segments → disk' ≡ flushed d → IsEnd Success false
-  zeroes_done size all flushes =
-      let seen : extent_disk extent disk'
-      ≡ flushed (zeroed_sectors (all_sectors (segments_in payload)) (extent_disk extent disk)) =
-      ap (extent_disk extent) flushes ∙ ap flushed (all_zeroed size all) in (
-        nothing_found (WriteZeroes segments) buffers m (extent_disk extent disk) (extent_disk extent disk')
-            Success (inl (record { found = []; finds = refl; is = rw seen refl })),
-        record {
-          counted = ap (λ (d : Disk). d.failures) flushes ∙ no_failure ∙ omega arith;
-          outside = flush_outside (ap (λ (d : Disk). d.contents) flushes)
-              (ap (λ (d : Disk). d.sector_count) flushes);
-        },
-      )
-
-  -- or the flush fails
-  pub zeroes_unflushed : length payload ≡ 16 * segments → n ≡ segments → disk' ≡ failed d → IsEnd IoError true
-  zeroes_unflushed size all fails =
-      let seen : extent_disk extent disk'
-      ≡ failed (zeroed_sectors (all_sectors (segments_in payload)) (extent_disk extent disk)) =
-      ap (extent_disk extent) fails ∙ ap failed (all_zeroed size all) in (
-        nothing_found (WriteZeroes segments) buffers m (extent_disk extent disk) (extent_disk extent disk')
-            IoError (inr (inr (rw seen refl))),
-        record {
-          counted = ap (λ (d : Disk). d.failures) fails ∙ ap (λ n. n + 1) no_failure;
-          outside = flush_outside (ap (λ (d : Disk). d.contents) fails)
-              (ap (λ (d : Disk). d.sector_count) fails);
-        },
-      )
+      let seen : shown d ≡ zeroed_sectors sectors (shown disk) =
+      z.seen ∙ ap (λ k. zeroed_sectors (all_sectors (first_segments payload k)) (shown disk)) whole in
+      flush_ends device (WriteZeroes segments) buffers m disk d (zeroed_sectors sectors (shown disk)) seen
+      (ap (λ (d : Disk). d.failures) seen ∙ zeroed-failures sectors (shown disk)) z.outside
+      disk' result ok err (inl (record { found = []; finds = refl; is = refl })) (inr (inr refl))

@@ -12,7 +12,7 @@ use Rattle.block_device.specs.declared.device.BlockDevice.{BlockDevice}
 use Rattle.block_device.specs.declared.request.RequestStatus.{RequestStatus}
 use Rattle.block_device.specs.declared.request.RequestStatus.TheVariants.{Success, IoError}
 use Rattle.block_device.specs.declared.request.Request.{Request}
-use Rattle.block_device.specs.declared.request.Request.TheVariants.{Rejected, Read, Write, Flush, GetId, WriteZeroes}
+use Rattle.block_device.specs.declared.request.Request.TheVariants.{Rejected, GetId}
 use Rattle.block_device.specs.declared.operation.OperationKind.{OperationKind}
 use Rattle.block_device.specs.declared.operation.OperationKind.TheVariants as kind
 use Rattle.block_device.specs.declared.operation.Verdict.{Verdict}
@@ -25,11 +25,8 @@ use Rattle.block_device.specs.Request.{request_of, payload_of, code_of}
 -- whether a request asks the image for something
 abbrev pub asks_image : Request → Bool
 asks_image (Rejected status) = false
-asks_image (Read sector count) = true
-asks_image (Write sector count) = true
-asks_image Flush = true
 asks_image GetId = false
-asks_image (WriteZeroes segments) = true
+asks_image request = true
 
 -- A request that asks the image for nothing ends without it.
 pub record EndsUnasked (identity : List ℕ) (request : Request) (payload : List ℕ) (disk : Disk)

@@ -13,18 +13,16 @@ use Rattle.block_device.specs.declared.operation.OperationKind.TheVariants as ki
 use Rattle.block_device.specs.declared.operation.Verdict.{Verdict}
 use Rattle.block_device.specs.declared.operation.Verdict.TheVariants as verdict
 use Rattle.block_device.specs.declared.request.Request.{Request}
-use Rattle.block_device.specs.declared.request.Request.TheVariants.{Rejected, Read, Write, Flush, GetId, WriteZeroes}
+use Rattle.block_device.specs.declared.request.Request.TheVariants.{Write, Flush, WriteZeroes}
 use Rattle.block_device.specs.declared.request.RequestStatus.TheVariants.{Success}
 use Rattle.block_device.specs.Request.{code_of, request_of}
 
 -- OUT, FLUSH and WRITE_ZEROES end by a flush of the image
 abbrev pub ends_by_flush : Request → Bool
-ends_by_flush (Rejected status) = false
-ends_by_flush (Read sector count) = false
 ends_by_flush (Write sector count) = true
 ends_by_flush Flush = true
-ends_by_flush GetId = false
 ends_by_flush (WriteZeroes segments) = true
+ends_by_flush request = false
 
 -- The chain's request ends by a flush, and its driver is told that it succeeded.
 pub record IsCommitted (device : BlockDevice) (m : Memory) (served : Served Disk) : Type 0 where

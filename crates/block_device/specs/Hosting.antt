@@ -4,6 +4,7 @@
 use Rattle.std.specs.Prelude.{◌≡◌, ◌↔◌, ℕ, ◌-◌, ◌<◌, Bool, true, not, IsTrue, List, length, Option, Some, None}
 use Rattle.guest_memory.specs.Memory.{Memory, SameRange}
 use Rattle.chain.specs.declared.budget.Budget.{Budget}
+use Rattle.chain.specs.declared.budget.Progress.{Progress}
 use Rattle.chain.specs.declared.budget.Progress.TheVariants as progress
 use Rattle.chain.specs.declared.segment.Buffer.{Buffer}
 use Rattle.chain.specs.declared.segment.Segment.{Segment}
@@ -104,6 +105,11 @@ HostsTo device stage budget found hosted.More old new before after buffers runs 
 HostsTo device stage budget found hosted.Done old new before after buffers runs disk =
     ServesTo stage (unasked_device device) budget 0 found progress.Done old new before after
     (extent_disk device.extent disk) (extent_disk device.extent disk)
+
+-- how a piece came out in which no chain asked
+abbrev pub hosted_by : Progress → Hosted
+hosted_by progress.More = hosted.More
+hosted_by progress.Done = hosted.Done
 
 -- of a piece that asks, this holds of the chain in flight
 abbrev pub IfAsks : (Flight → Type 0) → Hosted → Type 0

@@ -1,6 +1,6 @@
 -- What a driver asks for (5.2.6): the header's fields, and the checks in their order. All of it is known
 -- before the image is touched.
-use Rattle.std.specs.Prelude.{ℕ, ◌+◌, ◌/◌, ◌%◌, Bool, not, ◌&&◌, ◌==◌, nat_lt, nat_le, if◌then◌else◌, List, length, take, drop}
+use Rattle.std.specs.Prelude.{ℕ, ◌+◌, ◌/◌, ◌%◌, Bool, true, false, not, ◌&&◌, ◌==◌, nat_lt, nat_le, if◌then◌else◌, List, length, take, drop, Result, Ok, Err}
 use Rattle.std.specs.List.{list_all}
 use Rattle.byteorder.specs.Endian.{little_number}
 use Rattle.block_device.specs.declared.device.BlockDevice.{BlockDevice}
@@ -71,6 +71,16 @@ abbrev pub request_of : BlockDevice → List ℕ → ℕ → Request
 request_of device readable room =
     if nat_lt (length readable) 16 then Rejected IoError
     else typed_request device (type_of readable) (sector_in readable) (payload_of readable) room
+
+-- the status of a request by how its calls of the image came out
+abbrev pub status_of : {E : Type 0} → Result (Unit {0}) E → RequestStatus
+status_of (Ok done) = Success
+status_of (Err error) = IoError
+
+-- Of a request that asked the image for something this says that a call failed.
+abbrev pub is_io_error : RequestStatus → Bool
+is_io_error IoError = true
+is_io_error status = false
 
 -- the byte that stands for a status (5.2.6)
 abbrev pub code_of : RequestStatus → ℕ

@@ -12,7 +12,7 @@ use Rattle.mmio_window.specs.Queue.{queue_kind}
 use Rattle.block_device.specs.declared.device.BlockDevice.{BlockDevice}
 use Rattle.block_device.specs.declared.extent.Extent.{Extent}
 use Rattle.block_device.specs.declared.request.Request.{Request}
-use Rattle.block_device.specs.declared.request.Request.TheVariants.{Rejected, Read, Write, Flush, GetId, WriteZeroes}
+use Rattle.block_device.specs.declared.request.Request.TheVariants.{Write, WriteZeroes}
 use Rattle.block_device.specs.Device.{GivesBy}
 use Rattle.block_device.specs.Extent.{extent_disk}
 use Rattle.block_device.specs.Outcome.{Ends}
@@ -21,12 +21,9 @@ use Rattle.block_device.specs.Zeroes.{all_sectors, segments_in}
 
 -- The sectors that a request writes (5.2.6): OUT those of its data, WRITE_ZEROES those of its segments.
 abbrev pub written_sectors : Request → List ℕ → List ℕ
-written_sectors (Rejected status) payload = []
-written_sectors (Read sector count) payload = []
 written_sectors (Write sector count) payload = range_with_len sector count
-written_sectors Flush payload = []
-written_sectors GetId payload = []
 written_sectors (WriteZeroes segments) payload = all_sectors (segments_in payload)
+written_sectors request payload = []
 
 -- sectors of an extent, as sectors of the image
 abbrev pub on_image : Extent → List ℕ → List ℕ

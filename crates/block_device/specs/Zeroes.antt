@@ -4,7 +4,8 @@ use Rattle.std.specs.List.{range_with_len}
 use Rattle.byteorder.specs.Endian.{little_number}
 use Rattle.sector_cache.specs.Disk.{Disk, written, IsTorn}
 use Rattle.block_device.specs.declared.zeroes.WriteZeroesSegment.{WriteZeroesSegment}
-use Rattle.block_device.specs.Extent.{sector_len}
+use Rattle.block_device.specs.declared.extent.Extent.{Extent}
+use Rattle.block_device.specs.Extent.{KeepsOutside, extent_disk, sector_len}
 
 -- the most sectors of a segment, and the most segments of a request (5.2.4)
 abbrev pub max_write_zeroes_sectors : ℕ
@@ -65,3 +66,13 @@ pub record IsStopped (sectors : List ℕ) (old new : Disk) : Type 0 where
   pub later : List ℕ
   pub listed : sectors ≡ before ++ sector ∷ later
   pub torn : IsTorn sector (zeroed_sectors before old) new
+
+-- These sectors of an extent were zeroed, and the rest of the disk stays.
+pub record IsZeroed (extent : Extent) (sectors : List ℕ) (old new : Disk) : Type 0 where
+  pub seen : extent_disk extent new ≡ zeroed_sectors sectors (extent_disk extent old)
+  pub outside : KeepsOutside extent old new
+
+-- Zeroing them ends at one of which the write fails, and the rest of the disk stays.
+pub record StopsZeroing (extent : Extent) (sectors : List ℕ) (old new : Disk) : Type 0 where
+  pub stopped : IsStopped sectors (extent_disk extent old) (extent_disk extent new)
+  pub outside : KeepsOutside extent old new

@@ -1,34 +1,24 @@
-//! One chain, from its header to its status byte.
+//! The parts of serving one chain, from its header to its status byte.
 
 ghost use Rattle.std.specs.Prelude.{◌≡◌, ◌<◌, true, length};
 ghost use Rattle.guest_memory.specs.Memory.{SameRange};
 ghost use Rattle.chain.specs.Buffers.{Good};
 ghost use Rattle.chain.specs.Bytes.{readable_of, writable_of};
-ghost use Rattle.chain.specs.Service.{Does};
 ghost use Rattle.sector_cache.specs.Stop.{TouchesSectors};
 ghost use Rattle.block_device.specs.Asking.{Begins, IsAsked, used_by, with_status};
-ghost use Rattle.block_device.specs.Device.{block_device};
-ghost use Rattle.block_device.specs.Extent.{CallsWithin, IsWithin, TouchesExtent, extent_disk};
-ghost use Rattle.block_device.specs.Request.{code_of, payload_of};
+ghost use Rattle.block_device.specs.Extent.{CallsWithin, IsWithin, extent_disk};
+ghost use Rattle.block_device.specs.Request.{is_io_error, payload_of};
 ghost use Rattle.block_device.specs.Progress.{IsDone};
-ghost use Rattle.block_device.specs.Touching.{on_image, sectors_of_chain, written_sectors};
+ghost use Rattle.block_device.specs.Touching.{on_image, written_sectors};
 
 use crate::device::BlockDevice;
-use crate::request::{ID_LEN, Request, RequestStatus};
+use crate::request::{ID_LEN, Request};
 use crate::transfer::Done;
 use chain::Chain;
 use guest_memory::GuestMemory;
 use mmio_window::Used;
 use sector_cache::{Image, SectorCache};
 use std::alloc::Allocator;
-
-/// What came of a chain.
-#[derive(Clone, Copy)]
-pub(crate) struct Answer {
-    pub used: Used,
-    /// Whether an image call failed; the used entry doesn't say so.
-    pub failed: bool,
-}
 
 /// What a chain comes to before the image is asked.
 #[derive(Clone, Copy)]
@@ -39,57 +29,7 @@ pub(crate) enum Begun {
     Asks(Request),
 }
 
-impl RequestStatus {
-    /// The byte that the driver reads.
-    fn code(self) -> u8
-        ensures { result ≡ code_of self }
-    {
-        match self {
-            RequestStatus::Success => 0,
-            RequestStatus::IoError => 1,
-            RequestStatus::Unsupported => 2,
-        }
-    }
-}
-
 impl BlockDevice {
-    /// Serves the request of one chain, and answers what its used entry is to say.
-    pub(crate) fn answer<I: Image, M: Allocator, C: Allocator + Copy>(
-        &self,
-        mem: &mut GuestMemory<M>,
-        chain: &Chain,
-        cache: &mut SectorCache<I, C>,
-    ) -> Answer
-        requires good { Good mem.old chain.now }
-        requires lies { IsWithin (I.disk cache.old).sector_count self.now.extent }
-        ensures does { Does (block_device self.now) mem.old mem.new chain.now
-            (extent_disk self.now.extent (I.disk cache.old))
-            (extent_disk self.now.extent (I.disk cache.new)) result.used.len result.used.wrote }
-        ensures calls { CallsWithin self.now.extent result.failed (I.disk cache.old) (I.disk cache.new) }
-
-        // At each moment only the sectors of its request are touched.
-        ensures own { TouchesSectors I.moment I.may_leave I.left_since
-            (sectors_of_chain self.now (readable_of mem.old chain.now) (length (writable_of chain.now)))
-            cache.old cache.new }
-
-        ensures touches { TouchesExtent I.moment I.may_leave I.left_since self.now.extent cache.old cache.new }
-        ensures range { SameRange mem.old mem.new }
-    {
-        match self.begin(mem, chain) {
-            Begun::Answered(used) => Answer {
-                used,
-                failed: false,
-            },
-            Begun::Asks(request) => {
-                let done = self.perform(request, mem, chain, cache);
-                Answer {
-                    used: finish(mem, chain, done),
-                    failed: done.failed,
-                }
-            }
-        }
-    }
-
     /// Answers a chain as far as that needs no image.
     pub(crate) fn begin<M: Allocator>(&self, mem: &mut GuestMemory<M>, chain: &Chain) -> Begun
         requires good { Good mem.old chain.now }
@@ -102,10 +42,7 @@ impl BlockDevice {
         }
         match self.request(mem, chain, writable - 1) {
             Request::Rejected(status) => {
-                let done = Done {
-                    status,
-                    ..Done::SUCCEEDED
-                };
+                let done = Done { len: 0, status };
                 Begun::Answered(finish(mem, chain, done))
             }
             Request::GetId => {
@@ -121,7 +58,7 @@ impl BlockDevice {
     }
 
     /// Does all of a request but its status.
-    fn perform<I: Image, M: Allocator, C: Allocator + Copy>(
+    pub(crate) fn perform<I: Image, M: Allocator, C: Allocator + Copy>(
         &self,
         request: Request,
         mem: &mut GuestMemory<M>,
@@ -135,7 +72,7 @@ impl BlockDevice {
             (extent_disk self.now.extent (I.disk cache.old))
             (extent_disk self.now.extent (I.disk cache.new)) result.len result.status }
         ensures room { result.len < length (writable_of chain.now) }
-        ensures calls { CallsWithin self.now.extent result.failed (I.disk cache.old) (I.disk cache.new) }
+        ensures calls { CallsWithin self.now.extent (is_io_error result.status) (I.disk cache.old) (I.disk cache.new) }
         ensures own { TouchesSectors I.moment I.may_leave I.left_since
             (on_image self.now.extent (written_sectors request (payload_of (readable_of mem.old chain.now))))
             cache.old cache.new }
@@ -144,13 +81,12 @@ impl BlockDevice {
         match request {
             Request::Read { sector, count } => self.read_sectors(mem, chain, cache, sector, count),
             Request::Write { sector, count } => {
-                self.write_sectors(mem, chain, cache, sector, count)
+                Done::of(self.write_sectors(mem, chain, cache, sector, count))
             }
-            Request::Flush => match cache.flush() {
-                Ok(()) => Done::SUCCEEDED,
-                Err(_) => Done::FAILED,
-            },
-            Request::WriteZeroes { segments } => self.zero_segments(mem, chain, cache, segments),
+            Request::Flush => Done::of(cache.flush()),
+            Request::WriteZeroes { segments } => {
+                Done::of(self.zero_segments(mem, chain, cache, segments))
+            }
             Request::Rejected(_) | Request::GetId => unreachable!(),
         }
     }

@@ -1,5 +1,6 @@
 //! The device over a cache of its image, as the service of its queue has it.
 
+use crate::answer::{Begun, finish};
 use crate::device::BlockDevice;
 use chain::Chain;
 use guest_memory::GuestMemory;
@@ -51,8 +52,13 @@ impl<I: Image, C: Allocator + Copy> Device<SectorCache<I, C>> for Cached {
         chain: &Chain,
         cache: &mut SectorCache<I, C>,
     ) -> Result<Used, Infallible> {
-        let answer = self.device.answer(mem, chain, cache);
-        self.failed |= answer.failed;
-        Ok(answer.used)
+        match self.device.begin(mem, chain) {
+            Begun::Answered(used) => Ok(used),
+            Begun::Asks(request) => {
+                let done = self.device.perform(request, mem, chain, cache);
+                self.failed |= done.status.is_io_error();
+                Ok(finish(mem, chain, done))
+            }
+        }
     }
 }

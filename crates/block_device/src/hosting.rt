@@ -10,7 +10,7 @@ ghost use Rattle.mmio_window.specs.Queue.{IsTaken, LiesIn, made_as};
 ghost use Rattle.mmio_window.specs.Soundness.{IsSound};
 ghost use Rattle.mmio_window.specs.Window.{queue_at};
 ghost use Rattle.block_device.specs.Extent.{sector_len};
-ghost use Rattle.block_device.specs.Hosting.{CompletesIn, HostsTo, IfAsks, IsGivenBack, IsInFlight};
+ghost use Rattle.block_device.specs.Hosting.{CompletesIn, HostsTo, IfAsks, IsGivenBack, IsInFlight, hosted_by};
 ghost use Rattle.block_device.specs.Operation.{LiesInside};
 
 use crate::answer::{Begun, finish};
@@ -46,6 +46,19 @@ pub enum Hosted {
     More,
     /// The service has ended.
     Done,
+}
+
+impl Hosted {
+    /// How a piece came out in which no chain asked.
+    #[inline]
+    fn by(progress: Progress) -> Hosted
+        ensures { result ≡ hosted_by progress }
+    {
+        match progress {
+            Progress::More => Hosted::More,
+            Progress::Done => Hosted::Done,
+        }
+    }
 }
 
 impl BlockDevice {
@@ -86,10 +99,7 @@ impl BlockDevice {
                     operation,
                 })
             }
-            Ok(left) => match show(window, left, room) {
-                Progress::More => Hosted::More,
-                Progress::Done => Hosted::Done,
-            },
+            Ok(left) => Hosted::by(show(window, left, room)),
         }
     }
 }
@@ -154,26 +164,26 @@ impl Flight {
         let Some(queue) = window.queue(REQUESTQ) else {
             unreachable!();
         };
-        self.give_back(mem, queue, room, verdict);
+        let written = self.give_back(mem, queue, room, verdict);
+        room.count(written);
         let wanted = queue.close(mem);
         let fault = None;
         let _ = show(window, Left::Closed { fault, wanted }, room);
     }
 
-    /// Writes the status of the chain in flight, and gives it back.
+    /// Writes the status of the chain in flight, and gives it back. Answers how many bytes its used entry says.
     fn give_back<M: Allocator>(
         self,
         mem: &mut GuestMemory<M>,
         queue: &mut Queue,
-        chain: &mut Chain,
+        chain: &Chain,
         verdict: Verdict,
-    )
+    ) -> u32
         requires queue { LiesIn mem.old queue.old }
         requires taken { IsTaken queue.old self.token }
-        requires good { Good mem.old chain.old }
-        requires status { 0 < length (writable_of chain.old) }
-        ensures gives { IsGivenBack self verdict chain.old mem.old mem.new queue.old queue.new }
-        ensures chain { chain.new ≡ chain.old }
+        requires good { Good mem.old chain.now }
+        requires status { 0 < length (writable_of chain.now) }
+        ensures gives { IsGivenBack self verdict chain.now mem.old mem.new queue.old queue.new }
         ensures range { SameRange mem.old mem.new }
         ensures queue { LiesIn mem.new queue.new }
         ensures made { made_as queue.new ≡ made_as queue.old }
@@ -182,6 +192,6 @@ impl Flight {
         let done = Done::by(self.operation.kind, verdict, room);
         let used = finish(mem, chain, done);
         queue.give(mem, self.token, used);
-        chain.count(used.len);
+        used.len
     }
 }

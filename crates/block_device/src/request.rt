@@ -5,7 +5,7 @@ ghost use Rattle.std.specs.Prelude.{◌≡◌, ℕ, List, length, All};
 ghost use Rattle.chain.specs.Buffers.{Within};
 ghost use Rattle.chain.specs.Bytes.{readable_of};
 ghost use Rattle.block_device.specs.Progress.{IsServable};
-ghost use Rattle.block_device.specs.Request.{are_sectors, in_request_of, out_request_of, payload_of, request_of};
+ghost use Rattle.block_device.specs.Request.{are_sectors, code_of, in_request_of, is_io_error, out_request_of, payload_of, request_of};
 
 use crate::device::BlockDevice;
 use byteorder::{ByteOrder, LittleEndian};
@@ -46,6 +46,27 @@ pub enum RequestStatus {
     IoError = 1,
     /// VIRTIO_BLK_S_UNSUPP.
     Unsupported = 2,
+}
+
+impl RequestStatus {
+    /// The byte that the driver reads.
+    pub(crate) fn code(self) -> u8
+        ensures { result ≡ code_of self }
+    {
+        match self {
+            RequestStatus::Success => 0,
+            RequestStatus::IoError => 1,
+            RequestStatus::Unsupported => 2,
+        }
+    }
+
+    /// Whether a request that asked the image for something ended by a call that failed.
+    #[inline]
+    pub(crate) fn is_io_error(self) -> bool
+        ensures { result ≡ is_io_error self }
+    {
+        matches!(self, RequestStatus::IoError)
+    }
 }
 
 /// What a driver asks for, once all is checked that the image isn't needed for.

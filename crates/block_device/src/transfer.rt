@@ -13,8 +13,8 @@ ghost use Rattle.sector_cache.specs.Stop.{TouchesFrom, TouchesNothing, TouchesSe
 ghost use Rattle.block_device.specs.declared.request.Request.TheVariants.{Read, Write};
 ghost use Rattle.block_device.specs.Asking.{found_by, status_by};
 ghost use Rattle.block_device.specs.Extent.{CallsWithin, IsWithin, extent_disk, sector_len};
-ghost use Rattle.block_device.specs.Request.{payload_of};
-ghost use Rattle.block_device.specs.Progress.{IsDone};
+ghost use Rattle.block_device.specs.Request.{is_io_error, payload_of, status_of};
+ghost use Rattle.block_device.specs.Progress.{IsDone, IsWritten};
 ghost use Rattle.block_device.specs.Touching.{on_image};
 
 use crate::device::BlockDevice;
@@ -22,7 +22,7 @@ use crate::operation::{OperationKind, Verdict};
 use crate::request::{HEADER_LEN, RequestStatus, SECTOR_LEN};
 use chain::Chain;
 use guest_memory::GuestMemory;
-use sector_cache::{Image, SectorCache};
+use sector_cache::{Image, ImageError, SectorCache};
 use std::alloc::Allocator;
 
 /// A request that was served but for its status.
@@ -31,8 +31,6 @@ pub(crate) struct Done {
     /// How many of the first writable bytes were written.
     pub len: u64,
     pub status: RequestStatus,
-    /// Whether an image call failed.
-    pub failed: bool,
 }
 
 impl Done {
@@ -40,15 +38,25 @@ impl Done {
     pub(crate) const FAILED: Done = Done {
         len: 0,
         status: RequestStatus::IoError,
-        failed: true,
     };
 
     /// It succeeded, and nothing is to be read.
     pub(crate) const SUCCEEDED: Done = Done {
         len: 0,
         status: RequestStatus::Success,
-        failed: false,
     };
+
+    /// What comes of a request that reads nothing, by how its calls of the image came out.
+    #[inline]
+    pub(crate) fn of(calls: Result<(), ImageError>) -> Done
+        ensures len { result.len ≡ 0 }
+        ensures status { result.status ≡ status_of calls }
+    {
+        match calls {
+            Ok(()) => Done::SUCCEEDED,
+            Err(_) => Done::FAILED,
+        }
+    }
 
     /// What an operation comes to that came out so, where `room` bytes come before the status.
     pub(crate) fn by(kind: OperationKind, verdict: Verdict, room: u64) -> Done
@@ -85,7 +93,7 @@ impl BlockDevice {
             (extent_disk self.now.extent (I.disk cache.old))
             (extent_disk self.now.extent (I.disk cache.new)) result.len result.status }
         ensures len { result.len ≤ sector_len * count }
-        ensures calls { CallsWithin self.now.extent result.failed (I.disk cache.old) (I.disk cache.new) }
+        ensures calls { CallsWithin self.now.extent (is_io_error result.status) (I.disk cache.old) (I.disk cache.new) }
         ensures touches { TouchesNothing I.moment I.may_leave I.left_since cache.old cache.new }
         ensures range { SameRange mem.old mem.new }
     {
@@ -102,8 +110,7 @@ impl BlockDevice {
                 Err(_) => {
                     return Done {
                         len: SECTOR_LEN * done,
-                        status: RequestStatus::IoError,
-                        failed: true,
+                        ..Done::FAILED
                     };
                 }
             }
@@ -122,17 +129,14 @@ impl BlockDevice {
         cache: &mut SectorCache<I, C>,
         sector: u64,
         count: u64,
-    ) -> Done
+    ) -> Result<(), ImageError>
         requires inside { All (Within mem.now) chain.now }
         requires lies { IsWithin (I.disk cache.old).sector_count self.now.extent }
         requires sectors { sector + count ≤ self.now.extent.count }
         requires payload { length (payload_of (readable_of mem.now chain.now)) ≡ sector_len * count }
         requires fits { sector_len * count + 16 < 2 ^ 64 }
-        ensures done { IsDone self.now.identity (Write sector count) chain.now mem.now mem.now
-            (extent_disk self.now.extent (I.disk cache.old))
-            (extent_disk self.now.extent (I.disk cache.new)) result.len result.status }
-        ensures len { result.len ≡ 0 }
-        ensures calls { CallsWithin self.now.extent result.failed (I.disk cache.old) (I.disk cache.new) }
+        ensures written { IsWritten self.now (Write sector count) chain.now mem.now (status_of result)
+            (I.disk cache.old) (I.disk cache.new) }
         ensures touches { TouchesSectors I.moment I.may_leave I.left_since
             (on_image self.now.extent (range_with_len sector count)) cache.old cache.new }
     {
@@ -148,15 +152,10 @@ impl BlockDevice {
                 continue;
             }
             let bytes = sector_at(mem, chain, place, part, &mut gathered);
-            match cache.write(first, bytes) {
-                Ok(()) => done += 1,
-                Err(_) => return Done::FAILED,
-            }
+            cache.write(first, bytes)?;
+            done += 1;
         }
-        match cache.flush() {
-            Ok(()) => Done::SUCCEEDED,
-            Err(_) => Done::FAILED,
-        }
+        cache.flush()
     }
 }
 

@@ -8,16 +8,15 @@ ghost use Rattle.chain.specs.Bytes.{readable_of};
 ghost use Rattle.sector_cache.specs.Stop.{TouchesSectors};
 ghost use Rattle.block_device.specs.declared.request.Request.TheVariants.{Rejected, WriteZeroes};
 ghost use Rattle.block_device.specs.declared.request.RequestStatus.TheVariants.{IoError, Unsupported};
-ghost use Rattle.block_device.specs.Extent.{CallsWithin, IsWithin, KeepsOutside, extent_disk, sector_len};
+ghost use Rattle.block_device.specs.Extent.{IsWithin, sector_len};
 ghost use Rattle.block_device.specs.Operation.{disk_run, zeroes_in};
-ghost use Rattle.block_device.specs.Progress.{IsDone, IsServable};
-ghost use Rattle.block_device.specs.Request.{payload_of, write_zeroes_request_of};
+ghost use Rattle.block_device.specs.Progress.{IsServable, IsWritten};
+ghost use Rattle.block_device.specs.Request.{payload_of, status_of, write_zeroes_request_of};
 ghost use Rattle.block_device.specs.Touching.{on_image};
-ghost use Rattle.block_device.specs.Zeroes.{IsStopped, all_sectors, are_segments, has_known_flags, has_sectors_within, max_write_zeroes_seg, sectors_of, segment_at, segment_len, segment_of, segments_in, zeroed_sectors};
+ghost use Rattle.block_device.specs.Zeroes.{IsZeroed, StopsZeroing, all_sectors, are_segments, has_known_flags, has_sectors_within, max_write_zeroes_seg, sectors_of, segment_at, segment_len, segment_of, segments_in};
 
 use crate::device::BlockDevice;
 use crate::request::{HEADER_LEN, Request, RequestStatus, SECTOR_LEN};
-use crate::transfer::Done;
 use byteorder::{ByteOrder, LittleEndian};
 use chain::{Chain, Runs, Segment};
 use guest_memory::GuestMemory;
@@ -172,33 +171,24 @@ impl BlockDevice {
         chain: &Chain,
         cache: &mut SectorCache<I, C>,
         segments: u64,
-    ) -> Done
+    ) -> Result<(), ImageError>
         requires inside { All (Within mem.now) chain.now }
         requires lies { IsWithin (I.disk cache.old).sector_count self.now.extent }
         requires payload { length (payload_of (readable_of mem.now chain.now)) ≡ segment_len * segments }
         requires sectors { list_all (has_sectors_within self.now.extent.count)
             (segments_in (payload_of (readable_of mem.now chain.now))) ≡ true }
         requires fits { segment_len * segments < 2 ^ 64 }
-        ensures done { IsDone self.now.identity (WriteZeroes segments) chain.now mem.now mem.now
-            (extent_disk self.now.extent (I.disk cache.old))
-            (extent_disk self.now.extent (I.disk cache.new)) result.len result.status }
-        ensures len { result.len ≡ 0 }
-        ensures calls { CallsWithin self.now.extent result.failed (I.disk cache.old) (I.disk cache.new) }
+        ensures written { IsWritten self.now (WriteZeroes segments) chain.now mem.now (status_of result)
+            (I.disk cache.old) (I.disk cache.new) }
         ensures touches { TouchesSectors I.moment I.may_leave I.left_since
             (on_image self.now.extent (all_sectors (segments_in (payload_of (readable_of mem.now chain.now)))))
             cache.old cache.new }
     {
         for index in 0..segments {
             let segment = WriteZeroesSegment::read(mem, chain, index);
-            match self.zero_sectors(cache, segment) {
-                Ok(()) => {}
-                Err(_) => return Done::FAILED,
-            }
+            self.zero_sectors(cache, segment)?;
         }
-        match cache.flush() {
-            Ok(()) => Done::SUCCEEDED,
-            Err(_) => Done::FAILED,
-        }
+        cache.flush()
     }
 
     /// Zeroes the sectors of one segment.
@@ -209,12 +199,9 @@ impl BlockDevice {
     ) -> Result<(), ImageError>
         requires lies { IsWithin (I.disk cache.old).sector_count self.now.extent }
         requires sectors { segment.sector + segment.count ≤ self.now.extent.count }
-        ensures ok { OnOk result (extent_disk self.now.extent (I.disk cache.new)
-            ≡ zeroed_sectors (sectors_of segment) (extent_disk self.now.extent (I.disk cache.old))) }
-        ensures err { OnErr result (IsStopped (sectors_of segment)
-            (extent_disk self.now.extent (I.disk cache.old))
-            (extent_disk self.now.extent (I.disk cache.new))) }
-        ensures outside { KeepsOutside self.now.extent (I.disk cache.old) (I.disk cache.new) }
+        ensures ok { OnOk result (IsZeroed self.now.extent (sectors_of segment) (I.disk cache.old) (I.disk cache.new)) }
+        ensures err { OnErr result (StopsZeroing self.now.extent (sectors_of segment)
+            (I.disk cache.old) (I.disk cache.new)) }
         ensures touches { TouchesSectors I.moment I.may_leave I.left_since
             (on_image self.now.extent (sectors_of segment)) cache.old cache.new }
     {

@@ -6,10 +6,9 @@ use Rattle.mmio_window.proofs.Pieces.{queue_stands_open}
 use Rattle.block_device.specs.Operation.{operation_of}
 use Rattle.block_device.proofs.Telling.{told_inside}
 use Rattle.block_device.proofs.Unasked.{any_disk}
-use Rattle.chain.specs.declared.budget.Progress.TheVariants.{More, Done}
 use Rattle.mmio_window.proofs.Soundness.{serving_keeps_sound}
 use Rattle.mmio_window.specs.Window.{queue_at}
-use Rattle.block_device.proofs.Anywhere.{asks_at, hosts_to}
+use Rattle.block_device.proofs.Anywhere.{asks_at, hosts_to, none_asks}
 use Rattle.block_device.proofs.device.BlockDevice.host_piece.Goals as goal
 
 pub tell-operation-requires-clause-good : goal.tell-operation-requires-clause-good
@@ -70,31 +69,21 @@ returns-in-Err-clause-sound g c =
     c.serve_queue.new.queue
     c.requires.sound c.serve_queue.ensures.range (sym c.in-Some.ensures.value) c.serve_queue.ensures.made
 
-pub returns-in-More-clause-served : goal.returns-in-More-clause-served
-returns-in-More-clause-served g c disk =
-    hosts_to c.args.self.now c.args.stage c.args.budget (queue_at 0 c.args.window.now) c.in-Some.queue.now
-    c.serve_queue.new.queue c.in-Ok.left More
-    c.args.mem.now c.serve_queue.new.mem c.args.window.now c.show.new.window disk
-    c.in-Some.ensures.value (sym c.in-More.is ∙ c.show.ensures.progress) c.show.ensures.after
-    c.in-Ok.ensures.leaves
+pub returns-in-Ok-clause-served : goal.returns-in-Ok-clause-served
+returns-in-Ok-clause-served g c disk =
+    rw c.by.ensures (hosts_to c.args.self.now c.args.stage c.args.budget (queue_at 0 c.args.window.now)
+    c.in-Some.queue.now c.serve_queue.new.queue c.in-Ok.left c.show.result
+    c.args.mem.now c.serve_queue.new.mem c.args.window.now c.show.new.window _ _ disk
+    c.in-Some.ensures.value c.show.ensures.progress c.show.ensures.after c.in-Ok.ensures.leaves)
 
-pub returns-in-More-clause-sound : goal.returns-in-More-clause-sound
-returns-in-More-clause-sound g c =
-    c.show.ensures.sound c.serve_queue.new.mem
-    (serving_keeps_sound c.args.mem.now c.serve_queue.new.mem c.args.window.now 0 c.in-Some.queue.now
-    c.serve_queue.new.queue
-    c.requires.sound c.serve_queue.ensures.range (sym c.in-Some.ensures.value) c.serve_queue.ensures.made)
+pub returns-in-Ok-clause-flight : goal.returns-in-Ok-clause-flight
+returns-in-Ok-clause-flight g c = rw c.by.ensures (none_asks _ c.show.result)
 
-pub returns-in-Done-clause-served : goal.returns-in-Done-clause-served
-returns-in-Done-clause-served g c disk =
-    hosts_to c.args.self.now c.args.stage c.args.budget (queue_at 0 c.args.window.now) c.in-Some.queue.now
-    c.serve_queue.new.queue c.in-Ok.left Done
-    c.args.mem.now c.serve_queue.new.mem c.args.window.now c.show.new.window disk
-    c.in-Some.ensures.value (sym c.in-Done.is ∙ c.show.ensures.progress) c.show.ensures.after
-    c.in-Ok.ensures.leaves
+pub returns-in-Ok-clause-inside : goal.returns-in-Ok-clause-inside
+returns-in-Ok-clause-inside g c = rw c.by.ensures (none_asks _ c.show.result)
 
-pub returns-in-Done-clause-sound : goal.returns-in-Done-clause-sound
-returns-in-Done-clause-sound g c =
+pub returns-in-Ok-clause-sound : goal.returns-in-Ok-clause-sound
+returns-in-Ok-clause-sound g c =
     c.show.ensures.sound c.serve_queue.new.mem
     (serving_keeps_sound c.args.mem.now c.serve_queue.new.mem c.args.window.now 0 c.in-Some.queue.now
     c.serve_queue.new.queue

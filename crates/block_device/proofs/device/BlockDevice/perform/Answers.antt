@@ -1,7 +1,6 @@
-use Rattle.block_device.proofs.Answering.{read_fits, write_fits, zeroes_fit, done_flushed, done_unflushed}
+use Rattle.block_device.proofs.Answering.{flushing_ends, read_fits, write_fits, zeroes_fit}
 use Rattle.chain.specs.Bytes.{readable_of}
 use Rattle.block_device.specs.Request.{payload_of}
-use Rattle.block_device.specs.Touching.{on_image, written_sectors}
 use Rattle.block_device.proofs.Touching.{own_write, own_zeroes, written_none}
 use Rattle.block_device.proofs.device.BlockDevice.perform.Goals as goal
 
@@ -22,20 +21,14 @@ zero_segments-requires-clause-fits g c =
     c.in-WriteZeroes.segments c.requires.asked.room c.requires.good c.in-WriteZeroes.is
     c.requires.asked.servable
 
-pub returns-in-Ok-clause-done : goal.returns-in-Ok-clause-done
-returns-in-Ok-clause-done g c =
-    done_flushed c.args.self.now.extent c.args.request c.args.chain.now c.args.mem.now
-    (g.I.Image.disk c.args.cache.now) (g.I.Image.disk c.flush.new.self) c.in-Flush.is c.in-Ok.ensures.ok
-
-pub returns-in-Err-clause-done : goal.returns-in-Err-clause-done
-returns-in-Err-clause-done g c =
-    done_unflushed c.args.self.now.extent c.args.request c.args.chain.now c.args.mem.now
-    (g.I.Image.disk c.args.cache.now) (g.I.Image.disk c.flush.new.self) c.in-Flush.is c.in-Err.ensures.err
+pub returns-in-Flush-clause-done : goal.returns-in-Flush-clause-done
+returns-in-Flush-clause-done g c =
+    rw (c.of-in-Flush.ensures.len, c.of-in-Flush.ensures.status) (flushing_ends c.args.self.now c.args.request
+    c.args.chain.now c.args.mem.now (g.I.Image.disk c.args.cache.now) (g.I.Image.disk c.flush.new.self)
+    c.flush.result c.in-Flush.is c.flush.ensures.ok c.flush.ensures.err).done
 
 pub returns-in-Read-clause-own : goal.returns-in-Read-clause-own
-returns-in-Read-clause-own g c = written_none
-    (on_image c.args.self.now.extent (written_sectors c.args.request
-    (payload_of (readable_of c.args.mem.now c.args.chain.now)))) c.read_sectors.ensures.touches
+returns-in-Read-clause-own g c = written_none _ c.read_sectors.ensures.touches
 
 pub returns-in-Write-clause-own : goal.returns-in-Write-clause-own
 returns-in-Write-clause-own g c =
@@ -43,15 +36,8 @@ returns-in-Write-clause-own g c =
     (payload_of (readable_of c.args.mem.now c.args.chain.now)) c.in-Write.sector c.in-Write.count
     c.in-Write.is c.write_sectors.ensures.touches
 
-pub returns-in-Ok-clause-own : goal.returns-in-Ok-clause-own
-returns-in-Ok-clause-own g c = written_none
-    (on_image c.args.self.now.extent (written_sectors c.args.request
-    (payload_of (readable_of c.args.mem.now c.args.chain.now)))) c.flush.ensures.touches
-
-pub returns-in-Err-clause-own : goal.returns-in-Err-clause-own
-returns-in-Err-clause-own g c = written_none
-    (on_image c.args.self.now.extent (written_sectors c.args.request
-    (payload_of (readable_of c.args.mem.now c.args.chain.now)))) c.flush.ensures.touches
+pub returns-in-Flush-clause-own : goal.returns-in-Flush-clause-own
+returns-in-Flush-clause-own g c = written_none _ c.flush.ensures.touches
 
 pub returns-in-WriteZeroes-clause-own : goal.returns-in-WriteZeroes-clause-own
 returns-in-WriteZeroes-clause-own g c =

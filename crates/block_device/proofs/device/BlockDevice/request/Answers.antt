@@ -1,4 +1,4 @@
-use Rattle.std.proofs.Common.{◌≡◌, ◌∙◌, ℕ, List, length, sym, ap, arith}
+use Rattle.std.proofs.Common.{◌∙◌, sym, ap, arith}
 use Rattle.chain.specs.Bytes.{readable_of}
 use Rattle.block_device.specs.Request.{out_request_of, payload_of}
 use Rattle.block_device.proofs.Judging.{payload_size, request_by_type}
@@ -11,29 +11,25 @@ write_zeroes_request-requires-clause-payload g c =
 
 pub returns-in-0-clause-value : goal.returns-in-0-clause-value
 returns-in-0-clause-value g c =
-    let readable : List ℕ = readable_of c.args.mem.now c.args.chain.now in
-    let size : length readable ≡ c.readable_len-readable.result =
-    c.readable_len-readable.ensures.list c.args.mem.now c.requires in
-    request_by_type c.args.self.now c.read_at.new.into readable c.args.room 0 c.read_u64-sector.result
-    c.in_request.result
-    c.read_at.ensures (omega (arith, size)) (sym c.in-0.is ∙ c.read_u32.ensures) c.read_u64-sector.ensures
-    c.in_request.ensures.value
+    request_by_type c.args.self.now c.read_at.new.into
+    (readable_of c.args.mem.now c.args.chain.now) c.args.room
+    0 c.read_u64-sector.result c.in_request.result c.read_at.ensures
+    (omega (arith, c.readable_len-readable.ensures.list c.args.mem.now c.requires))
+    (sym c.in-0.is ∙ c.read_u32.ensures) c.read_u64-sector.ensures c.in_request.ensures.value
 
 pub returns-in-1-clause-value : goal.returns-in-1-clause-value
 returns-in-1-clause-value g c =
-    let readable : List ℕ = readable_of c.args.mem.now c.args.chain.now in
-    let size : length readable ≡ c.readable_len-readable.result =
-    c.readable_len-readable.ensures.list c.args.mem.now c.requires in
-    request_by_type c.args.self.now c.read_at.new.into readable c.args.room 1 c.read_u64-sector.result
-    c.out_request.result
-    c.read_at.ensures (omega (arith, size)) (sym c.in-1.is ∙ c.read_u32.ensures) c.read_u64-sector.ensures
-    (c.out_request.ensures.value
-    ∙ ap (out_request_of c.args.self.now c.read_u64-sector.result)
-    (sym (payload_size readable c.readable_len-readable.result size)))
+    let size = c.readable_len-readable.ensures.list c.args.mem.now c.requires in
+    request_by_type c.args.self.now c.read_at.new.into
+    (readable_of c.args.mem.now c.args.chain.now) c.args.room
+    1 c.read_u64-sector.result c.out_request.result c.read_at.ensures (omega (arith, size))
+    (sym c.in-1.is ∙ c.read_u32.ensures) c.read_u64-sector.ensures
+    (c.out_request.ensures.value ∙ ap (out_request_of c.args.self.now c.read_u64-sector.result)
+    (sym (payload_size (readable_of c.args.mem.now c.args.chain.now) c.readable_len-readable.result size)))
 
 pub returns-in-1-clause-servable : goal.returns-in-1-clause-servable
 returns-in-1-clause-servable g c =
-    let readable : List ℕ = readable_of c.args.mem.now c.args.chain.now in
+    let readable = readable_of c.args.mem.now c.args.chain.now in
     c.out_request.ensures.servable (payload_of readable) c.args.room
     (payload_size readable c.readable_len-readable.result
     (c.readable_len-readable.ensures.list c.args.mem.now c.requires))

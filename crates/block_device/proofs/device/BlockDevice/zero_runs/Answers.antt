@@ -1,4 +1,4 @@
-use Rattle.std.proofs.Common.{◌<◌, ◌/◌, length, arith}
+use Rattle.std.proofs.Common.{arith}
 use Rattle.chain.specs.Bytes.{readable_of}
 use Rattle.block_device.specs.Request.{payload_of}
 use Rattle.block_device.proofs.Judging.{segment_few, segment_within}
@@ -8,18 +8,16 @@ use Rattle.block_device.proofs.device.BlockDevice.zero_runs.Goals.{then-segment-
 
 pub run-requires-clause-sector : goal.run-requires-clause-sector
 run-requires-clause-sector g c =
-    let payload = payload_of (readable_of c.args.mem.now c.args.chain.now) in
-    let below : c.loop-index.index < length payload / 16 = omega (arith, c.requires.payload) in
-    let fits = segment_within c.args.self.now.extent.count payload c.loop-index.index c.read-segment.result
-    c.requires.sectors c.read-segment.ensures below in
+    let fits = segment_within c.args.self.now.extent.count
+    (payload_of (readable_of c.args.mem.now c.args.chain.now)) c.args.segments c.loop-index.index
+    c.read-segment.result c.requires.sectors c.requires.payload (omega arith) c.read-segment.ensures in
     omega (arith, fits, c.requires.disk)
 
 pub run-requires-clause-few : goal.run-requires-clause-few
 run-requires-clause-few g c =
-    let payload = payload_of (readable_of c.args.mem.now c.args.chain.now) in
-    let below : c.loop-index.index < length payload / 16 = omega (arith, c.requires.payload) in
-    segment_few c.args.self.now.extent.count payload c.loop-index.index c.read-segment.result
-    c.requires.sectors c.read-segment.ensures below
+    segment_few c.args.self.now.extent.count (payload_of (readable_of c.args.mem.now c.args.chain.now))
+    c.args.segments c.loop-index.index c.read-segment.result c.requires.sectors c.requires.payload
+    (omega arith) c.read-segment.ensures
 
 pub push-requires : goal.push-requires
 push-requires g c =

@@ -1,9 +1,9 @@
-use Rattle.std.proofs.Common.{◌+◌, ◌-◌, rules, arith, sym, subst}
+use Rattle.std.proofs.Common.{◌+◌, ◌-◌, arith, sym, subst}
+use Rattle.std.proofs.lemmas.Result.{err_from_is_err_and}
 use Rattle.std.specs.List.{range_with_len}
-use Rattle.block_device.specs.Extent.{extent_disk}
-use Rattle.block_device.specs.Zeroes.{IsStopped, sectors_of}
+use Rattle.block_device.specs.Zeroes.{IsZeroed, sectors_of}
 use Rattle.block_device.specs.Touching.{on_image}
-use Rattle.block_device.proofs.Zeroing.{IsZeroing, run-at, run-more, zeroing_more, zeroing_start, zeroing_stops}
+use Rattle.block_device.proofs.Zeroing.{run-at, run-more, zeroing_more, zeroing_start, zeroing_stops}
 use Rattle.block_device.proofs.Touching.{range_has, unwritten, written_sector}
 use Rattle.block_device.proofs.device.BlockDevice.zero_sectors.Goals as goal
 
@@ -18,7 +18,7 @@ pub loop-done-preserved : goal.loop-done-preserved
 loop-done-preserved g c =
     let sector = c.args.segment.sector in
     let done = c.loop-done.done in (
-      subst (IsZeroing c.args.self.now.extent (g.I.Image.disk c.args.cache.now)
+      subst (λ sectors. IsZeroed c.args.self.now.extent sectors (g.I.Image.disk c.args.cache.now)
           (g.I.Image.disk c.zero.new.self)) (sym (run-more sector done))
           (zeroing_more c.args.self.now.extent (g.I.Image.disk c.args.cache.now)
           (g.I.Image.disk c.loop-done.cache) (g.I.Image.disk c.zero.new.self)
@@ -36,29 +36,14 @@ pub returns-in_err-zero-clause-err : goal.returns-in_err-zero-clause-err
 returns-in_err-zero-clause-err g c =
     let sector = c.args.segment.sector in
     let done = c.loop-done.done in
-    let stopped : IsStopped (sectors_of c.args.segment)
-    (extent_disk c.args.self.now.extent (g.I.Image.disk c.args.cache.now))
-    (extent_disk c.args.self.now.extent (g.I.Image.disk c.zero.new.self)) =
+    rw (err_from_is_err_and c.from_residual.result c.from_residual.ensures.1).1
     (zeroing_stops c.args.self.now.extent (g.I.Image.disk c.args.cache.now) (g.I.Image.disk c.loop-done.cache)
     (g.I.Image.disk c.zero.new.self)
     (sectors_of c.args.segment) (range_with_len sector done)
     (range_with_len (sector + done + 1) (c.args.segment.count - done - 1)) (sector + done) _
     c.loop-done.invariant.0 (g.met.I.Image.whole c.loop-done.cache) c.requires.lies
     (omega arith) (omega arith)
-    (run-at sector done c.args.segment.count (omega arith)) c.in_err-zero.ensures.err).0 in
-    search rules
-
-pub returns-in_err-zero-clause-outside : goal.returns-in_err-zero-clause-outside
-returns-in_err-zero-clause-outside g c =
-    let sector = c.args.segment.sector in
-    let done = c.loop-done.done in
-    (zeroing_stops c.args.self.now.extent (g.I.Image.disk c.args.cache.now) (g.I.Image.disk c.loop-done.cache)
-    (g.I.Image.disk c.zero.new.self)
-    (sectors_of c.args.segment) (range_with_len sector done)
-    (range_with_len (sector + done + 1) (c.args.segment.count - done - 1)) (sector + done) _
-    c.loop-done.invariant.0 (g.met.I.Image.whole c.loop-done.cache) c.requires.lies
-    (omega arith) (omega arith)
-    (run-at sector done c.args.segment.count (omega arith)) c.in_err-zero.ensures.err).1
+    (run-at sector done c.args.segment.count (omega arith)) c.in_err-zero.ensures.err)
 
 pub returns-in_err-zero-clause-touches : goal.returns-in_err-zero-clause-touches
 returns-in_err-zero-clause-touches g c =
