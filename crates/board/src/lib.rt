@@ -56,3 +56,4 @@ pub use saved::{RestoreFault, RestoreRefusal, SaveRefusal};
 pub use sector_cache::{CacheFault, Image, ImageError, ImageFault, MemoryImage, Refused};
 pub use snapshot::{ShortBuffer, SnapshotFault};
 pub use spec::SlotSpec;
+pub use task::Task;

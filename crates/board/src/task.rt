@@ -4,7 +4,8 @@ use crate::pause::Service;
 
 /// What is left to be done.
 #[derive(Clone, Copy, Debug, PartialEq, Eq)]
-pub(crate) enum Task {
+pub enum Task {
+    /// Nothing is left.
     Nothing,
     /// A device serves one of its queues.
     Serve(Service),
