@@ -9,7 +9,7 @@ use Rattle.chain.specs.declared.budget.Progress.TheVariants.{More, Done}
 use Rattle.chain.specs.declared.segment.Buffer.{Buffer}
 use Rattle.chain.specs.Budget.{AreWithin, IsSpent, chains_of, left_after}
 use Rattle.chain.specs.Pieces.{EndsWithin, IsServiceWithin, Pauses}
-use Rattle.chain.specs.Service.{Device, Ending, Refused, Site, IsReady, open_site}
+use Rattle.chain.specs.Service.{Device, Ending, Refused, Site, Spent, IsReady, open_site}
 use Rattle.chain.proofs.Pieces.{CourseAlike, EndsAlikeBy, course_alike, end_alike, opened_to_end}
 use Rattle.chain.proofs.Simulating.{DoesAs, ServedAs, moved, service_as}
 use Rattle.mmio_window.specs.declared.queue.Queue.{Queue}
@@ -18,14 +18,24 @@ use Rattle.mmio_window.specs.declared.stage.Stage.TheVariants.{First, Next}
 use Rattle.mmio_window.specs.Queue.{queue_kind}
 use Rattle.mmio_window.specs.Window.{WindowState}
 use Rattle.mmio_window.specs.Pieces.{IsRefusedAt, ServesTo}
+use Rattle.mmio_window.specs.Serving.{NothingHappens}
+
+-- the other device is left in a like state, and served so
+pub record AlikeTo {S T : Type 0} (Alike : S → T → Type 0) (s : S) (Served : T → Type 0) : Type 0 where
+  pub state : T
+  pub alike : Alike s state
+  pub served : Served state
+
+-- what follows of it in any state follows of it in that one
+along : {S T : Type 0} {Alike : S → T → Type 0} {s : S} {P Q : T → Type 0} → AlikeTo Alike s P
+    → ((t : T) → P t → Q t) → AlikeTo Alike s Q
+along a f = record { state = a.state; alike = a.alike; served = f a.state a.served }
 
 module _ {S T : Type 0} (device : Device S) (other : Device T) (Alike : S → T
     → Type 0) (likewise : DoesAs device other Alike) (budget : Budget) where
-  -- the other device pauses in the same way, and is left in a like state
-  record PausedAs (start : Site Queue T) (now : Site Queue S) : Type 0 where
-    state : T
-    alike : Alike now.state state
-    pauses : Pauses queue_kind other budget start (moved now state)
+  -- the other device pauses in the same way
+  abbrev PausedAs : Site Queue T → Site Queue S → Type 0
+  PausedAs start now = AlikeTo Alike now.state (λ u. Pauses queue_kind other budget start (moved now u))
 
   ready_as : (now : Site Queue S) (t : T) → Alike now.state t → IsReady queue_kind device now
       → IsReady queue_kind other (moved now t)
@@ -40,7 +50,7 @@ module _ {S T : Type 0} (device : Device S) (other : Device T) (Alike : S → T
       record {
         state = c.state;
         alike = c.alike;
-        pauses = record {
+        served = record {
           course = c.course;
           within = subst (λ (chains : List (List Buffer)). AreWithin budget chains) (sym c.same) p.within;
           spent = subst (λ (chains : List (List Buffer)). IsSpent (left_after budget chains))
@@ -53,10 +63,9 @@ module _ {S T : Type 0} (device : Device S) (other : Device T) (Alike : S → T
       }
 
   -- or goes to the end
-  record EndedAs (start : Site Queue T) (new : Site Queue S) (ending : Ending) (wanted : Bool) : Type 0 where
-    state : T
-    alike : Alike new.state state
-    ends : EndsWithin queue_kind other budget start (moved new state) ending wanted
+  abbrev EndedAs : Site Queue T → Site Queue S → Ending → Bool → Type 0
+  EndedAs start new ending wanted =
+      AlikeTo Alike new.state (λ u. EndsWithin queue_kind other budget start (moved new u) ending wanted)
 
   ends_as : (start new : Site Queue S) (t : T) (ending : Ending) (wanted : Bool) → Alike start.state t
       → EndsWithin queue_kind device budget start new ending wanted
@@ -68,148 +77,99 @@ module _ {S T : Type 0} (device : Device S) (other : Device T) (Alike : S → T
       record {
         state = e.way.state;
         alike = e.way.alike;
-        ends = record {
+        served = record {
           ends = e.way.ends;
           within = subst (λ (chains : List (List Buffer)). AreWithin budget chains) (sym e.same) p.within;
         };
       }
 
   -- or is a service in one piece
-  record WholeAs (old : Site Queue T) (new : Site Queue S) (ending : Ending) (wanted : Bool) : Type 0 where
-    state : T
-    alike : Alike new.state state
-    service : IsServiceWithin queue_kind other budget old (moved new state) ending wanted
+  abbrev WholeAs : Site Queue T → Site Queue S → Ending → Bool → Type 0
+  WholeAs old new ending wanted =
+      AlikeTo Alike new.state (λ u. IsServiceWithin queue_kind other budget old (moved new u) ending wanted)
 
   whole_at : (fault : Option Fault) (old new : Site Queue S) (t : T) (ending : Ending) (wanted : Bool)
       → queue_kind.opening_fault old.memory old.ring ≡ fault → Alike old.state t
       → IsServiceWithin queue_kind device budget old new ending wanted
       → WholeAs (moved old t) new ending wanted
   whole_at None old new t ending wanted opens alike h =
-      let e : EndedAs (moved (open_site queue_kind device old) t) new ending wanted =
-      ends_as (open_site queue_kind device old) new t ending wanted alike (h.within opens) in
-      record {
-        state = e.state;
-        alike = e.alike;
-        service = record {
-          service = opened_to_end queue_kind other (moved old t) (moved new e.state) ending
-              wanted opens e.ends.ends;
-          within = λ o. e.ends;
-        };
-      }
+      along (ends_as (open_site queue_kind device old) new t ending wanted alike (h.within opens))
+      (λ u ends. record {
+        service = opened_to_end queue_kind other (moved old t) (moved new u) ending wanted opens ends.ends;
+        within = λ o. ends;
+      })
   whole_at (Some fault) old new t ending wanted opens alike h =
       let w : ServedAs queue_kind device other Alike likewise (moved old t) new ending wanted =
       service_as queue_kind device other Alike likewise old new t ending wanted alike h.service in
       record {
         state = w.state;
         alike = w.alike;
-        service = record { service = w.service; within = λ o. absurd (cc (o, opens)) };
+        served = record { service = w.service; within = λ o. absurd (cc (o, opens)) };
       }
+
+  -- or nothing happens
+  idle_as : (ending : Ending) (old new : Memory) (before after : WindowState) (s s' : S) (t : T) → Alike s t
+      → (ending ≡ Spent) × NothingHappens old new before after s s'
+      → AlikeTo Alike s' (λ u. (ending ≡ Spent) × NothingHappens old new before after t u)
+  idle_as ending old new before after s s' t alike idle = record {
+    state = t;
+    alike = subst (λ (x : S). Alike x t) (sym idle.1.state) alike;
+    served = (idle.0, record { memory = idle.1.memory; window = idle.1.window; state = refl });
+  }
 
   -- ---- as a window shows them
 
-  pub record PieceAs (stage : Stage) (q : ℕ) (queue : Option Queue) (progress : Progress) (old new : Memory)
-      (before after : WindowState) (s' : S) (t : T) : Type 0 where
-    pub state : T
-    pub alike : Alike s' state
-    pub served : ServesTo stage other budget q queue progress old new before after t state
+  abbrev pub PieceAs : Stage → ℕ → Option Queue → Progress → Memory → Memory → WindowState → WindowState → S
+      → T → Type 0
+  PieceAs stage q queue progress old new before after s' t =
+      AlikeTo Alike s' (λ u. ServesTo stage other budget q queue progress old new before after t u)
 
   pub piece_as : (stage : Stage) (q : ℕ) (queue : Option Queue) (progress : Progress) (old new : Memory)
       (before after : WindowState) (s s' : S) (t : T) → Alike s t
       → ServesTo stage device budget q queue progress old new before after s s'
       → PieceAs stage q queue progress old new before after s' t
-  piece_as First q None Done old new before after s s' t alike h = record {
-    state = t;
-    alike = subst (λ (x : S). Alike x t) (sym h.notified.1.state) alike;
-    served = record {
-      ending = h.ending;
-      notified = (
-        h.notified.0,
-        record { memory = h.notified.1.memory; window = h.notified.1.window; state = refl },
-      );
-    };
-  }
+  piece_as First q None Done old new before after s s' t alike h =
+      along (idle_as h.ending old new before after s s' t alike h.notified)
+      (λ u idle. record { ending = h.ending; notified = idle })
   piece_as First q (Some queue) Done old new before after s s' t alike h =
-      let w : WholeAs (record { memory = old; ring = queue; state = t })
-      (record { memory = new; ring = h.notified.last; state = s' }) h.ending h.notified.wanted =
-      whole_at (queue_kind.opening_fault old queue) (record { memory = old; ring = queue; state = s })
-      (record { memory = new; ring = h.notified.last; state = s' }) t h.ending h.notified.wanted refl
-      alike h.notified.service in
-      record {
-        state = w.state;
-        alike = w.alike;
-        served = record {
-          ending = h.ending;
-          notified = record {
-            last = h.notified.last;
-            wanted = h.notified.wanted;
-            service = w.service;
-            window = h.notified.window;
-          };
-        };
-      }
+      let n = h.notified in
+      along (whole_at (queue_kind.opening_fault old queue) (record { memory = old; ring = queue; state = s })
+      (record { memory = new; ring = n.last; state = s' }) t h.ending n.wanted refl alike n.service)
+      (λ u service. record {
+        ending = h.ending;
+        notified = record { last = n.last; wanted = n.wanted; service = service; window = n.window };
+      })
   piece_as First q None More old new before after s s' t alike h = absurd h
   piece_as First q (Some queue) More old new before after s s' t alike h =
-      let start : Site Queue S = record { memory = old; ring = queue; state = s } in
-      let now : Site Queue S = record { memory = new; ring = h.last; state = s' } in
-      let p : PausedAs (moved (open_site queue_kind device start) t) now =
-      pauses_as (open_site queue_kind device start) now t alike h.begins.pauses in
-      record {
-        state = p.state;
-        alike = p.alike;
-        served = record {
-          last = h.last;
-          begins = record { opens = h.begins.opens; pauses = p.pauses };
-          window = h.window;
-        };
-      }
-  piece_as Next q None Done old new before after s s' t alike h = record {
-    state = t;
-    alike = subst (λ (x : S). Alike x t) (sym h.finished.1.state) alike;
-    served = record {
-      ending = h.ending;
-      finished = (
-        h.finished.0,
-        record { memory = h.finished.1.memory; window = h.finished.1.window; state = refl },
-      );
-    };
-  }
+      along (pauses_as (open_site queue_kind device (record { memory = old; ring = queue; state = s }))
+      (record { memory = new; ring = h.last; state = s' }) t alike h.begins.pauses)
+      (λ u pauses. record {
+        last = h.last;
+        begins = record { opens = h.begins.opens; pauses = pauses };
+        window = h.window;
+      })
+  piece_as Next q None Done old new before after s s' t alike h =
+      along (idle_as h.ending old new before after s s' t alike h.finished)
+      (λ u idle. record { ending = h.ending; finished = idle })
   piece_as Next q (Some queue) Done old new before after s s' t alike h =
-      let e : EndedAs (record { memory = old; ring = queue; state = t })
-      (record { memory = new; ring = h.finished.last; state = s' }) h.ending h.finished.wanted =
-      ends_as (record { memory = old; ring = queue; state = s })
-      (record { memory = new; ring = h.finished.last; state = s' }) t h.ending h.finished.wanted
-      alike h.finished.ends in
-      record {
-        state = e.state;
-        alike = e.alike;
-        served = record {
-          ending = h.ending;
-          finished = record {
-            last = h.finished.last;
-            wanted = h.finished.wanted;
-            ends = e.ends;
-            window = h.finished.window;
-          };
-        };
-      }
+      let f = h.finished in
+      along (ends_as (record { memory = old; ring = queue; state = s })
+      (record { memory = new; ring = f.last; state = s' }) t h.ending f.wanted alike f.ends)
+      (λ u ends. record {
+        ending = h.ending;
+        finished = record { last = f.last; wanted = f.wanted; ends = ends; window = f.window };
+      })
   piece_as Next q None More old new before after s s' t alike h = absurd h
   piece_as Next q (Some queue) More old new before after s s' t alike h =
-      let p : PausedAs (record { memory = old; ring = queue; state = t })
-      (record { memory = new; ring = h.last; state = s' }) =
-      pauses_as (record { memory = old; ring = queue; state = s })
-      (record { memory = new; ring = h.last; state = s' }) t alike h.pauses in
-      record {
-        state = p.state;
-        alike = p.alike;
-        served = record { last = h.last; pauses = p.pauses; window = h.window };
-      }
+      along (pauses_as (record { memory = old; ring = queue; state = s })
+      (record { memory = new; ring = h.last; state = s' }) t alike h.pauses)
+      (λ u pauses. record { last = h.last; pauses = pauses; window = h.window })
 
   -- and one that is refused
-  pub record RefusedAs (stage : Stage) (q : ℕ) (queue : Option Queue) (old new : Memory)
-      (before after : WindowState) (s' : S) (t : T) : Type 0 where
-    pub state : T
-    pub alike : Alike s' state
-    pub refused : IsRefusedAt stage other budget q queue old new before after t state
+  abbrev pub RefusedAs : Stage → ℕ → Option Queue → Memory → Memory → WindowState → WindowState → S → T
+      → Type 0
+  RefusedAs stage q queue old new before after s' t =
+      AlikeTo Alike s' (λ u. IsRefusedAt stage other budget q queue old new before after t u)
 
   pub refused_as : (stage : Stage) (q : ℕ) (queue : Option Queue) (old new : Memory)
       (before after : WindowState) (s s' : S) (t : T) → Alike s t
@@ -217,23 +177,11 @@ module _ {S T : Type 0} (device : Device S) (other : Device T) (Alike : S → T
       → RefusedAs stage q queue old new before after s' t
   refused_as First q None old new before after s s' t alike h = let never = h.0 in absurd (cc)
   refused_as First q (Some queue) old new before after s s' t alike h =
-      let w : WholeAs (record { memory = old; ring = queue; state = t })
-      (record { memory = new; ring = h.last; state = s' }) Refused h.wanted =
-      whole_at (queue_kind.opening_fault old queue) (record { memory = old; ring = queue; state = s })
-      (record { memory = new; ring = h.last; state = s' }) t Refused h.wanted refl alike h.service in
-      record {
-        state = w.state;
-        alike = w.alike;
-        refused = record { last = h.last; wanted = h.wanted; service = w.service; window = h.window };
-      }
+      along (whole_at (queue_kind.opening_fault old queue) (record { memory = old; ring = queue; state = s })
+      (record { memory = new; ring = h.last; state = s' }) t Refused h.wanted refl alike h.service)
+      (λ u service. record { last = h.last; wanted = h.wanted; service = service; window = h.window })
   refused_as Next q None old new before after s s' t alike h = let never = h.0 in absurd (cc)
   refused_as Next q (Some queue) old new before after s s' t alike h =
-      let e : EndedAs (record { memory = old; ring = queue; state = t })
-      (record { memory = new; ring = h.last; state = s' }) Refused h.wanted =
-      ends_as (record { memory = old; ring = queue; state = s })
-      (record { memory = new; ring = h.last; state = s' }) t Refused h.wanted alike h.ends in
-      record {
-        state = e.state;
-        alike = e.alike;
-        refused = record { last = h.last; wanted = h.wanted; ends = e.ends; window = h.window };
-      }
+      along (ends_as (record { memory = old; ring = queue; state = s })
+      (record { memory = new; ring = h.last; state = s' }) t Refused h.wanted alike h.ends)
+      (λ u ends. record { last = h.last; wanted = h.wanted; ends = ends; window = h.window })

@@ -8,11 +8,12 @@ use Rattle.board.specs.declared.event.EventKind.{EventKind}
 use Rattle.board.specs.declared.event.EventKind.TheVariants.{Read, Write, MemRead, MemWrite, Input, Resize, Restore, Complete}
 use Rattle.board.specs.declared.reply.Reply.TheVariants.{NoMemory}
 use Rattle.board.specs.declared.reply.Record.{Record}
+use Rattle.board.specs.declared.pause.Service.TheVariants.{Block, Receive, Transmit}
 use Rattle.board.specs.Image.{Health}
 use Rattle.board.specs.Machine.{Gives, IsNext, RunsOnItsOwn, record_of, task_at, with_write}
 use Rattle.board.specs.Outcome.{Outcome}
 use Rattle.board.specs.Slot.{SlotState}
-use Rattle.board.specs.Task.{Task, Nothing, ServeBlock, ServeReceive, ServeTransmit, PutOut}
+use Rattle.board.specs.Task.{Task, Nothing, Serve, PutOut}
 use Rattle.board.specs.World.{World, IsCutShort, IsRefused, MayGive, SlotStep, MissingStep, Step}
 use Rattle.board.specs.Line.{Move, IsLine, IsUndisturbed, IsQuiet, RunsAlone, IsAlone, SeesTheSame, own_events, own_records, events_of, records_of}
 pub use Rattle.board.proofs.Lists.{get_set, get_set_other}
@@ -22,10 +23,10 @@ use Rattle.board.proofs.OneRun.{OneRun, next_of, one_run}
 cut_short_shows : {A : Type 0} (task : Task) (state : SlotState) (old new : Health) (outcome : Outcome A)
     → IsCutShort task state old new outcome → outcome.reply ≢ NoMemory → new.failures ≡ old.failures → ⊥
 cut_short_shows Nothing state old new outcome refused answered stood = refused
-cut_short_shows ServeBlock state old new outcome refused answered stood =
+cut_short_shows (Serve Block) state old new outcome refused answered stood =
     absurd (omega (arith, refused.failures, stood))
-cut_short_shows ServeReceive state old new outcome refused answered stood = refused
-cut_short_shows ServeTransmit state old new outcome refused answered stood =
+cut_short_shows (Serve Receive) state old new outcome refused answered stood = refused
+cut_short_shows (Serve Transmit) state old new outcome refused answered stood =
     answered (ap (λ o. o.reply) refused.is)
 cut_short_shows (PutOut byte) state old new outcome refused answered stood =
     answered (ap (λ o. o.reply) refused.alike)

@@ -14,14 +14,14 @@ use Rattle.console_device.proofs.Pieces.{fitting_within}
 use Rattle.board.specs.declared.event.Event.{Event}
 use Rattle.board.specs.declared.event.EventKind.{EventKind}
 use Rattle.board.specs.declared.event.EventKind.TheVariants.{Read, Write, MemRead, MemWrite, Input, Resize, Restore, Complete}
-use Rattle.board.specs.declared.pause.Service.TheVariants.{Transmit}
+use Rattle.board.specs.declared.pause.Service.TheVariants.{Block, Receive, Transmit}
 use Rattle.board.specs.declared.pause.Turn.TheVariants.{Answered}
 use Rattle.board.specs.declared.reply.Reply.{Reply}
 use Rattle.board.specs.declared.reply.Reply.TheVariants.{Done}
 use Rattle.board.specs.Machine.{task_at, with_write}
 use Rattle.board.specs.Pausing.{Begins, TakesTurn, asked_by}
 use Rattle.board.specs.Slot.{SlotState}
-use Rattle.board.specs.Task.{Task, Nothing, ServeBlock, ServeReceive, ServeTransmit, PutOut}
+use Rattle.board.specs.Task.{Task, Nothing, Serve, PutOut}
 use Rattle.board.specs.Within.{BeginsWithin, IsSentPiece, PutsOutWithin, SendsWithin, TakesWithin, TransmitsWithin, TurnWithin, reply_at}
 use Rattle.board.specs.World.{World, Handles}
 use Rattle.board.proofs.Seats.{step_there}
@@ -96,9 +96,10 @@ write_ended : {A : Type 0} (limit : ℕ) (state : SlotState) (window : DeviceKin
     left (Answered reply)
     → TakesWithin limit state (Write window offset width value) new waiting left reply
 write_ended limit state window offset width value budget new waiting left reply Nothing is h = h
-write_ended limit state window offset width value budget new waiting left reply ServeBlock is h = rw is tt
-write_ended limit state window offset width value budget new waiting left reply ServeReceive is h = rw is tt
-write_ended limit state window offset width value budget new waiting left reply ServeTransmit is h =
+write_ended limit state window offset width value budget new waiting left reply (Serve Block) is h = rw is tt
+write_ended limit state window offset width value budget new waiting left reply (Serve Receive) is h =
+    rw is tt
+write_ended limit state window offset width value budget new waiting left reply (Serve Transmit) is h =
     subst (λ (t : Task). PutsOutWithin limit t (with_write window offset width value state) new waiting
     left reply) (sym is)
     (transmit_ended limit budget (with_write window offset width value state) new waiting left reply h)

@@ -10,12 +10,11 @@ use Rattle.board.specs.declared.event.EventKind.{EventKind}
 use Rattle.board.specs.declared.event.EventKind.TheVariants.{Read, Write, MemRead, MemWrite, Input, Resize, Restore, Complete}
 use Rattle.board.specs.declared.pause.Service.{Service}
 use Rattle.board.specs.declared.pause.Service.TheVariants as service
-use Rattle.board.specs.declared.slot.window.Duty.TheVariants as duty
 use Rattle.board.specs.Hosting.{block_beside, device_at, is_block_task, notifies_block}
 use Rattle.board.specs.Machine.{task_at, with_write}
-use Rattle.board.specs.Pausing.{asked, asked_by, duty_of}
+use Rattle.board.specs.Pausing.{asked, asked_by}
 use Rattle.board.specs.Slot.{BoardSlot, IsUnnoted, SlotState, state_of}
-use Rattle.board.specs.Task.{Task, Nothing, ServeBlock, ServeReceive, ServeTransmit, PutOut}
+use Rattle.board.specs.Task.{Task, Nothing, Serve, PutOut}
 
 same_device : (s t : BoardSlot) → s.extent ≡ t.extent → s.read_only ≡ t.read_only → s.identity ≡ t.identity
     → device_at s ≡ device_at t
@@ -62,23 +61,21 @@ written_range window offset width value old new is =
     range_of old.memory new.memory (ap (λ (s : SlotState). s.memory) (is [])
     ∙ (kept_by_write window offset width value (state_of [] old)).memory)
 
--- a duty of the console is none of the block device
-pub not_block : (task : Task) (which : Service) → duty.Serve which ≡ duty_of task → which ≢ service.Block
+-- a task of the console is none of the block device
+pub not_block : (task : Task) (which : Service) → task ≡ Serve which → which ≢ service.Block
     → false ≡ is_block_task task
-not_block Nothing which is other = refl
-not_block ServeBlock which is other = absurd (other (cc))
-not_block ServeReceive which is other = refl
-not_block ServeTransmit which is other = refl
-not_block (PutOut byte) which is other = refl
+not_block task service.Block is other = absurd (other refl)
+not_block task service.Receive is other = rw is refl
+not_block task service.Transmit is other = rw is refl
 
 -- ---- the block device was notified
 
 -- and so the event asks for its service
-rung : (task : Task) → true ≡ is_block_task task → task ≡ ServeBlock
+rung : (task : Task) → true ≡ is_block_task task → task ≡ Serve service.Block
 rung Nothing rings = absurd (cc (rings))
-rung ServeBlock rings = refl
-rung ServeReceive rings = absurd (cc (rings))
-rung ServeTransmit rings = absurd (cc (rings))
+rung (Serve service.Block) rings = refl
+rung (Serve service.Receive) rings = absurd (cc (rings))
+rung (Serve service.Transmit) rings = absurd (cc (rings))
 rung (PutOut byte) rings = absurd (cc (rings))
 
 pub block_asked : {A : Type 0} (what : EventKind A) (state : SlotState) → true ≡ notifies_block what state

@@ -19,13 +19,14 @@ use Rattle.board.specs.declared.event.Event.{Event}
 use Rattle.board.specs.declared.event.EventKind.{EventKind}
 use Rattle.board.specs.declared.event.EventKind.TheVariants as event
 use Rattle.board.specs.declared.reply.Record.{Record}
+use Rattle.board.specs.declared.pause.Service.TheVariants.{Block, Receive, Transmit}
 use Rattle.board.specs.Durable.{IsLeftAsSeen}
 use Rattle.board.specs.Image.{Health, Tells, bytes_of, disk_with}
 use Rattle.board.specs.Line.{IsLine, Move}
 use Rattle.board.specs.Machine.{Gives, task_at, with_write}
 use Rattle.board.specs.Outcome.{Outcome}
 use Rattle.board.specs.Slot.{BoardSlot, SlotState, state_of}
-use Rattle.board.specs.Task.{Finishes, Nothing, PutOut, ServeBlock, ServeReceive, ServeTransmit, Task, device_of}
+use Rattle.board.specs.Task.{Finishes, Nothing, PutOut, Serve, Task, device_of}
 use Rattle.board.specs.World.{IsCutShort, IsRefused, MayGive, MissingStep, SlotStep, World, seen}
 use Rattle.board.proofs.Failures.{given_failures}
 
@@ -79,12 +80,12 @@ same_dirty old new same clean = ap (λ (h : Health). h.dirty) same ∙ clean
 finished_clean : {A : Type 0} (task : Task) (state : SlotState) (old new : Health) (outcome : Outcome A)
     → old.dirty ≡ false → Finishes task state old new outcome → new.dirty ≡ false
 finished_clean Nothing state old new outcome clean h = same_dirty old new h.image clean
-finished_clean ServeBlock state old new outcome clean h =
+finished_clean (Serve Block) state old new outcome clean h =
     notified_clean (device_of state) (queue_at 0 state.block) state.memory outcome.state.memory state.block
     outcome.state.block
     (disk_with state.extent old) (disk_with outcome.state.extent new) clean h.notified
-finished_clean ServeReceive state old new outcome clean h = same_dirty old new h.image clean
-finished_clean ServeTransmit state old new outcome clean h = same_dirty old new h.image clean
+finished_clean (Serve Receive) state old new outcome clean h = same_dirty old new h.image clean
+finished_clean (Serve Transmit) state old new outcome clean h = same_dirty old new h.image clean
 finished_clean (PutOut byte) state old new outcome clean h = same_dirty old new h.image clean
 
 served_clean : {A : Type 0} (state : SlotState) (what : EventKind A) (old new : Health) (outcome : Outcome A)
@@ -104,9 +105,9 @@ cut_short_clean : {A : Type 0} (task : Task) (state : SlotState) (old new : Heal
     → new.failures ≡ old.failures → old.dirty ≡ false → IsCutShort task state old new outcome
     → new.dirty ≡ false
 cut_short_clean Nothing state old new outcome same clean h = absurd h
-cut_short_clean ServeBlock state old new outcome same clean h = absurd (omega (arith, h.failures, same))
-cut_short_clean ServeReceive state old new outcome same clean h = absurd h
-cut_short_clean ServeTransmit state old new outcome same clean h = same_dirty old new h.image clean
+cut_short_clean (Serve Block) state old new outcome same clean h = absurd (omega (arith, h.failures, same))
+cut_short_clean (Serve Receive) state old new outcome same clean h = absurd h
+cut_short_clean (Serve Transmit) state old new outcome same clean h = same_dirty old new h.image clean
 cut_short_clean (PutOut byte) state old new outcome same clean h = same_dirty old new h.image clean
 
 refused_clean : {A : Type 0} (state : SlotState) (what : EventKind A) (old new : Health) (outcome : Outcome A)

@@ -2,20 +2,21 @@
 use Rattle.std.proofs.Common.{◌≡◌, inl, inr, ◌≤◌, ap, arith}
 use Rattle.board.specs.declared.event.EventKind.{EventKind}
 use Rattle.board.specs.declared.event.EventKind.TheVariants.{Read, Write, MemRead, MemWrite, Input, Resize, Restore, Complete}
+use Rattle.board.specs.declared.pause.Service.TheVariants.{Block, Receive, Transmit}
 use Rattle.board.specs.Image.{Health}
 use Rattle.board.specs.Machine.{task_at, with_write}
 use Rattle.board.specs.Outcome.{Outcome}
 use Rattle.board.specs.Slot.{SlotState}
-use Rattle.board.specs.Task.{Task, Nothing, ServeBlock, ServeReceive, ServeTransmit, PutOut}
+use Rattle.board.specs.Task.{Task, Nothing, Serve, PutOut}
 use Rattle.board.specs.World.{IsCutShort, IsRefused, MayGive}
 
 -- in a task that is cut short
 cut_short_failures : {A : Type 0} (task : Task) (state : SlotState) (old new : Health) (outcome : Outcome A)
     → IsCutShort task state old new outcome → old.failures ≤ new.failures
 cut_short_failures Nothing state old new outcome refused = absurd refused
-cut_short_failures ServeBlock state old new outcome refused = omega (arith, refused.failures)
-cut_short_failures ServeReceive state old new outcome refused = absurd refused
-cut_short_failures ServeTransmit state old new outcome refused = let same : new.failures ≡ old.failures =
+cut_short_failures (Serve Block) state old new outcome refused = omega (arith, refused.failures)
+cut_short_failures (Serve Receive) state old new outcome refused = absurd refused
+cut_short_failures (Serve Transmit) state old new outcome refused = let same : new.failures ≡ old.failures =
     ap (λ (h : Health). h.failures) refused.image in omega arith
 cut_short_failures (PutOut byte) state old new outcome refused = let same : new.failures ≡ old.failures =
     ap (λ (h : Health). h.failures) refused.image in omega arith

@@ -1,5 +1,5 @@
 -- A description has one fault at most that counts.
-use Rattle.std.proofs.Common.{◌≡◌, ◌⊎◌, inl, inr, ℕ, ◌<◌, List, length, take, refl, sym, ◌∙◌, ap, subst, arith}
+use Rattle.std.proofs.Common.{◌≡◌, ◌⊎◌, inl, inr, ℕ, ◌<◌, ◌≤◌, List, length, take, refl, sym, ◌∙◌, ap, subst, arith}
 use Rattle.std.specs.Prelude.{All, Any}
 use Rattle.std.specs.List.{slice_get}
 use Rattle.std.proofs.lemmas.Bool.{cases_order}
@@ -89,68 +89,58 @@ first_not_good sectors slots i f first good =
     faulty_not_good sectors (take i slots) first.spec f first.fault_is
     (good.each i first.spec (some_slot sectors slots i f first) first.there)
 
--- where a refusal comes from
+-- where a refusal comes from: how many slots there are, a slot, or what is left
 data Why (sectors : ℕ) (slots : List SlotSpec) (cache : ℕ) (fault : BoardFault) : Type 0 where
-  none : fault ≡ NoSlots → length slots ≡ 0 → Why sectors slots cache fault
-  many : fault ≡ TooManySlots → 64 < length slots → Why sectors slots cache fault
+  count : ((fault ≡ NoSlots) × (length slots ≡ 0)) ⊎ ((fault ≡ TooManySlots) × (64 < length slots))
+      → Why sectors slots cache fault
   first : (i : ℕ) (f : SlotFault) → fault ≡ Slot i f → HasFaultAt sectors slots i f
       → Why sectors slots cache fault
-  capacity : fault ≡ Cache BadCapacity → AreGood sectors slots → ¬ IsCapacity cache
+  rest : AreGood sectors slots
+      → ((fault ≡ Cache BadCapacity) × (¬ IsCapacity cache)) ⊎ ((fault ≡ NoMemory) × IsCapacity cache)
       → Why sectors slots cache fault
-  memory : fault ≡ NoMemory → AreGood sectors slots → IsCapacity cache → Why sectors slots cache fault
 
 why : (sectors : ℕ) (slots : List SlotSpec) (cache : ℕ) (fault : BoardFault)
     → Refuses sectors slots cache fault → Why sectors slots cache fault
-why sectors slots cache NoSlots refuses = none refl (ap (λ (s : List SlotSpec). length s) refuses)
-why sectors slots cache TooManySlots refuses = many refl refuses
+why sectors slots cache NoSlots refuses = count (inl (refl, ap (λ (s : List SlotSpec). length s) refuses))
+why sectors slots cache TooManySlots refuses = count (inr (refl, refuses))
 why sectors slots cache (Slot i f) refuses = first i f refl refuses
-why sectors slots cache (Cache fault) refuses = capacity (ap (λ f. Cache f) refuses.1.1) refuses.0 refuses.1.0
-why sectors slots cache BoardFault.NoMemory refuses = memory refl refuses.0 refuses.1
+why sectors slots cache (Cache fault) refuses =
+    rest refuses.0 (inl (ap (λ f. Cache f) refuses.1.1, refuses.1.0))
+why sectors slots cache BoardFault.NoMemory refuses = rest refuses.0 (inr (refl, refuses.1))
+
+-- of two faults whose causes exclude each other, the cause tells which it is
+same_of_two : {P Q : Type 0} (one other f g : BoardFault) → ((f ≡ one) × P) ⊎ ((f ≡ other) × Q)
+    → ((g ≡ one) × P) ⊎ ((g ≡ other) × Q) → (P → Q → ⊥) → f ≡ g
+same_of_two one other f g (inl a) (inl b) apart = a.0 ∙ sym b.0
+same_of_two one other f g (inl a) (inr b) apart = absurd (apart a.1 b.1)
+same_of_two one other f g (inr a) (inl b) apart = absurd (apart b.1 a.1)
+same_of_two one other f g (inr a) (inr b) apart = a.0 ∙ sym b.0
+
+-- where there are as many slots as may be, their count is no fault
+count_is_fine : {P Q : Type 0} (n : ℕ) → (P × (n ≡ 0)) ⊎ (Q × (64 < n)) → 0 < n → n ≤ 64 → ⊥
+count_is_fine n (inl none) some few = absurd (omega (arith, none.1, some))
+count_is_fine n (inr many) some few = absurd (omega (arith, many.1, few))
 
 same_why : (sectors : ℕ) (slots : List SlotSpec) (cache : ℕ) (f g : BoardFault) → Why sectors slots cache f
     → Why sectors slots cache g → f ≡ g
-same_why sectors slots cache f g (none is empty) (none is2 empty2) = is ∙ sym is2
-same_why sectors slots cache f g (none is empty) (many is2 more2) = absurd (omega arith)
-same_why sectors slots cache f g (none is empty) (first j h is2 one2) =
-    absurd (omega (arith, some_slot sectors slots j h one2, one2.few))
-same_why sectors slots cache f g (none is empty) (capacity is2 good2 small2) =
-    absurd (omega (arith, good2.some, good2.few))
-same_why sectors slots cache f g (none is empty) (memory is2 good2 fits2) =
-    absurd (omega (arith, good2.some, good2.few))
-same_why sectors slots cache f g (many is more) (none is2 empty2) = absurd (omega arith)
-same_why sectors slots cache f g (many is more) (many is2 more2) = is ∙ sym is2
-same_why sectors slots cache f g (many is more) (first j h is2 one2) =
-    absurd (omega (arith, some_slot sectors slots j h one2, one2.few))
-same_why sectors slots cache f g (many is more) (capacity is2 good2 small2) =
-    absurd (omega (arith, good2.some, good2.few))
-same_why sectors slots cache f g (many is more) (memory is2 good2 fits2) =
-    absurd (omega (arith, good2.some, good2.few))
-same_why sectors slots cache f g (first i h is one) (none is2 empty2) =
-    absurd (omega (arith, some_slot sectors slots i h one, one.few))
-same_why sectors slots cache f g (first i h is one) (many is2 more2) =
-    absurd (omega (arith, some_slot sectors slots i h one, one.few))
-same_why sectors slots cache f g (first i h is one) (first j k is2 one2) = is
-    ∙ same_first sectors slots i j h k one one2 (cases_order i j) ∙ sym is2
-same_why sectors slots cache f g (first i h is one) (capacity is2 good2 small2) =
-    absurd (first_not_good sectors slots i h one good2)
-same_why sectors slots cache f g (first i h is one) (memory is2 good2 fits2) =
-    absurd (first_not_good sectors slots i h one good2)
-same_why sectors slots cache f g (capacity is good small) (none is2 empty2) =
-    absurd (omega (arith, good.some, good.few))
-same_why sectors slots cache f g (capacity is good small) (many is2 more2) =
-    absurd (omega (arith, good.some, good.few))
-same_why sectors slots cache f g (capacity is good small) (first j h is2 one2) =
-    absurd (first_not_good sectors slots j h one2 good)
-same_why sectors slots cache f g (capacity is good small) (capacity is2 good2 small2) = is ∙ sym is2
-same_why sectors slots cache f g (capacity is good small) (memory is2 good2 fits2) = absurd (small fits2)
-same_why sectors slots cache f g (memory is good fits) (none is2 empty2) =
-    absurd (omega (arith, good.some, good.few))
-same_why sectors slots cache f g (memory is good fits) (many is2 more2) =
-    absurd (omega (arith, good.some, good.few))
-same_why sectors slots cache f g (memory is good fits) (first j h is2 one2) =
-    absurd (first_not_good sectors slots j h one2 good)
-same_why sectors slots cache f g (memory is good fits) (capacity is2 good2 small2) = absurd (small2 fits)
-same_why sectors slots cache f g (memory is good fits) (memory is2 good2 fits2) = is ∙ sym is2
+same_why sectors slots cache f g (count a) (count b) =
+    same_of_two NoSlots TooManySlots f g a b (λ none many. omega arith)
+same_why sectors slots cache f g (count a) (first j h is one) =
+    absurd (count_is_fine (length slots) a (omega (arith, some_slot sectors slots j h one)) one.few)
+same_why sectors slots cache f g (count a) (rest good b) =
+    absurd (count_is_fine (length slots) a good.some good.few)
+same_why sectors slots cache f g (first i h is one) (count b) =
+    absurd (count_is_fine (length slots) b (omega (arith, some_slot sectors slots i h one)) one.few)
+same_why sectors slots cache f g (first i h is one) (first j k is2 one2) =
+    is ∙ same_first sectors slots i j h k one one2 (cases_order i j) ∙ sym is2
+same_why sectors slots cache f g (first i h is one) (rest good b) =
+    absurd (first_not_good sectors slots i h one good)
+same_why sectors slots cache f g (rest good a) (count b) =
+    absurd (count_is_fine (length slots) b good.some good.few)
+same_why sectors slots cache f g (rest good a) (first j h is one) =
+    absurd (first_not_good sectors slots j h one good)
+same_why sectors slots cache f g (rest good a) (rest good2 b) =
+    same_of_two (Cache BadCapacity) NoMemory f g a b (λ small fits. small fits)
 
 -- one fault counts
 pub one_fault : (sectors : ℕ) (slots : List SlotSpec) (cache : ℕ) (f g : BoardFault)

@@ -217,9 +217,3 @@ idle A slot found buffers runs verdict is =
     subst (λ (o : Option Flight). CompletionGives {A = A} (in_rooms o buffers runs)
     (record { slot = hosted_slot slot; flight = in_rooms o buffers runs }) verdict
     (answers (record { slot = hosted_slot slot; flight = None }) reply.Idle)) (sym is) refl
-
--- whether anything is in flight
-pub some_in : (found : Option Flight) (buffers : List Buffer) (runs : List Segment)
-    → is_some (in_rooms found buffers runs) ≡ is_some found
-some_in None buffers runs = refl
-some_in (Some flight) buffers runs = refl

@@ -26,6 +26,7 @@ use Rattle.block_device.proofs.Unasked.{honest_host_serves}
 use Rattle.board.specs.declared.event.EventKind.{EventKind}
 use Rattle.board.specs.declared.event.EventKind.TheVariants.{Read, Write, MemRead, MemWrite, Input, Resize, Restore, Complete}
 use Rattle.board.specs.declared.reply.Reply.TheVariants.{Bytes, BadRange}
+use Rattle.board.specs.declared.pause.Service.TheVariants as service
 use Rattle.board.specs.Honest.{AreOwn, IsFlown, IsHonestlyServed}
 use Rattle.board.specs.Hosting.{GivesInFlight, HostedOutcome, HostedState, InFlight, IsHostedNext, IsOwn, OwnGives, WaitsOrGives, flight_by, in_rooms, is_block_task, must_wait, notifies_block, unlimited}
 use Rattle.board.specs.HostedLine.{HostedCall, IsHostedCourse, Told}
@@ -34,7 +35,7 @@ use Rattle.board.specs.Machine.{at_rest, with_write}
 use Rattle.board.specs.Outcome.{Outcome, does, replies}
 use Rattle.board.specs.Pausing.{readied}
 use Rattle.board.specs.Slot.{SlotState}
-use Rattle.board.specs.Task.{Task, Nothing, ServeBlock, ServeReceive, ServeTransmit, PutOut, Finishes, device_of}
+use Rattle.board.specs.Task.{Task, Nothing, Serve, PutOut, Finishes, device_of}
 use Rattle.board.specs.World.{IsCutShort, MayGive}
 use Rattle.board.proofs.Flights.{keeps_all}
 use Rattle.board.proofs.Waiting.{outlasts, own_next}
@@ -46,10 +47,10 @@ finished_block : {A : Type 0} (task : Task) (state : SlotState) (before after : 
     → is_block_task task ≡ false → Finishes task state before after outcome
     → outcome.state.block ≡ state.block
 finished_block {A} Nothing state before after outcome other f = ap (λ (o : Outcome A). o.state.block) f.alike
-finished_block ServeBlock state before after outcome other f = absurd (cc)
-finished_block {A} ServeReceive state before after outcome other f =
+finished_block (Serve service.Block) state before after outcome other f = absurd (cc)
+finished_block {A} (Serve service.Receive) state before after outcome other f =
     ap (λ (o : Outcome A). o.state.block) f.is
-finished_block {A} ServeTransmit state before after outcome other f =
+finished_block {A} (Serve service.Transmit) state before after outcome other f =
     ap (λ (o : Outcome A). o.state.block) f.is
 finished_block {A} (PutOut byte) state before after outcome other f =
     ap (λ (o : Outcome A). o.state.block) f.alike
@@ -58,9 +59,10 @@ cut_block : {A : Type 0} (task : Task) (state : SlotState) (before after : Healt
     → is_block_task task ≡ false → IsCutShort task state before after outcome
     → outcome.state.block ≡ state.block
 cut_block Nothing state before after outcome other f = absurd f
-cut_block ServeBlock state before after outcome other f = absurd (cc)
-cut_block ServeReceive state before after outcome other f = absurd f
-cut_block {A} ServeTransmit state before after outcome other f = ap (λ (o : Outcome A). o.state.block) f.is
+cut_block (Serve service.Block) state before after outcome other f = absurd (cc)
+cut_block (Serve service.Receive) state before after outcome other f = absurd f
+cut_block {A} (Serve service.Transmit) state before after outcome other f =
+    ap (λ (o : Outcome A). o.state.block) f.is
 cut_block {A} (PutOut byte) state before after outcome other f = ap (λ (o : Outcome A). o.state.block) f.alike
 
 -- the block window after the registers of a write, which doesn't wait

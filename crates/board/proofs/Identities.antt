@@ -11,12 +11,13 @@ use Rattle.board.specs.declared.event.EventKind.{EventKind}
 use Rattle.board.specs.declared.event.EventKind.TheVariants.{Read, Write, MemRead, MemWrite, Input, Resize, Restore, Complete}
 use Rattle.board.specs.declared.reply.Reply.TheVariants.{Bytes, BadRange}
 use Rattle.board.specs.declared.reply.Record.{Record}
+use Rattle.board.specs.declared.pause.Service.TheVariants as service
 use Rattle.board.specs.Image.{Health}
 use Rattle.board.specs.Line.{Move, IsLine}
 use Rattle.board.specs.Machine.{task_at, with_write, Gives}
 use Rattle.board.specs.Outcome.{Outcome, does, replies}
 use Rattle.board.specs.Slot.{SlotState}
-use Rattle.board.specs.Task.{Task, Nothing, ServeBlock, ServeReceive, ServeTransmit, PutOut, Finishes}
+use Rattle.board.specs.Task.{Task, Nothing, Serve, PutOut, Finishes}
 use Rattle.board.specs.World.{World, IsCutShort, IsRefused, MayGive, SlotStep, MissingStep, Step, identities_of}
 use Rattle.std.proofs.lemmas.Option.{get_or_from_slice_get}
 use Rattle.board.proofs.Restoring.{restored_named}
@@ -36,18 +37,18 @@ write_named Console offset width value state = refl
 finished_named : {A : Type 0} (task : Task) (state : SlotState) (old new : Health) (outcome : Outcome A)
     → Finishes task state old new outcome → outcome.state.identity ≡ state.identity
 finished_named Nothing state old new outcome h = named outcome _ h.alike
-finished_named ServeBlock state old new outcome h = named outcome _ h.is
-finished_named ServeReceive state old new outcome h = named outcome _ h.is
-finished_named ServeTransmit state old new outcome h = named outcome _ h.is
+finished_named (Serve service.Block) state old new outcome h = named outcome _ h.is
+finished_named (Serve service.Receive) state old new outcome h = named outcome _ h.is
+finished_named (Serve service.Transmit) state old new outcome h = named outcome _ h.is
 finished_named (PutOut byte) state old new outcome h = named outcome _ h.alike
 
 -- and where it is
 cut_short_named : {A : Type 0} (task : Task) (state : SlotState) (old new : Health) (outcome : Outcome A)
     → IsCutShort task state old new outcome → outcome.state.identity ≡ state.identity
 cut_short_named Nothing state old new outcome h = absurd h
-cut_short_named ServeBlock state old new outcome h = named outcome _ h.service.is
-cut_short_named ServeReceive state old new outcome h = absurd h
-cut_short_named ServeTransmit state old new outcome h = named outcome _ h.is
+cut_short_named (Serve service.Block) state old new outcome h = named outcome _ h.service.is
+cut_short_named (Serve service.Receive) state old new outcome h = absurd h
+cut_short_named (Serve service.Transmit) state old new outcome h = named outcome _ h.is
 cut_short_named (PutOut byte) state old new outcome h = named outcome _ h.alike
 
 -- an access to memory, whether or not it lies in it

@@ -315,12 +315,7 @@ service_beside {A} old before after outcome h =
     let contents : Some outcome.state.extent ≡ Some many.bytes = many.contents in
     let same : outcome.state.extent ≡ many.bytes = cc contents in
     record {
-      console = ap (λ (o : Came A). o.state.console) h.service.is;
-      pending = ap (λ (o : Came A). o.state.pending) h.service.is;
-      cols = ap (λ (o : Came A). o.state.cols) h.service.is;
-      rows = ap (λ (o : Came A). o.state.rows) h.service.is;
-      read_only = ap (λ (o : Came A). o.state.read_only) h.service.is;
-      identity = ap (λ (o : Came A). o.state.identity) h.service.is;
+      rest = ap (λ (o : Came A). o.state) h.service.is;
       memory =
           notified_range (block_device (device_of old)) 0 (queue_at 0 old.block) h.service.notified.ending
           old.memory outcome.state.memory old.block outcome.state.block (disk_with old.extent before)
@@ -366,16 +361,7 @@ write_beside state Block offset width value before after outcome rose h =
     let kept : KeepsBesideDisk (with_write Block offset width value state) outcome.state =
     block_beside (action_at Block offset width value state) (with_write Block offset width value state)
     before after outcome h in
-    record {
-      console = kept.console;
-      pending = kept.pending;
-      cols = kept.cols;
-      rows = kept.rows;
-      read_only = kept.read_only;
-      identity = kept.identity;
-      memory = kept.memory;
-      extent = kept.extent;
-    }
+    record { rest = kept.rest; memory = kept.memory; extent = kept.extent }
 write_beside state Console offset width value before after outcome rose h =
     absurd (console_stood (action_at Console offset width value state)
     (with_write Console offset width value state) before after outcome rose h)
@@ -527,28 +513,10 @@ byte_without_memory {A} old new h width value written step lacks =
 
 -- ---- what stays of a slot whose event found no memory
 
-same_slot : (state : SlotState) → KeepsBesideTransmit state state
-same_slot state = record {
-  extent = refl;
-  read_only = refl;
-  identity = refl;
-  block = refl;
-  pending = refl;
-  cols = refl;
-  rows = refl;
-  memory = same_range state.memory;
-}
-
 transmit_beside : {A : Type 0} (state : SlotState) (old new : Health) (outcome : Came A)
     → IsRefusedTransmit state old new outcome → KeepsBesideTransmit state outcome.state
 transmit_beside {A} state old new outcome h = record {
-  extent = ap (λ (o : Came A). o.state.extent) h.is;
-  read_only = ap (λ (o : Came A). o.state.read_only) h.is;
-  identity = ap (λ (o : Came A). o.state.identity) h.is;
-  block = ap (λ (o : Came A). o.state.block) h.is;
-  pending = ap (λ (o : Came A). o.state.pending) h.is;
-  cols = ap (λ (o : Came A). o.state.cols) h.is;
-  rows = ap (λ (o : Came A). o.state.rows) h.is;
+  rest = ap (λ (o : Came A). o.state) h.is;
   memory = notified_range transmit 1 (queue_at 1 state.console) Refused state.memory outcome.state.memory
       state.console outcome.state.console [] outcome.output h.notified;
 }
@@ -556,22 +524,14 @@ transmit_beside {A} state old new outcome h = record {
 unchanged_beside : {A : Type 0} (state : SlotState) (outcome : Came A) → outcome ≡ replies state NoMemory
     → KeepsBesideTransmit state outcome.state
 unchanged_beside {A} state outcome is =
-    subst (λ (o : Came A). KeepsBesideTransmit state o.state) (sym is) (same_slot state)
+    subst (λ (o : Came A). KeepsBesideTransmit state o.state) (sym is)
+    (record { rest = refl; memory = same_range state.memory })
 
 -- what a write of the console's window changes before its task is done isn't looked at here
 console_beside : (offset width value : ℕ) (state after : SlotState)
     → KeepsBesideTransmit (with_write Console offset width value state) after
     → KeepsBesideTransmit state after
-console_beside offset width value state after kept = record {
-  extent = kept.extent;
-  read_only = kept.read_only;
-  identity = kept.identity;
-  block = kept.block;
-  pending = kept.pending;
-  cols = kept.cols;
-  rows = kept.rows;
-  memory = kept.memory;
-}
+console_beside offset width value state after kept = record { rest = kept.rest; memory = kept.memory }
 
 -- what a refusal keeps, and that the image has no part in it
 record Lacks {A : Type 0} (state : SlotState) (old new : Health) (outcome : Came A) : Type 0 where

@@ -14,6 +14,7 @@ use Rattle.board.specs.declared.event.EventKind.{EventKind}
 use Rattle.board.specs.declared.event.EventKind.TheVariants.{Read, Write, MemRead, MemWrite, Input, Resize, Restore, Complete}
 use Rattle.board.specs.declared.reply.Reply.{Reply}
 use Rattle.board.specs.declared.reply.Reply.TheVariants.{Done, NoMemory}
+use Rattle.board.specs.declared.pause.Service.TheVariants.{Block, Receive, Transmit}
 use Rattle.board.specs.Hosting.{CompletesOrGives, CompletionGives, GivesAtRest, GivesInFlight, HostedOutcome, HostedState, InFlight, IsBesideDisk, IsHostedNext, Lands, LooksAtQueue, OwnGives, WaitsOrGives, answers, flight_by, in_rooms, must_wait, notifies_block, unlimited, verdict_in}
 use Rattle.board.specs.HostedLine.{AreFound, DecidesBy, FindsMemory, HostedCall, IsCalledNext, IsHostedCourse, Told, told_of}
 use Rattle.board.specs.Image.{Health}
@@ -21,7 +22,7 @@ use Rattle.board.specs.Machine.{IsNext, at_rest, task_at}
 use Rattle.board.specs.Outcome.{Outcome}
 use Rattle.board.specs.Pausing.{readied}
 use Rattle.board.specs.Slot.{SlotState}
-use Rattle.board.specs.Task.{Task, Nothing, ServeBlock, ServeReceive, ServeTransmit, PutOut, device_of}
+use Rattle.board.specs.Task.{Task, Nothing, Serve, PutOut, device_of}
 use Rattle.board.specs.Within.{IsNextWithin, IsPuttingOut, MayPutOut, Seat, TakesWithin}
 use Rattle.board.specs.World.{IsCutShort, IsRefused, MayGive}
 use Rattle.board.proofs.Alone.{served}
@@ -150,10 +151,10 @@ beside_exact {A} old what one other p q x y =
 cut_puts : {A : Type 0} (task : Task) (state : SlotState) (old new : Health) (outcome : Outcome A)
     → IsCutShort task state old new outcome → outcome.reply ≡ NoMemory → IsPuttingOut task
 cut_puts Nothing state old new outcome f is = absurd f
-cut_puts {A} ServeBlock state old new outcome f is = let done =
+cut_puts {A} (Serve Block) state old new outcome f is = let done =
     ap (λ (o : Outcome A). o.reply) f.service.is in absurd (cc)
-cut_puts ServeReceive state old new outcome f is = absurd f
-cut_puts ServeTransmit state old new outcome f is = tt
+cut_puts (Serve Receive) state old new outcome f is = absurd f
+cut_puts (Serve Transmit) state old new outcome f is = tt
 cut_puts (PutOut byte) state old new outcome f is = tt
 
 refused_puts : {A : Type 0} (state : SlotState) (what : EventKind A) (outcome : Outcome A) (limit : ℕ)

@@ -20,11 +20,12 @@ use Rattle.board.specs.declared.event.EventKind.TheVariants.{Read, Write, MemRea
 use Rattle.board.specs.declared.reply.Reply.{Reply}
 use Rattle.board.specs.declared.reply.Reply.TheVariants.{Done, Took}
 use Rattle.board.specs.declared.reply.Record.{Record}
+use Rattle.board.specs.declared.pause.Service.TheVariants.{Block, Receive, Transmit}
 use Rattle.board.specs.Image.{Health, disk_with}
 use Rattle.board.specs.Machine.{task_at, with_write, with_input, Gives, IsNext, IsCourse, RunsOnItsOwn, record_of, at_rest}
 use Rattle.board.specs.Outcome.{Outcome, replies, does}
 use Rattle.board.specs.Slot.{SlotState}
-use Rattle.board.specs.Task.{Task, Nothing, ServeBlock, ServeReceive, ServeTransmit, PutOut, device_of, IsBlockService, IsReceiveService, IsTransmitService, Finishes}
+use Rattle.board.specs.Task.{Task, Nothing, Serve, PutOut, device_of, IsBlockService, IsReceiveService, IsTransmitService, Finishes}
 use Rattle.board.proofs.Guests.{AtRest, exact_at_rest}
 use Rattle.board.proofs.Restoring.{restored_once}
 
@@ -38,15 +39,15 @@ finishes_at_rest : {A : Type 0} (task : Task) (old : SlotState) (before after : 
     → Finishes task old before after outcome → FinishesAtRest task old outcome
 finishes_at_rest Nothing old before after outcome h =
     record { health = at_rest; finishes = record { alike = h.alike; image = refl } }
-finishes_at_rest ServeBlock old before after outcome h =
+finishes_at_rest (Serve Block) old before after outcome h =
     let rested : AtRest (device_of old) (queue_at 0 old.block) old.memory outcome.state.memory old.block
     outcome.state.block old.extent outcome.state.extent =
     exact_at_rest (device_of old) (queue_at 0 old.block) old.memory outcome.state.memory old.block
     outcome.state.block old.extent outcome.state.extent before after h.notified in
     record { health = rested.health; finishes = record { notified = rested.notified; is = h.is } }
-finishes_at_rest ServeReceive old before after outcome h =
+finishes_at_rest (Serve Receive) old before after outcome h =
     record { health = at_rest; finishes = record { notified = h.notified; is = h.is; image = refl } }
-finishes_at_rest ServeTransmit old before after outcome h =
+finishes_at_rest (Serve Transmit) old before after outcome h =
     record { health = at_rest; finishes = record { notified = h.notified; is = h.is; image = refl } }
 finishes_at_rest (PutOut byte) old before after outcome h =
     record { health = at_rest; finishes = record { alike = h.alike; image = refl } }
@@ -209,9 +210,9 @@ transmitted_once old h k one other a b =
 finishes_once : {A : Type 0} (task : Task) (old : SlotState) (h k : Health) (one other : Outcome A)
     → Finishes task old at_rest h one → Finishes task old at_rest k other → one ≡ other
 finishes_once Nothing old h k one other a b = a.alike ∙ sym b.alike
-finishes_once ServeBlock old h k one other a b = block_once (device_of old) old h k one other a b
-finishes_once ServeReceive old h k one other a b = received_once old Done h k one other a b
-finishes_once ServeTransmit old h k one other a b = transmitted_once old h k one other a b
+finishes_once (Serve Block) old h k one other a b = block_once (device_of old) old h k one other a b
+finishes_once (Serve Receive) old h k one other a b = received_once old Done h k one other a b
+finishes_once (Serve Transmit) old h k one other a b = transmitted_once old h k one other a b
 finishes_once (PutOut byte) old h k one other a b = a.alike ∙ sym b.alike
 
 -- an event has at most one outcome

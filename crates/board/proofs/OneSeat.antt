@@ -14,10 +14,11 @@ use Rattle.console_device.proofs.Deciding.{within_decides}
 use Rattle.board.specs.declared.event.EventKind.{EventKind}
 use Rattle.board.specs.declared.event.EventKind.TheVariants.{Read, Write, MemRead, MemWrite, Input, Resize, Restore, Complete}
 use Rattle.board.specs.declared.reply.Reply.{Reply}
+use Rattle.board.specs.declared.pause.Service.TheVariants.{Block, Receive, Transmit}
 use Rattle.board.specs.Machine.{task_at, with_write}
 use Rattle.board.specs.Outcome.{Outcome}
 use Rattle.board.specs.Slot.{SlotState}
-use Rattle.board.specs.Task.{Task, Nothing, ServeBlock, ServeReceive, ServeTransmit, PutOut}
+use Rattle.board.specs.Task.{Task, Nothing, Serve, PutOut}
 use Rattle.board.specs.Within.{TransmitsWithin, PutsWithin, PutsOutWithin, Seat, IsPuttingOut, MayPutOut, IsNextWithin, reply_at}
 use Rattle.board.proofs.OneRun.{next_once}
 
@@ -108,18 +109,18 @@ puts_once : {A : Type 0} (limit : ℕ) (task : Task) (state a b : SlotState) (wa
     (p q : Reply A) → IsPuttingOut task → PutsOutWithin limit task state a waiting l p
     → PutsOutWithin limit task state b waiting k q → SameLeft a b l k p q
 puts_once limit Nothing state a b waiting l k p q puts x y = absurd puts
-puts_once limit ServeBlock state a b waiting l k p q puts x y = absurd puts
-puts_once limit ServeReceive state a b waiting l k p q puts x y = absurd puts
-puts_once limit ServeTransmit state a b waiting l k p q puts x y =
+puts_once limit (Serve Block) state a b waiting l k p q puts x y = absurd puts
+puts_once limit (Serve Receive) state a b waiting l k p q puts x y = absurd puts
+puts_once limit (Serve Transmit) state a b waiting l k p q puts x y =
     transmits_once limit state a b waiting l k p q x y
 puts_once limit (PutOut byte) state a b waiting l k p q puts x y =
     puts_at limit byte state a b waiting l k p q (less_or (length waiting) limit) x y
 
 puts_or : (task : Task) → IsPuttingOut task ⊎ (IsPuttingOut task → ⊥)
 puts_or Nothing = inr (λ h. h)
-puts_or ServeBlock = inr (λ h. h)
-puts_or ServeReceive = inr (λ h. h)
-puts_or ServeTransmit = inl tt
+puts_or (Serve Block) = inr (λ h. h)
+puts_or (Serve Receive) = inr (λ h. h)
+puts_or (Serve Transmit) = inl tt
 puts_or (PutOut byte) = inl tt
 
 -- where nothing is put out memory decides nothing

@@ -1,5 +1,5 @@
 -- A run, event by event.
-use Rattle.std.proofs.Common.{◌≡◌, ◌≢◌, ℕ, ◌+◌, ◌<◌, ◌≤◌, List, [], ◌∷◌, ◌++◌, length, take, Option, Some, None, Result, Ok, Err, false, get_or, refl, sym, ◌∙◌, ap, subst, append_assoc, arith}
+use Rattle.std.proofs.Common.{◌≡◌, ◌≢◌, ℕ, ◌+◌, ◌<◌, ◌≤◌, List, [], ◌∷◌, ◌++◌, length, take, Option, Some, None, Result, Ok, Err, false, get_or, refl, sym, ◌∙◌, ap, subst, append_assoc, append-nil, arith}
 use Rattle.std.specs.Prelude.{MatchOption, All, OnOk, is_err}
 use Rattle.std.specs.List.{slice_get}
 use Rattle.std.proofs.lemmas.List.{length-map, map-append, take_more, take_all, take-take, get_or-take, length-take-le}
@@ -9,7 +9,7 @@ use Rattle.board.specs.declared.reply.Reply.{Reply}
 use Rattle.board.specs.declared.reply.Reply.TheVariants.{BadSlot, NoMemory}
 use Rattle.board.specs.declared.reply.Record.{Record}
 use Rattle.board.specs.Slot.{SlotState, BoardSlot}
-use Rattle.board.specs.World.{BoardState, IsMissed, World, SlotStep, MissingStep, Step, Handles, Answers, KeepsOthers, bad_slot, extents_of}
+use Rattle.board.specs.World.{BoardState, IsMissed, World, SlotStep, MissingStep, Step, Handles, Answers, KeepsOthers, bad_slot, record_with, extents_of}
 use Rattle.board.specs.Line.{AnswersMissing, Move, IsLine, IsQuiet, HadMemory, HasInterruptWords, IsRun, KeepsIdle, events_of, records_of}
 use Rattle.board.proofs.Alone.{alone, recorded_slot}
 use Rattle.board.proofs.Failures.{given_failures}
@@ -82,67 +82,6 @@ pub answered : {A : Type 0} {old : World} {event : Event A} {reply : Reply A} {b
     → Answers old event reply before after new
 answered h = record { written = _; step = h.step; replied = refl; appended = h.appended }
 
--- a line goes on by one step
-line_more : {A : Type 0} (old mid new : World) (moves : List (Move A)) (move : Move A) → IsLine old moves mid
-    → Step mid move.event move.written move.after → move.after ≡ new → IsLine old (moves ++ move ∷ []) new
-line_more old mid new [] move line step last =
-    (subst (λ (w : World). Step w move.event move.written move.after) line step, sym last)
-line_more old mid new (m ∷ moves) move line step last =
-    (line.0, line_more m.after mid new moves move line.1 step last)
-
--- What a run did so far: a line over the events so far, whose records were added to those before it.
-pub record Reached {A : Type 0} (old new : World) (events : List (Event A))
-    (before after : List (Record A)) : Type 0 where
-  pub moves : List (Move A)
-  pub line : IsLine old moves new
-  pub events_are : events_of moves ≡ events
-  pub records_are : after ≡ before ++ records_of moves
-
--- then the board handles one event more, and its record is added
-pub reached_more : {A : Type 0} (old mid new : World) (events : List (Event A)) (event : Event A)
-    (reply : Reply A) (block console : ℕ) (out : List ℕ) (before so_far after : List (Record A)) →
-    Reached old mid events before so_far → Handles mid event reply block console [] out new →
-    after ≡ so_far ++ record {
-      slot = event.slot;
-      reply = reply;
-      output = out;
-      block_irq = block;
-      console_irq = console;
-    } ∷ [] →
-    Reached old new (events ++ event ∷ []) before after
-reached_more {A} old mid new events event reply block console out before so_far after reached handles added =
-    let move : Move A = record {
-      event = event;
-      written = record {
-        slot = event.slot;
-        reply = reply;
-        output = handles.output;
-        block_irq = block;
-        console_irq = console;
-      };
-      after = new;
-    } in
-    record {
-      moves = reached.moves ++ move ∷ [];
-      line = line_more old mid new reached.moves move reached.line handles.step refl;
-      events_are = map-append (λ (m : Move A). m.event) reached.moves (move ∷ [])
-          ∙ ap (λ es. es ++ event ∷ []) reached.events_are;
-      records_are =
-          added
-          ∙ (ap (λ (output : List ℕ). so_far
-          ++ record {
-            slot = event.slot;
-            reply = reply;
-            output = output;
-            block_irq = block;
-            console_irq = console;
-          } ∷ []) handles.appended
-          ∙ (ap (λ rs. rs ++ move.written ∷ []) reached.records_are
-          ∙ (append_assoc before (records_of reached.moves) (move.written ∷ [])
-          ∙ ap (λ rs. before ++ rs)
-          (sym (map-append (λ (m : Move A). m.written) reached.moves (move ∷ []))))));
-    }
-
 -- another record joins those whose words are right
 pub words_more : {A : Type 0} (so_far after : List (Record A)) (entry : Record A) → after ≡ so_far
     ++ entry ∷ [] → All HasInterruptWords so_far → HasInterruptWords entry → All HasInterruptWords after
@@ -153,13 +92,7 @@ words_more {A} so_far after entry added words own =
 -- the record of an event of a slot that isn't there joins those of other such events
 pub missing_more : {I A : Type 0} {old new : BoardState I} (slots now : List BoardSlot)
     (so_far after : List (Record A)) (h : ℕ) (reply : Reply A) (out : List ℕ) (block console : ℕ) →
-    after ≡ so_far ++ record {
-      slot = h;
-      reply = reply;
-      output = out;
-      block_irq = block;
-      console_irq = console;
-    } ∷ [] →
+    after ≡ so_far ++ record_with h reply out block console ∷ [] →
     extents_of now ≡ extents_of slots → All (AnswersMissing (length slots)) so_far →
     (length now ≤ h → reply ≡ BadSlot) → (length now ≤ h → IsMissed old new [] out block console) →
     All (AnswersMissing (length slots)) after
@@ -171,28 +104,27 @@ missing_more {A = A} slots now so_far after h reply out block console added many
     as_many = sym (length-map now (λ (s : BoardSlot). s.extent))
         ∙ (ap length many ∙ length-map slots (λ (s : BoardSlot). s.extent))
 
-    is : length slots ≤ h → record {
-      slot = h;
-      reply = reply;
-      output = out;
-      block_irq = block;
-      console_irq = console;
-    } ≡ bad_slot {A = A} h
+    is : length slots ≤ h → record_with h reply out block console ≡ bad_slot {A = A} h
     is past = let away : length now ≤ h = omega (arith, as_many, past) in let missed = rest away in
         rw (bad away, missed.silent, missed.block, missed.console) refl
 
--- what was reached is a run
+-- a line over some events, whose records were added to those before it, is a run
 pub run_of : {A : Type 0} (old new : World) (events : List (Event A)) (before after : List (Record A))
-    → Reached old new events before after → IsRun old new events before after
-run_of old new events before after reached = record {
-  moves = reached.moves;
-  line = reached.line;
-  events_are = reached.events_are;
-  records_are = reached.records_are;
-  alone = λ g still. alone g old reached.moves new reached.line still;
-  noted = λ g. line_noted g old reached.moves new reached.line;
-  quiet = λ stood g had. quiet g old reached.moves new reached.line stood had;
+    (moves : List (Move A)) → IsLine old moves new → events_of moves ≡ events
+    → after ≡ before ++ records_of moves → IsRun old new events before after
+run_of old new events before after moves line events_are records_are = record {
+  moves = moves;
+  line = line;
+  events_are = events_are;
+  records_are = records_are;
+  alone = λ g still. alone g old moves new line still;
+  noted = λ g. line_noted g old moves new line;
+  quiet = λ stood g had. quiet g old moves new line stood had;
 }
+
+-- before the first event
+pub run_none : {A : Type 0} (world : World) (before : List (Record A)) → IsRun world world [] before before
+run_none world before = run_of world world [] before before [] refl refl (sym (append-nil before))
 
 -- two lines, the second from where the first ends, are one
 lines_join : {A : Type 0} (old mid new : World) (moves more : List (Move A)) → IsLine old moves mid
@@ -206,19 +138,15 @@ pub runs_join : {A : Type 0} (old mid new : World) (events more : List (Event A)
     (before between after : List (Record A)) → IsRun old mid events before between
     → IsRun mid new more between after → IsRun old new (events ++ more) before after
 runs_join {A} old mid new events more before between after one other =
-    run_of old new (events ++ more) before after (record {
-      moves = one.moves ++ other.moves;
-      line = lines_join old mid new one.moves other.moves one.line other.line;
-      events_are =
-          map-append (λ (m : Move A). m.event) one.moves other.moves
-          ∙ (ap (λ es. es ++ events_of other.moves) one.events_are
-          ∙ ap (λ es. events ++ es) other.events_are);
-      records_are =
-          other.records_are
-          ∙ (ap (λ rs. rs ++ records_of other.moves) one.records_are
-          ∙ (append_assoc before (records_of one.moves) (records_of other.moves)
-          ∙ ap (λ rs. before ++ rs) (sym (map-append (λ (m : Move A). m.written) one.moves other.moves))));
-    })
+    run_of old new (events ++ more) before after (one.moves ++ other.moves)
+    (lines_join old mid new one.moves other.moves one.line other.line)
+    (map-append (λ (m : Move A). m.event) one.moves other.moves
+    ∙ (ap (λ es. es ++ events_of other.moves) one.events_are
+    ∙ ap (λ es. events ++ es) other.events_are))
+    (other.records_are
+    ∙ (ap (λ rs. rs ++ records_of other.moves) one.records_are
+    ∙ (append_assoc before (records_of one.moves) (records_of other.moves)
+    ∙ ap (λ rs. before ++ rs) (sym (map-append (λ (m : Move A). m.written) one.moves other.moves)))))
 
 -- a step is a run of one event
 pub step_run : {A : Type 0} (old new : World) (event : Event A) (written : Record A)
@@ -226,47 +154,37 @@ pub step_run : {A : Type 0} (old new : World) (event : Event A) (written : Recor
     → IsRun old new (event ∷ []) before (before ++ written ∷ [])
 step_run {A} old new event written before step =
     let move : Move A = record { event = event; written = written; after = new } in
-    run_of old new (event ∷ []) before (before
-    ++ written ∷ []) (record {
-      moves = move ∷ [];
-      line = (step, refl);
-      events_are = refl;
-      records_are = refl;
-    })
+    run_of old new (event ∷ []) before (before ++ written ∷ []) (move ∷ []) (step, refl) refl refl
 
 -- what holds where a call succeeded, of one that did
 pub where_ok : {T E : Type 0} (r : Result T E) (P : Type 0) → is_err r ≡ false → OnOk r P → P
 where_ok (Ok x) P succeeded holds = holds
 where_ok (Err e) P succeeded holds = absurd (cc)
 
--- the run goes on by the next of its events
-pub reached_next : {A : Type 0} (old mid new : World) (events : List (Event A)) (done : ℕ) (event : Event A)
+-- the run goes on by the next of its events, which the board handles
+pub run_next : {A : Type 0} (old mid new : World) (events : List (Event A)) (done : ℕ) (event : Event A)
     (reply : Reply A) (block console : ℕ) (out : List ℕ) (before so_far after : List (Record A)) →
     done < length events → event ≡ get_or events done event →
-    Reached old mid (take done events) before so_far → Handles mid event reply block console [] out new →
-    after ≡ so_far ++ record {
-      slot = event.slot;
-      reply = reply;
-      output = out;
-      block_irq = block;
-      console_irq = console;
-    } ∷ [] →
-    Reached old new (take (done + 1) events) before after
-reached_next {A} old mid new events done event reply block console out before so_far after below is
-    reached handles added =
+    IsRun old mid (take done events) before so_far → Handles mid event reply block console [] out new →
+    after ≡ so_far ++ record_with event.slot reply out block console ∷ [] →
+    IsRun old new (take (done + 1) events) before after
+run_next {A} old mid new events done event reply block console out before so_far after below is
+    run handles added =
     let next : take (done + 1) events ≡ take done events ++ event ∷ [] = take_more events done event below
     ∙ ap (λ (e : Event A). take done events ++ e ∷ []) (sym is) in
-    subst (λ (es : List (Event A)). Reached old new es before after) (sym next)
-    (reached_more old mid new (take done events) event reply block console out before so_far after
-    reached handles added)
+    let written : Record A = record_with event.slot reply handles.output block console in
+    let records : after ≡ so_far ++ written ∷ [] = added
+    ∙ ap (λ (output : List ℕ). so_far ++ record_with event.slot reply output block console ∷ [])
+    handles.appended in
+    rw (next, records) (runs_join old mid new (take done events) (event ∷ []) before so_far (so_far
+    ++ written ∷ []) run (step_run mid new event written so_far handles.step))
 
 -- after the last event it is a run over all of them
 pub run_whole : {A : Type 0} (old new : World) (events : List (Event A)) (done : ℕ)
-    (before after : List (Record A)) → length events ≤ done → Reached old new (take done events) before after
+    (before after : List (Record A)) → length events ≤ done → IsRun old new (take done events) before after
     → IsRun old new events before after
-run_whole {A} old new events done before after all reached =
-    run_of old new events before after (subst (λ (es : List (Event A)). Reached old new es before after)
-    (take_all done events all) reached)
+run_whole {A} old new events done before after all run =
+    subst (λ (es : List (Event A)). IsRun old new es before after) (take_all done events all) run
 
 -- one event more: slots that no event is of are kept still
 pub idle_next : {A : Type 0} (events : List (Event A)) (done : ℕ) (event : Event A)

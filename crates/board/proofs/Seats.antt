@@ -19,7 +19,7 @@ use Rattle.board.specs.declared.reply.Reply.TheVariants.{BadSlot}
 use Rattle.board.specs.declared.reply.Record.{Record}
 use Rattle.block_device.specs.declared.extent.Extent.{Extent}
 use Rattle.block_device.specs.Extent.{IsWithin}
-use Rattle.board.specs.Extent.{has_sector, IsApart, outside_of}
+use Rattle.board.specs.Extent.{AreSound, has_sector, IsApart, outside_of}
 use Rattle.board.specs.Machine.{block_irq, console_irq}
 use Rattle.board.specs.declared.pause.Turn.{Turn}
 use Rattle.board.specs.Image.{Health, bytes_of, health_of}
@@ -41,6 +41,12 @@ pub extents_of-set : (slots : List BoardSlot) (h : ℕ) (slot new : BoardSlot) �
 extents_of-set slots h slot new here same =
     map-set_same (λ (s : BoardSlot). s.extent) slots h new slot (same
     ∙ ap (λ (s : BoardSlot). s.extent) (sym (get_or_from_slice_get slots h slot slot here)))
+
+-- and the board stays sound
+pub sound_set : (sectors : ℕ) (slots : List BoardSlot) (h : ℕ) (slot new : BoardSlot)
+    → new.extent ≡ slot.extent → slice_get slots h ≡ Some slot → AreSound sectors (extents_of slots)
+    → AreSound sectors (extents_of (slice_set slots h new))
+sound_set sectors slots h slot new same here sound = rw (extents_of-set slots h slot new here same) sound
 
 -- each slot's extent lies in the image
 pub slot_within : (sectors : ℕ) (slots : List BoardSlot) (h : ℕ) (slot : BoardSlot)
@@ -276,7 +282,8 @@ handles slots old new event slot after reply block console out_before out_after 
             disturbed = noted_set slots event.slot slot after
                 (met_refusal reply old.failures new.failures) here notes;
             outside =
-                ap (λ es. outside_of es (bytes_of new)) (extents_of-set slots event.slot slot after here extent)
+                ap (λ es. outside_of es (bytes_of new))
+                (extents_of-set slots event.slot slot after here extent)
                 ∙ sym (outside_more (extents_of slots) slot.extent
                 (λ sector. in_some slots event.slot slot here sector) 0 (bytes_of old) (bytes_of new) stays);
           });

@@ -7,9 +7,9 @@ use Rattle.guest_memory.specs.Memory.{Memory}
 use Rattle.chain.specs.declared.budget.Budget.{Budget}
 use Rattle.chain.specs.declared.budget.Progress.{Progress}
 use Rattle.chain.specs.declared.budget.Progress.TheVariants as progress
-use Rattle.chain.specs.Service.{Given, Ending, Refused, Site}
+use Rattle.chain.specs.Service.{Device, Given, Ending, Refused, Site}
 use Rattle.chain.proofs.Servicing.{refused_service}
-use Rattle.chain.proofs.Simulating.{DoesAs}
+use Rattle.chain.proofs.Simulating.{DoesAs, Matches}
 use Rattle.mmio_window.specs.declared.stage.Stage.{Stage}
 use Rattle.mmio_window.specs.declared.stage.Stage.TheVariants.{First, Next}
 use Rattle.sector_cache.specs.Disk.{Disk, IsWhole}
@@ -27,11 +27,10 @@ use Rattle.block_device.specs.Extent.{IsWithin, extent_disk}
 use Rattle.block_device.specs.Outcome.{Outcome, Completes, Ends}
 use Rattle.block_device.proofs.Exact.{exact_unless}
 use Rattle.block_device.proofs.Guests.{Same, does_anywhere, guest_device}
-use Rattle.console_device.specs.Device.{Fits, MayRefuse, exact_transmit, transmit, transmit_fitting, transmit_within}
+use Rattle.console_device.specs.Device.{Fits, MayRefuse, exact_transmit, transmit, transmit_fitting, transmit_within, transmitted}
 use Rattle.mmio_window.specs.declared.device_kind.DeviceKind.{DeviceKind}
 use Rattle.board.specs.declared.event.EventKind.{EventKind}
 use Rattle.board.specs.declared.event.EventKind.TheVariants.{Write}
-use Rattle.board.specs.declared.slot.window.Duty.TheVariants as duty
 use Rattle.board.specs.declared.pause.Pause.{Pause}
 use Rattle.board.specs.declared.pause.Service.{Service}
 use Rattle.board.specs.declared.pause.Service.TheVariants.{Block, Transmit}
@@ -40,11 +39,11 @@ use Rattle.board.specs.declared.pause.Turn.TheVariants.{Answered}
 use Rattle.board.specs.declared.reply.Reply.{Reply}
 use Rattle.board.specs.declared.reply.Reply.TheVariants.{Done, NoMemory}
 use Rattle.board.specs.Image.{Health, Tells, bytes_of, health_of, sectors_of, disk_with}
-use Rattle.board.specs.Pausing.{IsBlockPiece, IsPiece, ComesTo, TurnsTo, Begins, ServesTurn, asked, asked_by, duty_of, readied, turn_of}
+use Rattle.board.specs.Pausing.{IsBlockPiece, IsPiece, ComesTo, TurnsTo, Begins, ServesTurn, asked, asked_by, readied, turn_of}
 use Rattle.board.specs.Slot.{SlotState, BoardSlot, state_of}
 use Rattle.board.specs.Machine.{task_at, with_write}
 use Rattle.board.specs.Outcome.{Outcome as Came, replies, does}
-use Rattle.board.specs.Task.{Task, Nothing, ServeBlock, ServeReceive, ServeTransmit, PutOut, Finishes, device_of, puts_out}
+use Rattle.board.specs.Task.{Task, Nothing, Serve, PutOut, Finishes, device_of, puts_out}
 use Rattle.board.specs.Within.{BeginsWithin, IsSentPiece, PieceBy, PieceWithin, PutsOutWithin, PutsWithin, SendsWithin, TurnWithin}
 use Rattle.board.specs.World.{HasBytesToPutOut, IsCutShort, MayGive, Serves}
 use Rattle.board.proofs.Alike.{PieceAs, RefusedAs, piece_as, refused_as}
@@ -183,28 +182,32 @@ block_piece slot stage budget progress memory block old new tells tells' whole w
 abbrev Behind : List ℕ → List ℕ → List ℕ → Type 0
 Behind before out sent = out ≡ before ++ sent
 
+-- a chain that is put out behind what was there
+behind : (other : Device (List ℕ)) (before out sent readable : List ℕ) (w : ℕ) (given : Given (List ℕ))
+    → ((g : Given (List ℕ)) → g ≡ transmitted sent readable w → other.Gives sent readable w g)
+    → Behind before out sent → given ≡ transmitted out readable w
+    → Matches other (Behind before) sent readable w given
+behind other before out sent readable w given puts alike is = record {
+  state = sent ++ readable;
+  alike = ap (λ (g : Given (List ℕ)). g.state) is ∙ ap (λ l. l ++ readable) alike
+      ∙ append_assoc before sent readable;
+  gives = puts _ (ap (λ (g : Given (List ℕ)). record { state = sent ++ readable; written = g.written }) is);
+}
+
 fitting_behind : (limit : Option ℕ) (before : List ℕ)
     → DoesAs (transmit_fitting limit) exact_transmit (Behind before)
 fitting_behind limit before = record {
   takes = λ out sent alike. refl;
-  gives = λ out sent readable w given alike h. record {
-    state = sent ++ readable;
-    alike = ap (λ (g : Given (List ℕ)). g.state) h.0 ∙ ap (λ l. l ++ readable) alike
-        ∙ append_assoc before sent readable;
-    gives = ap (λ (g : Given (List ℕ)). record { state = sent ++ readable; written = g.written }) h.0;
-  };
+  gives = λ out sent readable w given alike h.
+      behind exact_transmit before out sent readable w given (λ g puts. puts) alike h.0;
   lacks_memory = λ out sent readable w alike h. h;
 }
 
 within_behind : (limit : Option ℕ) (before : List ℕ) → DoesAs (transmit_within limit) transmit (Behind before)
 within_behind limit before = record {
   takes = λ out sent alike. refl;
-  gives = λ out sent readable w given alike h. record {
-    state = sent ++ readable;
-    alike = ap (λ (g : Given (List ℕ)). g.state) h.0 ∙ ap (λ l. l ++ readable) alike
-        ∙ append_assoc before sent readable;
-    gives = ap (λ (g : Given (List ℕ)). record { state = sent ++ readable; written = g.written }) h.0;
-  };
+  gives = λ out sent readable w given alike h.
+      behind transmit before out sent readable w given (λ g puts. puts) alike h.0;
   lacks_memory = λ out sent readable w alike h. h.0;
 }
 
@@ -251,7 +254,7 @@ refuses state pause stage budget limit health memory console before after is h =
     (sym (append-nil before)) h in
     record {
       output = p.state;
-      comes = inr (refl, (is, record { refused = p.refused; is = refl; image = refl }));
+      comes = inr (refl, (is, record { refused = p.served; is = refl; image = refl }));
       appended = p.alike;
     }
 
@@ -289,13 +292,13 @@ bytes_at budget limit (Some queue) m m' w w' before after is h =
     refused_as (transmit_within limit) transmit (Behind before) (within_behind limit before) budget First 1
     (Some queue) m m' w w' before after [] (sym (append-nil before)) h in
     let start : Site Queue (List ℕ) = record { memory = m; ring = queue; state = [] } in
-    let end : Site Queue (List ℕ) = record { memory = m'; ring = p.refused.last; state = p.state } in
+    let end : Site Queue (List ℕ) = record { memory = m'; ring = p.served.last; state = p.state } in
     record {
       queue = queue;
       ready = is;
       end = end;
-      wanted = p.refused.wanted;
-      stops = refused_service queue_kind transmit start end p.refused.wanted p.refused.service.service;
+      wanted = p.served.wanted;
+      stops = refused_service queue_kind transmit start end p.served.wanted p.served.service.service;
     }
 
 pub has_bytes : (stage : Stage) (budget : Budget) (limit : Option ℕ) (m m' : Memory) (w w' : WindowState)
@@ -305,37 +308,6 @@ pub has_bytes : (stage : Stage) (budget : Budget) (limit : Option ℕ) (m m' : M
 has_bytes First budget limit m m' w w' before after first h =
     bytes_at budget limit (queue_at 1 w) m m' w w' before after refl h
 has_bytes Next budget limit m m' w w' before after first h = absurd (cc)
-
--- ---- what a write leaves to be done
-
-pub serve_asked : (task : Task) (service : Service) → duty.Serve service ≡ duty_of task
-    → asked_by task ≡ Some (record { service = service; taken = None })
-serve_asked Nothing service is = absurd (cc)
-serve_asked ServeBlock service is = cc
-serve_asked ServeReceive service is = cc
-serve_asked ServeTransmit service is = cc
-serve_asked (PutOut byte) service is = absurd (cc)
-
-pub put_out_asked : (task : Task) (byte : ℕ) → duty.PutOut byte ≡ duty_of task → task ≡ PutOut byte
-put_out_asked Nothing byte is = absurd (cc)
-put_out_asked ServeBlock byte is = absurd (cc)
-put_out_asked ServeReceive byte is = absurd (cc)
-put_out_asked ServeTransmit byte is = absurd (cc)
-put_out_asked (PutOut put) byte is = cc
-
-pub nothing_asked : (task : Task) → duty.Nothing ≡ duty_of task → task ≡ Nothing
-nothing_asked Nothing is = refl
-nothing_asked ServeBlock is = absurd (cc)
-nothing_asked ServeReceive is = absurd (cc)
-nothing_asked ServeTransmit is = absurd (cc)
-nothing_asked (PutOut byte) is = absurd (cc)
-
-pub transmit_asked : (task : Task) → duty.Serve Transmit ≡ duty_of task → task ≡ ServeTransmit
-transmit_asked Nothing is = absurd (cc)
-transmit_asked ServeBlock is = absurd (cc)
-transmit_asked ServeReceive is = absurd (cc)
-transmit_asked ServeTransmit is = refl
-transmit_asked (PutOut byte) is = absurd (cc)
 
 -- ---- an event
 

@@ -7,13 +7,14 @@ use Rattle.board.specs.declared.event.EventKind.{EventKind}
 use Rattle.board.specs.declared.event.EventKind.TheVariants.{Read, Write, MemRead, MemWrite, Input, Resize, Restore, Complete}
 use Rattle.board.specs.declared.reply.Reply.{Reply}
 use Rattle.board.specs.declared.reply.Reply.TheVariants.{BadRange, BadState, Bytes, Busy, Done, Idle, NoMemory, Took, Value}
+use Rattle.board.specs.declared.pause.Service.TheVariants.{Block, Receive, Transmit}
 use Rattle.board.specs.Hosting.{CompletesOrGives, CompletionGives, GivesAtRest, GivesInFlight, HostedOutcome, HostedState, InFlight, IsBesideDisk, IsHostedNext, IsOwn, OwnGives, WaitsOrGives, must_wait, notifies_block, verdict_in}
 use Rattle.board.specs.Image.{Health}
 use Rattle.board.specs.Machine.{at_rest}
 use Rattle.board.specs.Outcome.{Outcome, does, replies}
 use Rattle.board.specs.Restoring.{IsRestoring}
 use Rattle.board.specs.Slot.{SlotState}
-use Rattle.board.specs.Task.{Task, Nothing, ServeBlock, ServeReceive, ServeTransmit, PutOut, Finishes}
+use Rattle.board.specs.Task.{Task, Nothing, Serve, PutOut, Finishes}
 use Rattle.board.specs.World.{IsCutShort, MayGive}
 
 -- ---- an own event, and a completion
@@ -77,11 +78,11 @@ finished_untied : {A : Type 0} (task : Task) (state mid : SlotState) (old new : 
     → Finishes task mid old new outcome → IsUntied state outcome
 finished_untied {A} Nothing state mid old new outcome f =
     told state outcome Done (ap (λ (o : Outcome A). o.reply) f.alike) tt
-finished_untied {A} ServeBlock state mid old new outcome f =
+finished_untied {A} (Serve Block) state mid old new outcome f =
     told state outcome Done (ap (λ (o : Outcome A). o.reply) f.is) tt
-finished_untied {A} ServeReceive state mid old new outcome f =
+finished_untied {A} (Serve Receive) state mid old new outcome f =
     told state outcome Done (ap (λ (o : Outcome A). o.reply) f.is) tt
-finished_untied {A} ServeTransmit state mid old new outcome f =
+finished_untied {A} (Serve Transmit) state mid old new outcome f =
     told state outcome Done (ap (λ (o : Outcome A). o.reply) f.is) tt
 finished_untied {A} (PutOut byte) state mid old new outcome f =
     told state outcome Done (ap (λ (o : Outcome A). o.reply) f.alike) tt
@@ -89,10 +90,10 @@ finished_untied {A} (PutOut byte) state mid old new outcome f =
 cut_untied : {A : Type 0} (task : Task) (state mid : SlotState) (old new : Health) (outcome : Outcome A)
     → IsCutShort task mid old new outcome → IsUntied state outcome
 cut_untied Nothing state mid old new outcome f = absurd f
-cut_untied {A} ServeBlock state mid old new outcome f =
+cut_untied {A} (Serve Block) state mid old new outcome f =
     told state outcome Done (ap (λ (o : Outcome A). o.reply) f.service.is) tt
-cut_untied ServeReceive state mid old new outcome f = absurd f
-cut_untied {A} ServeTransmit state mid old new outcome f =
+cut_untied (Serve Receive) state mid old new outcome f = absurd f
+cut_untied {A} (Serve Transmit) state mid old new outcome f =
     told state outcome NoMemory (ap (λ (o : Outcome A). o.reply) f.is) tt
 cut_untied {A} (PutOut byte) state mid old new outcome f =
     told state outcome NoMemory (ap (λ (o : Outcome A). o.reply) f.alike) tt

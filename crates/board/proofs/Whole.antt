@@ -22,7 +22,7 @@ use Rattle.board.specs.Machine.{task_at, with_input, with_write}
 use Rattle.board.specs.Outcome.{Outcome}
 use Rattle.board.specs.Pausing.{Begins, EndsBy, IsBlockPiece, IsReceivePiece, TurnsTo, asked_by}
 use Rattle.board.specs.Slot.{SlotState}
-use Rattle.board.specs.Task.{Task, Nothing, ServeBlock, ServeReceive, ServeTransmit, PutOut, Finishes, IsBlockService, IsReceiveService, device_of}
+use Rattle.board.specs.Task.{Task, Nothing, Serve, PutOut, Finishes, IsBlockService, IsReceiveService, device_of}
 use Rattle.board.specs.World.{IsCutShort, MayGive}
 use Rattle.board.proofs.Turns.{task_given}
 
@@ -73,7 +73,7 @@ ServedOrCut task mid before after outcome =
 block_ended : {A : Type 0} (budget : Budget) (mid : SlotState) (before after : Health) (new : SlotState)
     (output : List ℕ) (reply : Reply A)
     → EndsBy (record { service = Block; taken = None }) First budget mid before after new output reply
-    → ServedOrCut ServeBlock mid before after (came new reply output)
+    → ServedOrCut (Serve Block) mid before after (came new reply output)
 block_ended budget mid before after new output reply (inl (done, inl h)) =
     inl (
       block_whole (exact_device (device_of mid)) budget mid before after new output reply done h.piece,
@@ -88,7 +88,7 @@ block_ended budget mid before after new output reply (inr (lacks, (other, h))) =
 receive_ended : {A : Type 0} (budget : Budget) (mid : SlotState) (before after : Health) (new : SlotState)
     (output : List ℕ) (reply : Reply A)
     → EndsBy (record { service = Receive; taken = None }) First budget mid before after new output reply
-    → ServedOrCut ServeReceive mid before after (came new reply output)
+    → ServedOrCut (Serve Receive) mid before after (came new reply output)
 receive_ended budget mid before after new output reply (inl (done, h)) =
     inl (
       receive_whole budget mid before after new output reply Done done h,
@@ -99,7 +99,7 @@ receive_ended budget mid before after new output reply (inr (lacks, (other, h)))
 transmit_ended : {A : Type 0} (budget : Budget) (mid : SlotState) (before after : Health) (new : SlotState)
     (output : List ℕ) (reply : Reply A)
     → EndsBy (record { service = Transmit; taken = None }) First budget mid before after new output reply
-    → ServedOrCut ServeTransmit mid before after (came new reply output)
+    → ServedOrCut (Serve Transmit) mid before after (came new reply output)
 transmit_ended budget mid before after new output reply (inl (done, h)) = inl (
   record {
     notified = record {
@@ -126,14 +126,14 @@ write_whole : {A : Type 0} (state : SlotState) (window : DeviceKind) (offset wid
     output (Answered reply)
     → MayGive state (Write window offset width value) before after (came new reply output)
 write_whole state window offset width value budget before after new output reply Nothing is h = h
-write_whole state window offset width value budget before after new output reply ServeBlock is h =
-    task_given state window ServeBlock offset width value before after (came new reply output) is
+write_whole state window offset width value budget before after new output reply (Serve Block) is h =
+    task_given state window (Serve Block) offset width value before after (came new reply output) is
     (block_ended budget (with_write window offset width value state) before after new output reply h)
-write_whole state window offset width value budget before after new output reply ServeReceive is h =
-    task_given state window ServeReceive offset width value before after (came new reply output) is
+write_whole state window offset width value budget before after new output reply (Serve Receive) is h =
+    task_given state window (Serve Receive) offset width value before after (came new reply output) is
     (receive_ended budget (with_write window offset width value state) before after new output reply h)
-write_whole state window offset width value budget before after new output reply ServeTransmit is h =
-    task_given state window ServeTransmit offset width value before after (came new reply output) is
+write_whole state window offset width value budget before after new output reply (Serve Transmit) is h =
+    task_given state window (Serve Transmit) offset width value before after (came new reply output) is
     (transmit_ended budget (with_write window offset width value state) before after new output reply h)
 write_whole state window offset width value budget before after new output reply (PutOut byte) is h = h
 

@@ -14,6 +14,7 @@ pub mod Restoring
 pub mod Task
 pub mod Machine
 pub mod World
+pub mod Quiet
 pub mod Line
 pub mod Fault
 pub mod Pausing

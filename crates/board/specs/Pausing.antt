@@ -24,12 +24,10 @@ use Rattle.board.specs.declared.pause.Turn.{Turn}
 use Rattle.board.specs.declared.pause.Turn.TheVariants.{Answered, More}
 use Rattle.board.specs.declared.reply.Reply.{Reply}
 use Rattle.board.specs.declared.reply.Reply.TheVariants.{Done, Took, NoMemory}
-use Rattle.board.specs.declared.slot.window.Duty.{Duty}
-use Rattle.board.specs.declared.slot.window.Duty.TheVariants as duty
-use Rattle.board.specs.Image.{Health, sectors_of, disk_with}
+use Rattle.board.specs.Image.{Health, Tells, bytes_of, health_of, sectors_of, disk_with}
 use Rattle.board.specs.Machine.{block_irq, console_irq, task_at, with_write, with_input}
-use Rattle.board.specs.Slot.{SlotState}
-use Rattle.board.specs.Task.{Task, Nothing, ServeBlock, ServeReceive, ServeTransmit, PutOut, device_of}
+use Rattle.board.specs.Slot.{BoardSlot, SlotState, state_of}
+use Rattle.board.specs.Task.{Task, Serve, device_of}
 use Rattle.board.specs.World.{World, MayGive, MayLackMemory, lacks_memory, noted}
 
 -- ---- one piece
@@ -139,23 +137,17 @@ ComesTo pause stage budget old before after new output (More next) =
 
 -- the service that a task asks for, if any
 abbrev pub asked_by : Task → Option Pause
-asked_by ServeBlock = Some (record { service = Block; taken = None })
-asked_by ServeReceive = Some (record { service = Receive; taken = None })
-asked_by ServeTransmit = Some (record { service = Transmit; taken = None })
+asked_by (Serve service) = Some (record { service = service; taken = None })
 asked_by task = None
 
--- what a task leaves for a slot's devices to do
-abbrev pub duty_of : Task → Duty
-duty_of Nothing = duty.Nothing
-duty_of ServeBlock = duty.Serve Block
-duty_of ServeReceive = duty.Serve Receive
-duty_of ServeTransmit = duty.Serve Transmit
-duty_of (PutOut byte) = duty.PutOut byte
+-- the service of an input, and how many of its bytes the console took before it
+abbrev pub input_service : List ℕ → List ℕ → Pause
+input_service pending bytes = record { service = Receive; taken = Some (fitting pending bytes) }
 
--- the service that an event asks for, and how many bytes were typed before it
+-- the service that an event asks for
 abbrev pub asked : {A : Type 0} → EventKind A → SlotState → Option Pause
 asked (Write window offset width value) state = asked_by (task_at window offset width value state)
-asked (Input bytes) state = Some (record { service = Receive; taken = Some (fitting state.pending bytes) })
+asked (Input bytes) state = Some (input_service state.pending bytes)
 asked what state = None
 
 -- the slot as that service finds it
@@ -218,6 +210,14 @@ pub record ServesTurn {A : Type 0} (Comes : SlotState → Health → Health → 
   pub output : List ℕ
   pub comes : Comes state old new after output turn
   pub appended : out_after ≡ out_before ++ output
+
+-- A slot of a board serves its guest so over an image that tells its bytes.
+abbrev pub ServesOver : {A : Type 0} → (SlotState → Health → Health → SlotState → List ℕ → Turn A → Type 0)
+    → BoardSlot → BoardSlot → Disk → Disk → Turn A → List ℕ → List ℕ → Type 0
+ServesOver Comes old new before after turn out_before out_after =
+    Tells before →
+    ServesTurn Comes (state_of (bytes_of before) old) (health_of before) (health_of after)
+    (state_of (bytes_of after) new) turn out_before out_after
 
 -- A turn of slot h on the whole board, which shows these interrupt words after it: a refusal is noted, and
 -- every

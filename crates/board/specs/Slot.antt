@@ -66,30 +66,17 @@ pub record IsUnnoted (old new : BoardSlot) (before after : Disk) (failed : Bool)
   pub disturbed : new.disturbed ≡ old.disturbed
   pub counted : failed ≡ nat_lt before.failures after.failures
 
--- All that a block request doesn't reach stays: the console's window, pending input and size, whether the
--- disk may be
--- written, its identity, where the memory lies and how large it is, and how many bytes the disk has.
+-- All that a block request doesn't reach stays: what is beside the memory, the disk's bytes and the block
+-- device's window, where the memory lies and how large it is, and how many bytes the disk has.
 pub record KeepsBesideDisk (old new : SlotState) : Type 0 where
-  pub console : new.console ≡ old.console
-  pub pending : new.pending ≡ old.pending
-  pub cols : new.cols ≡ old.cols
-  pub rows : new.rows ≡ old.rows
-  pub read_only : new.read_only ≡ old.read_only
-  pub identity : new.identity ≡ old.identity
+  pub rest : new ≡ record old { memory = new.memory; extent = new.extent; block = new.block }
   pub memory : SameRange old.memory new.memory
   pub extent : length new.extent ≡ length old.extent
 
--- All that a transmit doesn't reach stays: the disk, whether it may be written and its identity, the block
--- device's
--- window, the console's pending input and size, and where the memory lies and how large it is.
+-- All that a transmit doesn't reach stays: what is beside the memory and the console's window, and where the
+-- memory lies and how large it is.
 pub record KeepsBesideTransmit (old new : SlotState) : Type 0 where
-  pub extent : new.extent ≡ old.extent
-  pub read_only : new.read_only ≡ old.read_only
-  pub identity : new.identity ≡ old.identity
-  pub block : new.block ≡ old.block
-  pub pending : new.pending ≡ old.pending
-  pub cols : new.cols ≡ old.cols
-  pub rows : new.rows ≡ old.rows
+  pub rest : new ≡ record old { memory = new.memory; console = new.console }
   pub memory : SameRange old.memory new.memory
 
 -- the features that every device offers (6)

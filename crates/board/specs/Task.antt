@@ -14,18 +14,12 @@ use Rattle.block_device.specs.Device.{exact_device}
 use Rattle.console_device.specs.Device.{receive, exact_transmit}
 use Rattle.board.specs.declared.reply.Reply.{Reply}
 use Rattle.board.specs.declared.reply.Reply.TheVariants.{Done}
+use Rattle.board.specs.declared.pause.Service.TheVariants as service
+pub use Rattle.board.specs.declared.task.Task.{Task}
+pub use Rattle.board.specs.declared.task.Task.TheVariants.{Nothing, Serve, PutOut}
 use Rattle.board.specs.Image.{Health, sectors_of, disk_with}
 use Rattle.board.specs.Outcome.{Outcome, replies, does, IsDetermined}
 use Rattle.board.specs.Slot.{SlotState}
-
--- A task: the block device serves its one queue (5.2.2); the console serves one of its two queues (5.3.2), or
--- puts out the byte of an emergency write (5.3.4).
-pub data Task : Type 0 where
-  Nothing : Task
-  ServeBlock : Task
-  ServeReceive : Task
-  ServeTransmit : Task
-  PutOut : ℕ → Task
 
 -- where a driver writes to the console without a queue: emerg_wr, behind columns, rows and max_nr_ports
 -- (5.3.4)
@@ -34,9 +28,9 @@ emergency_write = configuration_offset + 8
 
 -- what a write to a window of this kind leaves to be done
 abbrev pub task_of : DeviceKind → Action → Task
-task_of Block (Notify zero) = ServeBlock
-task_of Console (Notify zero) = ServeReceive
-task_of Console (Notify (suc zero)) = ServeTransmit
+task_of Block (Notify zero) = Serve service.Block
+task_of Console (Notify zero) = Serve service.Receive
+task_of Console (Notify (suc zero)) = Serve service.Transmit
 task_of Console (ConfigWrite offset width value) =
     if offset == emergency_write then PutOut (value % 2 ^ 8) else Nothing
 task_of _ _ = Nothing
@@ -65,38 +59,40 @@ pub record IsBlockService {A : Type 0} (device : Device Disk) (old : SlotState) 
         block = outcome.state.block;
       })
 
--- The console fills the chains of its receive queue from pending input (5.3.6): its window, the memory
--- and pending input may change, and the rest of the slot stays.
-pub record IsReceiveService {A : Type 0} (old : SlotState) (reply : Reply A) (before after : Health)
-    (outcome : Outcome A) : Type 0 where
-  pub notified :
-      IsNotified receive 0 (queue_at 0 old.console) old.memory outcome.state.memory
-      old.console outcome.state.console old.pending outcome.state.pending
-  pub is :
-      outcome
-      ≡ replies (record old {
-        memory = outcome.state.memory;
-        console = outcome.state.console;
-        pending = outcome.state.pending;
-      }) reply
+-- The console serves one of its queues, as its notification says: this comes of it, and the image has no part
+-- in it.
+pub record IsConsoleService {A : Type 0} (Served : Type 0) (outcome wanted : Outcome A)
+    (before after : Health) : Type 0 where
+  pub notified : Served
+  pub is : outcome ≡ wanted
   pub image : after ≡ before
 
--- The console puts out the chains of its transmit queue (5.3.6): its window and the memory may change, and
--- the
--- rest of the slot stays.
-pub record IsTransmitService {A : Type 0} (old : SlotState) (before after : Health)
-    (outcome : Outcome A) : Type 0 where
-  pub notified :
-      IsNotified exact_transmit 1 (queue_at 1 old.console) old.memory outcome.state.memory
-      old.console outcome.state.console [] outcome.output
-  pub is :
-      outcome
-      ≡ record {
-        state = record old { memory = outcome.state.memory; console = outcome.state.console };
-        reply = Done;
-        output = outcome.output;
-      }
-  pub image : after ≡ before
+-- The console fills the chains of its receive queue from pending input (5.3.6): its window, the memory
+-- and pending input may change, and the rest of the slot stays.
+abbrev pub IsReceiveService : {A : Type 0} → SlotState → Reply A → Health → Health → Outcome A → Type 0
+IsReceiveService old reply before after outcome =
+    IsConsoleService (IsNotified receive 0 (queue_at 0 old.console) old.memory outcome.state.memory
+    old.console outcome.state.console old.pending outcome.state.pending) outcome
+    (replies (record old {
+      memory = outcome.state.memory;
+      console = outcome.state.console;
+      pending = outcome.state.pending;
+    }) reply) before after
+
+-- what comes of a service of the transmit queue: the console's window and the memory may change, and the rest
+-- of the slot stays
+abbrev pub transmits : {A : Type 0} → SlotState → Outcome A → Reply A → Outcome A
+transmits old outcome reply = record {
+  state = record old { memory = outcome.state.memory; console = outcome.state.console };
+  reply = reply;
+  output = outcome.output;
+}
+
+-- The console puts out the chains of its transmit queue (5.3.6).
+abbrev pub IsTransmitService : {A : Type 0} → SlotState → Health → Health → Outcome A → Type 0
+IsTransmitService old before after outcome =
+    IsConsoleService (IsNotified exact_transmit 1 (queue_at 1 old.console) old.memory outcome.state.memory
+    old.console outcome.state.console [] outcome.output) outcome (transmits old outcome Done) before after
 
 -- a byte is put out, and nothing else happens
 abbrev pub puts_out : {A : Type 0} → ℕ → SlotState → Outcome A
@@ -105,8 +101,8 @@ puts_out byte state = record { state = state; reply = Done; output = byte ∷ []
 -- What comes of a task where memory is found and no call of the image fails.
 abbrev pub Finishes : {A : Type 0} → Task → SlotState → Health → Health → Outcome A → Type 0
 Finishes Nothing state before after outcome = IsDetermined outcome (does state) before after
-Finishes ServeBlock state before after outcome =
+Finishes (Serve service.Block) state before after outcome =
     IsBlockService (exact_device (device_of state)) state before after outcome
-Finishes ServeReceive state before after outcome = IsReceiveService state Done before after outcome
-Finishes ServeTransmit state before after outcome = IsTransmitService state before after outcome
+Finishes (Serve service.Receive) state before after outcome = IsReceiveService state Done before after outcome
+Finishes (Serve service.Transmit) state before after outcome = IsTransmitService state before after outcome
 Finishes (PutOut byte) state before after outcome = IsDetermined outcome (puts_out byte state) before after

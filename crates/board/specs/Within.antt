@@ -27,7 +27,7 @@ use Rattle.mmio_window.specs.Pieces.{IsRefusedAt, ServesTo}
 use Rattle.board.specs.Pausing.{asked, readied, reply_of}
 use Rattle.board.specs.Image.{bytes_of}
 use Rattle.board.specs.Slot.{BoardSlot, SlotState, state_of}
-use Rattle.board.specs.Task.{Task, ServeTransmit, PutOut}
+use Rattle.board.specs.Task.{Task, Serve, PutOut}
 use Rattle.board.specs.World.{BoardState}
 
 -- what a guest is answered whose transmit queue was served to this end
@@ -56,7 +56,7 @@ pub record PutsWithin {A : Type 0} (limit byte : ℕ) (state after : SlotState) 
 -- how a task that puts something out is decided; the others put out nothing
 abbrev pub PutsOutWithin : {A : Type 0} → ℕ → Task → SlotState → SlotState → List ℕ
     → List ℕ → Reply A → Type 0
-PutsOutWithin limit ServeTransmit state after waiting left reply =
+PutsOutWithin limit (Serve Transmit) state after waiting left reply =
     TransmitsWithin limit state after waiting left reply
 PutsOutWithin limit (PutOut byte) state after waiting left reply =
     PutsWithin limit byte state after waiting left reply
@@ -81,6 +81,13 @@ DecidesSlot disk outlet slot old new Within =
     → slice_get new.slots slot ≡ Some after →
     Within limit (state_of (bytes_of (disk old.image)) found) (state_of (bytes_of (disk new.image)) after)
 
+-- the same of one slot over an image
+abbrev pub DecidesOver : {A : Type 0} → (ℕ → SlotState → SlotState → List ℕ → List ℕ → Turn A → Type 0)
+    → Option ℕ → BoardSlot → BoardSlot → Disk → Disk → List ℕ → List ℕ → Turn A → Type 0
+DecidesOver Within outlet old new before after waiting left turn =
+    (limit : ℕ) → outlet ≡ Some limit →
+    Within limit (state_of (bytes_of before) old) (state_of (bytes_of after) new) waiting left turn
+
 -- ---- a guest with its outlet
 
 -- All that one guest can see, and the bytes of its output that wait.
@@ -90,7 +97,7 @@ pub record Seat : Type 0 where
 
 -- the tasks that put something out, and the events
 abbrev pub IsPuttingOut : Task → Type 0
-IsPuttingOut ServeTransmit = ⊤
+IsPuttingOut (Serve Transmit) = ⊤
 IsPuttingOut (PutOut byte) = ⊤
 IsPuttingOut task = ⊥
 

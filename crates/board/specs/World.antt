@@ -17,12 +17,13 @@ use Rattle.board.specs.declared.event.EventKind.TheVariants.{Read, Write, MemRea
 use Rattle.board.specs.declared.reply.Reply.{Reply}
 use Rattle.board.specs.declared.reply.Reply.TheVariants.{BadSlot, NoMemory}
 use Rattle.board.specs.declared.reply.Record.{Record}
+use Rattle.board.specs.declared.pause.Service.TheVariants.{Block, Receive, Transmit}
 use Rattle.board.specs.Extent.{outside_of}
 use Rattle.board.specs.Image.{Health, Tells, bytes_of, health_of}
 use Rattle.board.specs.Machine.{task_at, with_write, Gives, record_of}
 use Rattle.board.specs.Outcome.{Outcome, replies, IsDetermined}
 use Rattle.board.specs.Slot.{SlotState, BoardSlot, state_of}
-use Rattle.board.specs.Task.{Task, Nothing, ServeBlock, ServeReceive, ServeTransmit, PutOut, device_of, IsBlockService}
+use Rattle.board.specs.Task.{Task, Nothing, Serve, PutOut, device_of, transmits, IsBlockService, IsConsoleService}
 
 -- A board: its slots, and the image that they share.
 pub record BoardState (I : Type 0) : Type 0 where
@@ -103,26 +104,17 @@ pub record IsFailedService {A : Type 0} (state : SlotState) (old new : Health)
 
 -- A service of the transmit queue found no memory for the bytes of the chain on offer, which stays there: the
 -- chains before it are out, used and notified, the reply says so, and the rest of the slot stays.
-pub record IsRefusedTransmit {A : Type 0} (state : SlotState) (old new : Health)
-    (outcome : Outcome A) : Type 0 where
-  pub notified :
-      Notified transmit 1 (queue_at 1 state.console) Refused state.memory outcome.state.memory
-      state.console outcome.state.console [] outcome.output
-  pub is :
-      outcome
-      ≡ record {
-        state = record state { memory = outcome.state.memory; console = outcome.state.console };
-        reply = NoMemory;
-        output = outcome.output;
-      }
-  pub image : new ≡ old
+abbrev pub IsRefusedTransmit : {A : Type 0} → SlotState → Health → Health → Outcome A → Type 0
+IsRefusedTransmit state old new outcome =
+    IsConsoleService (Notified transmit 1 (queue_at 1 state.console) Refused state.memory outcome.state.memory
+    state.console outcome.state.console [] outcome.output) outcome (transmits state outcome NoMemory) old new
 
 -- how a task may be refused for want of memory or by the image; some can't be
 abbrev pub IsCutShort : {A : Type 0} → Task → SlotState → Health → Health → Outcome A → Type 0
 IsCutShort Nothing state old new outcome = ⊥
-IsCutShort ServeBlock state old new outcome = IsFailedService state old new outcome
-IsCutShort ServeReceive state old new outcome = ⊥
-IsCutShort ServeTransmit state old new outcome = IsRefusedTransmit state old new outcome
+IsCutShort (Serve Block) state old new outcome = IsFailedService state old new outcome
+IsCutShort (Serve Receive) state old new outcome = ⊥
+IsCutShort (Serve Transmit) state old new outcome = IsRefusedTransmit state old new outcome
 IsCutShort (PutOut byte) state old new outcome = IsDetermined outcome (replies state NoMemory) old new
 
 -- and how an event may be
@@ -166,6 +158,13 @@ met_refusal reply old_failures new_failures = lacks_memory reply || nat_lt old_f
 abbrev pub noted : ℕ → Bool → List Bool → List Bool
 noted h met disturbed = if met then slice_set disturbed h true else disturbed
 
+-- a board notes whether what slot h did met a refusal, by how often calls of the image failed in it
+abbrev pub NotesRefusal : {I : Type 0} → (I → Disk) → ℕ → (ℕ → ℕ → Bool) → BoardState I
+    → BoardState I → Type 0
+NotesRefusal disk h met old new =
+    disturbed_of new.slots
+    ≡ noted h (met (disk old.image).failures (disk new.image).failures) (disturbed_of old.slots)
+
 -- An event of slot h, which was in this state: it comes out as it may, its record says so, a refusal is
 -- noted, and every other slot and each byte outside all extents stay as they are.
 pub record SlotStep {A : Type 0} (old : World) (h : ℕ) (state : SlotState) (what : EventKind A)
@@ -179,9 +178,14 @@ pub record SlotStep {A : Type 0} (old : World) (h : ℕ) (state : SlotState) (wh
       ≡ noted h (met_refusal outcome.reply old.health.failures new.health.failures) old.disturbed
   pub outside : new.outside ≡ old.outside
 
+-- the record of an event of slot h: what it was answered, what it put out, and both interrupt words after it
+abbrev pub record_with : {A : Type 0} → ℕ → Reply A → List ℕ → ℕ → ℕ → Record A
+record_with h reply output block console =
+    record { slot = h; reply = reply; output = output; block_irq = block; console_irq = console }
+
 -- the record of an event of a slot that isn't there
 abbrev pub bad_slot : {A : Type 0} → ℕ → Record A
-bad_slot h = record { slot = h; reply = BadSlot; output = []; block_irq = 0; console_irq = 0 }
+bad_slot h = record_with h BadSlot [] 0 0
 
 -- an event of a slot that isn't there changes nothing
 pub record MissingStep {A : Type 0} (old : World) (h : ℕ) (written : Record A) (new : World)
@@ -201,13 +205,7 @@ Step old event written new =
 pub record Handles {A : Type 0} (old : World) (event : Event A) (reply : Reply A)
     (block console : ℕ) (out_before out_after : List ℕ) (new : World) : Type 0 where
   pub output : List ℕ
-  pub step : Step old event (record {
-    slot = event.slot;
-    reply = reply;
-    output = output;
-    block_irq = block;
-    console_irq = console;
-  }) new
+  pub step : Step old event (record_with event.slot reply output block console) new
   pub appended : out_after ≡ out_before ++ output
 
 -- The board answers an event: a step whose record has this reply, and whose output was appended to
@@ -231,9 +229,9 @@ pub record HasBytesToPutOut (memory : Memory) (console : WindowState) : Type 0 w
 -- the tasks that may find no memory
 abbrev pub TakesMemory : Task → SlotState → Type 0
 TakesMemory Nothing state = ⊥
-TakesMemory ServeBlock state = ⊥
-TakesMemory ServeReceive state = ⊥
-TakesMemory ServeTransmit state = HasBytesToPutOut state.memory state.console
+TakesMemory (Serve Block) state = ⊥
+TakesMemory (Serve Receive) state = ⊥
+TakesMemory (Serve Transmit) state = HasBytesToPutOut state.memory state.console
 TakesMemory (PutOut byte) state = ⊤
 
 -- The events that may find no memory: a read of some bytes inside the guest's memory, and of the writes to a

@@ -6,7 +6,7 @@ ghost use Rattle.board.specs.Durable.{TouchesSlot};
 ghost use Rattle.board.specs.Line.{AnswersMissing, IsRun, HasInterruptWords, KeepsIdle, events_done};
 ghost use Rattle.board.specs.Slot.{AreInterruptWords};
 ghost use Rattle.board.specs.Image.{Tells};
-ghost use Rattle.board.specs.World.{Handles, HoldsAt, Answers, IsMissed, KeepsOthers, MayLackMemory, StaysInExtents, disturbed_of, met_refusal, noted, world_of};
+ghost use Rattle.board.specs.World.{Handles, HoldsAt, Answers, IsMissed, KeepsOthers, MayLackMemory, NotesRefusal, StaysInExtents, disturbed_of, met_refusal, world_of};
 ghost use Rattle.board.specs.Within.{DecidesSlot, TakesWithin};
 
 mod access;
@@ -63,9 +63,7 @@ impl<I: Image, A: Allocator + Copy> Board<I, A> {
         ensures touches { TouchesSlot I.moment I.may_leave I.left_since event.now.slot self.old self.new }
 
         // a refusal, of memory or of the image, is noted for the event's slot
-        ensures noted { disturbed_of self.new.slots ≡ noted event.now.slot
-            (met_refusal result (I.disk self.old.image).failures (I.disk self.new.image).failures)
-            (disturbed_of self.old.slots) }
+        ensures noted { NotesRefusal I.disk event.now.slot (met_refusal result) self.old self.new }
 
         // what is refused changes nothing; and only a read of memory, a transmit and an emergency write may
         // find no memory
@@ -131,9 +129,7 @@ impl<I: Image, A: Allocator + Copy> Board<I, A> {
         ensures words { AreInterruptWords result.block_irq result.console_irq }
         ensures stays { StaysInExtents I.disk self.old self.new }
         ensures touches { TouchesSlot I.moment I.may_leave I.left_since slot self.old self.new }
-        ensures noted { disturbed_of self.new.slots ≡ noted slot
-            (met_refusal result.reply (I.disk self.old.image).failures (I.disk self.new.image).failures)
-            (disturbed_of self.old.slots) }
+        ensures noted { NotesRefusal I.disk slot (met_refusal result.reply) self.old self.new }
         ensures bad_slot { (result.reply ≡ Reply.BadSlot) ↔ (length self.old.slots ≤ slot) }
         ensures bad_slot_keeps { result.reply ≡ Reply.BadSlot → self.new ≡ self.old }
         ensures missing { length self.old.slots ≤ slot →

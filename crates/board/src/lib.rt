@@ -7,7 +7,7 @@
 //!
 //! `board` is the board. `spec` says what it is made of, `check` and `fault` why one is refused;
 //! `event` is what comes in and `reply` what goes out, and `pause` what a turn of a slot is asked and comes to,
-//! whose service may pause. `slot` serves one guest, its memory, its two windows and its two devices, and knows of no
+//! whose service may pause, and `task` what a write leaves to be done. `slot` serves one guest, its memory, its two windows and its two devices, and knows of no
 //! other; `counters` is what it counts of them, `features` says what its devices offer, and `lent` makes its memory of a host's bytes. `laws` has what holds of every run by itself.
 #![tactic(auto)]
 
@@ -26,6 +26,7 @@ mod reply;
 mod saved;
 mod slot;
 mod spec;
+mod task;
 
 pub use block_device::{Extent, Verdict};
 pub use board::{Board, Taken};
@@ -55,3 +56,4 @@ pub use saved::{RestoreFault, RestoreRefusal, SaveRefusal};
 pub use sector_cache::{CacheFault, Image, ImageError, ImageFault, MemoryImage, Refused};
 pub use snapshot::{ShortBuffer, SnapshotFault};
 pub use spec::SlotSpec;
+pub use task::Task;

@@ -5,17 +5,16 @@
 //! the guest's memory, `window` those of its devices' windows, `service` serves their queues, and `console` is what is done to the console
 //! from outside.
 
-ghost use Rattle.std.specs.Prelude.{◌≡◌, ◌≢◌, ◌<◌, ◌≤◌, ◌||◌, ℕ, List, All, map, length, Some, IfOk};
+ghost use Rattle.std.specs.Prelude.{◌≡◌, ◌≢◌, ◌<◌, ◌≤◌, ◌||◌, ℕ, List, All, map, IfOk};
 ghost use Rattle.guest_memory.specs.Faults.{AreGood as AreGoodRegions};
 ghost use Rattle.guest_memory.specs.Memory.{Inside, IsRest};
 ghost use Rattle.block_device.specs.Extent.{IsWithin, TouchesExtent};
-ghost use Rattle.board.specs.Image.{Tells, bytes_of, health_of};
 ghost use Rattle.board.specs.Lending.{LendsBytes};
 ghost use Rattle.board.specs.Lent.{AreBytesOf, made_over, opened_over};
-ghost use Rattle.board.specs.Pausing.{Begins, Does, PausesByLimit, MayLackMemoryIn, ServesTurn, lacks_memory_in, met_in};
+ghost use Rattle.board.specs.Pausing.{Begins, Does, PausesByLimit, MayLackMemoryIn, ServesOver, lacks_memory_in, met_in};
 ghost use Rattle.board.specs.Slot.{AreInterruptWords, IsUnnoted, StaysInSlot, interrupt_words, opened, state_of};
 ghost use Rattle.board.specs.World.{MayLackMemory};
-ghost use Rattle.board.specs.Within.{BeginsWithin, DoesWithin};
+ghost use Rattle.board.specs.Within.{BeginsWithin, DecidesOver, DoesWithin};
 ghost use Rattle.board.specs.declared.pause.Pause.{Pause};
 ghost use Rattle.board.specs.declared.pause.Turn.{Turn};
 ghost use Rattle.board.specs.declared.reply.Reply.{Reply};
@@ -34,6 +33,7 @@ use crate::counters::Counters;
 use crate::event::EventKind;
 use crate::pause::{Pause, Service, Turn, Work};
 use crate::reply::Reply;
+pub(crate) use crate::slot::memory::copy_out;
 use crate::spec::SlotSpec;
 use crate::{features, lent};
 use block_device::BlockDevice;
@@ -137,14 +137,10 @@ impl<A: Allocator + Copy> Slot<A> {
         out: &mut O,
     ) -> Turn<A>
         requires lies { IsWithin (I.disk cache.old).sector_count self.old.extent }
-        ensures serves { Tells (I.disk cache.old) →
-            ServesTurn (Does work.entry budget) (state_of (bytes_of (I.disk cache.old)) self.old)
-            (health_of (I.disk cache.old)) (health_of (I.disk cache.new))
-            (state_of (bytes_of (I.disk cache.new)) self.new) result (O.bytes out.old) (O.bytes out.new) }
-        ensures within { (limit : ℕ) → O.limit out.old ≡ Some limit →
-            DoesWithin limit work.entry budget (state_of (bytes_of (I.disk cache.old)) self.old)
-            (state_of (bytes_of (I.disk cache.new)) self.new)
-            (O.bytes out.old) (O.bytes out.new) result }
+        ensures serves { ServesOver (Does work.entry budget) self.old self.new (I.disk cache.old) (I.disk cache.new)
+            result (O.bytes out.old) (O.bytes out.new) }
+        ensures within { DecidesOver (λ limit. DoesWithin limit work.entry budget) (O.limit out.old) self.old self.new
+            (I.disk cache.old) (I.disk cache.new) (O.bytes out.old) (O.bytes out.new) result }
         ensures limit { O.limit out.new ≡ O.limit out.old }
         ensures noted { self.new.disturbed ≡ (self.old.disturbed ||
             met_in result (I.disk cache.old).failures (I.disk cache.new).failures) }
@@ -196,15 +192,10 @@ impl<A: Allocator + Copy> Slot<A> {
         out: &mut O,
     ) -> Answer<A>
         requires lies { IsWithin (I.disk cache.old).sector_count self.old.extent }
-        ensures serves { Tells (I.disk cache.old) →
-            ServesTurn (Begins what.now budget) (state_of (bytes_of (I.disk cache.old)) self.old)
-            (health_of (I.disk cache.old)) (health_of (I.disk cache.new))
-            (state_of (bytes_of (I.disk cache.new)) self.new) result.turn
-            (O.bytes out.old) (O.bytes out.new) }
-        ensures within { (limit : ℕ) → O.limit out.old ≡ Some limit →
-            BeginsWithin limit what.now budget (state_of (bytes_of (I.disk cache.old)) self.old)
-            (state_of (bytes_of (I.disk cache.new)) self.new)
-            (O.bytes out.old) (O.bytes out.new) result.turn }
+        ensures serves { ServesOver (Begins what.now budget) self.old self.new (I.disk cache.old) (I.disk cache.new)
+            result.turn (O.bytes out.old) (O.bytes out.new) }
+        ensures within { DecidesOver (λ limit. BeginsWithin limit what.now budget) (O.limit out.old) self.old self.new
+            (I.disk cache.old) (I.disk cache.new) (O.bytes out.old) (O.bytes out.new) result.turn }
         ensures limit { O.limit out.new ≡ O.limit out.old }
         ensures unnoted { IsUnnoted self.old self.new (I.disk cache.old) (I.disk cache.new) result.failed }
         ensures touches { TouchesExtent I.moment I.may_leave I.left_since self.old.extent cache.old cache.new }

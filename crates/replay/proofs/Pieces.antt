@@ -9,7 +9,7 @@ use Rattle.board.specs.declared.spec.SlotSpec.{SlotSpec}
 use Rattle.board.specs.Line.{IsRun}
 use Rattle.board.specs.Slot.{opened}
 use Rattle.board.specs.World.{BoardState, World, world_of}
-use Rattle.board.proofs.Runs.{run_of, runs_join}
+use Rattle.board.proofs.Runs.{run_none, runs_join}
 use Rattle.trace.specs.Sends.{AppendsFront}
 use Rattle.replay.specs.Pieces.{SendsRun}
 use Rattle.trace.specs.Records.{record_line, records_text}
@@ -26,10 +26,6 @@ use Rattle.replay.proofs.RunLemmas.{runs_on}
 abbrev pub SendsAll : {A I : Type 0} → (I → Disk) → BoardState I → BoardState I → Option (List ℕ)
     → Option (List ℕ) → Option (List ℕ) → Option (List ℕ) → List (Event A) → Type 0
 SendsAll disk old new a b s t events = SendsRun disk old new events a b s t
-
--- no event, no record
-empty_run : {A : Type 0} (w : World) → IsRun {A = A} w w [] [] []
-empty_run w = run_of w w [] [] [] (record { moves = []; line = refl; events_are = refl; records_are = refl })
 
 -- a run whose records come behind others
 behind : {A : Type 0} (old new : World) (events : List (Event A)) (front records : List (Record A))
@@ -53,7 +49,7 @@ pub sends_no_run : {A I : Type 0} (disk : I → Disk) (board : BoardState I) (a 
     → SendsRun {A = A} disk board board [] a a s s
 sends_no_run {A} disk board a s = record {
   records = [];
-  run = λ tells. empty_run (world_of disk board);
+  run = λ tells. run_none (world_of disk board) [];
   tells = λ tells. tells;
   extents = refl;
   sent = sends_same a a s s [] _ (sym joined_none) (sends_none a s);

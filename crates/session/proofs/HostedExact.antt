@@ -10,13 +10,14 @@ use Rattle.board.specs.declared.event.EventKind.TheVariants.{Read, Write, MemRea
 use Rattle.board.specs.declared.reply.Reply.{Reply}
 use Rattle.board.specs.declared.reply.Reply.TheVariants as reply
 use Rattle.board.specs.declared.reply.Reply.TheVariants.{Done, Bytes, BadSlot, BadRange, NoMemory, Busy, Idle}
+use Rattle.board.specs.declared.pause.Service.TheVariants.{Block, Receive, Transmit}
 use Rattle.board.specs.Hosting.{CompletionGives, GivesAtRest, GivesInFlight, HostedOutcome, HostedState, InFlight, IsBesideDisk, IsOwn, OwnGives, WaitsOrGives, must_wait, notifies_block}
 use Rattle.board.specs.Image.{Health}
 use Rattle.board.specs.Machine.{at_rest, task_at}
 use Rattle.board.specs.Outcome.{Outcome, replies}
 use Rattle.board.specs.Restoring.{IsRestoring}
 use Rattle.board.specs.Slot.{SlotState}
-use Rattle.board.specs.Task.{Task, Nothing, ServeBlock, ServeReceive, ServeTransmit, PutOut, Finishes}
+use Rattle.board.specs.Task.{Task, Nothing, Serve, PutOut, Finishes}
 use Rattle.board.specs.Within.{IsPuttingOut, MayPutOut}
 use Rattle.board.specs.World.{IsCutShort, MayGive}
 use Rattle.board.proofs.Waiting.{own_next, untied}
@@ -33,9 +34,9 @@ use Rattle.session.proofs.HostedLaws.{came_to, told_none}
 finished_done : {A : Type 0} (task : Task) (state : SlotState) (before after : Health) (outcome : Outcome A)
     → Finishes task state before after outcome → outcome.reply ≡ Done
 finished_done {A} Nothing state before after outcome f = ap (λ (o : Outcome A). o.reply) f.alike
-finished_done {A} ServeBlock state before after outcome f = ap (λ (o : Outcome A). o.reply) f.is
-finished_done {A} ServeReceive state before after outcome f = ap (λ (o : Outcome A). o.reply) f.is
-finished_done {A} ServeTransmit state before after outcome f = ap (λ (o : Outcome A). o.reply) f.is
+finished_done {A} (Serve Block) state before after outcome f = ap (λ (o : Outcome A). o.reply) f.is
+finished_done {A} (Serve Receive) state before after outcome f = ap (λ (o : Outcome A). o.reply) f.is
+finished_done {A} (Serve Transmit) state before after outcome f = ap (λ (o : Outcome A). o.reply) f.is
 finished_done {A} (PutOut byte) state before after outcome f = ap (λ (o : Outcome A). o.reply) f.alike
 
 -- it is cut short where it puts something out and has no memory, or is done
@@ -43,9 +44,9 @@ cut_to : {A : Type 0} (task : Task) (state : SlotState) (before after : Health) 
     → IsCutShort task state before after outcome → (outcome.reply ≡ Done)
     ⊎ ((outcome.reply ≡ NoMemory) × IsPuttingOut task)
 cut_to Nothing state before after outcome f = absurd f
-cut_to {A} ServeBlock state before after outcome f = inl (ap (λ (o : Outcome A). o.reply) f.service.is)
-cut_to ServeReceive state before after outcome f = absurd f
-cut_to {A} ServeTransmit state before after outcome f = inr (ap (λ (o : Outcome A). o.reply) f.is, tt)
+cut_to {A} (Serve Block) state before after outcome f = inl (ap (λ (o : Outcome A). o.reply) f.service.is)
+cut_to (Serve Receive) state before after outcome f = absurd f
+cut_to {A} (Serve Transmit) state before after outcome f = inr (ap (λ (o : Outcome A). o.reply) f.is, tt)
 cut_to {A} (PutOut byte) state before after outcome f = inr (ap (λ (o : Outcome A). o.reply) f.alike, tt)
 
 -- what an event is answered: never that there is no slot, and out of memory only where it puts something out

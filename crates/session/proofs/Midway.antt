@@ -33,7 +33,7 @@ use Rattle.board.specs.Machine.{IsNext, at_rest, task_at, with_input, with_write
 use Rattle.board.specs.Outcome.{Outcome}
 use Rattle.board.specs.Pausing.{IsBlockPiece, IsPiece, IsReceivePiece, IsTransmitPiece, asked, asked_by, readied, reply_of}
 use Rattle.board.specs.Slot.{SlotState}
-use Rattle.board.specs.Task.{Task, Nothing, ServeBlock, ServeReceive, ServeTransmit, PutOut, Finishes, IsBlockService, IsReceiveService, IsTransmitService, device_of}
+use Rattle.board.specs.Task.{Task, Nothing, Serve, PutOut, Finishes, IsBlockService, IsReceiveService, IsTransmitService, device_of}
 use Rattle.board.proofs.Alike.{PieceAs, piece_as}
 use Rattle.board.proofs.Guests.{same_disk}
 use Rattle.board.proofs.Whole.{came}
@@ -390,17 +390,17 @@ finished : {A : Type 0} (task : Task) (pause : Pause) (mid new : SlotState) (out
     → asked_by task ≡ Some pause → Ended A pause.service mid new out
     → Finished {A = A} task mid (came new (reply_of pause) out)
 finished Nothing pause mid new out asks = absurd (cc)
-finished {A} ServeBlock pause mid new out asks =
+finished {A} (Serve Block) pause mid new out asks =
     subst (λ (p : Pause). Ended A p.service mid new out
-    → Finished {A = A} ServeBlock mid (came new (reply_of p) out)) (same_Some _ pause asks)
+    → Finished {A = A} (Serve Block) mid (came new (reply_of p) out)) (same_Some _ pause asks)
     (λ e. record { after = e.health; finishes = e.service })
-finished {A} ServeReceive pause mid new out asks =
+finished {A} (Serve Receive) pause mid new out asks =
     subst (λ (p : Pause). Ended A p.service mid new out
-    → Finished {A = A} ServeReceive mid (came new (reply_of p) out)) (same_Some _ pause asks)
+    → Finished {A = A} (Serve Receive) mid (came new (reply_of p) out)) (same_Some _ pause asks)
     (λ e. record { after = at_rest; finishes = e Done })
-finished {A} ServeTransmit pause mid new out asks =
+finished {A} (Serve Transmit) pause mid new out asks =
     subst (λ (p : Pause). Ended A p.service mid new out
-    → Finished {A = A} ServeTransmit mid (came new (reply_of p) out)) (same_Some _ pause asks)
+    → Finished {A = A} (Serve Transmit) mid (came new (reply_of p) out)) (same_Some _ pause asks)
     (λ e. record { after = at_rest; finishes = e })
 finished (PutOut byte) pause mid new out asks = absurd (cc)
 

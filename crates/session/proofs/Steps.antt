@@ -15,12 +15,13 @@ use Rattle.board.specs.declared.pause.Turn.{Turn}
 use Rattle.board.specs.declared.pause.Turn.TheVariants as turn
 use Rattle.board.specs.declared.reply.Reply.{Reply}
 use Rattle.board.specs.declared.reply.Reply.TheVariants.{BadSlot, BadRange, NoMemory}
+use Rattle.board.specs.declared.pause.Service.TheVariants.{Block, Receive, Transmit}
 use Rattle.board.specs.Extent.{outside_of, outside_from}
 use Rattle.board.specs.Image.{Health, bytes_of}
 use Rattle.board.specs.Machine.{task_at, with_write}
 use Rattle.board.specs.Pausing.{Begins, GoesOn, HasLimit}
 use Rattle.board.specs.Slot.{SlotState, BoardSlot, state_of}
-use Rattle.board.specs.Task.{Task, Nothing, ServeBlock, ServeReceive, ServeTransmit, PutOut}
+use Rattle.board.specs.Task.{Task, Nothing, Serve, PutOut}
 use Rattle.board.specs.World.{World, Answers, KeepsOthers, MayLackMemory, TakesMemory, extents_of}
 use Rattle.board.specs.Within.{BeginsWithin, GoesOnWithin, IsPuttingOut, MayPutOut, TakesWithin}
 use Rattle.board.proofs.Answered.{ended_within, handled}
@@ -97,9 +98,9 @@ shown_back (s ∷ slots) bytes (suc h) state here = shown_back slots bytes h sta
 
 task_puts : (task : Task) (state : SlotState) → TakesMemory task state → IsPuttingOut task
 task_puts Nothing state h = h
-task_puts ServeBlock state h = h
-task_puts ServeReceive state h = h
-task_puts ServeTransmit state h = tt
+task_puts (Serve Block) state h = h
+task_puts (Serve Receive) state h = h
+task_puts (Serve Transmit) state h = tt
 task_puts (PutOut byte) state h = tt
 
 lacks_puts : {A : Type 0} (state : SlotState) (what : EventKind A) → HasNoRead what → MayLackMemory state what

@@ -12,12 +12,13 @@ use Rattle.board.specs.declared.pause.Turn.TheVariants as turn
 use Rattle.board.specs.declared.reply.Reply.{Reply}
 use Rattle.board.specs.declared.reply.Reply.TheVariants.{Done, Bytes, BadSlot, BadRange, NoMemory}
 use Rattle.board.specs.declared.reply.Record.{Record}
+use Rattle.board.specs.declared.pause.Service.TheVariants.{Block, Receive, Transmit}
 use Rattle.board.specs.Image.{Health}
 use Rattle.board.specs.Outcome.{Outcome, replies}
 use Rattle.board.specs.Restoring.{IsRestoring}
 use Rattle.board.specs.Pausing.{Begins}
 use Rattle.board.specs.Slot.{SlotState}
-use Rattle.board.specs.Task.{Task, Nothing, ServeBlock, ServeReceive, ServeTransmit, PutOut, Finishes}
+use Rattle.board.specs.Task.{Task, Nothing, Serve, PutOut, Finishes}
 use Rattle.board.specs.World.{World, Answers, IsCutShort, MayGive, MissingStep, SlotStep}
 use Rattle.session.specs.declared.response.Response.TheVariants.{More}
 use Rattle.session.specs.Pacing.{response_to}
@@ -38,11 +39,11 @@ finished_suits : {A : Type 0} (window : DeviceKind) (offset width value : ℕ) (
     → Suits (Write window offset width value) outcome.reply
 finished_suits {A} window offset width value Nothing state before after outcome f =
     is_done window offset width value outcome (ap (λ (o : Outcome A). o.reply) f.alike)
-finished_suits {A} window offset width value ServeBlock state before after outcome f =
+finished_suits {A} window offset width value (Serve Block) state before after outcome f =
     is_done window offset width value outcome (ap (λ (o : Outcome A). o.reply) f.is)
-finished_suits {A} window offset width value ServeReceive state before after outcome f =
+finished_suits {A} window offset width value (Serve Receive) state before after outcome f =
     is_done window offset width value outcome (ap (λ (o : Outcome A). o.reply) f.is)
-finished_suits {A} window offset width value ServeTransmit state before after outcome f =
+finished_suits {A} window offset width value (Serve Transmit) state before after outcome f =
     is_done window offset width value outcome (ap (λ (o : Outcome A). o.reply) f.is)
 finished_suits {A} window offset width value (PutOut byte) state before after outcome f =
     is_done window offset width value outcome (ap (λ (o : Outcome A). o.reply) f.alike)
@@ -51,10 +52,10 @@ cut_suits : {A : Type 0} (window : DeviceKind) (offset width value : ℕ) (task 
     (before after : Health) (outcome : Outcome A) → IsCutShort task state before after outcome
     → Suits (Write window offset width value) outcome.reply
 cut_suits window offset width value Nothing state before after outcome f = absurd f
-cut_suits {A} window offset width value ServeBlock state before after outcome f =
+cut_suits {A} window offset width value (Serve Block) state before after outcome f =
     is_done window offset width value outcome (ap (λ (o : Outcome A). o.reply) f.service.is)
-cut_suits window offset width value ServeReceive state before after outcome f = absurd f
-cut_suits {A} window offset width value ServeTransmit state before after outcome f =
+cut_suits window offset width value (Serve Receive) state before after outcome f = absurd f
+cut_suits {A} window offset width value (Serve Transmit) state before after outcome f =
     is_without_memory window offset width value outcome (ap (λ (o : Outcome A). o.reply) f.is)
 cut_suits {A} window offset width value (PutOut byte) state before after outcome f =
     is_without_memory window offset width value outcome (ap (λ (o : Outcome A). o.reply) f.alike)

@@ -4,16 +4,12 @@ use Rattle.std.specs.Prelude.{slice_set, unwrap_or}
 use Rattle.std.specs.List.{slice_get}
 use Rattle.std.proofs.lemmas.List.{set-get_or, length-set, get_or-set_same}
 use Rattle.std.proofs.lemmas.Option.{get_or_from_slice_get, unwrap_or-slice_get, same_Some}
+use Rattle.board.proofs.Lists.{others_kept}
 use Rattle.session.specs.Session.{KeepsOtherOutputs, Waiting, none_waiting}
 
 pub others_output : (outputs : List Waiting) (h : ℕ) (new : Waiting)
     → KeepsOtherOutputs h outputs (slice_set outputs h new)
-others_output [] h new other differ = refl
-others_output (o ∷ outputs) zero new zero differ = absurd (differ refl)
-others_output (o ∷ outputs) zero new (suc other) differ = refl
-others_output (o ∷ outputs) (suc h) new zero differ = refl
-others_output (o ∷ outputs) (suc h) new (suc other) differ =
-    others_output outputs h new other (λ same. differ (ap suc same))
+others_output outputs h new = others_kept outputs h new
 
 pub set_there : (outputs : List Waiting) (h : ℕ) (new : Waiting) → h < length outputs
     → unwrap_or (slice_get (slice_set outputs h new) h) (none_waiting 0) ≡ new

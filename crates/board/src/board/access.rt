@@ -19,6 +19,7 @@ ghost use Rattle.board.specs.World.{Answers, KeepsOthers, disturbed_of, extents_
 use crate::board::Board;
 use crate::pause::Turn;
 use crate::reply::Reply;
+use crate::slot::copy_out;
 use chain::Budget;
 use guest_memory::GuestMemory;
 use sector_cache::Image;
@@ -84,11 +85,7 @@ impl<I: Image, A: Allocator> Board<I, A> {
         let Some(memory) = self.memory(slot) else {
             return false;
         };
-        let Some(part) = memory.part(addr, into.len() as u64) else {
-            return false;
-        };
-        into.copy_from_slice(part);
-        true
+        copy_out(memory, addr, into)
     }
 
     /// Copies bytes into the slot's memory, from address `addr` on: the event of that write, for who

@@ -8,7 +8,7 @@ ghost use Rattle.board.specs.declared.reply.Reply.{Reply};
 ghost use Rattle.board.specs.Image.{Tells};
 ghost use Rattle.board.specs.Pausing.{Begins, Does, PausesByLimit, MayLackMemoryIn, TakesTurn, met_in};
 ghost use Rattle.board.specs.Slot.{AreInterruptWords, interrupt_words};
-ghost use Rattle.board.specs.World.{HoldsAt, IsMissed, KeepsOthers, StaysInExtents, disturbed_of, extents_of, noted, world_of};
+ghost use Rattle.board.specs.World.{HoldsAt, IsMissed, KeepsOthers, NotesRefusal, StaysInExtents, disturbed_of, extents_of, world_of};
 ghost use Rattle.board.specs.Within.{DecidesSlot, DoesWithin};
 
 use crate::board::Board;
@@ -78,9 +78,7 @@ impl<I: Image, A: Allocator + Copy> Board<I, A> {
         ensures words { AreInterruptWords result.block_irq result.console_irq }
         ensures stays { StaysInExtents I.disk self.old self.new }
         ensures touches { TouchesSlot I.moment I.may_leave I.left_since slot self.old self.new }
-        ensures noted { disturbed_of self.new.slots ≡ noted slot
-            (met_in result.turn (I.disk self.old.image).failures (I.disk self.new.image).failures)
-            (disturbed_of self.old.slots) }
+        ensures noted { NotesRefusal I.disk slot (met_in result.turn) self.old self.new }
         ensures limited { PausesByLimit budget result.turn }
         ensures bad_slot { (result.turn ≡ Turn.Answered Reply.BadSlot) ↔ (length self.old.slots ≤ slot) }
         ensures missing { length self.old.slots ≤ slot →

@@ -14,6 +14,7 @@ ghost use Rattle.board.specs.HostedLine.{KeepsOtherGuests, TakesQuietly, read_re
 ghost use Rattle.board.specs.contracts.hosted.HostedBoard.{the_row};
 
 use crate::hosted::HostedBoard;
+use crate::slot::copy_out;
 use guest_memory::GuestMemory;
 use std::alloc::Allocator;
 
@@ -73,11 +74,7 @@ impl<A: Allocator> HostedBoard<A> {
         let Some(memory) = self.memory(slot) else {
             return false;
         };
-        let Some(part) = memory.part(addr, into.len() as u64) else {
-            return false;
-        };
-        into.copy_from_slice(part);
-        true
+        copy_out(memory, addr, into)
     }
 
     /// Copies bytes into the slot's memory, from address `addr` on: the event of that write, for who

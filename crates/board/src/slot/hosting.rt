@@ -25,7 +25,8 @@ use crate::event::EventKind;
 use crate::pause::{Pause, Service, Turn};
 use crate::reply::Reply;
 use crate::slot::Slot;
-use crate::slot::window::{Duty, reply_to};
+use crate::slot::window::reply_to;
+use crate::task::Task;
 use block_device::{Flight, Hosted, Verdict};
 use chain::{Budget, Chain, Runs};
 use console_device::{NoMemory, Outlet};
@@ -119,19 +120,19 @@ impl<A: Allocator + Copy> Slot<A> {
             MayLackMemory {A = A} (state_of image self.old) (EventKind.Write window offset width value)) }
     {
         match self.write_registers(window, offset, width, value) {
-            Duty::Serve(Service::Block) => None,
-            Duty::Serve(service) => {
+            Task::Serve(Service::Block) => None,
+            Task::Serve(service) => {
                 let pause = Pause {
                     service,
                     taken: None,
                 };
                 Some(self.serve_console(pause, Stage::First, budget, out))
             }
-            Duty::PutOut(byte) => {
+            Task::PutOut(byte) => {
                 let put_out = self.console_device.emergency(byte, out);
                 Some(Turn::Answered(reply_to(put_out)))
             }
-            Duty::Nothing => Some(Turn::Answered(Reply::Done)),
+            Task::Nothing => Some(Turn::Answered(Reply::Done)),
         }
     }
 

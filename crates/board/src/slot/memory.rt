@@ -1,25 +1,21 @@
 //! A guest's own reads and writes of its memory.
 
-ghost use Rattle.std.specs.Prelude.{◌≡◌, ◌≢◌, ◌<◌, ℕ, List, length};
+ghost use Rattle.std.specs.Prelude.{◌≡◌, ◌≢◌, ◌<◌, ◌↔◌, IsTrue, length};
 ghost use Rattle.std.specs.Bool.{OnTrue, OnFalse};
-ghost use Rattle.guest_memory.specs.Memory.{Inside, SameRange, is_inside, put};
+ghost use Rattle.guest_memory.specs.Memory.{Inside, SameRange, is_inside, part_of, put};
 ghost use Rattle.board.specs.declared.event.EventKind.{EventKind};
-ghost use Rattle.board.specs.Image.{Health};
-ghost use Rattle.board.specs.Outcome.{replies};
-ghost use Rattle.board.specs.Slot.{state_of};
-ghost use Rattle.board.specs.World.{MayGive};
+ghost use Rattle.board.specs.Quiet.{GivesQuietly};
 
 use crate::bytes::Bytes;
 use crate::reply::Reply;
 use crate::slot::Slot;
+use guest_memory::GuestMemory;
 use std::alloc::{AllocError, Allocator};
 
 impl<A: Allocator + Copy> Slot<A> {
     /// A copy of `len` bytes of the memory.
     pub(super) fn read_memory(&self, alloc: A, addr: u64, len: u32) -> Reply<A>
-        ensures given { (bytes : List ℕ) (health : Health) →
-            MayGive (state_of bytes self.now) (EventKind.MemRead addr len) health health
-            (replies (state_of bytes self.now) result) }
+        ensures given { GivesQuietly self.now (EventKind.MemRead addr len) self.now result }
         ensures there { result ≢ Reply.BadSlot }
         ensures no_memory { result ≡ Reply.NoMemory → (0 < len) × Inside self.now.memory addr len }
     {
@@ -35,9 +31,7 @@ impl<A: Allocator + Copy> Slot<A> {
 
     /// Writes bytes to the memory.
     pub(super) fn write_memory(&mut self, addr: u64, new: &[u8]) -> Reply<A>
-        ensures given { (bytes : List ℕ) (health : Health) →
-            MayGive (state_of bytes self.old) (EventKind.MemWrite addr new.now) health health
-            (replies (state_of bytes self.new) result) }
+        ensures given { GivesQuietly self.old (EventKind.MemWrite addr new.now) self.new result }
         ensures rest { self.new ≡ record self.old { memory = self.new.memory } }
         ensures range { SameRange self.old.memory self.new.memory }
         ensures extent { self.new.extent ≡ self.old.extent }
@@ -74,4 +68,18 @@ impl<A: Allocator> Slot<A> {
             .copy_from_slice(new);
         true
     }
+}
+
+/// Copies bytes out of a guest's memory, from address `addr` on. False where not all of the range lies in it: `into` is
+/// then left as it was.
+pub(crate) fn copy_out<A: Allocator>(memory: &GuestMemory<A>, addr: u64, into: &mut [u8]) -> bool
+    ensures inside { IsTrue result ↔ Inside memory.now addr (length into.old) }
+    ensures read { OnTrue result (into.new ≡ part_of memory.now addr (length into.old)) }
+    ensures kept { OnFalse result (into.new ≡ into.old) }
+{
+    let Some(part) = memory.part(addr, into.len() as u64) else {
+        return false;
+    };
+    into.copy_from_slice(part);
+    true
 }

@@ -1,6 +1,6 @@
 //! The services of the slot's queues, piece by piece.
 
-ghost use Rattle.std.specs.Prelude.{◌≡◌, ◌≢◌, ℕ, Some, nat_lt, IfOk, OnErr};
+ghost use Rattle.std.specs.Prelude.{◌≡◌, ◌≢◌, nat_lt, IfOk, OnErr};
 ghost use Rattle.guest_memory.specs.Memory.{SameRange};
 ghost use Rattle.mmio_window.specs.declared.stage.Stage.{Stage};
 ghost use Rattle.mmio_window.specs.Window.{queue_at};
@@ -11,11 +11,10 @@ ghost use Rattle.board.specs.declared.pause.Pause.{Pause};
 ghost use Rattle.board.specs.declared.pause.Service.{Service};
 ghost use Rattle.board.specs.declared.pause.Turn.{Turn};
 ghost use Rattle.board.specs.declared.reply.Reply.{Reply};
-ghost use Rattle.board.specs.Image.{Tells, bytes_of, health_of};
 ghost use Rattle.mmio_window.specs.Pieces.{IsRefusedAt, ServesTo};
-ghost use Rattle.board.specs.Pausing.{ComesTo, PausesByLimit, ServesTurn};
-ghost use Rattle.board.specs.Slot.{IsUnnoted, state_of};
-ghost use Rattle.board.specs.Within.{PieceWithin};
+ghost use Rattle.board.specs.Pausing.{ComesTo, PausesByLimit, ServesOver};
+ghost use Rattle.board.specs.Slot.{IsUnnoted};
+ghost use Rattle.board.specs.Within.{DecidesOver, PieceWithin};
 ghost use Rattle.board.specs.World.{HasBytesToPutOut};
 
 use crate::pause::{Pause, Service};
@@ -38,13 +37,10 @@ impl<A: Allocator + Copy> Slot<A> {
         out: &mut O,
     ) -> Answer<A>
         requires lies { IsWithin (I.disk cache.old).sector_count self.old.extent }
-        ensures serves { Tells (I.disk cache.old) →
-            ServesTurn (ComesTo pause stage budget) (state_of (bytes_of (I.disk cache.old)) self.old)
-            (health_of (I.disk cache.old)) (health_of (I.disk cache.new))
-            (state_of (bytes_of (I.disk cache.new)) self.new) result.turn (O.bytes out.old) (O.bytes out.new) }
-        ensures within { (limit : ℕ) → O.limit out.old ≡ Some limit →
-            PieceWithin limit pause stage budget (state_of (bytes_of (I.disk cache.old)) self.old)
-            (state_of (bytes_of (I.disk cache.new)) self.new) (O.bytes out.old) (O.bytes out.new) result.turn }
+        ensures serves { ServesOver (ComesTo pause stage budget) self.old self.new (I.disk cache.old)
+            (I.disk cache.new) result.turn (O.bytes out.old) (O.bytes out.new) }
+        ensures within { DecidesOver (λ limit. PieceWithin limit pause stage budget) (O.limit out.old) self.old self.new
+            (I.disk cache.old) (I.disk cache.new) (O.bytes out.old) (O.bytes out.new) result.turn }
         ensures limit { O.limit out.new ≡ O.limit out.old }
         ensures unnoted { IsUnnoted self.old self.new (I.disk cache.old) (I.disk cache.new) result.failed }
         ensures touches { TouchesExtent I.moment I.may_leave I.left_since self.old.extent cache.old cache.new }

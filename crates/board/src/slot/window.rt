@@ -5,13 +5,13 @@ ghost use Rattle.mmio_window.specs.declared.device_kind.DeviceKind.{DeviceKind};
 ghost use Rattle.board.specs.declared.reply.Reply.{Reply};
 ghost use Rattle.board.specs.Image.{sectors_of};
 ghost use Rattle.board.specs.Machine.{register, task_at, window_of, with_write};
-ghost use Rattle.board.specs.Pausing.{duty_of};
 ghost use Rattle.board.specs.Slot.{state_of};
 ghost use Rattle.board.specs.Task.{task_of};
 
 use crate::pause::Service;
 use crate::reply::Reply;
 use crate::slot::Slot;
+use crate::task::Task;
 use block_device::REQUESTQ;
 use console_device::{NoMemory, RECEIVEQ, TRANSMITQ};
 use mmio_window::{Action, CONFIGURATION_OFFSET, DeviceKind, Window};
@@ -55,9 +55,8 @@ impl<A: Allocator + Copy> Slot<A> {
         offset: u16,
         width: u8,
         value: u32,
-    ) -> Duty
-        ensures duty { (image : List ℕ) →
-            result ≡ duty_of (task_at window offset width value (state_of image self.old)) }
+    ) -> Task
+        ensures task { (image : List ℕ) → result ≡ task_at window offset width value (state_of image self.old) }
         ensures written { (image : List ℕ) →
             state_of image self.new ≡ with_write window offset width value (state_of image self.old) }
         ensures extent { self.new.extent ≡ self.old.extent }
@@ -67,49 +66,41 @@ impl<A: Allocator + Copy> Slot<A> {
             DeviceKind::Block => {
                 let action = self.block.write(offset, width, value, &self.memory);
                 self.counters.wrote(action);
-                block_duty(action)
+                block_task(action)
             }
             DeviceKind::Console => {
                 let action = self.console.write(offset, width, value, &self.memory);
                 self.counters.wrote(action);
-                console_duty(action)
+                console_task(action)
             }
         }
     }
 }
 
-// What a write leaves for a slot's devices to do.
-#[derive(Clone, Copy, Debug, PartialEq, Eq)]
-pub(crate) enum Duty {
-    Nothing,
-    Serve(Service),
-    PutOut(u8),
-}
-
 // What a write to the block window leaves to be done (5.2.6).
-fn block_duty(action: Action) -> Duty
-    ensures { result ≡ duty_of (task_of DeviceKind.Block action) }
+fn block_task(action: Action) -> Task
+    ensures { result ≡ task_of DeviceKind.Block action }
 {
     match action {
-        Action::Notify(REQUESTQ) => Duty::Serve(Service::Block),
-        _ => Duty::Nothing,
+        Action::Notify(REQUESTQ) => Task::Serve(Service::Block),
+        _ => Task::Nothing,
     }
 }
 
 // What a write to the console window leaves to be done: a notification of either queue (5.3.6), or the byte of an
 // emergency write, of whatever width (5.3.4).
-fn console_duty(action: Action) -> Duty
-    ensures { result ≡ duty_of (task_of DeviceKind.Console action) }
+fn console_task(action: Action) -> Task
+    ensures { result ≡ task_of DeviceKind.Console action }
 {
     match action {
-        Action::Notify(RECEIVEQ) => Duty::Serve(Service::Receive),
-        Action::Notify(TRANSMITQ) => Duty::Serve(Service::Transmit),
+        Action::Notify(RECEIVEQ) => Task::Serve(Service::Receive),
+        Action::Notify(TRANSMITQ) => Task::Serve(Service::Transmit),
         Action::ConfigWrite {
             offset: EMERGENCY_WRITE,
             value,
             ..
-        } => Duty::PutOut((value % 256) as u8),
-        _ => Duty::Nothing,
+        } => Task::PutOut((value % 256) as u8),
+        _ => Task::Nothing,
     }
 }
 

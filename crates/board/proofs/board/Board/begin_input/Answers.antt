@@ -1,24 +1,18 @@
-use Rattle.std.proofs.Common.{◌≡◌, [], Some, length, refl, ◌∙◌, ap, arith}
+use Rattle.std.proofs.Common.{[], refl, ◌∙◌, ap, rules}
 use Rattle.std.specs.List.{slice_get}
 use Rattle.std.proofs.lemmas.Option.{slice_get_read}
 use Rattle.board.specs.Image.{bytes_of, health_of}
 use Rattle.board.specs.World.{disturbed_of, extents_of}
 use Rattle.board.proofs.Access.{disturbed_kept, unmet_turn}
 use Rattle.board.proofs.Lists.{others_kept}
-use Rattle.board.proofs.Seats.{extents_of-set, takes}
+use Rattle.board.proofs.Seats.{extents_of-set, sound_set, takes}
 use Rattle.board.proofs.board.Board.begin_input.Goals as goal
-
--- the slot of that number
-there : (g : _) (c : goal.After-self-2-1 g) → slice_get c.self.inside.slots.items c.args.slot
-    ≡ Some c.in-Some.slot.now
-there g c = slice_get_read c.self.inside.slots.items (length c.self.inside.slots.items) c.args.slot
-    c.in-Some.slot.now refl (omega (arith, c.in-Some.ensures.variant.0 refl)) c.in-Some.ensures.value
 
 pub invariant_of-self-2 : goal.invariant_of-self-2
 invariant_of-self-2 g c =
-    rw (extents_of-set c.self.inside.slots.items c.args.slot c.in-Some.slot.now c.input-turn.new.self
-    (there g c) c.input-turn.ensures.extent)
-    c.self.invariant
+    sound_set _ c.self.inside.slots.items c.args.slot c.in-Some.slot.now c.input-turn.new.self
+    c.input-turn.ensures.extent
+    (search (rules, slice_get_read)) c.self.invariant
 
 pub returns-clause-takes : goal.returns-clause-takes
 returns-clause-takes g c tells below =
@@ -26,7 +20,7 @@ returns-clause-takes g c tells below =
     rw (← c.self.view_is, c.after.ensures.turn)
     (takes _ c.self.inside.slots.items disk disk c.args.slot c.in-Some.slot.now c.input-turn.new.self
     c.input-turn.result _ _ [] []
-    c.self.invariant.apart (there g c) c.input-turn.ensures.extent
+    c.self.invariant.apart (search (rules, slice_get_read)) c.input-turn.ensures.extent
     (unmet_turn c.in-Some.slot.now c.input-turn.new.self c.input-turn.result disk.failures
     c.input-turn.ensures.disturbed c.input-turn.ensures.took) refl
     (record {
@@ -38,7 +32,8 @@ returns-clause-takes g c tells below =
 
 pub returns-clause-extents : goal.returns-clause-extents
 returns-clause-extents g c =
-    extents_of-set c.self.inside.slots.items c.args.slot c.in-Some.slot.now c.input-turn.new.self (there g c)
+    extents_of-set c.self.inside.slots.items c.args.slot c.in-Some.slot.now c.input-turn.new.self
+    (search (rules, slice_get_read))
     c.input-turn.ensures.extent ∙ ap (λ b. extents_of b.slots) c.self.view_is
 
 pub returns-clause-others : goal.returns-clause-others
@@ -48,6 +43,7 @@ returns-clause-others g c other differ =
 
 pub returns-clause-disturbed : goal.returns-clause-disturbed
 returns-clause-disturbed g c =
-    disturbed_kept c.self.inside.slots.items c.args.slot c.in-Some.slot.now c.input-turn.new.self (there g c)
+    disturbed_kept c.self.inside.slots.items c.args.slot c.in-Some.slot.now c.input-turn.new.self
+    (search (rules, slice_get_read))
     c.input-turn.ensures.disturbed
     ∙ ap (λ b. disturbed_of b.slots) c.self.view_is

@@ -1,40 +1,26 @@
-use Rattle.std.proofs.Common.{◌≡◌, Some, length, refl, sym, ◌∙◌, ap, subst, arith}
-use Rattle.std.specs.List.{slice_get}
+use Rattle.std.proofs.Common.{sym, ◌∙◌, ap, subst, rules}
 use Rattle.std.proofs.lemmas.Option.{slice_get_read}
 use Rattle.board.specs.Image.{Tells}
 use Rattle.board.specs.World.{disturbed_of, extents_of}
 use Rattle.board.proofs.Access.{disturbed_kept, restore_answers}
-use Rattle.board.proofs.Lists.{others_kept}
-use Rattle.board.proofs.Seats.{extents_of-set}
+use Rattle.board.proofs.Seats.{extents_of-set, sound_set}
 use Rattle.board.proofs.board.Board.restore.Goals as goal
-
--- the slot of that number
-there : (g : _) (c : goal.After-self-2-1 g) → slice_get c.self.inside.slots.items c.args.slot
-    ≡ Some c.in_ok-found.found.now
-there g c = slice_get_read c.self.inside.slots.items (length c.self.inside.slots.items) c.args.slot
-    c.in_ok-found.found.now refl (omega (arith, c.in_ok-found.ensures.variant.0 refl))
-    c.in_ok-found.ensures.value
 
 pub invariant_of-self-2 : goal.invariant_of-self-2
 invariant_of-self-2 g c =
-    rw (extents_of-set c.self.inside.slots.items c.args.slot c.in_ok-found.found.now c.restore.new.self
-    (there g c) c.restore.ensures.extent)
-    c.self.invariant
-
-pub returns-clause-others : goal.returns-clause-others
-returns-clause-others g c other differ =
-    others_kept c.self.inside.slots.items c.args.slot c.restore.new.self other differ
-    ∙ ap (λ b. slice_get b.slots other) c.self.view_is
+    sound_set _ c.self.inside.slots.items c.args.slot c.in_ok-found.found.now c.restore.new.self
+    c.restore.ensures.extent
+    (search (rules, slice_get_read)) c.self.invariant
 
 pub returns-clause-extents : goal.returns-clause-extents
 returns-clause-extents g c =
     extents_of-set c.self.inside.slots.items c.args.slot c.in_ok-found.found.now c.restore.new.self
-    (there g c) c.restore.ensures.extent ∙ ap (λ b. extents_of b.slots) c.self.view_is
+    (search (rules, slice_get_read)) c.restore.ensures.extent ∙ ap (λ b. extents_of b.slots) c.self.view_is
 
 pub returns-clause-disturbed : goal.returns-clause-disturbed
 returns-clause-disturbed g c =
     disturbed_kept c.self.inside.slots.items c.args.slot c.in_ok-found.found.now c.restore.new.self
-    (there g c) c.restore.ensures.disturbed
+    (search (rules, slice_get_read)) c.restore.ensures.disturbed
     ∙ ap (λ b. disturbed_of b.slots) c.self.view_is
 
 pub returns-clause-step : goal.returns-clause-step
@@ -44,5 +30,6 @@ returns-clause-step g c tells =
     rw (← c.self.view_is)
     (restore_answers _ c.self.inside.slots.items (g.I.Image.disk c.self.inside.cache) c.args.slot
     c.in_ok-found.found.now c.restore.new.self c.args.from.now c.restore.result
-    telling (g.met.I.Image.whole c.self.inside.cache) c.self.invariant (there g c) c.restore.ensures.extent
+    telling (g.met.I.Image.whole c.self.inside.cache) c.self.invariant (search (rules, slice_get_read))
+    c.restore.ensures.extent
     c.restore.ensures.disturbed c.restore.ensures.ok c.restore.ensures.fault c.restore.ensures.kept)

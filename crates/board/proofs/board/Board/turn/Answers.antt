@@ -1,4 +1,4 @@
-use Rattle.std.proofs.Common.{◌≡◌, ℕ, List, ◌≤◌, Option, Some, None, length, refl, sym, ◌∙◌, ap, subst, arith}
+use Rattle.std.proofs.Common.{◌≡◌, ℕ, List, ◌≤◌, Option, Some, None, length, sym, ◌∙◌, ap, subst, arith, rules}
 use Rattle.std.specs.Prelude.{IsSomeAnd, slice_set}
 use Rattle.std.specs.List.{slice_get}
 use Rattle.std.proofs.lemmas.Option.{slice_get_past, slice_get_read, same_Some}
@@ -26,15 +26,13 @@ returns-in_default-clause-stays g c =
 -- the slot of that number
 there : (g : _) (c : goal.After-self-2-1 g) → slice_get c.self.inside.slots.items c.args.slot
     ≡ Some c.in-Some.slot.now
-there g c = slice_get_read c.self.inside.slots.items (length c.self.inside.slots.items) c.args.slot
-    c.in-Some.slot.now refl (omega (arith, c.in-Some.ensures.variant.0 refl)) c.in-Some.ensures.value
+there g c = search (rules, slice_get_read)
 
 pub turn-turn-requires : goal.turn-turn-requires
 turn-turn-requires g c = record {
   lies =
       slot_within _ c.self.inside.slots.items c.args.slot c.in-Some.slot.now c.self.invariant.within
-      (slice_get_read c.self.inside.slots.items (length c.self.inside.slots.items) c.args.slot
-      c.in-Some.slot.now refl (omega (arith, c.in-Some.ensures.variant.0 refl)) c.in-Some.ensures.value);
+      (search (rules, slice_get_read));
 }
 
 pub invariant_of-self-2 : goal.invariant_of-self-2

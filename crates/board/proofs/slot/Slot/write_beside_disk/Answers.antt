@@ -5,15 +5,14 @@ use Rattle.board.specs.declared.event.EventKind.{EventKind}
 use Rattle.board.specs.declared.event.EventKind.TheVariants.{Write}
 use Rattle.board.specs.declared.pause.Turn.TheVariants.{Answered}
 use Rattle.board.specs.Hosting.{device_at}
-use Rattle.board.specs.declared.slot.window.Duty.TheVariants as duty
 use Rattle.board.specs.Machine.{task_at, with_write}
-use Rattle.board.specs.Pausing.{Begins, ServesTurn}
+use Rattle.board.specs.Pausing.{Begins, ServesTurn, asked_by}
 use Rattle.board.specs.Slot.{BoardSlot, state_of}
-use Rattle.board.specs.Task.{Task}
+use Rattle.board.specs.Task.{Task, Serve}
 use Rattle.board.specs.Within.{BeginsWithin}
 use Rattle.board.specs.World.{TakesMemory}
 use Rattle.board.proofs.Beside.{not_block, written_block, written_device, written_range}
-use Rattle.board.proofs.Turns.{begins_by, begins_within, nothing_asked, nothing_turn, put_out_asked, put_out_turn, put_out_within, serve_asked, transmit_asked}
+use Rattle.board.proofs.Turns.{begins_by, begins_within, nothing_turn, put_out_turn, put_out_within}
 use Rattle.board.proofs.slot.Slot.write_beside_disk.Goals as goal
 
 pub returns-in-Serve-Block-clause-device : goal.returns-in-Serve-Block-clause-device
@@ -37,23 +36,24 @@ returns-in-Serve g c =
     let task : (image : List ℕ) → Task =
     λ image. task_at c.args.window c.args.offset c.args.width c.args.value
     (state_of image c.args.self.now) in
+    let task_is : (image : List ℕ) → task image ≡ Serve c.in-Serve.service =
+    λ image. sym (written.task image) ∙ c.in-Serve.is in
     let what : EventKind g.row.A.Denot = Write c.args.window c.args.offset c.args.width c.args.value in
     let served = c.serve_console in
     record {
-      notified = λ image. not_block (task image) c.in-Serve.service (sym c.in-Serve.is
-          ∙ written.duty image) served.ensures.console;
+      notified = λ image. not_block (task image) c.in-Serve.service (task_is image) served.ensures.console;
       readied = tt;
       silent = tt;
       serves = λ image health.
           begins_by what _ c.args.budget (state_of image c.args.self.now)
           (state_of image c.write_registers.new.self) health health
           (state_of image served.new.self) served.result _ _
-          (serve_asked (task image) c.in-Serve.service (sym c.in-Serve.is ∙ written.duty image))
+          (ap asked_by (task_is image))
           (written.written image) (served.ensures.serves image health);
       within = λ image limit limited.
           begins_within limit what _ c.args.budget (state_of image c.args.self.now)
           (state_of image c.write_registers.new.self) (state_of image served.new.self) _ _ served.result
-          (serve_asked (task image) c.in-Serve.service (sym c.in-Serve.is ∙ written.duty image))
+          (ap asked_by (task_is image))
           (written.written image) (served.ensures.within image limit limited);
       limited = served.ensures.limited;
       limit = served.ensures.limit;
@@ -72,17 +72,14 @@ returns-in-Serve g c =
       no_memory = λ lacking image.
           let state = state_of image c.args.self.now in
           let found = served.ensures.no_memory lacking refl in
-          let asked = transmit_asked (task image) (ap duty.Serve (sym found.0)
-          ∙ (sym c.in-Serve.is ∙ written.duty image)) in
           subst (λ (t : Task). TakesMemory t (with_write c.args.window c.args.offset c.args.width c.args.value
-          state)) (sym asked)
+          state)) (sym (task_is image ∙ ap Serve found.0))
           (rw (← written.written image) found.1);
     }
 
 pub returns-in-PutOut-clause-serves : goal.returns-in-PutOut-clause-serves
 returns-in-PutOut-clause-serves g c = λ image health.
     let state = state_of image c.args.self.now in
-    let task = task_at c.args.window c.args.offset c.args.width c.args.value state in
     let what : EventKind g.row.A.Denot = Write c.args.window c.args.offset c.args.width c.args.value in
     rw (c.emergency-put_out.ensures.same)
     (subst (λ (slot : BoardSlot). ServesTurn (Begins what c.args.budget) state health health
@@ -90,14 +87,13 @@ returns-in-PutOut-clause-serves g c = λ image health.
     (g.O.Outlet.bytes c.emergency-put_out.new.out)) (sym c.self.view_is)
     (rw (c.write_registers.ensures.written image) (put_out_turn state c.args.window c.args.offset c.args.width
     c.args.value c.in-PutOut.byte c.args.budget health _ _ c.emergency-put_out.result c.reply_to.result
-    (put_out_asked task c.in-PutOut.byte (sym c.in-PutOut.is ∙ c.write_registers.ensures.duty image))
+    (sym (c.write_registers.ensures.task image) ∙ c.in-PutOut.is)
     c.emergency-put_out.ensures.ok c.emergency-put_out.ensures.err c.reply_to.ensures.done
     c.reply_to.ensures.no_memory)))
 
 pub returns-in-PutOut-clause-within : goal.returns-in-PutOut-clause-within
 returns-in-PutOut-clause-within g c = λ image limit limited.
     let state = state_of image c.args.self.now in
-    let task = task_at c.args.window c.args.offset c.args.width c.args.value state in
     let what : EventKind g.row.A.Denot = Write c.args.window c.args.offset c.args.width c.args.value in
     rw (c.emergency-put_out.ensures.same)
     (subst (λ (slot : BoardSlot). BeginsWithin limit what c.args.budget state (state_of image slot)
@@ -106,7 +102,7 @@ returns-in-PutOut-clause-within g c = λ image limit limited.
     (rw (c.write_registers.ensures.written image)
     (put_out_within limit (g.O.Outlet.limit c.args.out.now) state c.args.window c.args.offset c.args.width
     c.args.value c.in-PutOut.byte c.args.budget _ _ c.emergency-put_out.result c.reply_to.result limited
-    (put_out_asked task c.in-PutOut.byte (sym c.in-PutOut.is ∙ c.write_registers.ensures.duty image))
+    (sym (c.write_registers.ensures.task image) ∙ c.in-PutOut.is)
     c.emergency-put_out.ensures.ok c.emergency-put_out.ensures.fits c.emergency-put_out.ensures.err
     c.emergency-put_out.ensures.refused c.reply_to.ensures.done c.reply_to.ensures.no_memory)))
 
@@ -133,8 +129,7 @@ returns-in-Nothing-clause-serves g c = λ image health.
     let state = state_of image c.args.self.now in
     rw (c.write_registers.ensures.written image)
     (nothing_turn state c.args.window c.args.offset c.args.width c.args.value c.args.budget health _
-    (nothing_asked (task_at c.args.window c.args.offset c.args.width c.args.value state) (sym c.in-Nothing.is
-    ∙ c.write_registers.ensures.duty image)))
+    (sym (c.write_registers.ensures.task image) ∙ c.in-Nothing.is))
 
 pub returns-in-Nothing-clause-device : goal.returns-in-Nothing-clause-device
 returns-in-Nothing-clause-device g c =
