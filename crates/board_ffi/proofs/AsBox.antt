@@ -1,9 +1,11 @@
 -- What a handle's parts own is what a box at the same types owns.
-use mir.Syntax.{impl, tnil, dnil}
+use mir.Syntax.{Dict, impl, tnil, dnil}
 use mathlib.Core.List.{[]}
 use denote.RattleType.{RattleType}
+use denote.Param.Laws.{Laws}
 use denote.Signature.{Slot, plain}
 use Rattle.std_alloc.proofs.BoxSteps.Form.{Bx}
+use Rattle.std.specs.declared.alloc.Allocator.{Ghosts}
 use Rattle.std.specs.contracts.alloc.Global as Heap
 use Rattle.std.specs.contracts.impls.GlobalAllocator.TheImpl.{ghosts, dict}
 use Rattle.std.proofs.alloc.Global.TheLaws as heap
@@ -12,21 +14,16 @@ use Rattle.board_ffi.proofs.any_session.AnySession.TheLaws as session
 use Rattle.board_ffi.specs.contracts.handle.parts.Parts as Parts
 use Rattle.board_ffi.specs.contracts.handle.Handle as Handle
 
+-- a box of an item of the first type, under an allocator of the second
+abbrev pub box_of : (X : RattleType) → Laws X → (Z : RattleType) → Laws Z → Ghosts Z.Denot → Dict → Dict → Bx
+box_of X LX Z LZ g d drops =
+    record { row = X; laws = LX; al = record { row = Z; laws = LZ; g = g; d = d; drops = drops } }
+
 abbrev pub Row : RattleType
 Row = AnySession.the_row
 
 abbrev pub E : Bx
-E = record {
-  row = Row;
-  laws = session.the_row_laws;
-  al = record {
-    row = Heap.the_row;
-    laws = heap.the_row_laws;
-    g = ghosts;
-    d = dict;
-    drops = impl [] tnil dnil;
-  };
-}
+E = box_of Row session.the_row_laws Heap.the_row heap.the_row_laws ghosts dict (impl [] tnil dnil)
 
 abbrev pub Of : RattleType
 Of = Parts.the_row Row Heap.the_row ghosts

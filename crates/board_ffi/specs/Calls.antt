@@ -13,15 +13,16 @@ use Rattle.session.specs.Hosted.{HostedSessionState}
 use Rattle.session.specs.Session.{SessionState, output_of, waiting_at}
 use Rattle.board_ffi.specs.declared.any_session.AnySession.{AnySession}
 use Rattle.board_ffi.specs.declared.any_session.AnySession.TheVariants.{Hosted, OfImage}
+use Rattle.board_ffi.specs.declared.handle.Handle.{Handle}
 use Rattle.board_ffi.specs.declared.operation.Operation.{Operation}
 use Rattle.board_ffi.specs.declared.operation.Run.{Run}
 use Rattle.board_ffi.specs.declared.pending.Pending.{Pending}
 use Rattle.board_ffi.specs.Handle.{Held}
 use Rattle.board_ffi.specs.Hosted as hosted
 use Rattle.board_ffi.specs.OfImage as image
+pub use Rattle.board_ffi.specs.Kept.{HasCounters, HasSavedLen, HasWords, IsMissing, IsUndisturbed, Saves}
 
--- A call on a handle: where it holds no board it answers 1 and goes on holding none; a board does this, and
--- is
+-- A call on a handle: where it holds no board it answers 1 and goes on holding none; a board does this, and is
 -- still there.
 abbrev pub Calls : Held → Held → ℕ → (AnySession → AnySession → Type 0) → Type 0
 Calls before after code step =
@@ -47,6 +48,12 @@ Served served = ByKind (λ old new. ⊥) served
 abbrev pub window_of : ℕ → Option DeviceKind
 window_of number = if number == 0 then Some Block else (if number == 1 then Some Console else None)
 
+-- A call for a window of this number does this: of a number of none it answers 6, and leaves the handle as it was.
+abbrev pub AtWindow : ℕ → Handle → Handle → ℕ → (DeviceKind → AnySession → AnySession → Type 0) → Type 0
+AtWindow number before after code step =
+    MatchOption (window_of number) ((code ≡ 6) × (after ≡ before))
+    (λ window. Calls before.session after.session code (step window))
+
 -- ---- events of a guest
 
 abbrev pub Takes : ℕ → EventKind Global → ℕ → Reply Global → AnySession → AnySession → Type 0
@@ -62,13 +69,6 @@ abbrev pub PausesBehind : ℕ → ℕ → AnySession → AnySession → Type 0
 PausesBehind slot took = OverImage (image.PausesBehind slot took)
 
 -- ---- snapshots of a guest
-
-abbrev pub HasSavedLen : ℕ → ℕ → ℕ → AnySession → AnySession → Type 0
-HasSavedLen slot code len = ByKind (image.HasSavedLen slot code len) (hosted.HasSavedLen slot code len)
-
-abbrev pub Saves : ℕ → ℕ → List ℕ → List ℕ → ℕ → AnySession → AnySession → Type 0
-Saves slot code room into len =
-    ByKind (image.Saves slot code room into len) (hosted.Saves slot code room into len)
 
 abbrev pub Restores : ℕ → List ℕ → ℕ → AnySession → AnySession → Type 0
 Restores slot bytes code = ByKind (image.Restores slot bytes code) (hosted.Restores slot bytes code)
@@ -96,21 +96,8 @@ HasMemory slot addr len = ByKind (image.HasMemory slot addr len) (hosted.HasMemo
 abbrev pub HasNoRegion : ℕ → ℕ → ℕ → AnySession → AnySession → Type 0
 HasNoRegion slot addr code = ByKind (image.HasNoRegion slot addr code) (hosted.HasNoRegion slot addr code)
 
-abbrev pub IsMissing : ℕ → ℕ → AnySession → AnySession → Type 0
-IsMissing slot code = ByKind (image.IsMissing slot code) (hosted.IsMissing slot code)
-
 abbrev pub IsBusy : ℕ → ℕ → AnySession → AnySession → Type 0
 IsBusy slot code = OverImage (image.IsBusy slot code)
-
-abbrev pub HasWords : ℕ → ℕ → ℕ → AnySession → AnySession → Type 0
-HasWords slot block console = ByKind (image.HasWords slot block console) (hosted.HasWords slot block console)
-
-abbrev pub IsUndisturbed : ℕ → Bool → AnySession → AnySession → Type 0
-IsUndisturbed slot disturbed =
-    ByKind (image.IsUndisturbed slot disturbed) (hosted.IsUndisturbed slot disturbed)
-
-abbrev pub HasCounters : ℕ → AnySession → AnySession → Type 0
-HasCounters slot = ByKind (image.HasCounters slot) (hosted.HasCounters slot)
 
 abbrev pub HasImage : ℕ → ℕ → AnySession → AnySession → Type 0
 HasImage code len = ByKind (image.HasImage code len) (hosted.HasNoImage code)

@@ -36,8 +36,7 @@ refusal_code Busy = 19
 refusal_code Idle = 21
 
 -- the board's response that a number stands for, where this one is what a call that is done is replied; where
--- an outlet
--- has no room the board has no memory for the output
+-- an outlet has no room the board has no memory for the output
 abbrev pub response_of : {A : Type 0} → ℕ → Reply A → Response A
 response_of code done =
     if code == 0 then response.Answered done
@@ -51,8 +50,7 @@ abbrev pub is_response : ℕ → Bool
 is_response code = (code == 0) || (code == 3) || (code == 4) || (code == 15) || (code == 18) || (code == 19)
 
 -- the reply of a board whose disks the host serves that a number stands for, where this one is what a call
--- that is done is
--- replied; what a disk is then asked for is told aside
+-- that is done is replied; what a disk is then asked for is told aside
 abbrev pub hosted_reply_of : {A : Type 0} → ℕ → Reply A → Reply A
 hosted_reply_of code done =
     if (code == 0) || (code == 20) then done

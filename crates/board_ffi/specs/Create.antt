@@ -1,5 +1,5 @@
 -- What comes of making a board.
-use Rattle.std.specs.Prelude.{◌≡◌, ℕ, ◌/◌, ◌==◌, nat_lt, if◌then◌else◌, List, Option, Some, None, length, All}
+use Rattle.std.specs.Prelude.{◌≡◌, ◌≢◌, ◌⊎◌, ◌↔◌, ℕ, ◌/◌, ◌==◌, nat_lt, if◌then◌else◌, List, Option, Some, None, IfSome, length, All}
 use Rattle.std.specs.List.{take_while}
 use Rattle.chain.specs.declared.budget.Budget.{Budget}
 use Rattle.guest_memory.specs.declared.spec.RegionSpec.{RegionSpec}
@@ -10,7 +10,7 @@ use Rattle.session.specs.Hosted.{IsHostedRefusedFor, new_hosted_session}
 use Rattle.session.specs.Session.{new_session, slots_of}
 use Rattle.session.specs.Refusing.{AreOutlets, IsRefusedFor}
 use Rattle.board_ffi.specs.declared.any_session.AnySession.TheVariants.{Hosted, OfImage}
-use Rattle.board_ffi.specs.declared.create.Slot.{Slot}
+use Rattle.board_ffi.specs.declared.slot.Slot.{Slot}
 use Rattle.board_ffi.specs.Codes.{fault_code}
 use Rattle.board_ffi.specs.Handle.{Held}
 
@@ -47,6 +47,25 @@ limit_of limit = if limit == 0 then None else Some limit
 -- how much one call may serve: so many chains, and so many bytes
 abbrev pub budget_of : ℕ → ℕ → Budget
 budget_of chains bytes = record { chains = limit_of chains; bytes = limit_of bytes }
+
+-- What a call does that makes a board of these slots: over a board it answers 2 and leaves that board. For an empty handle
+-- it answers 17 exactly where some slot says another size, whatever else is described, and leaves the handle empty. Else
+-- there is a board, or none.
+abbrev pub Creates : (Held → Type 0) → (ℕ → Held → Type 0) → List Slot → Held → Held → ℕ → Type 0
+Creates Made NotMade slots before after code =
+    IfSome before (λ old. (code ≡ 2) × (after ≡ Some old))
+    × (before ≡ None → ((code ≡ 17) ↔ ¬ AreSized slots))
+    × (before ≡ None → code ≢ 17 → AreSized slots)
+    × (before ≡ None → code ≡ 17 → after ≡ None)
+    × (before ≡ None → code ≡ 0 → Made after)
+    × (before ≡ None → code ≢ 0 → code ≢ 17 → NotMade code after)
+
+-- For an empty handle each fault of what slots of this size describe is answered by its number, but that want of memory
+-- may come before it.
+abbrev pub AnswersEach : (SessionFault → Type 0) → List Slot → Held → ℕ → Type 0
+AnswersEach Refused slots before code =
+    before ≡ None → AreSized slots → (why : SessionFault) → why ≢ SessionFault.NoMemory → Refused why
+    → (code ≡ fault_code why) ⊎ (code ≡ 5)
 
 -- there is a new board of these guests over the image
 pub record IsMade (guests : List GuestSpec) (image : List ℕ) (cache : ℕ) (budget : Budget)

@@ -1,7 +1,6 @@
 -- What a call does to a board whose disks the host serves.
-use Rattle.std.specs.Prelude.{◌≡◌, ℕ, ◌==◌, ◌||◌, ◌<◌, ◌≤◌, ◌++◌, ◌↔◌, ◌≢◌, Bool, List, [], ◌∷◌, Option, Some, None, Result, IsTrue, IsErrOf, IsSome, IsSomeAnd, if◌then◌else◌, length, min, take, drop, false}
+use Rattle.std.specs.Prelude.{◌≡◌, ℕ, ◌==◌, ◌||◌, ◌<◌, ◌≤◌, ◌++◌, ◌↔◌, Bool, List, [], ◌∷◌, Option, Some, None, Result, IsTrue, IsErrOf, IsSome, IsSomeAnd, if◌then◌else◌, length, min, take, drop}
 use Rattle.std.specs.List.{slice_get}
-use Rattle.std.specs.Option.{option_map}
 use Rattle.std.specs.Global.{Global}
 use Rattle.guest_memory.specs.Memory.{Inside}
 use Rattle.chain.specs.declared.segment.Segment.{Segment}
@@ -18,10 +17,9 @@ use Rattle.board.specs.declared.saved.RestoreFault.{RestoreFault}
 use Rattle.board.specs.declared.saved.RestoreRefusal.{RestoreRefusal}
 use Rattle.board.specs.declared.saved.RestoreRefusal.TheVariants.{Fault}
 use Rattle.board.specs.Hosting.{HostedState, InFlight}
-use Rattle.board.specs.HostedLine.{words_of}
 use Rattle.board.specs.Image.{sectors_of}
 use Rattle.board.specs.Restoring.{hosted_restore_reply, slot_in}
-use Rattle.board.specs.Saved.{IsAs, IsCauseOf, IsLike, IsSavedTo, IsSnapshotOf, snapshot_of}
+use Rattle.board.specs.Saved.{IsAs, IsCauseOf, IsLike, IsSnapshotOf}
 use Rattle.board.specs.Slot.{BoardSlot}
 use Rattle.session.specs.Hosted.{HostedSessionState, IsHostedCall, operation_at, progress_by}
 use Rattle.session.specs.HostedCourse.{IsHostedTaken}
@@ -29,11 +27,10 @@ use Rattle.session.specs.Session.{waiting_at}
 use Rattle.board_ffi.specs.declared.operation.Operation.{Operation}
 use Rattle.board_ffi.specs.declared.operation.Run.{Run}
 use Rattle.board_ffi.specs.OfImage.{HasRoom}
-use Rattle.board_ffi.specs.Codes.{asking_code, code_at, hosted_reply_of, is_hosted, is_saving, restore_code}
+use Rattle.board_ffi.specs.Codes.{asking_code, code_at, hosted_reply_of, is_hosted, restore_code}
 
 -- The board takes a call for this event of a slot, and its reply is the one that the number stands for: where
--- the call is
--- done it is this one.
+-- the call is done it is this one.
 pub record Takes (slot : ℕ) (what : EventKind Global) (code : ℕ) (done : Reply Global)
     (old new : HostedSessionState) : Type 0 where
   pub call : IsHostedCall old slot what (hosted_reply_of code done) new
@@ -87,59 +84,12 @@ pub record HasNoRegion (slot addr code : ℕ) (old new : HostedSessionState) : T
   pub bad_range : code ≡ 4
   pub kept : new ≡ old
 
--- there is no such slot, and nothing changes
-pub record IsMissing (slot code : ℕ) (old new : HostedSessionState) : Type 0 where
-  pub missing : length old.slots ≤ slot
-  pub bad_slot : code ≡ 3
-  pub kept : new ≡ old
-
--- both interrupt words of a slot, and nothing changes
-pub record HasWords (slot block console : ℕ) (old new : HostedSessionState) : Type 0 where
-  pub words : option_map words_of (slice_get old.slots slot) ≡ Some (block, console)
-  pub kept : new ≡ old
-
--- there is such a slot, and nothing changes
-pub record IsUndisturbed (slot : ℕ) (disturbed : Bool) (old new : HostedSessionState) : Type 0 where
-  pub there : slot < length old.slots
-  pub noted : disturbed ≡ false
-  pub kept : new ≡ old
-
--- there is such a slot, whose counters are told, and nothing changes
-pub record HasCounters (slot : ℕ) (old new : HostedSessionState) : Type 0 where
-  pub there : slot < length old.slots
-  pub kept : new ≡ old
-
 -- something of a slot is in flight
 abbrev pub IsAtWork : ℕ → HostedSessionState → Type 0
 IsAtWork slot session = IsSomeAnd (slice_get session.slots slot) (λ found. IsSome found.flight)
 
--- The snapshot of a slot has so many bytes, or the number says why there is none. Nothing changes.
-pub record HasSavedLen (slot code len : ℕ) (old new : HostedSessionState) : Type 0 where
-  pub told : code ≡ 0 → IsSomeAnd (slice_get old.slots slot)
-      (λ found. len ≡ length (snapshot_of (slot_in found.slot)))
-  pub missing : (code ≡ 3) ↔ (length old.slots ≤ slot)
-  pub busy : (code ≡ 19) ↔ IsAtWork slot old
-  pub not_short : code ≢ 26
-  pub code_is : IsTrue (is_saving code)
-  pub kept : new ≡ old
-
--- The snapshot of a slot stands at the front of the buffer, which held these bytes, or the number says why it
--- doesn't.
--- Nothing of the board changes.
-pub record Saves (slot code : ℕ) (room into : List ℕ) (len : ℕ) (old new : HostedSessionState) : Type 0 where
-  pub saved : code ≡ 0 → IsSomeAnd (slice_get old.slots slot)
-      (λ found. IsSavedTo (slot_in found.slot) room into len)
-  pub missing : (code ≡ 3) ↔ (length old.slots ≤ slot)
-  pub busy : (code ≡ 19) ↔ IsAtWork slot old
-  pub short :
-      code ≡ 26 →
-      IsSomeAnd (slice_get old.slots slot) (λ found. length room < length (snapshot_of (slot_in found.slot)))
-  pub code_is : IsTrue (is_saving code)
-  pub kept : new ≡ old
-
 -- The board takes a call for the restore of a slot, and the number says what came of it. What was saved of a
--- slot is
--- taken by every slot of its description at rest, and brings it to its state.
+-- slot is taken by every slot of its description at rest, and brings it to its state.
 pub record Restores (slot : ℕ) (bytes : List ℕ) (code : ℕ) (old new : HostedSessionState) : Type 0 where
   pub result : Result (Unit {0}) RestoreRefusal
   pub code_is : code ≡ restore_code result

@@ -1,12 +1,11 @@
 -- Which slot of a description can't be had, and which region of its memory.
 use Rattle.std.specs.Prelude.{◌≡◌, ℕ, ◌==◌, ◌^◌, nat_le, List}
 use Rattle.std.specs.List.{prefix_len}
-use Rattle.guest_memory.specs.declared.fault.MemoryFault.{MemoryFault}
 use Rattle.guest_memory.specs.declared.fault.MemoryFault.TheVariants.{NoRegions}
 use Rattle.board.specs.declared.fault.BoardFault.{BoardFault}
 use Rattle.board.specs.declared.fault.BoardFault.TheVariants.{Slot as AtSlot}
 use Rattle.board.specs.declared.fault.SlotFault.TheVariants.{Memory}
-use Rattle.board_ffi.specs.declared.create.Slot.{Slot}
+use Rattle.board_ffi.specs.declared.slot.Slot.{Slot}
 use Rattle.board_ffi.specs.Codes.{board_code}
 use Rattle.board_ffi.specs.Create.{slot_size}
 

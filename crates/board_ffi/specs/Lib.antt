@@ -1,7 +1,9 @@
 pub mod Handle
+pub mod Lending
 pub mod Codes
 pub mod OfImage
 pub mod Hosted
+pub mod Kept
 pub mod Calls
 pub mod Create
 pub mod Judging

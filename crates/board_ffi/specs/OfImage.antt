@@ -1,8 +1,7 @@
 -- What a call does to a board over an image.
-use Rattle.std.specs.Prelude.{◌≡◌, ℕ, ◌<◌, ◌≤◌, ◌+◌, ◌++◌, ◌↔◌, ◌≢◌, Bool, List, Some, IsTrue, IsErrOf, IsSomeAnd, length, min, take, drop, false, Result}
+use Rattle.std.specs.Prelude.{◌≡◌, ℕ, ◌<◌, ◌≤◌, ◌+◌, ◌++◌, ◌↔◌, List, Some, IsTrue, IsErrOf, IsSomeAnd, length, min, take, drop, Result}
 use Rattle.chain.specs.declared.budget.Progress.{Progress}
 use Rattle.std.specs.List.{slice_get}
-use Rattle.std.specs.Option.{option_map}
 use Rattle.std.specs.Global.{Global}
 use Rattle.guest_memory.specs.Memory.{Inside, Memory}
 use Rattle.board.specs.declared.event.EventKind.{EventKind}
@@ -10,19 +9,18 @@ use Rattle.board.specs.declared.reply.Reply.{Reply}
 use Rattle.board.specs.declared.saved.RestoreFault.{RestoreFault}
 use Rattle.board.specs.declared.saved.RestoreRefusal.{RestoreRefusal}
 use Rattle.board.specs.declared.saved.RestoreRefusal.TheVariants.{Fault}
-use Rattle.board.specs.Saved.{IsAs, IsCauseOf, IsLike, IsSavedTo, IsSnapshotOf, snapshot_of}
-use Rattle.board.specs.Slot.{BoardSlot, interrupt_words}
+use Rattle.board.specs.Saved.{IsAs, IsCauseOf, IsLike, IsSnapshotOf}
+use Rattle.board.specs.Slot.{BoardSlot}
 use Rattle.session.specs.Course.{IsTaken}
 use Rattle.session.specs.declared.refusal.Refusal.{Refusal}
 use Rattle.session.specs.Pausing.{IsCall, IsWhole, WentOn, taken_at}
 use Rattle.session.specs.Session.{IsIdle, SessionState, output_of}
 use Rattle.session.specs.Pacing.{Handle}
 use Rattle.session.specs.Restoring.{restore_response}
-use Rattle.board_ffi.specs.Codes.{code_at, is_response, is_saving, response_of, restore_code, went_on_code}
+use Rattle.board_ffi.specs.Codes.{code_at, is_response, response_of, restore_code, went_on_code}
 
 -- The board takes a call for this event of a slot, and its response is the one that the number stands for:
--- where the
--- call is done it is this reply, and a step of the board.
+-- where the call is done it is this reply, and a step of the board.
 pub record Takes (slot : ℕ) (what : EventKind Global) (code : ℕ) (done : Reply Global)
     (old new : SessionState) : Type 0 where
   pub call : IsCall old (Handle (record { slot = slot; what = what })) (response_of code done) new
@@ -54,8 +52,7 @@ pub record HasRoom (m : Memory) (addr len : ℕ) : Type 0 where
   pub longest : (n : ℕ) → Inside m addr n → n ≤ len
 
 -- There is such a slot, of which nothing is paused. A region of its memory holds the address, and has so many
--- bytes from there
--- on. Nothing changes.
+-- bytes from there on. Nothing changes.
 pub record HasMemory (slot addr len : ℕ) (old new : SessionState) : Type 0 where
   pub idle : IsIdle slot old
   pub there : IsSomeAnd (slice_get old.slots slot) (λ found. HasRoom found.memory addr len)
@@ -69,32 +66,10 @@ pub record HasNoRegion (slot addr code : ℕ) (old new : SessionState) : Type 0 
   pub bad_range : code ≡ 4
   pub kept : new ≡ old
 
--- there is no such slot, and nothing changes
-pub record IsMissing (slot code : ℕ) (old new : SessionState) : Type 0 where
-  pub missing : length old.slots ≤ slot
-  pub bad_slot : code ≡ 3
-  pub kept : new ≡ old
-
 -- a service of the slot is paused, and nothing changes
 pub record IsBusy (slot code : ℕ) (old new : SessionState) : Type 0 where
   pub paused : ¬ IsIdle slot old
   pub busy : code ≡ 19
-  pub kept : new ≡ old
-
--- both interrupt words of a slot, and nothing changes
-pub record HasWords (slot block console : ℕ) (old new : SessionState) : Type 0 where
-  pub words : option_map interrupt_words (slice_get old.slots slot) ≡ Some (block, console)
-  pub kept : new ≡ old
-
--- there is such a slot, no call of its image failed, and nothing changes
-pub record IsUndisturbed (slot : ℕ) (disturbed : Bool) (old new : SessionState) : Type 0 where
-  pub there : slot < length old.slots
-  pub noted : disturbed ≡ false
-  pub kept : new ≡ old
-
--- there is such a slot, whose counters are told, and nothing changes
-pub record HasCounters (slot : ℕ) (old new : SessionState) : Type 0 where
-  pub there : slot < length old.slots
   pub kept : new ≡ old
 
 -- the image's length, and nothing changes
@@ -115,30 +90,8 @@ pub record IsOutside (start len code : ℕ) (old new : SessionState) : Type 0 wh
   pub bad_range : code ≡ 4
   pub kept : new ≡ old
 
--- The snapshot of a slot has so many bytes, or the number says why there is none. Nothing changes.
-pub record HasSavedLen (slot code len : ℕ) (old new : SessionState) : Type 0 where
-  pub told : code ≡ 0 → IsSomeAnd (slice_get old.slots slot) (λ found. len ≡ length (snapshot_of found))
-  pub missing : (code ≡ 3) ↔ (length old.slots ≤ slot)
-  pub busy : (code ≡ 19) ↔ ¬ IsIdle slot old
-  pub not_short : code ≢ 26
-  pub code_is : IsTrue (is_saving code)
-  pub kept : new ≡ old
-
--- The snapshot of a slot stands at the front of the buffer, which held these bytes, or the number says why it
--- doesn't.
--- Nothing of the board changes.
-pub record Saves (slot code : ℕ) (room into : List ℕ) (len : ℕ) (old new : SessionState) : Type 0 where
-  pub saved : code ≡ 0 → IsSomeAnd (slice_get old.slots slot) (λ found. IsSavedTo found room into len)
-  pub missing : (code ≡ 3) ↔ (length old.slots ≤ slot)
-  pub busy : (code ≡ 19) ↔ ¬ IsIdle slot old
-  pub short : code ≡ 26 → IsSomeAnd (slice_get old.slots slot)
-      (λ found. length room < length (snapshot_of found))
-  pub code_is : IsTrue (is_saving code)
-  pub kept : new ≡ old
-
 -- The board takes a call for the restore of a slot, and the number says what came of it. What was saved of a
--- slot is
--- taken by every idle slot of its description, and brings it to its state.
+-- slot is taken by every idle slot of its description, and brings it to its state.
 pub record Restores (slot : ℕ) (bytes : List ℕ) (code : ℕ) (old new : SessionState) : Type 0 where
   pub result : Result (Unit {0}) RestoreRefusal
   pub code_is : code ≡ restore_code result

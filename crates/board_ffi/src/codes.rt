@@ -3,7 +3,7 @@
 ghost use Rattle.std.specs.Prelude.{◌≡◌, ◌≢◌, ◌↔◌, IfOk, IsErr, IsErrOf, IsOk, IsTrue, Ok, OnErr};
 ghost use Rattle.board.specs.declared.saved.RestoreRefusal.{RestoreRefusal};
 ghost use Rattle.board.specs.declared.saved.SaveRefusal.{SaveRefusal};
-ghost use Rattle.board_ffi.specs.Codes.{asking_code, board_code, code_by, fault_code, hosted_code, is_saving, memory_code, progress_code, refusal_code, restore_code, restore_fault_code, save_code, slot_fault_code, went_on_code};
+ghost use Rattle.board_ffi.specs.Codes.{board_code, code_by, fault_code, hosted_code, is_saving, memory_code, progress_code, refusal_code, restore_code, restore_fault_code, save_code, slot_fault_code, went_on_code};
 
 use session::{
     BoardFault, CacheFault, HostedProgress, MemoryFault, Progress, Refusal, RestoreFault,

@@ -5,15 +5,12 @@ ghost use Rattle.board.specs.declared.event.EventKind.{EventKind};
 ghost use Rattle.board.specs.declared.reply.Reply.{Reply};
 ghost use Rattle.board_ffi.specs.Calls.{Calls, IsMissing, MovesOutput, PausesBehind, Takes, Tells};
 
-use crate::codes::NO_BOARD;
-use crate::handle::Handle;
+use crate::handle::{Handle, session_of};
 use crate::pending::Pending;
-use std::alloc::Global;
 
 /// Types bytes to a guest's console, and tells how many were taken, the first ones, and what then waits.
 #[unsafe(no_mangle)]
 pub extern "C" fn kalyubos_input(
-    alloc: Global,
     board: &mut Handle,
     slot: u8,
     bytes: &[u8],
@@ -28,19 +25,15 @@ pub extern "C" fn kalyubos_input(
     ensures kept { result ≢ 0 → result ≢ 18 → took.new ≡ took.old }
     ensures pending { Tells slot board.new.session pending.old pending.new }
 {
-    let Some(mut session) = board.take(alloc) else {
-        return NO_BOARD;
-    };
+    let session = session_of!(board);
     let answer = session.input(slot, bytes, took);
-    pending.tell(&session, slot);
-    board.put(session);
+    pending.tell(session, slot);
     answer
 }
 
 /// Gives a guest's console another size, of which its driver is told, and tells what then waits.
 #[unsafe(no_mangle)]
 pub extern "C" fn kalyubos_resize(
-    alloc: Global,
     board: &mut Handle,
     slot: u8,
     cols: u16,
@@ -51,12 +44,9 @@ pub extern "C" fn kalyubos_resize(
         (Takes slot (EventKind.Resize cols rows) result Reply.Done) }
     ensures pending { Tells slot board.new.session pending.old pending.new }
 {
-    let Some(mut session) = board.take(alloc) else {
-        return NO_BOARD;
-    };
+    let session = session_of!(board);
     let answer = session.resize(slot, cols, rows);
-    pending.tell(&session, slot);
-    board.put(session);
+    pending.tell(session, slot);
     answer
 }
 
@@ -64,7 +54,6 @@ pub extern "C" fn kalyubos_resize(
 /// they are.
 #[unsafe(no_mangle)]
 pub extern "C" fn kalyubos_take_output(
-    alloc: Global,
     board: &mut Handle,
     slot: u8,
     into: &mut [u8],
@@ -77,10 +66,5 @@ pub extern "C" fn kalyubos_take_output(
     ensures kept { result ≢ 0 → taken.new ≡ taken.old }
     ensures kept_into { result ≢ 0 → into.new ≡ into.old }
 {
-    let Some(mut session) = board.take(alloc) else {
-        return NO_BOARD;
-    };
-    let answer = session.take_output(slot, into, taken);
-    board.put(session);
-    answer
+    session_of!(board).take_output(slot, into, taken)
 }

@@ -1,6 +1,6 @@
 //! A board whose disks the host serves is made of what C describes.
 
-ghost use Rattle.std.specs.Prelude.{◌≡◌, ◌≢◌, ◌⊎◌, ◌↔◌, None, IfOk, IfErr, OnOk, IfSome, IsErrAnd, IsErrOf, Some, map};
+ghost use Rattle.std.specs.Prelude.{◌≡◌, ◌⊎◌, None, IfOk, IfErr, OnOk, IsErrAnd, IsErrOf, Some, map};
 ghost use Rattle.board.specs.declared.fault.BoardFault.{BoardFault};
 ghost use Rattle.board.specs.Fault.{AreGoodHosted};
 ghost use Rattle.session.specs.declared.fault.SessionFault.{SessionFault};
@@ -9,11 +9,12 @@ ghost use Rattle.session.specs.Refusing.{AreOutlets};
 ghost use Rattle.session.specs.Session.{slots_of};
 ghost use Rattle.board_ffi.specs.declared.any_session.AnySession.{AnySession};
 ghost use Rattle.board_ffi.specs.Codes.{board_code};
-ghost use Rattle.board_ffi.specs.Create.{AreSized, IsHostedMade, IsHostedNotMade, guest_of};
+ghost use Rattle.board_ffi.specs.Create.{AreSized, Creates, IsHostedMade, IsHostedNotMade, guest_of};
 
 use crate::any_session::AnySession;
-use crate::create::{Slot, are_outlets, boxed, guests, hold, judged_first};
 use crate::handle::Handle;
+use crate::making::{boxed, hold, judged_first};
+use crate::slot::{Slot, are_outlets, guests};
 use session::{HostedSession, SessionFault};
 use std::alloc::Global;
 
@@ -21,17 +22,8 @@ use std::alloc::Global;
 /// alone is read.
 #[unsafe(no_mangle)]
 pub extern "C" fn kalyubos_create_hosted(alloc: Global, board: &mut Handle, slots: &[Slot]) -> u32
-    ensures full { IfSome board.old.session (λ old. (result ≡ 2) × (board.new.session ≡ Some old)) }
-
-    // the sizes are judged before all else that is described
-    ensures bad_size { board.old.session ≡ None → ((result ≡ 17) ↔ ¬ AreSized slots.now) }
-    ensures sized { board.old.session ≡ None → result ≢ 17 → AreSized slots.now }
-    ensures bad_size_keeps { board.old.session ≡ None → result ≡ 17 → board.new.session ≡ None }
-
-    ensures made { board.old.session ≡ None → result ≡ 0 →
-        IsHostedMade (map guest_of slots.now) board.new.session }
-    ensures not_made { board.old.session ≡ None → result ≢ 0 → result ≢ 17 →
-        IsHostedNotMade (map guest_of slots.now) result board.new.session }
+    ensures creates { Creates (IsHostedMade (map guest_of slots.now)) (IsHostedNotMade (map guest_of slots.now))
+        slots.now board.old.session board.new.session result }
 
     // exactly that number, but that want of memory may come before a board's
     ensures bad_outlet { board.old.session ≡ None → AreSized slots.now → ¬ AreOutlets (map guest_of slots.now) →
@@ -39,7 +31,7 @@ pub extern "C" fn kalyubos_create_hosted(alloc: Global, board: &mut Handle, slot
     ensures bad_board { board.old.session ≡ None → AreSized slots.now → (fault : BoardFault) →
         IsHostedBoardFault (map guest_of slots.now) fault → (result ≡ board_code fault) ⊎ (result ≡ 5) }
 {
-    if let Some(number) = judged_first(alloc, board, slots) {
+    if let Some(number) = judged_first(board, slots) {
         return number;
     }
     hold(board, session(alloc, slots))

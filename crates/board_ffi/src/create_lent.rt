@@ -1,6 +1,6 @@
 //! A board over an image is made of what C describes, over memory that C lends.
 
-ghost use Rattle.std.specs.Prelude.{◌≡◌, ◌≢◌, ◌⊎◌, ◌↔◌, ◌/◌, [], All, Some, None, IfOk, IfErr, OnOk, IfSome, IsErrAnd, length, map};
+ghost use Rattle.std.specs.Prelude.{◌≡◌, ◌≢◌, ◌⊎◌, ◌/◌, [], All, Some, IfOk, IfErr, OnOk, IsErrAnd, length, map};
 ghost use Rattle.chain.specs.Budget.{IsSpent};
 ghost use Rattle.board.specs.Fault.{IsAccepted};
 ghost use Rattle.board.specs.Lent.{AreBytesOf};
@@ -8,14 +8,14 @@ ghost use Rattle.session.specs.declared.fault.SessionFault.{SessionFault};
 ghost use Rattle.session.specs.Refusing.{AreOutlets, IsLentRefusedFor};
 ghost use Rattle.session.specs.Session.{new_session_over, slots_of};
 ghost use Rattle.board_ffi.specs.declared.any_session.AnySession.{AnySession};
-ghost use Rattle.board_ffi.specs.Codes.{fault_code};
-ghost use Rattle.board_ffi.specs.Create.{AreSized, budget_of, guest_of};
-ghost use Rattle.board_ffi.specs.Lent.{IsMadeOver, IsNotMadeOver, TakesFront, lent_bytes};
+ghost use Rattle.board_ffi.specs.Create.{AnswersEach, Creates, budget_of, guest_of};
+ghost use Rattle.board_ffi.specs.Lent.{IsMadeOver, IsNotMadeOver, TakesFront, TakesLoans, lent_bytes};
 
 use crate::any_session::AnySession;
-use crate::create::{Slot, boxed, budget, guests, hold, judged_first};
 use crate::handle::Handle;
-use crate::loans::taken;
+use crate::loans::described;
+use crate::making::{boxed, budget, hold, judged_first};
+use crate::slot::Slot;
 use guest_bytes::Loan;
 use session::{Budget, Session, SessionFault};
 use std::alloc::Global;
@@ -34,28 +34,16 @@ pub extern "C" fn kalyubos_create_lent(
     chains: u32,
     bytes: u64,
 ) -> u32
-    ensures full { IfSome board.old.session (λ old. (result ≡ 2) × (board.new.session ≡ Some old)) }
-
-    // the sizes are judged before all else that is described
-    ensures bad_size { board.old.session ≡ None → ((result ≡ 17) ↔ ¬ AreSized slots.now) }
-    ensures sized { board.old.session ≡ None → result ≢ 17 → AreSized slots.now }
-    ensures bad_size_keeps { board.old.session ≡ None → result ≡ 17 → board.new.session ≡ None }
-
-    ensures made { board.old.session ≡ None → result ≡ 0 →
-        IsMadeOver (map guest_of slots.now) (lent_bytes loans.old) image.now cache (budget_of chains bytes) board.new.session }
-    ensures not_made { board.old.session ≡ None → result ≢ 0 → result ≢ 17 → IsNotMadeOver (map guest_of slots.now)
-        (lent_bytes loans.old) image.now cache (budget_of chains bytes) result board.new.session }
-
-    // exactly that number, but that want of memory may come before it
-    ensures exact { board.old.session ≡ None → AreSized slots.now → (why : SessionFault) → why ≢ SessionFault.NoMemory →
-        IsLentRefusedFor (map guest_of slots.now) (lent_bytes loans.old) image.now cache (budget_of chains bytes) why →
-        (result ≡ fault_code why) ⊎ (result ≡ 5) }
-
-    ensures loans_taken { board.old.session ≡ None → result ≡ 0 → All (λ loan. loan.items ≡ []) loans.new }
-    ensures loans_kept { (result ≡ 2) ⊎ (result ≡ 17) → loans.new ≡ loans.old }
-    ensures loans_left { TakesFront loans.old loans.new }
+    ensures creates { Creates
+        (IsMadeOver (map guest_of slots.now) (lent_bytes loans.old) image.now cache (budget_of chains bytes))
+        (IsNotMadeOver (map guest_of slots.now) (lent_bytes loans.old) image.now cache (budget_of chains bytes))
+        slots.now board.old.session board.new.session result }
+    ensures exact { AnswersEach
+        (IsLentRefusedFor (map guest_of slots.now) (lent_bytes loans.old) image.now cache (budget_of chains bytes))
+        slots.now board.old.session result }
+    ensures loans { TakesLoans loans.old loans.new board.old.session result }
 {
-    if let Some(number) = judged_first(alloc, board, slots) {
+    if let Some(number) = judged_first(board, slots) {
         return number;
     }
     hold(
@@ -88,12 +76,7 @@ fn session(
     ensures left { OnOk result (All (λ loan. loan.items ≡ []) loans.new) }
     ensures front { TakesFront loans.old loans.new }
 {
-    let Ok(guests) = guests(alloc, slots) else {
-        return Err(SessionFault::NoMemory);
-    };
-    let Ok(bytes) = taken(alloc, loans) else {
-        return Err(SessionFault::NoMemory);
-    };
+    let (guests, bytes) = described(alloc, slots, loans)?;
     let session = Session::over_lent(alloc, &guests, bytes, image, cache, budget)?;
     boxed(alloc, AnySession::OfImage(session))
 }

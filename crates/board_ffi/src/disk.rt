@@ -3,16 +3,13 @@
 ghost use Rattle.std.specs.Prelude.{◌≡◌, ◌≢◌};
 ghost use Rattle.board_ffi.specs.Calls.{Calls, Completes, IsAskedFor, IsAtRest, Tells};
 
-use crate::codes::NO_BOARD;
-use crate::handle::Handle;
+use crate::handle::{Handle, session_of};
 use crate::operation::{Operation, Run};
 use crate::pending::Pending;
-use std::alloc::Global;
 
 /// Tells what is in flight of a guest: the operation, and the first of its runs, as many as find room.
 #[unsafe(no_mangle)]
 pub extern "C" fn kalyubos_operation(
-    alloc: Global,
     board: &mut Handle,
     slot: u8,
     operation: &mut Operation,
@@ -23,18 +20,12 @@ pub extern "C" fn kalyubos_operation(
     ensures rests { result ≢ 0 → Calls board.old.session board.new.session result (IsAtRest slot result) }
     ensures kept { result ≢ 0 → (operation.new ≡ operation.old) × (runs.new ≡ runs.old) }
 {
-    let Some(session) = board.take(alloc) else {
-        return NO_BOARD;
-    };
-    let answer = session.operation(slot, operation, runs);
-    board.put(session);
-    answer
+    session_of!(board).operation(slot, operation, runs)
 }
 
 /// Completes what is in flight of a guest, which was done or failed, and tells what then waits.
 #[unsafe(no_mangle)]
 pub extern "C" fn kalyubos_completed(
-    alloc: Global,
     board: &mut Handle,
     slot: u8,
     failed: bool,
@@ -43,11 +34,8 @@ pub extern "C" fn kalyubos_completed(
     ensures step { Calls board.old.session board.new.session result (Completes slot failed result) }
     ensures pending { Tells slot board.new.session pending.old pending.new }
 {
-    let Some(mut session) = board.take(alloc) else {
-        return NO_BOARD;
-    };
+    let session = session_of!(board);
     let answer = session.completed(slot, failed);
-    pending.tell(&session, slot);
-    board.put(session);
+    pending.tell(session, slot);
     answer
 }

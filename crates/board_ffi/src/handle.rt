@@ -1,9 +1,10 @@
 //! What C holds: a pointer to a session, or null.
 //!
-//! A call takes the session out of its handle, works on it, and puts it back. Who ends it takes it out in parts, which
-//! can't be dropped or forgotten: `Parts::end` gives all their memory back.
+//! A call borrows the session. The drop of a handle takes it out in parts, which can't be dropped or forgotten:
+//! `Parts::end` gives all their memory back.
 
 ghost use Rattle.std.specs.Prelude.{◌≡◌, Some, None, MatchOption};
+ghost use Rattle.std.specs.Borrow.{sem};
 ghost use Rattle.board_ffi.specs.Handle.{Held, held, held_coded};
 
 pub(crate) mod parts;
@@ -12,6 +13,18 @@ use crate::any_session::AnySession;
 use parts::Parts;
 use std::alloc::Global;
 use std::marker::Model;
+
+/// The session of a handle. Where there is none, the call that asks for it answers NO_BOARD.
+macro_rules! session_of {
+    ($board:ident) => {
+        match $board.session() {
+            Some(session) => session,
+            None => return $crate::codes::NO_BOARD,
+        }
+    };
+}
+
+pub(crate) use session_of;
 
 /// A session, or none.
 #[repr(C)]
@@ -26,22 +39,19 @@ impl Model for Handle {
 }
 
 impl Handle {
-    /// Takes the session out, and leaves none.
-    pub(crate) fn take(&mut self, alloc: Global) -> Option<Box<AnySession>>
-        ensures taken { MatchOption result (self.old.session ≡ None)
-            (λ session. self.old.session ≡ Some session.value) }
-        ensures left { self.new.session ≡ None }
-    {
-        Some(self.take_parts(alloc)?.into_box())
-    }
+    ghost use Rattle.board_ffi.specs.Lending.{LendsSession};
 
-    /// Takes the session out to be ended, and leaves none.
-    pub(crate) fn take_parts(&mut self, alloc: Global) -> Option<Parts<AnySession, Global>>
-        ensures taken { MatchOption result (self.old.session ≡ None)
-            (λ parts. self.old.session ≡ Some parts.value) }
-        ensures left { self.new.session ≡ None }
+    /// The session, if there is one.
+    #[inline]
+    pub(crate) fn session(&mut self) -> Option<&mut AnySession>
+        ensures* lends { sem 𝓛 (LendsSession self.entry result) }
+        ensures there { MatchOption result (self.old.session ≡ None)
+            (λ lent. self.old.session ≡ Some lent.now) }
     {
-        std::mem::replace(self, Handle::empty(alloc)).into_parts()
+        if std::ptr::eq(self.at, std::ptr::null_mut()) {
+            return None;
+        }
+        Some(unsafe { &mut *(self.at as *mut AnySession) })
     }
 
     /// Holds this session from now on.
@@ -51,6 +61,7 @@ impl Handle {
         *self = Handle::of_parts(Parts::of(session));
     }
 
+    /// A handle of none.
     pub(crate) fn empty(alloc: Global) -> Handle
         ensures { result.session ≡ None }
     {
@@ -60,7 +71,7 @@ impl Handle {
         }
     }
 
-    pub(crate) fn of_parts(parts: Parts<AnySession, Global>) -> Handle
+    fn of_parts(parts: Parts<AnySession, Global>) -> Handle
         ensures { result.session ≡ Some parts.value }
     {
         let Parts { ptr, alloc } = parts;

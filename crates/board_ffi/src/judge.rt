@@ -1,6 +1,6 @@
 //! Which slot of a description can't be had, and which region of its memory. No board is made.
 
-ghost use Rattle.std.specs.Prelude.{◌≡◌, ◌≢◌, ◌⊎◌, ◌↔◌, ℕ, IfErr, IfOk, IsErrOf, OnOk, map};
+ghost use Rattle.std.specs.Prelude.{◌≡◌, ◌≢◌, ◌⊎◌, ℕ, IfErr, IfOk, IsErrOf, OnOk, map};
 ghost use Rattle.board.specs.declared.fault.BoardFault.{BoardFault};
 ghost use Rattle.board.specs.Fault.{AreGood, AreGoodHosted, Refuses, RefusesHosted};
 ghost use Rattle.session.specs.Refusing.{AreOutlets};
@@ -10,7 +10,7 @@ ghost use Rattle.board_ffi.specs.Create.{AreSized, guest_of};
 ghost use Rattle.board_ffi.specs.Judging.{IsJudged, first_of_large_outlet, first_of_other_size, region_told, slot_told};
 
 use crate::codes::{BAD_OUTLET, BAD_SIZE, DONE, NO_MEMORY, of_board_fault};
-use crate::create::{Slot, are_outlets, are_sized, guests, sized, with_outlets};
+use crate::slot::{Slot, are_outlets, are_sized, guests, sized, with_outlets};
 use board::{BoardFault, SlotFault, SlotSpec, check_hosted_slots, check_slots};
 use guest_memory::MemoryFault;
 use std::alloc::{AllocError, Global};

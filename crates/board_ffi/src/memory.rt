@@ -5,14 +5,11 @@ ghost use Rattle.board.specs.declared.event.EventKind.{EventKind};
 ghost use Rattle.board.specs.declared.reply.Reply.{Reply};
 ghost use Rattle.board_ffi.specs.Calls.{Calls, HasMemory, HasNoRegion, IsBusy, IsMissing, Takes};
 
-use crate::codes::NO_BOARD;
-use crate::handle::Handle;
-use std::alloc::Global;
+use crate::handle::{Handle, session_of};
 
 /// Copies bytes out of a guest's memory, from address `addr` on.
 #[unsafe(no_mangle)]
 pub extern "C" fn kalyubos_read_memory(
-    alloc: Global,
     board: &mut Handle,
     slot: u8,
     addr: u64,
@@ -22,39 +19,22 @@ pub extern "C" fn kalyubos_read_memory(
         (Takes slot (EventKind.MemRead addr (length into.old)) result (Reply.Bytes into.new)) }
     ensures kept { result ≢ 0 → into.new ≡ into.old }
 {
-    let Some(session) = board.take(alloc) else {
-        return NO_BOARD;
-    };
-    let answer = session.read_memory(slot, addr, into);
-    board.put(session);
-    answer
+    session_of!(board).read_memory(slot, addr, into)
 }
 
 /// Copies bytes into a guest's memory, from address `addr` on.
 #[unsafe(no_mangle)]
-pub extern "C" fn kalyubos_write_memory(
-    alloc: Global,
-    board: &mut Handle,
-    slot: u8,
-    addr: u64,
-    from: &[u8],
-) -> u32
+pub extern "C" fn kalyubos_write_memory(board: &mut Handle, slot: u8, addr: u64, from: &[u8]) -> u32
     ensures step { Calls board.old.session board.new.session result
         (Takes slot (EventKind.MemWrite addr from.now) result Reply.Done) }
 {
-    let Some(mut session) = board.take(alloc) else {
-        return NO_BOARD;
-    };
-    let answer = session.write_memory(slot, addr, from);
-    board.put(session);
-    answer
+    session_of!(board).write_memory(slot, addr, from)
 }
 
 /// Lends a guest's memory in place: where the byte of address `addr` lies, and how many bytes there are from it to the end of
 /// its region.
 #[unsafe(no_mangle)]
 pub extern "C" fn kalyubos_memory(
-    alloc: Global,
     board: &mut Handle,
     slot: u8,
     addr: u64,
@@ -69,10 +49,5 @@ pub extern "C" fn kalyubos_memory(
     ensures busy { result ≡ 19 → Calls board.old.session board.new.session result (IsBusy slot result) }
     ensures kept { result ≢ 0 → (bytes.new ≡ bytes.old) × (len.new ≡ len.old) }
 {
-    let Some(session) = board.take(alloc) else {
-        return NO_BOARD;
-    };
-    let answer = session.lend(slot, addr, bytes, len);
-    board.put(session);
-    answer
+    session_of!(board).lend(slot, addr, bytes, len)
 }

@@ -3,34 +3,21 @@
 ghost use Rattle.std.specs.Prelude.{◌≡◌, ◌≢◌};
 ghost use Rattle.board_ffi.specs.Calls.{Calls, HasSavedLen, Restores, Saves, Tells};
 
-use crate::codes::NO_BOARD;
-use crate::handle::Handle;
+use crate::handle::{Handle, session_of};
 use crate::pending::Pending;
-use std::alloc::Global;
 
 /// Tells how many bytes the snapshot of a guest has.
 #[unsafe(no_mangle)]
-pub extern "C" fn kalyubos_saved_len(
-    alloc: Global,
-    board: &mut Handle,
-    slot: u8,
-    len: &mut usize,
-) -> u32
+pub extern "C" fn kalyubos_saved_len(board: &mut Handle, slot: u8, len: &mut usize) -> u32
     ensures told { Calls board.old.session board.new.session result (HasSavedLen slot result len.new) }
     ensures kept { result ≢ 0 → len.new ≡ len.old }
 {
-    let Some(session) = board.take(alloc) else {
-        return NO_BOARD;
-    };
-    let answer = session.saved_len(slot, len);
-    board.put(session);
-    answer
+    session_of!(board).saved_len(slot, len)
 }
 
 /// Writes the snapshot of a guest to the front of a buffer, and tells how many bytes it has.
 #[unsafe(no_mangle)]
 pub extern "C" fn kalyubos_save(
-    alloc: Global,
     board: &mut Handle,
     slot: u8,
     into: &mut [u8],
@@ -40,18 +27,12 @@ pub extern "C" fn kalyubos_save(
         (Saves slot result into.old into.new written.new) }
     ensures kept { result ≢ 0 → (into.new ≡ into.old) × (written.new ≡ written.old) }
 {
-    let Some(session) = board.take(alloc) else {
-        return NO_BOARD;
-    };
-    let answer = session.save(slot, into, written);
-    board.put(session);
-    answer
+    session_of!(board).save(slot, into, written)
 }
 
 /// Puts the devices of a guest into the state of a snapshot, and tells what then waits.
 #[unsafe(no_mangle)]
 pub extern "C" fn kalyubos_restore(
-    alloc: Global,
     board: &mut Handle,
     slot: u8,
     from: &[u8],
@@ -61,11 +42,8 @@ pub extern "C" fn kalyubos_restore(
     ensures kept { result ≢ 0 → board.new.session ≡ board.old.session }
     ensures pending { Tells slot board.new.session pending.old pending.new }
 {
-    let Some(mut session) = board.take(alloc) else {
-        return NO_BOARD;
-    };
+    let session = session_of!(board);
     let answer = session.restore(slot, from);
-    pending.tell(&session, slot);
-    board.put(session);
+    pending.tell(session, slot);
     answer
 }

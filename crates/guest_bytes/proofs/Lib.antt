@@ -1,1 +1,2 @@
 pub mod Lodging
+pub mod Walking

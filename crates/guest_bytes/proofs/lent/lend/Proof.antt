@@ -9,8 +9,8 @@ use prog.Memory.{Memory}
 use prog.Routine.{Routine}
 use prog.Wp.{Calls, Loops, WpFn, Tables}
 use contract.Monad.{Fun, fact}
-use contract.Running.{tables, tables_of}
-use sound.WpLaws.{WpFn-mono, fm_of, FmC}
+use contract.Running.{tables_of}
+use sound.WpLaws.{fm_of, FmC}
 use types.Logic.{Logic}
 use types.Kit.{‵, raw, ◌⊛◌, later, prop, ◌$◌, ◌∵◌, !, qed, move, drop, use1, split, fsplit, fjoin, feq_l, regoal, rewrite, suffices, await, done, some, given, pick, learn, flt_l}
 use types.Run.{enter, returns, and_then, no_more}
@@ -24,18 +24,17 @@ use denote.RawPtr.{ptr_val, in_a_block, block_ptr, lies_at}
 use denote.Signature.{plain, types_at}
 use denote.Steps.{nothing, heard, only}
 use denote.Triple.Call.{calls_at}
-use denote.Triple.Clauses.{Clauses, closing}
+use denote.Triple.Clauses.{Clauses}
 use denote.Triple.Entry.{alive}
-use denote.Triple.Spec.{Meets, triple_of}
 use denote.Triple.Statement.{Triple}
-use denote.Triple.Table.{entered}
-use denote.Triple.Walked.{says, Stays, stay_dropped, walk_of, ends_at, walk_Meets}
+use denote.Triple.Walked.{says, Stays, stay_dropped, walk_of, ends_at}
 use Rattle.std.proofs.alloc.Calls.{Goes-blank}
 use Rattle.std_alloc.specs.Vec.Ownership.{lodged}
 use Rattle.std_alloc.specs.declared.vec.lodged.Lodged.{Lodged}
 use Rattle.std_alloc.specs.contracts.vec.lodge.Key.{name as callee_name}
 use Rattle.std_alloc.proofs.vec.lodge.Met as callee
 use Rattle.guest_bytes.proofs.Lodging.{byte_laws, Lent, Good, tells, counted, lodges, Lodges, at_lodge, IsLodged, lodge_goes, lodge_gives}
+use Rattle.guest_bytes.proofs.Walking.{called, walked_through}
 use Rattle.guest_bytes.specs.contracts.lent.lend as F
 use Rattle.guest_bytes.specs.contracts.lent.lend.Key.{name as #self}
 use Rattle.guest_bytes.proofs.lent.lend.Statement as stated
@@ -95,22 +94,14 @@ module _ {M : Type 1} {𝓤 : Ura M} (𝓛 : Logic 𝓤) (at_mem : Memory → SP
         suffices ! _ (ends_at 𝓛 F.ended stayed held z v r (tt, (tt, tt)) (tt, (tt, tt))) $ says ! is.0 $
         nothing ! $ nothing ! $ fjoin ! $ nothing ! $ fjoin ! $ move ! (2 ∷ 0 ∷ 1 ∷ []) $ done !)))))))))))
 
-  meets : (𝓣 : Tables 𝓤 H) → Triple 𝓤 (𝓣.C key) (Lodges 𝓛 at_mem run)
-      → Meets 𝓛 F.ended.signature (WpFn 𝓤 H 𝓣.C 𝓣.Λ code.function) (closing 𝓛 F.ended held)
-  meets 𝓣 called =
-      walk_Meets 𝓛 F.ended stayed (
-        Goes-blank 𝓛 0 (plain (λ _. RawPtr)) yes (λ κs x f. tt),
-        (Goes-blank 𝓛 0 (plain (λ _. usize)) yes (λ κs x f. tt), tt),
-      ) held
-      (WpFn 𝓤 H 𝓣.C 𝓣.Λ code.function) (WpFn-mono 𝓤 H 𝓛.laws 𝓣 code.function)
-      (walks 𝓣.C 𝓣.Λ (fm_of 𝓤 H 𝓛.laws 𝓣) called)
-
 pub lend_spec : {M : Type 1} → stated.statement M
 unfolding tables_of
 lend_spec 𝓤 𝓛 𝓜 𝓡 wired =
-    let 𝓣 : Tables 𝓤 𝓛.H = tables_of 𝓤 𝓛.H 𝓜 (tables 𝓤 𝓛.H 𝓜 𝓡 𝓡.env) in
-    entered 𝓤 𝓛.H (triple_of 𝓛 F.ended.signature (closing 𝓛 F.ended (held 𝓛 𝓜.mem 𝓡.returns)))
-    𝓣.C 𝓣.Λ #self code.function
-    (code.unfolded 𝓤 𝓛.H 𝓜 𝓡 wired)
-    (meets 𝓛 𝓜.mem 𝓡.returns 𝓣
+    let 𝓣 : Tables 𝓤 𝓛.H = called 𝓤 𝓛 𝓜 𝓡 in
+    walked_through 𝓤 𝓛 𝓜 𝓡 #self code.function F.ended stayed (held 𝓛 𝓜.mem 𝓡.returns)
+    (code.unfolded 𝓤 𝓛.H 𝓜 𝓡 wired) (
+      Goes-blank 𝓛 0 (plain (λ _. RawPtr)) yes (λ κs x f. tt),
+      (Goes-blank 𝓛 0 (plain (λ _. usize)) yes (λ κs x f. tt), tt),
+    )
+    (walks 𝓛 𝓜.mem 𝓡.returns 𝓣.C 𝓣.Λ (fm_of 𝓤 𝓛.H 𝓛.laws 𝓣)
     (callee.met 𝓤 𝓛 𝓜 𝓡 (code.calls-std_alloc::vec::lodge 𝓡.env wired) u8 byte_laws))

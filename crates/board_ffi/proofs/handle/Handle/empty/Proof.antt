@@ -11,8 +11,6 @@ use prog.Routine.{Routine}
 use prog.Wp.{WpFn, Tables}
 use types.Logic.{Logic}
 use contract.Monad.{Fun}
-use contract.Running.{tables, tables_of}
-use sound.WpLaws.{WpFn-mono}
 use types.Kit.{Item, ‵, raw, ◌⊛◌, ◌$◌, ◌∵◌, !, qed, by, move, drop, join, split, fsplit, fjoin, suffices, done}
 use types.Part.{agg}
 use types.Run.{no_more, and_then, lit, returns, enter}
@@ -20,13 +18,11 @@ use types.ByLocal.{alloc_all, pass_all, free_all, look_at, get, sets}
 use denote.Exit.{yes}
 use denote.RawPtr.{null_ptr}
 use denote.Signature.{plain}
-use denote.Steps.{nothing}
-use denote.Triple.Spec.{triple_of}
-use denote.Triple.Table.{entered}
-use denote.Triple.Walked.{says, Stays, stay_dropped, walk_of, ends_at, Goes-dropped, walk_Meets}
+use denote.Triple.Walked.{Stays, stay_dropped, walk_of, ends_at, Goes-dropped, Walks}
 use Rattle.std.specs.Prelude.{None}
 use Rattle.std.proofs.alloc.Calls.{handle_tells}
 use Rattle.std_alloc.proofs.ResultValues.{and_tt}
+use Rattle.guest_bytes.proofs.Walking.{called, hands_over, walked_through}
 use Rattle.board_ffi.proofs.AsBox.{E}
 use Rattle.board_ffi.proofs.HandleSteps.{H, word, empty_in}
 use Rattle.board_ffi.specs.contracts.handle.Handle.empty as F
@@ -39,10 +35,7 @@ stayed = (stay_dropped (plain (λ _. E.al.row)) yes, tt)
 
 module _ {M : Type 1} {𝓤 : Ura M} (𝓛 : Logic 𝓤) (at_mem : Memory → SProp 𝓤) (run : Routine
     → Fun 𝓤) (𝓣 : Tables 𝓤 𝓛.H) where
-  walk : (z : (walk_of 𝓛 F.ended stayed (F.clauses 𝓛 at_mem run)).Ghost)
-      → ent 𝓤 ((walk_of 𝓛 F.ended stayed (F.clauses 𝓛 at_mem run)).pre z)
-      (WpFn 𝓤 𝓛.H 𝓣.C 𝓣.Λ code.function (z.0.4.0
-      ++ []) ((walk_of 𝓛 F.ended stayed (F.clauses 𝓛 at_mem run)).post z))
+  walk : Walks 𝓛 F.ended stayed (WpFn 𝓤 𝓛.H 𝓣.C 𝓣.Λ code.function) (F.clauses 𝓛 at_mem run)
   walk z =
       let Post = (walk_of 𝓛 F.ended stayed (F.clauses 𝓛 at_mem run)).post z in
       let a = z.0.3.0 in
@@ -58,18 +51,11 @@ module _ {M : Type 1} {𝓤 : Ura M} (𝓛 : Logic 𝓤) (at_mem : Memory → SP
       sets ! (agg ! (and_then ! (lit ! tt) (and_then ! (get ! refl) (no_more !)))) refl (
         and_tt _ fa.0,
         (record { fits = lit< tt }, (fa.1, tt)),
-      ) $ returns ! (look_at ! 0 refl) $ free_all ! refl $
-      suffices ! _ (ends_at 𝓛 F.ended stayed (F.clauses 𝓛 at_mem run) z w made (tt, tt)
-      (tt, tt)) $ says ! refl $
-      nothing ! $ nothing ! $ fjoin ! $ join ! $ nothing ! $ join ! $ done !))))
+      ) $ returns ! (look_at ! 0 refl) $ free_all ! refl $ suffices ! _
+      (ends_at 𝓛 F.ended stayed (F.clauses 𝓛 at_mem run) z w made (tt, tt) (tt, tt)) $ hands_over ! refl))))
 
 pub empty_spec : {M : Type 1} → stated.statement M
-unfolding tables_of
 empty_spec 𝓤 𝓛 𝓜 𝓡 wired =
-    let 𝓣 : Tables 𝓤 𝓛.H = tables_of 𝓤 𝓛.H 𝓜 (tables 𝓤 𝓛.H 𝓜 𝓡 𝓡.env) in
-    entered 𝓤 𝓛.H (triple_of 𝓛 F.signature (F.spec 𝓛 𝓜.mem 𝓡.returns)) 𝓣.C 𝓣.Λ #self code.function
-    (code.unfolded 𝓤 𝓛.H 𝓜 𝓡 wired)
-    (walk_Meets 𝓛 F.ended stayed (Goes-dropped 𝓛 0 (plain (λ _. E.al.row)) yes (λ κs x f. refl), tt)
-    (F.clauses 𝓛 𝓜.mem 𝓡.returns) (WpFn 𝓤 𝓛.H 𝓣.C 𝓣.Λ code.function)
-    (WpFn-mono 𝓤 𝓛.H 𝓛.laws 𝓣 code.function)
-    (walk 𝓛 𝓜.mem 𝓡.returns 𝓣))
+    walked_through 𝓤 𝓛 𝓜 𝓡 #self code.function F.ended stayed (F.clauses 𝓛 𝓜.mem 𝓡.returns)
+    (code.unfolded 𝓤 𝓛.H 𝓜 𝓡 wired) (Goes-dropped 𝓛 0 (plain (λ _. E.al.row)) yes (λ κs x f. refl), tt)
+    (walk 𝓛 𝓜.mem 𝓡.returns (called 𝓤 𝓛 𝓜 𝓡))

@@ -3,41 +3,33 @@ use mathlib.Core.Path.{◌≡◌, ◌∙◌, refl, sym, subst}
 use mathlib.Core.List.{List, [], ◌∷◌, ◌++◌}
 use seplogic.Ra.Ura.{Ura}
 use lib.Dec.{lit<}
-use mir.Raw.{raw as bare}
 use mir.Val.{Val, of_list}
-use base.Logic.{SProp, ent, sep, emp, guard, guard_i, never_e, id⊢, via, snd∗}
+use base.Logic.{SProp, ent, sep, emp, never_e, id⊢}
 use base.Fml.{ftrue, ffalse, fsep}
 use prog.Memory.{Memory}
 use prog.Routine.{Routine}
 use prog.Wp.{WpFn, Tables}
 use types.Logic.{Logic, sem}
-use contract.Monad.{Fun, fact_use}
-use contract.Running.{tables, tables_of}
-use sound.WpLaws.{WpFn-mono}
-use types.Kit.{Item, ‵, raw, ◌⊛◌, ◌$◌, ◌∵◌, !, qed, by, at_ret, given, learn, keep, drop, use0, use1, join, split, fsplit, fjoin, fpick, suffices, done}
+use contract.Monad.{Fun}
+use types.Kit.{Item, ‵, raw, ◌⊛◌, ◌$◌, ◌∵◌, !, qed, by, at_ret, given, learn, keep, drop, use0, use1, split, fsplit, fpick, suffices}
 use types.Match.{live}
 use types.Part.{whole, sub, agg}
 use types.Run.{stop, fld, bin, lit, no_more, and_then, of_opd, first, branches, skips, exec, returns, returns_within, enter}
 use types.ByLocal.{alloc_all, pass_all, free_all, look_at, get, get_in, sets, env}
 use denote.Exit.{yes}
-use denote.Memory.{lone}
 use denote.RawPtr.{Ptr, block_ptr, null_ptr, Testable, tests_null}
-use denote.Steps.{nothing}
-use denote.Triple.Spec.{triple_of}
-use denote.Triple.Table.{entered}
-use denote.Triple.Walked.{says, Stays, stay_dropped, walk_of, ends_at, Goes-dropped, walk_Meets}
+use denote.Triple.Walked.{Stays, stay_dropped, walk_of, ends_at, Goes-dropped}
 use Rattle.std.specs.Prelude.{Some, None}
 use Rattle.std.specs.Box.Ownership.{box_owns}
 use Rattle.std_alloc.proofs.ResultValues.{and_tt}
-use Rattle.std.specs.Ptr.{points_to}
-use Rattle.std.proofs.GlobalToken.{dealloc_token-Testable}
 use Rattle.std.proofs.option.Made.{Some-of, none_of}
 use Rattle.std.proofs.alloc.Calls.{Fits, token}
 use Rattle.std.specs.contracts.option.Option as OP
 use Rattle.std_alloc.proofs.BoxSteps.Form.{D, R, handle, box_typed}
 use Rattle.std_alloc.proofs.BoxSteps.Steps.{box_in}
+use Rattle.guest_bytes.proofs.Walking.{called, hands_over, walked_through}
 use Rattle.board_ffi.proofs.AsBox.{E, Of, FromHandle as From}
-use Rattle.board_ffi.proofs.HandleSteps.{H, word, handle_out}
+use Rattle.board_ffi.proofs.HandleSteps.{H, word, handle_out, tested}
 use Rattle.board_ffi.specs.Handle.{held, Held}
 use Rattle.board_ffi.specs.contracts.handle.Handle.into_parts as F
 use Rattle.board_ffi.specs.contracts.handle.Handle.into_parts.Key.{name as #self}
@@ -49,16 +41,6 @@ stayed = (stay_dropped From yes, tt)
 
 module _ {M : Type 1} {𝓤 : Ura M} (𝓛 : Logic 𝓤) (at_mem : Memory → SProp 𝓤) (run : Routine
     → Fun 𝓤) (𝓣 : Tables 𝓤 𝓛.H) where
-  -- what a box owns tells that its pointer may be compared with null
-  tested : (a : E.al.row.Denot) (p : Ptr) (x : E.row.Denot)
-      → ent 𝓤 (sem 𝓛 (box_owns (token E.al a) (R E) p x))
-      (guard 𝓤 (Testable p) (sem 𝓛 (box_owns (token E.al a) (R E) p x)))
-  tested a p x =
-      let owns : SProp 𝓤 = sem 𝓛 (box_owns (token E.al a) (R E) p x) in
-      let last : SProp 𝓤 = sem 𝓛 (token E.al a (bare (lone (R E).mir)) p) in
-      fact_use 𝓤 (Testable p) (via 𝓤 last (snd∗ 𝓤 (sem 𝓛 (points_to (R E) p x)) last)
-      (dealloc_token-Testable 𝓛 a (bare (lone (R E).mir)) p)) (guard_i 𝓤 (Testable p) owns)
-
   module _ (z : (walk_of 𝓛 F.ended stayed (F.clauses 𝓛 at_mem run)).Ghost) where
     abbrev Post : Val → SProp 𝓤
     Post = (walk_of 𝓛 F.ended stayed (F.clauses 𝓛 at_mem run)).post z
@@ -84,8 +66,7 @@ module _ {M : Type 1} {𝓤 : Ura M} (𝓛 : Logic 𝓤) (at_mem : Memory → SP
         returns_within ! Post refl (look_at ! 0 refl) $ free_all ! refl $
         use0 𝓛 (‵ ((OP.the_row Of).own_val None (live 0 (of_list []) ∷ []))) (none_of 𝓛 Of) $
         suffices ! _ (ends_at 𝓛 F.ended stayed (F.clauses 𝓛 at_mem run) z (live 0 (of_list [])) None (tt, tt)
-        (tt, tt)) $ says ! (e ∙ none) $
-        nothing ! $ nothing ! $ fjoin ! $ join ! $ nothing ! $ join ! $ done !)
+        (tt, tt)) $ hands_over ! (e ∙ none))
         (λ t. absurd t)))
     at (block_ptr b o) None hv e fa =
         qed 𝓛 (‵ ffalse ∷ ‵ (handle E d.alloc hv) ∷ []) ∵ use1 𝓛 (given ⊥ (‵ ftrue)) (never_e 𝓤 _) $
@@ -98,7 +79,7 @@ module _ {M : Type 1} {𝓤 : Ura M} (𝓛 : Logic 𝓤) (at_mem : Memory → SP
         let typed = box_typed E hv b o fa in
         qed 𝓛 (‵ (box_owns (token E.al d.alloc) (R E) (block_ptr b o) x) ∷ ‵ (handle E d.alloc hv) ∷ []) ∵
         use1 𝓛 (given (Testable (block_ptr b o)) (‵ (box_owns (token E.al d.alloc) (R E) (block_ptr b o) x)))
-        (tested d.alloc (block_ptr b o) x) $ learn ! (λ may.
+        (tested 𝓛 d.alloc (block_ptr b o) x) $ learn ! (λ may.
         fsplit ! $ box_in E ! v b o x refl refl $ use1 𝓛 (‵ (Of.own_val made (w ∷ []))) (id⊢ 𝓤 _) $
         use1 𝓛 (‵ ((OP.the_row Of).own_val (Some made) (out ∷ []))) (Some-of 𝓛 Of made w) $
         enter ! 𝓣.C 𝓣.Λ code.function (w ∷ []) _ $ alloc_all ! (λ ls. pass_all ! refl (typed, tt) $
@@ -116,8 +97,7 @@ module _ {M : Type 1} {𝓤 : Ura M} (𝓛 : Logic 𝓤) (at_mem : Memory → SP
         ) $
         returns ! (look_at ! 0 refl) $ free_all ! refl $
         suffices ! _ (ends_at 𝓛 F.ended stayed (F.clauses 𝓛 at_mem run) z out (Some made) (tt, tt)
-        (tt, tt)) $ says ! e $
-        nothing ! $ nothing ! $ fjoin ! $ join ! $ nothing ! $ join ! $ done !)))
+        (tt, tt)) $ hands_over ! e)))
 
     walk : ent 𝓤 ((walk_of 𝓛 F.ended stayed (F.clauses 𝓛 at_mem run)).pre z)
         (WpFn 𝓤 𝓛.H 𝓣.C 𝓣.Λ code.function (z.0.4.0 ++ []) Post)
@@ -131,12 +111,7 @@ module _ {M : Type 1} {𝓤 : Ura M} (𝓛 : Logic 𝓤) (at_mem : Memory → SP
         (at d.at d.session hv refl fa)))
 
 pub into_parts_spec : {M : Type 1} → stated.statement M
-unfolding tables_of
 into_parts_spec 𝓤 𝓛 𝓜 𝓡 wired =
-    let 𝓣 : Tables 𝓤 𝓛.H = tables_of 𝓤 𝓛.H 𝓜 (tables 𝓤 𝓛.H 𝓜 𝓡 𝓡.env) in
-    entered 𝓤 𝓛.H (triple_of 𝓛 F.signature (F.spec 𝓛 𝓜.mem 𝓡.returns)) 𝓣.C 𝓣.Λ #self code.function
-    (code.unfolded 𝓤 𝓛.H 𝓜 𝓡 wired)
-    (walk_Meets 𝓛 F.ended stayed (Goes-dropped 𝓛 0 From yes (λ κs x f. refl), tt)
-    (F.clauses 𝓛 𝓜.mem 𝓡.returns) (WpFn 𝓤 𝓛.H 𝓣.C 𝓣.Λ code.function)
-    (WpFn-mono 𝓤 𝓛.H 𝓛.laws 𝓣 code.function)
-    (walk 𝓛 𝓜.mem 𝓡.returns 𝓣))
+    walked_through 𝓤 𝓛 𝓜 𝓡 #self code.function F.ended stayed (F.clauses 𝓛 𝓜.mem 𝓡.returns)
+    (code.unfolded 𝓤 𝓛.H 𝓜 𝓡 wired) (Goes-dropped 𝓛 0 From yes (λ κs x f. refl), tt)
+    (walk 𝓛 𝓜.mem 𝓡.returns (called 𝓤 𝓛 𝓜 𝓡))

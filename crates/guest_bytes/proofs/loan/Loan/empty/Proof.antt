@@ -13,8 +13,6 @@ use prog.Routine.{Routine}
 use prog.Wp.{WpFn, Tables}
 use types.Logic.{Logic}
 use contract.Monad.{Fun}
-use contract.Running.{tables, tables_of}
-use sound.WpLaws.{WpFn-mono}
 use types.Kit.{‵, raw, ◌⊛◌, ◌$◌, ◌∵◌, !, qed, drop, use1, join, split, fjoin, fpack, feq_i, flt_i, suffices, done}
 use types.Part.{agg}
 use types.Run.{no_more, and_then, lit, returns, enter}
@@ -24,9 +22,8 @@ use denote.RawPtr.{null_ptr}
 use denote.Struct.Struct.{within}
 use denote.Struct.Owning.{shape, to, fields}
 use denote.Steps.{nothing}
-use denote.Triple.Spec.{triple_of}
-use denote.Triple.Table.{entered}
-use denote.Triple.Walked.{says, walk_of, ends_at, walk_Meets}
+use denote.Triple.Walked.{says, walk_of, ends_at}
+use Rattle.guest_bytes.proofs.Walking.{called, walked_through}
 use Rattle.guest_bytes.specs.contracts.loan.Loan as R
 use Rattle.guest_bytes.specs.contracts.loan.Loan.empty as F
 use Rattle.guest_bytes.specs.contracts.loan.Loan.empty.Key.{name as #self}
@@ -62,11 +59,6 @@ module _ {M : Type 1} {𝓤 : Ura M} (𝓛 : Logic 𝓤) (at_mem : Memory → SP
       nothing ! $ join ! $ nothing ! $ join ! $ done !)
 
 pub empty_spec : {M : Type 1} → stated.statement M
-unfolding tables_of
 empty_spec 𝓤 𝓛 𝓜 𝓡 wired =
-    let 𝓣 : Tables 𝓤 𝓛.H = tables_of 𝓤 𝓛.H 𝓜 (tables 𝓤 𝓛.H 𝓜 𝓡 𝓡.env) in
-    entered 𝓤 𝓛.H (triple_of 𝓛 F.signature (F.spec 𝓛 𝓜.mem 𝓡.returns)) 𝓣.C 𝓣.Λ #self code.function
-    (code.unfolded 𝓤 𝓛.H 𝓜 𝓡 wired)
-    (walk_Meets 𝓛 F.ended tt tt (F.clauses 𝓛 𝓜.mem 𝓡.returns) (WpFn 𝓤 𝓛.H 𝓣.C 𝓣.Λ code.function)
-    (WpFn-mono 𝓤 𝓛.H 𝓛.laws 𝓣 code.function)
-    (walk 𝓛 𝓜.mem 𝓡.returns 𝓣))
+    walked_through 𝓤 𝓛 𝓜 𝓡 #self code.function F.ended tt (F.clauses 𝓛 𝓜.mem 𝓡.returns)
+    (code.unfolded 𝓤 𝓛.H 𝓜 𝓡 wired) tt (walk 𝓛 𝓜.mem 𝓡.returns (called 𝓤 𝓛 𝓜 𝓡))

@@ -11,8 +11,8 @@ use prog.Memory.{Memory}
 use prog.Routine.{Routine}
 use prog.Wp.{WpFn, Tables}
 use contract.Monad.{Fun, fact, fact_i}
-use contract.Running.{tables, tables_of}
-use sound.WpLaws.{WpFn-mono, fm_of}
+use contract.Running.{tables_of}
+use sound.WpLaws.{fm_of}
 use types.Logic.{Logic, sem}
 use types.Kit.{‵, raw, ◌⊛◌, some, later, prop, at_ret, given, learn, by, ◌$◌, ◌∵◌, !, qed, move, keep, drop, use0, use1, split, join, fsplit, fjoin, fpick, feq_l, feq_i, flt_i, regoal, rewrite, suffices, await, done, pick, flt_l}
 use types.Part.{whole, sub}
@@ -28,12 +28,12 @@ use denote.Triple.Call.{calls_at, calls_at_last}
 use denote.Triple.Clauses.{lasts}
 use denote.Triple.Spec.{triple_of}
 use denote.Triple.Statement.{Contract, Triple}
-use denote.Triple.Table.{entered}
-use denote.Triple.Walked.{says, Stays, stay_dropped, walk_of, ends_at, Goes-dropped, walk_Meets}
+use denote.Triple.Walked.{Stays, stay_dropped, walk_of, ends_at, Goes-dropped}
 use Rattle.std_alloc.specs.declared.vec.lodged.Lodged.{Lodged}
 use Rattle.std_alloc.proofs.ResultValues.{and_tt}
 use Rattle.guest_bytes.specs.Loaned.{loaned}
 use Rattle.guest_bytes.proofs.Lodging.{Lent, Good, tells}
+use Rattle.guest_bytes.proofs.Walking.{called, hands_over, walked_through}
 use Rattle.guest_bytes.specs.contracts.lent.lend as G
 use Rattle.guest_bytes.specs.contracts.lent.lend.Key.{name as callee_name}
 use Rattle.guest_bytes.proofs.lent.lend.Met as callee
@@ -125,9 +125,7 @@ module _ {M : Type 1} {𝓤 : Ura M} (𝓛 : Logic 𝓤) (at_mem : Memory → SP
       let fine = subst Good (sym (ap only one)) good in
       rewrite ! 0 (λ w. ‵ (Lent.own_val r (w ∷ []))) (sym (ap only one)) refl $ lands_as ! refl refl fine $
       returns_within ! Post refl (look_at ! 0 refl) $ free_all ! refl $
-      suffices ! _ (ends_at 𝓛 F.ended stayed (F.clauses 𝓛 at_mem run) z v r (tt, tt) (tt, tt)) $ says
-      ! (same ∙ sym is) $
-      nothing ! $ nothing ! $ fjoin ! $ join ! $ nothing ! $ join ! $ done !))))))
+      suffices ! _ (ends_at 𝓛 F.ended stayed (F.clauses 𝓛 at_mem run) z v r (tt, tt) (tt, tt)) $ hands_over ! (same ∙ sym is)))))))
       (λ t. absurd t))
 
   -- from one of some bytes
@@ -161,8 +159,7 @@ module _ {M : Type 1} {𝓤 : Ura M} (𝓛 : Logic 𝓤) (at_mem : Memory → SP
       rewrite ! 0 (λ w. ‵ (Lent.own_val r (w ∷ []))) (sym (ap only one)) refl $ lands_last ! refl fine $
       exec ! 𝓣.C 𝓣.Λ (env code.function.locals l) code.Mir.t-6 (at_ret (env code.function.locals l) Post) $
       sets ! (of_opd ! (get ! refl)) refl fine $ returns ! (look_at ! 0 refl) $ free_all ! refl $
-      suffices ! _ (ends_at 𝓛 F.ended stayed (F.clauses 𝓛 at_mem run) z v r (tt, tt) (tt, tt)) $ says ! same $
-      nothing ! $ nothing ! $ fjoin ! $ join ! $ nothing ! $ join ! $ done !)))))))
+      suffices ! _ (ends_at 𝓛 F.ended stayed (F.clauses 𝓛 at_mem run) z v r (tt, tt) (tt, tt)) $ hands_over ! same)))))))
 
   at : (p : Ptr) (n : ℕ) → length d.items ≡ n → n < 2 ^ 64 → n < 2 ^ 63
       → ent 𝓤 (sem 𝓛 (loaned p n d.items)) (WpFn 𝓤 H 𝓣.C 𝓣.Λ code.function (word (ptr_val p) n ∷ []) Post)
@@ -190,11 +187,8 @@ module _ {M : Type 1} {𝓤 : Ura M} (𝓛 : Logic 𝓤) (at_mem : Memory → SP
 pub into_bytes_spec : {M : Type 1} → stated.statement M
 unfolding tables_of
 into_bytes_spec 𝓤 𝓛 𝓜 𝓡 wired =
-    let 𝓣 : Tables 𝓤 𝓛.H = tables_of 𝓤 𝓛.H 𝓜 (tables 𝓤 𝓛.H 𝓜 𝓡 𝓡.env) in
-    entered 𝓤 𝓛.H (triple_of 𝓛 F.signature (F.spec 𝓛 𝓜.mem 𝓡.returns)) 𝓣.C 𝓣.Λ #self code.function
-    (code.unfolded 𝓤 𝓛.H 𝓜 𝓡 wired)
-    (walk_Meets 𝓛 F.ended stayed (Goes-dropped 𝓛 0 (plain (λ _. R.the_row)) yes (λ κs x f. refl), tt)
-    (F.clauses 𝓛 𝓜.mem 𝓡.returns)
-    (WpFn 𝓤 𝓛.H 𝓣.C 𝓣.Λ code.function) (WpFn-mono 𝓤 𝓛.H 𝓛.laws 𝓣 code.function)
-    (walk 𝓛 𝓜.mem 𝓡.returns 𝓣 (callee.met 𝓤 𝓛 𝓜 𝓡 (code.calls-guest_bytes::lent::lend 𝓡.env wired))
-    (none_met.met 𝓤 𝓛 𝓜 𝓡 (code.calls-guest_bytes::loan::none 𝓡.env wired))))
+    walked_through 𝓤 𝓛 𝓜 𝓡 #self code.function F.ended stayed (F.clauses 𝓛 𝓜.mem 𝓡.returns)
+    (code.unfolded 𝓤 𝓛.H 𝓜 𝓡 wired) (Goes-dropped 𝓛 0 (plain (λ _. R.the_row)) yes (λ κs x f. refl), tt)
+    (walk 𝓛 𝓜.mem 𝓡.returns (called 𝓤 𝓛 𝓜 𝓡)
+    (callee.met 𝓤 𝓛 𝓜 𝓡 (code.calls-guest_bytes::lent::lend 𝓡.env wired))
+    (none_met.met 𝓤 𝓛 𝓜 𝓡 (code.calls-guest_bytes::loan::none 𝓡.env wired)))

@@ -2,7 +2,7 @@ use Rattle.std.proofs.Common.{◌≤◌, ◌^◌}
 use Rattle.std.proofs.lemmas.List.Elements.{All-map}
 use Rattle.board_ffi.specs.Create.{guest_of}
 use Rattle.board_ffi.proofs.Outlets.{All-unmap}
-use Rattle.board_ffi.proofs.create.are_outlets.Goals as goal
+use Rattle.board_ffi.proofs.slot.are_outlets.Goals as goal
 
 pub returns : goal.returns
 returns c = (

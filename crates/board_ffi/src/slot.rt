@@ -1,0 +1,105 @@
+//! A slot of a board, as C describes it.
+
+ghost use Rattle.std.specs.Prelude.{◌≡◌, ◌↔◌, ◌≤◌, All, IsTrue, IfOk, map};
+ghost use Rattle.session.specs.Refusing.{AreOutlets};
+ghost use Rattle.board_ffi.specs.Judging.{first_of_large_outlet, first_of_other_size};
+ghost use Rattle.board_ffi.specs.Create.{AreSized, guest_of};
+
+use crate::region::regions;
+use guest_memory::{MOST_REGIONS, RegionSpec};
+use session::{Extent, GuestSpec, SlotSpec};
+use std::alloc::{AllocError, Global};
+
+/// How many bytes of a console's output may wait at most.
+const MOST_WAITING: u32 = 0x100_0000;
+
+/// How many bytes a slot of this version has.
+const SLOT_SIZE: usize = size_of::<Slot>();
+
+/// A slot, as C describes it.
+#[derive(Clone, Copy)]
+#[repr(C)]
+pub struct Slot {
+    /// How many bytes the host's slot has: later versions have more.
+    pub size: usize,
+    /// The regions of its memory: the first that has no bytes, and those behind it, are none.
+    pub regions: [RegionSpec; MOST_REGIONS],
+    pub start: u64,
+    pub count: u64,
+    pub cols: u16,
+    pub rows: u16,
+    pub outlet: u32,
+    pub read_only: bool,
+    pub identity: [u8; 20],
+}
+
+impl Slot {
+    // Its guest.
+    fn guest(&self) -> GuestSpec
+        ensures { result ≡ guest_of self.now }
+    {
+        let slot = SlotSpec {
+            regions: regions(&self.regions),
+            extent: Extent {
+                start: self.start,
+                count: self.count,
+            },
+            read_only: self.read_only,
+            cols: self.cols,
+            rows: self.rows,
+            identity: self.identity,
+        };
+        GuestSpec {
+            slot,
+            outlet: self.outlet,
+        }
+    }
+}
+
+/// Whether each slot has the size of this version. Nothing behind the first that hasn't is read.
+pub(crate) fn are_sized(slots: &[Slot]) -> bool
+    ensures { IsTrue result ↔ AreSized slots.now }
+{
+    slots.iter().all(|slot| slot.size == SLOT_SIZE)
+}
+
+/// Whether no slot's outlet is larger than it may be.
+pub(crate) fn are_outlets(slots: &[Slot]) -> bool
+    ensures { IsTrue result ↔ AreOutlets (map guest_of slots.now) }
+{
+    no_slot_passes(slots, MOST_WAITING)
+}
+
+// Whether no slot's outlet passes so many bytes.
+fn no_slot_passes(slots: &[Slot], most: u32) -> bool
+    ensures { IsTrue result ↔ All (λ slot. slot.outlet ≤ most) slots.now }
+{
+    slots.iter().all(|slot| slot.outlet <= most)
+}
+
+/// How many slots stand before the first that says another size.
+pub(crate) fn sized(slots: &[Slot]) -> usize
+    ensures { result ≡ first_of_other_size slots.now }
+{
+    slots
+        .iter()
+        .take_while(|slot| slot.size == SLOT_SIZE)
+        .count()
+}
+
+/// How many slots stand before the first whose outlet is too large.
+pub(crate) fn with_outlets(slots: &[Slot]) -> usize
+    ensures { result ≡ first_of_large_outlet slots.now }
+{
+    slots
+        .iter()
+        .take_while(|slot| slot.outlet <= MOST_WAITING)
+        .count()
+}
+
+/// The guests of these slots.
+pub(crate) fn guests(alloc: Global, slots: &[Slot]) -> Result<Vec<GuestSpec>, AllocError>
+    ensures { IfOk result (λ guests. guests.items ≡ map guest_of slots.now) }
+{
+    slots.iter().map(|slot| slot.guest()).collect(alloc)
+}
