@@ -1,8 +1,7 @@
 -- Descriptions of boards whose disks the host serves: what is known after some slots were found good, and
--- what a
--- refusal says.
-use Rattle.std.proofs.Common.{◌≡◌, ◌⊎◌, inl, inr, ℕ, ◌+◌, ◌*◌, ◌<◌, ◌≤◌, List, [], length, Some, get_or, refl, sym, ◌∙◌, ap, subst, arith}
-use Rattle.std.specs.Prelude.{◌^◌}
+-- what a refusal says.
+use Rattle.std.proofs.Common.{◌≡◌, ◌≢◌, ◌⊎◌, inl, inr, ℕ, ◌+◌, ◌*◌, ◌<◌, ◌≤◌, List, [], length, Some, get_or, refl, sym, ◌∙◌, ap, subst, arith}
+use Rattle.std.specs.Prelude.{◌^◌, All}
 use Rattle.std.specs.List.{slice_get}
 use Rattle.std.proofs.lemmas.Bool.{cases_lt, cases_order}
 use Rattle.std.proofs.lemmas.Option.{slice_get-get_or, slice_get_within}
@@ -36,14 +35,22 @@ pub good_hosted_all : (slots : List SlotSpec) (n : ℕ) → length slots ≤ n �
     → GoodHostedBelow slots (length slots)
 good_hosted_all slots n all good i spec below there = good i spec (omega arith) there
 
--- every memory that is asked for may be had, and the bytes of every disk are counted in 64 bits
-pub hosted_ready : (slots : List SlotSpec) → AreGoodHosted slots → (k : ℕ) (d : SlotSpec) → k < length slots
-    → AreGoodRegions (get_or slots k d).regions × (sector_len * (get_or slots k d).extent.count < 2 ^ 64)
-hosted_ready slots good k d below =
-    let spec = get_or slots k d in
-    let one : IsGoodHosted spec = good.each k spec below (slice_get-get_or slots k d below) in
-    let few : spec.extent.count ≤ most_sectors = omega (arith, one.within) in
-    (one.memory, omega (arith, few))
+good_at : (slots : List SlotSpec) → AreGoodHosted slots → (k : ℕ) (d : SlotSpec) → k < length slots
+    → IsGoodHosted (get_or slots k d)
+good_at slots good k d below = good.each k (get_or slots k d) below (slice_get-get_or slots k d below)
+
+-- every memory that is asked for may be had
+pub hosted_memories : (slots : List SlotSpec) → AreGoodHosted slots
+    → All (λ spec. AreGoodRegions spec.regions) slots
+hosted_memories slots good k d below = (good_at slots good k d below).memory
+
+-- and the bytes of every disk are counted in 64 bits
+pub hosted_disks : (slots : List SlotSpec) → AreGoodHosted slots
+    → All (λ spec. sector_len * spec.extent.count < 2 ^ 64) slots
+hosted_disks slots good k d below =
+    let few : (get_or slots k d).extent.count ≤ most_sectors =
+    omega (arith, (good_at slots good k d below).within) in
+    omega (arith, few)
 
 -- ---- one fault counts
 
@@ -117,3 +124,8 @@ same_why slots f g (memory is good) (memory is2 good2) = is ∙ sym is2
 pub one_hosted_fault : (slots : List SlotSpec) (f g : BoardFault) → RefusesHosted slots f
     → RefusesHosted slots g → f ≡ g
 one_hosted_fault slots f g one other = same_why slots f g (why slots f one) (why slots g other)
+
+-- so good slots are refused for want of memory alone
+pub only_memory : (slots : List SlotSpec) → AreGoodHosted slots → (fault : BoardFault) → fault ≢ NoMemory
+    → RefusesHosted slots fault → ⊥
+only_memory slots good fault some refuses = some (one_hosted_fault slots fault NoMemory refuses good)

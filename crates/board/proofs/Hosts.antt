@@ -120,7 +120,7 @@ notified old mid new what out own free rings is looks stays =
 abbrev pub IsFree : {A : Type 0} → Option InFlight → EventKind A → Type 0
 IsFree flight what = (is_some flight && must_wait what) ≡ false
 
-same_extent : (slot new : BoardSlot) → device_at new ≡ device_at slot → new.extent ≡ slot.extent
+pub same_extent : (slot new : BoardSlot) → device_at new ≡ device_at slot → new.extent ≡ slot.extent
 same_extent slot new device = ap (λ (d : BlockDevice). d.extent) device
 
 -- the slot's disk has as many sectors after an event as before

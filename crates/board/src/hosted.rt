@@ -4,12 +4,11 @@
 //! `slot` has one guest, of whose requests one is in flight at most; `access` is what an embedder reaches between events,
 //! `view` what somebody sees who only looks, `saved` a slot's snapshot, and `laws` has what holds of all calls, whatever their order. Nothing is shared between slots: there is no image.
 
-ghost use Rattle.std.specs.Prelude.{◌≡◌, ◌≢◌, ◌↔◌, ◌<◌, ◌≤◌, ℕ, List, Option, Some, None, length, map, IfOk, IfSome, IfNone, IsSome, IsSomeAnd, IfErr, IsErrAnd, OnOk};
+ghost use Rattle.std.specs.Prelude.{◌≡◌, ◌≢◌, ◌↔◌, ◌<◌, ℕ, List, Option, Some, None, length, map, IfOk, IfSome, IfNone, IsSome, IsSomeAnd, IfErr, IsErrAnd, OnOk};
 ghost use Rattle.std.specs.List.{slice_get};
 ghost use Rattle.std.specs.Option.{option_and_then};
 ghost use Rattle.block_device.specs.Operation.{LiesInside};
-ghost use Rattle.board.specs.declared.event.EventKind.{EventKind};
-ghost use Rattle.board.specs.declared.fault.BoardFault.{BoardFault};
+ghost use Rattle.board.specs.declared.{event.EventKind.{EventKind}, fault.BoardFault.{BoardFault}};
 ghost use Rattle.board.specs.Image.{sectors_of};
 ghost use Rattle.board.specs.Fault.{AreGoodHosted, RefusesHosted};
 ghost use Rattle.board.specs.Hosting.{hosted_opened, operation_in};
@@ -32,7 +31,7 @@ pub use crate::hosted::laws::{
     each_hosted_guest_is_alone, one_hosted_outcome, what_waits_changes_nothing,
 };
 use crate::hosted::slot::HostedSlot;
-use crate::lent;
+use crate::opening;
 use crate::reply::Handled;
 use crate::spec::SlotSpec;
 use block_device::{Operation, Verdict};
@@ -71,7 +70,7 @@ impl<A: Allocator + Copy> HostedBoard<A> {
             RefusesHosted slots.now fault → IsErrAnd result (λ why. why ≡ fault) }
     {
         check_hosted_slots(slots)?;
-        match open_all(alloc, slots) {
+        match opening::open_all(alloc, slots) {
             Ok(slots) => Ok(HostedBoard { slots, alloc }),
             Err(AllocError) => Err(BoardFault::NoMemory),
         }
@@ -92,7 +91,7 @@ impl<A: Allocator + Copy> HostedBoard<A> {
             RefusesHosted slots.now fault → IsErrAnd result (λ why. why ≡ fault) }
     {
         check_hosted_slots(slots)?;
-        match open_all_over(alloc, slots, bytes) {
+        match opening::open_all_over(alloc, slots, bytes) {
             Ok(slots) => Ok(HostedBoard { slots, alloc }),
             Err(AllocError) => Err(BoardFault::NoMemory),
         }
@@ -161,38 +160,4 @@ impl<A: Allocator> HostedBoard<A> {
     {
         self.slots.get(slot as usize)
     }
-}
-
-// Opens the slots in their order.
-fn open_all<A: Allocator + Copy>(
-    alloc: A,
-    specs: &[SlotSpec],
-) -> Result<Vec<HostedSlot<A>, A>, AllocError>
-    requires { AreGoodHosted specs.now }
-    ensures { IfOk result (λ slots. slots.items ≡ map hosted_opened specs.now) }
-{
-    let mut slots = Vec::with_capacity(alloc, specs.len())?;
-    for spec in specs {
-        slots.push(HostedSlot::open(alloc, spec)?)?;
-    }
-    Ok(slots)
-}
-
-// Opens the slots in their order, over bytes that a host lends.
-fn open_all_over<A: Allocator + Copy>(
-    alloc: A,
-    specs: &[SlotSpec],
-    bytes: Vec<Vec<u8, Lodged>, A>,
-) -> Result<Vec<HostedSlot<A>, A>, AllocError>
-    requires good { AreGoodHosted specs.now }
-    requires bytes { AreBytesOf specs.now (map vec_items bytes.items) }
-    ensures { IfOk result (λ slots. slots.items ≡ made_over hosted_over specs.now (map vec_items bytes.items)) }
-{
-    let mut slots = Vec::with_capacity(alloc, specs.len())?;
-    let mut rest = bytes.into_iter();
-    for spec in specs {
-        let memory = lent::memory(alloc, spec.regions.as_slice(), &mut rest)?;
-        slots.push(HostedSlot::over(alloc, spec, memory)?)?;
-    }
-    Ok(slots)
 }

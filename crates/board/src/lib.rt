@@ -7,8 +7,10 @@
 //!
 //! `board` is the board. `spec` says what it is made of, `check` and `fault` why one is refused;
 //! `event` is what comes in and `reply` what goes out, and `pause` what a turn of a slot is asked and comes to,
-//! whose service may pause, and `task` what a write leaves to be done. `slot` serves one guest, its memory, its two windows and its two devices, and knows of no
-//! other; `counters` is what it counts of them, `features` says what its devices offer, and `lent` makes its memory of a host's bytes. `laws` has what holds of every run by itself.
+//! whose service may pause, and `task` what a write leaves to be done. `slot` serves one guest, its memory, its two windows
+//! and its two devices, and knows of no other; `counters` is what it counts of them, `features` says what its devices offer,
+//! `opening` opens the slots of a board, and `lent` makes a slot's memory of a host's bytes. `laws` has what holds of every
+//! run by itself.
 #![tactic(auto)]
 
 mod board;
@@ -21,6 +23,7 @@ mod features;
 mod hosted;
 mod laws;
 mod lent;
+mod opening;
 mod pause;
 mod reply;
 mod saved;

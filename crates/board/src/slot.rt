@@ -5,20 +5,17 @@
 //! the guest's memory, `window` those of its devices' windows, `service` serves their queues, and `console` is what is done to the console
 //! from outside.
 
-ghost use Rattle.std.specs.Prelude.{◌≡◌, ◌≢◌, ◌<◌, ◌≤◌, ◌||◌, ℕ, List, All, map, IfOk};
-ghost use Rattle.guest_memory.specs.Faults.{AreGood as AreGoodRegions};
+ghost use Rattle.std.specs.Prelude.{◌≡◌, ◌≢◌, ◌<◌, ◌||◌, ℕ, List};
 ghost use Rattle.guest_memory.specs.Memory.{Inside, IsRest};
 ghost use Rattle.block_device.specs.Extent.{IsWithin, TouchesExtent};
 ghost use Rattle.board.specs.Lending.{LendsBytes};
-ghost use Rattle.board.specs.Lent.{AreBytesOf, made_over, opened_over};
 ghost use Rattle.board.specs.Pausing.{Begins, Does, PausesByLimit, MayLackMemoryIn, ServesOver, lacks_memory_in, met_in};
-ghost use Rattle.board.specs.Slot.{AreInterruptWords, IsUnnoted, StaysInSlot, interrupt_words, opened, state_of};
+ghost use Rattle.board.specs.Slot.{AreInterruptWords, IsUnnoted, StaysInSlot, interrupt_words, state_of};
 ghost use Rattle.board.specs.World.{MayLackMemory};
 ghost use Rattle.board.specs.Within.{BeginsWithin, DecidesOver, DoesWithin};
 ghost use Rattle.board.specs.declared.pause.Pause.{Pause};
 ghost use Rattle.board.specs.declared.pause.Turn.{Turn};
 ghost use Rattle.board.specs.declared.reply.Reply.{Reply};
-ghost use Rattle.std.specs.Vec.{vec_items};
 ghost use Rattle.std.specs.Borrow.{sem};
 
 mod console;
@@ -31,11 +28,12 @@ mod window;
 
 use crate::counters::Counters;
 use crate::event::EventKind;
+use crate::features;
+use crate::opening::FromSpec;
 use crate::pause::{Pause, Service, Turn, Work};
 use crate::reply::Reply;
 pub(crate) use crate::slot::memory::copy_out;
 use crate::spec::SlotSpec;
-use crate::{features, lent};
 use block_device::BlockDevice;
 use chain::{Budget, Chain};
 use console_device::{ConsoleDevice, Outlet};
@@ -44,7 +42,6 @@ use mmio_window::{DeviceKind, Stage, Window};
 use sector_cache::{Image, SectorCache};
 use std::alloc::{AllocError, Allocator, Global};
 use std::marker::Model;
-use std_alloc::vec::Lodged;
 
 /// One guest's part of a board.
 #[derive(Drop)]
@@ -91,26 +88,25 @@ struct Answer<A: Allocator = Global> {
     failed: bool,
 }
 
-impl<A: Allocator + Copy> Slot<A> {
-    /// Opens a slot over a memory of zeros.
-    pub(crate) fn open(alloc: A, spec: &SlotSpec) -> Result<Slot<A>, AllocError>
-        requires { AreGoodRegions spec.now.regions }
-        ensures { IfOk result (λ slot. slot ≡ opened spec.now) }
-    {
+impl<A: Allocator + Copy> FromSpec<A, GuestMemory<A>> for Slot<A> {
+    ghost use Rattle.std.specs.Prelude.{⊤};
+    ghost use Rattle.board.specs.Lent as lent;
+    ghost use Rattle.board.specs.Slot as slot;
+
+    ghost DiskFits = { λ spec. ⊤ };
+
+    ghost opened = { slot.opened };
+
+    ghost opened_over = { lent.opened_over };
+
+    fn open(alloc: A, spec: &SlotSpec) -> Result<Slot<A>, AllocError> {
         let Ok(memory) = GuestMemory::with_regions(alloc, spec.regions.as_slice()) else {
             return Err(AllocError);
         };
         Slot::over(alloc, spec, memory)
     }
 
-    /// Opens a slot over a memory that is there.
-    pub(crate) fn over(
-        alloc: A,
-        spec: &SlotSpec,
-        memory: GuestMemory<A>,
-    ) -> Result<Slot<A>, AllocError>
-        ensures { IfOk result (λ slot. slot ≡ opened_over spec.now memory) }
-    {
+    fn over(alloc: A, spec: &SlotSpec, memory: GuestMemory<A>) -> Result<Slot<A>, AllocError> {
         let Ok(console_device) = ConsoleDevice::new(alloc, spec.cols, spec.rows) else {
             return Err(AllocError);
         };
@@ -125,7 +121,9 @@ impl<A: Allocator + Copy> Slot<A> {
             counters: Counters::default(),
         })
     }
+}
 
+impl<A: Allocator + Copy> Slot<A> {
     /// Takes a turn, in which a service may pause where the budget is spent, and notes a refusal. What the console puts
     /// out is appended to `out`.
     pub(crate) fn turn<I: Image, O: Outlet>(
@@ -267,38 +265,4 @@ impl<A: Allocator> Slot<A> {
     {
         (self.block.interrupts(), self.console.interrupts())
     }
-}
-
-/// Opens the slots in their order.
-pub(crate) fn open_all<A: Allocator + Copy>(
-    alloc: A,
-    specs: &[SlotSpec],
-) -> Result<Vec<Slot<A>, A>, AllocError>
-    requires { All (λ spec. AreGoodRegions spec.regions) specs.now }
-    ensures { IfOk result (λ slots. slots.items ≡ map opened specs.now) }
-{
-    let mut slots = Vec::with_capacity(alloc, specs.len())?;
-    for spec in specs {
-        slots.push(Slot::open(alloc, spec)?)?;
-    }
-    Ok(slots)
-}
-
-/// Opens the slots in their order, over bytes that a host lends.
-pub(crate) fn open_all_over<A: Allocator + Copy>(
-    alloc: A,
-    specs: &[SlotSpec],
-    bytes: Vec<Vec<u8, Lodged>, A>,
-) -> Result<Vec<Slot<A>, A>, AllocError>
-    requires good { All (λ spec. AreGoodRegions spec.regions) specs.now }
-    requires bytes { AreBytesOf specs.now (map vec_items bytes.items) }
-    ensures { IfOk result (λ slots. slots.items ≡ made_over opened_over specs.now (map vec_items bytes.items)) }
-{
-    let mut slots = Vec::with_capacity(alloc, specs.len())?;
-    let mut rest = bytes.into_iter();
-    for spec in specs {
-        let memory = lent::memory(alloc, spec.regions.as_slice(), &mut rest)?;
-        slots.push(Slot::over(alloc, spec, memory)?)?;
-    }
-    Ok(slots)
 }

@@ -12,7 +12,8 @@ ghost use Rattle.board.specs.World.{extents_of};
 use crate::board::Board;
 use crate::check::check_slots;
 use crate::fault::BoardFault;
-use crate::slot::{self, Slot};
+use crate::opening;
+use crate::slot::Slot;
 use crate::spec::SlotSpec;
 use sector_cache::{CacheFault, Image, Refused, SectorCache};
 use std::alloc::{AllocError, Allocator};
@@ -40,7 +41,7 @@ impl<I: Image, A: Allocator + Copy> Board<I, A> {
             IsErrAnd result (λ refused. refused.why ≡ fault) }
     {
         let cache = cache_before(alloc, slots, image, cache)?;
-        board_of(alloc, slot::open_all(alloc, slots), cache)
+        board_of(alloc, opening::open_all(alloc, slots), cache)
     }
 
     /// A board as `new` makes it, whose memories' bytes a host lends: those of each region, in the slots' order and in each
@@ -64,7 +65,7 @@ impl<I: Image, A: Allocator + Copy> Board<I, A> {
             IsErrAnd result (λ refused. refused.why ≡ fault) }
     {
         let cache = cache_before(alloc, slots, image, cache)?;
-        board_of(alloc, slot::open_all_over(alloc, slots, bytes), cache)
+        board_of(alloc, opening::open_all_over(alloc, slots, bytes), cache)
     }
 }
 

@@ -3,8 +3,7 @@
 
 ghost use Rattle.std.specs.Prelude.{◌≡◌, ℕ, List, Some, true};
 ghost use Rattle.std.specs.List.{slice_get};
-ghost use Rattle.board.specs.declared.event.EventKind.{EventKind};
-ghost use Rattle.board.specs.declared.reply.Reply.{Reply};
+ghost use Rattle.board.specs.declared.{event.EventKind.{EventKind}, reply.Reply.{Reply}};
 ghost use Rattle.sector_cache.specs.Disk.{Disk};
 ghost use Rattle.block_device.specs.declared.operation.Verdict.{Verdict};
 ghost use Rattle.board.specs.Honest.{IsFlown, IsHonestlyServed};

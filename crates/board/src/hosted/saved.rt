@@ -3,9 +3,7 @@
 ghost use Rattle.std.specs.Prelude.{◌≡◌, ◌↔◌, ◌<◌, ◌≤◌, Some, IfOk, IsErrOf, IsOk, IsSome, IsSomeAnd, None, OnErr, length};
 ghost use Rattle.std.specs.List.{slice_get};
 ghost use Rattle.board.specs.declared.event.EventKind.{EventKind};
-ghost use Rattle.board.specs.declared.saved.RestoreFault.{RestoreFault};
-ghost use Rattle.board.specs.declared.saved.RestoreRefusal.{RestoreRefusal};
-ghost use Rattle.board.specs.declared.saved.SaveRefusal.{SaveRefusal};
+ghost use Rattle.board.specs.declared.saved.{RestoreFault.{RestoreFault}, RestoreRefusal.{RestoreRefusal}, SaveRefusal.{SaveRefusal}};
 ghost use Rattle.board.specs.Hosting.{HostedState};
 ghost use Rattle.board.specs.HostedLine.{KeepsOtherGuests, TakesQuietly};
 ghost use Rattle.board.specs.Restoring.{hosted_restore_reply, slot_in};

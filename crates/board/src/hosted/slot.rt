@@ -4,15 +4,12 @@
 //! completion, and everything else is done at once. `access` is what an embedder reaches between its events, and `saved` its
 //! snapshot.
 
-ghost use Rattle.std.specs.Prelude.{◌≡◌, ◌≤◌, ◌<◌, ◌*◌, ◌^◌, ℕ, List, Some, None, IfOk, IfSome, IsSome, is_some, ◌&&◌};
-ghost use Rattle.block_device.specs.Extent.{sector_len};
+ghost use Rattle.std.specs.Prelude.{◌≡◌, ◌<◌, ℕ, List, Some, None, IfSome, IsSome, is_some, ◌&&◌};
 ghost use Rattle.block_device.specs.Operation.{LiesInside};
 ghost use Rattle.board.specs.declared.event.EventKind.{EventKind};
-ghost use Rattle.guest_memory.specs.Faults.{AreGood as AreGoodRegions};
 ghost use Rattle.board.specs.Image.{sectors_of};
 ghost use Rattle.board.specs.Machine.{block_irq, console_irq};
-ghost use Rattle.board.specs.Hosting.{IsOwn, IsSoundHosted, LooksAtQueue, TakesHosted, flight_by, hosted_opened, hosted_slot, must_wait, operation_in};
-ghost use Rattle.board.specs.Lent.{hosted_over};
+ghost use Rattle.board.specs.Hosting.{IsOwn, IsSoundHosted, LooksAtQueue, TakesHosted, flight_by, hosted_slot, must_wait, operation_in};
 ghost use Rattle.board.specs.Slot.{AreInterruptWords};
 ghost use Rattle.board.specs.Within.{TakesWithin};
 
@@ -22,6 +19,7 @@ mod saved;
 use crate::check::own_disk;
 use crate::counters::Counters;
 use crate::event::EventKind;
+use crate::opening::FromSpec;
 use crate::pause::Turn;
 use crate::reply::Reply;
 use crate::slot::Slot;
@@ -55,30 +53,35 @@ impl<A: Allocator> Model for HostedSlot<A> {
     ghost invariant = { λ s. IsSoundHosted s.slot (in_rooms s.flight s.room s.runs) };
 }
 
-impl<A: Allocator + Copy> HostedSlot<A> {
-    /// Opens a slot over a memory of zeros. Its disk has as many sectors as the extent counts, from the first on.
-    pub(crate) fn open(alloc: A, spec: &SlotSpec) -> Result<HostedSlot<A>, AllocError>
-        requires memory { AreGoodRegions spec.now.regions }
-        requires disk { sector_len * spec.now.extent.count < 2 ^ 64 }
-        ensures { IfOk result (λ slot. slot ≡ hosted_opened spec.now) }
-    {
+impl<A: Allocator + Copy> FromSpec<A, GuestMemory<A>> for HostedSlot<A> {
+    ghost use Rattle.std.specs.Prelude.{◌<◌, ◌*◌, ◌^◌};
+    ghost use Rattle.block_device.specs.Extent.{sector_len};
+    ghost use Rattle.board.specs.Hosting.{hosted_opened};
+    ghost use Rattle.board.specs.Lent.{hosted_over};
+
+    ghost DiskFits = { λ spec. sector_len * spec.extent.count < 2 ^ 64 };
+
+    ghost opened = { hosted_opened };
+
+    ghost opened_over = { hosted_over };
+
+    // Its disk has as many sectors as the extent counts, from the first on.
+    fn open(alloc: A, spec: &SlotSpec) -> Result<HostedSlot<A>, AllocError> {
         let slot = Slot::open(alloc, &own_disk(spec))?;
         Ok(HostedSlot::at_rest(slot))
     }
 
-    /// Opens a slot over a memory that is there.
-    pub(crate) fn over(
+    fn over(
         alloc: A,
         spec: &SlotSpec,
         memory: GuestMemory<A>,
-    ) -> Result<HostedSlot<A>, AllocError>
-        requires { sector_len * spec.now.extent.count < 2 ^ 64 }
-        ensures { IfOk result (λ slot. slot ≡ hosted_over spec.now memory) }
-    {
+    ) -> Result<HostedSlot<A>, AllocError> {
         let slot = Slot::over(alloc, &own_disk(spec), memory)?;
         Ok(HostedSlot::at_rest(slot))
     }
+}
 
+impl<A: Allocator + Copy> HostedSlot<A> {
     /// Handles one event of the slot's guest, or completes what is in flight. What its console puts out is appended to
     /// `out`.
     pub(crate) fn step<O: Outlet>(&mut self, alloc: A, what: &EventKind<A>, out: &mut O) -> Reply<A>

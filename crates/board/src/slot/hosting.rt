@@ -112,7 +112,6 @@ impl<A: Allocator + Copy> Slot<A> {
         ensures device { device_at self.new ≡ device_at self.old }
         ensures block { self.new.block ≡ block_beside {A = A} (EventKind.Write window offset width value) self.old }
         ensures range { SameRange self.old.memory self.new.memory }
-        ensures extent { self.new.extent ≡ self.old.extent }
         ensures disturbed { self.new.disturbed ≡ self.old.disturbed }
         ensures there { IfSome result (λ turn. turn ≢ Turn.Answered Reply.BadSlot) }
         ensures bad_range { IfSome result (λ turn. turn ≡ Turn.Answered Reply.BadRange → self.new ≡ self.old) }

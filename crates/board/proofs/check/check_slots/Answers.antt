@@ -1,4 +1,4 @@
-use Rattle.std.proofs.Common.{get_or, ◌≡◌, ◌==◌, false, length, take, sym, ◌∙◌, subst, arith}
+use Rattle.std.proofs.Common.{get_or, take, subst, arith}
 use Rattle.std.proofs.lemmas.Bool.Decides.{nat_tests}
 use Rattle.std.proofs.lemmas.Option.{slice_get-get_or}
 use Rattle.board.specs.declared.spec.SlotSpec.{SlotSpec}
@@ -29,10 +29,8 @@ loop-i-preserved c =
     c.index-slots-i.is c.in_default.ensures.ok)
 
 pub returns-clause-ok : goal.returns-clause-ok
-returns-clause-ok c =
-    let empty : (length c.args.slots.now == 0) ≡ false = sym c.is_empty.ensures ∙ c.if-is_empty.false in
-    record {
-      some = grind (arith, nat_tests, empty);
-      few = c.if-slots-gt-MOST_SLOTS.false;
-      each = good_all c.args.sectors c.args.slots.now c.loop-i.i (omega arith) c.loop-i.invariant;
-    }
+returns-clause-ok c = record {
+  some = grind (arith, nat_tests, c.is_empty.ensures, c.if-is_empty.false);
+  few = c.if-slots-gt-MOST_SLOTS.false;
+  each = good_all c.args.sectors c.args.slots.now c.loop-i.i (omega arith) c.loop-i.invariant;
+}

@@ -3,9 +3,7 @@
 
 ghost use Rattle.std.specs.Prelude.{◌≡◌, ◌↔◌, ◌<◌, ℕ, List, None, IfOk, IsErrOf, IsOk, IsSome, OnErr, length};
 ghost use Rattle.board.specs.declared.event.EventKind.{EventKind};
-ghost use Rattle.board.specs.declared.saved.RestoreFault.{RestoreFault};
-ghost use Rattle.board.specs.declared.saved.RestoreRefusal.{RestoreRefusal};
-ghost use Rattle.board.specs.declared.saved.SaveRefusal.{SaveRefusal};
+ghost use Rattle.board.specs.declared.saved.{RestoreFault.{RestoreFault}, RestoreRefusal.{RestoreRefusal}, SaveRefusal.{SaveRefusal}};
 ghost use Rattle.board.specs.Hosting.{TakesHosted};
 ghost use Rattle.board.specs.Restoring.{hosted_restore_reply, refusal_of, slot_in};
 ghost use Rattle.board.specs.Saved.{IsAs, IsCauseOf, IsLike, IsSavedTo, IsSnapshotOf, snapshot_of};

@@ -13,8 +13,8 @@ returns-in_err-cache-clause-exact g c = λ fault some refuses.
     let p = err_from_is_err_and c.from_residual.result c.from_residual.ensures.1 in
     rw (p.1, p.2) (one_fault _ c.args.slots.now c.args.cache _ fault c.in_err-cache.ensures.fault refuses)
 
-pub open_all-requires : goal.open_all-requires
-open_all-requires g c = memories _ c.args.slots.now c.in_ok-cache.ensures.accepted.slots_good
+pub open_all-requires-clause-memory : goal.open_all-requires-clause-memory
+open_all-requires-clause-memory g c = memories _ c.args.slots.now c.in_ok-cache.ensures.accepted.slots_good
 
 pub board_of-requires : goal.board_of-requires
 board_of-requires g c =

@@ -5,6 +5,7 @@ use Rattle.board.specs.Hosting.{device_at, must_wait}
 use Rattle.board.specs.Slot.{BoardSlot, state_of}
 use Rattle.board.proofs.Beside.{range_of, same_range}
 use Rattle.board.proofs.Blocks.{completion_given, read_given}
+use Rattle.board.proofs.Hosts.{same_extent}
 use Rattle.board.proofs.Turns.{comes_first, silent_answer}
 use Rattle.board.proofs.slot.Slot.answer_beside_disk.Goals as goal
 use Rattle.board.proofs.slot.Slot.answer_beside_disk.Goals.{in-Read, in-MemRead, in-MemWrite, in-Resize, in-Restore, in-Complete}
@@ -26,6 +27,10 @@ returns-in-Input-clause-device g c = ap device_at c.input.ensures.rest
 pub returns-in-Input-clause-block : goal.returns-in-Input-clause-block
 returns-in-Input-clause-block g c free =
     rw (c.in-Input.is) (ap (λ (slot : BoardSlot). slot.block) c.input.ensures.rest)
+
+pub returns-in-Write-clause-extent : goal.returns-in-Write-clause-extent
+returns-in-Write-clause-extent g c =
+    same_extent c.args.self.now c.write_beside_disk.new.self c.write_beside_disk.ensures.device
 
 pub returns-clause-serves : goal.returns-clause-serves
 returns-clause-serves g c = λ image health filled.

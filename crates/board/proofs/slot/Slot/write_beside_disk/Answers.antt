@@ -65,7 +65,6 @@ returns-in-Serve g c =
           c.write_registers.new.self written.written;
       range = same_trans _ _ _ (written_range c.args.window c.args.offset c.args.width c.args.value
           c.args.self.now c.write_registers.new.self written.written) served.ensures.range;
-      extent = served.ensures.extent ∙ written.extent;
       disturbed = served.ensures.disturbed ∙ written.disturbed;
       there = served.ensures.there;
       bad_range = λ refused. absurd (served.ensures.in_range refused);

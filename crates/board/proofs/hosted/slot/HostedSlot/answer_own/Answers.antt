@@ -1,26 +1,14 @@
-use Rattle.std.proofs.Common.{sym, subst, ◌∙◌}
-use Rattle.board.specs.Hosting.{HostedState, in_rooms, unseen}
+use Rattle.std.proofs.Common.{rules}
+use Rattle.board.specs.Hosting.{in_rooms, unseen}
 use Rattle.board.proofs.Flights.{sound_beside}
-use Rattle.board.proofs.Hosts.{IsFree, beside_slot, beside_slot_within, notified_slot}
+use Rattle.board.proofs.Hosts.{beside_slot, beside_slot_within, notified_slot}
 use Rattle.board.proofs.hosted.slot.HostedSlot.answer_own.Goals as goal
 
 pub invariant_of-self : goal.invariant_of-self
-invariant_of-self g c =
-    let handled = c.answer_beside_disk in
-    sound_beside c.args.what.now c.self.inside.slot handled.new.self
-    (in_rooms c.self.inside.flight c.self.inside.room c.self.inside.runs)
-    (subst (λ (s : HostedState). IsFree s.flight c.args.what.now) (sym c.self.view_is) (sym c.holds_up.ensures
-    ∙ c.if-holds_up.false)) handled.ensures.block handled.ensures.device
-    handled.ensures.range c.self.invariant
+invariant_of-self g c = search (rules, sound_beside)
 
 pub invariant_of-self-in-None : goal.invariant_of-self-in-None
-invariant_of-self-in-None g c =
-    let handled = c.answer_beside_disk in
-    sound_beside c.args.what.now c.self.inside.slot handled.new.self
-    (in_rooms c.self.inside.flight c.self.inside.room c.self.inside.runs)
-    (subst (λ (s : HostedState). IsFree s.flight c.args.what.now) (sym c.self.view_is) (sym c.holds_up.ensures
-    ∙ c.if-holds_up.false)) handled.ensures.block handled.ensures.device
-    handled.ensures.range c.self.invariant
+invariant_of-self-in-None g c = search (rules, sound_beside)
 
 pub returns-in-Some-Answered-clause-takes : goal.returns-in-Some-Answered-clause-takes
 returns-in-Some-Answered-clause-takes g c =
@@ -29,9 +17,7 @@ returns-in-Some-Answered-clause-takes g c =
     rw (← c.self.view_is)
     (beside_slot slot handled.new.self (in_rooms c.self.inside.flight c.self.inside.room c.self.inside.runs)
     c.args.what.now c.in-Some-Answered.reply _ _ c.requires.own c.self.invariant.own
-    handled.ensures.device
-    (subst (λ (s : HostedState). IsFree s.flight c.args.what.now) (sym c.self.view_is) (sym c.holds_up.ensures
-    ∙ c.if-holds_up.false))
+    handled.ensures.device (search rules)
     (rw (c.in-Some-Answered.is) at (handled.ensures.notified (unseen slot.extent.count)))
     (rw (c.in-Some-Answered.field-0-is) at c.in-Some-Answered.ensures.serves))
 
@@ -49,8 +35,6 @@ returns-in-None-clause-takes g c =
     let slot = c.self.inside.slot in
     rw (← c.self.view_is, c.in-None.ensures.silent)
     (notified_slot slot handled.new.self (in_rooms c.self.inside.flight c.self.inside.room c.self.inside.runs)
-    c.args.what.now c.notified.new.self _ c.requires.own handled.ensures.device
-    (subst (λ (s : HostedState). IsFree s.flight c.args.what.now) (sym c.self.view_is) (sym c.holds_up.ensures
-    ∙ c.if-holds_up.false))
+    c.args.what.now c.notified.new.self _ c.requires.own handled.ensures.device (search rules)
     (rw (c.in-None.is) at (handled.ensures.notified (unseen slot.extent.count)))
     c.in-None.ensures.readied c.notified.ensures.looks c.notified.ensures.stays)

@@ -2,7 +2,7 @@ use Rattle.std.proofs.Common.{ap, ◌∙◌}
 use Rattle.std.specs.Prelude.{None}
 use Rattle.board.specs.Hosting.{HostedState, hosted_slot}
 use Rattle.board.specs.Slot.{BoardSlot, opened}
-use Rattle.board.proofs.hosted.slot.HostedSlot.open.Goals as goal
+use Rattle.board.proofs.hosted.slot.HostedSlotFromSpecGuestMemory.open.Goals as goal
 
 pub returns : goal.returns
 returns g c =

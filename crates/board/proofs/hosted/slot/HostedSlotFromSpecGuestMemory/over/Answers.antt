@@ -4,7 +4,7 @@ use Rattle.board.specs.declared.spec.SlotSpec.{SlotSpec}
 use Rattle.board.specs.Hosting.{HostedState, hosted_slot}
 use Rattle.board.specs.Lent.{opened_over}
 use Rattle.board.specs.Slot.{BoardSlot}
-use Rattle.board.proofs.hosted.slot.HostedSlot.over.Goals as goal
+use Rattle.board.proofs.hosted.slot.HostedSlotFromSpecGuestMemory.over.Goals as goal
 
 pub returns : goal.returns
 returns g c =
