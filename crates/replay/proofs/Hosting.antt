@@ -116,7 +116,7 @@ words_told_at old h call told new (Some state) here calls =
     ∙ get_set old h state calls.outcome.state here in
     rw (there, calls.told_is) refl
 
-words_told : {A : Type 0} (old : List HostedState) (h : ℕ) (call : HostedCall A) (told : Told A)
+pub words_told : {A : Type 0} (old : List HostedState) (h : ℕ) (call : HostedCall A) (told : Told A)
     (new : List HostedState) → Calls old h call told new
     → (told.block_irq, told.console_irq) ≡ words_at (slice_get new h)
 words_told old h call told new calls = words_told_at old h call told new (slice_get old h) refl calls

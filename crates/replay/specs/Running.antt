@@ -1,5 +1,5 @@
 -- Running the events of lines that were validated, one after another.
-use Rattle.std.specs.Prelude.{◌≡◌, ◌≤◌, ℕ, List, [], ◌∷◌, Option, None, Some, IsSomeAnd}
+use Rattle.std.specs.Prelude.{◌≡◌, ℕ, List, [], ◌∷◌, Option, None, Some, IsSomeAnd}
 use Rattle.guest_memory.specs.Memory.{Inside, Memory, part_of}
 use Rattle.std.specs.List.{slice_get}
 use Rattle.sector_cache.specs.Disk.{Disk}
@@ -14,8 +14,6 @@ use Rattle.board.specs.World.{Answers, BoardState, extents_of, world_of}
 use Rattle.trace.specs.declared.read.parsed_event.ParsedEvent.{ParsedEvent}
 use Rattle.replay.specs.Hosted.{SendsHosted}
 use Rattle.replay.specs.Pieces.{SendsRun}
-use Rattle.trace.specs.Events.{TakesEvent}
-use Rattle.trace.specs.Validating.{parsed_len}
 use Rattle.trace.specs.Refusals.{IsFine}
 use Rattle.trace.specs.ParsedEvent.{parsed_fields}
 use Rattle.trace.specs.Text.{event_fields}
@@ -69,17 +67,6 @@ abbrev pub SendsOneHosted : {A : Type 0} → List HostedState → List HostedSta
     → Option (List ℕ) → Option (List ℕ) → Option (List ℕ) → Event A → Type 0
 SendsOneHosted old new before after waiting waiting' event =
     SendsHosted old new (event ∷ []) before after waiting waiting'
-
--- the bytes of the event that the first of these lines says have room
-abbrev pub HasRoomFor : Type 0 → List ℕ → ℕ → Type 0
-HasRoomFor A lines room = (parsed : ParsedEvent A) (after : List ℕ) → TakesEvent lines parsed after
-    → parsed_len parsed ≤ room
-
--- that event was taken off and run
-pub record RunsLine (A : Type 0) (lines rest : List ℕ) (Run : Event A → Type 0) : Type 0 where
-  pub parsed : ParsedEvent A
-  pub taken : TakesEvent lines parsed rest
-  pub ran : RunsParsed parsed Run
 
 -- ---- a board whose disks the host serves
 

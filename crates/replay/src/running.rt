@@ -7,16 +7,17 @@ ghost use Rattle.std.specs.Prelude.{◌≡◌, ◌≤◌, ◌/◌, [], List, IfS
 ghost use Rattle.std.specs.List.{slice_get};
 ghost use Rattle.board.specs.declared.event.Event.{Event};
 ghost use Rattle.board.specs.declared.event.EventKind.{EventKind};
-ghost use Rattle.trace.specs.Events.{BeginsWithEvent};
+ghost use Rattle.board.specs.Image.{Tells};
+ghost use Rattle.board.specs.Slot.{AreInterruptWords};
 ghost use Rattle.trace.specs.Validating.{AreEventLines, AreLinesOf, parsed_len};
 ghost use Rattle.replay.specs.Pieces.{SendsRun};
-ghost use Rattle.replay.specs.Running.{AnswersEvent, AnswersParsed, HasRoomFor, IsPart, RunsLine, RunsParsed, SendsOne, words_of};
+ghost use Rattle.replay.specs.Running.{AnswersEvent, AnswersParsed, IsPart, RunsParsed, SendsOne, words_of};
 ghost use Rattle.trace.specs.ParsedEvent.{IsFineParsed};
 ghost use Rattle.trace.specs.Sends.{waiting};
 ghost use Rattle.hexadecimal.specs.Fields.{IsBytesField};
 ghost use Rattle.trace.specs.Words.{Says, Bytes as ByBytes};
 
-use board::{Board, EventKind, Reply};
+use board::{Board, EventKind, Handled, Reply};
 use sector_cache::Image;
 use std::alloc::Allocator;
 use std::io::Write;
@@ -39,30 +40,10 @@ pub(crate) fn run_lines<W: Write, I: Image, A: Allocator + Copy>(
     let mut output = Vec::new(alloc);
     let mut rest = lines;
     while !rest.is_empty() {
-        rest = run_line(alloc, board, rest, room, &mut output, text, writer);
+        let (parsed, after) = take_event(alloc, rest);
+        run_event(board, &parsed, room, &mut output, text, writer);
+        rest = after;
     }
-}
-
-// Runs the event that the first line says, sends the text of its record, and answers what follows that line.
-fn run_line<'a, W: Write, I: Image, A: Allocator + Copy>(
-    alloc: A,
-    board: &mut Board<I, A>,
-    lines: &'a [u8],
-    room: &mut [u8],
-    output: &mut Vec<u8, A>,
-    text: &mut Buffer<A>,
-    writer: &mut W,
-) -> &'a [u8]
-    requires begins { BeginsWithEvent lines.now }
-    requires room { HasRoomFor A lines.now (length room.old) }
-    requires empty { output.old.items ≡ [] }
-    ensures ran { RunsLine A lines.now result.now
-        (SendsOne I.disk board.old board.new (W.contents writer.old) (W.contents writer.new) (waiting text.old) (waiting text.new)) }
-    ensures empty { output.new.items ≡ [] }
-{
-    let (parsed, after) = take_event(alloc, lines);
-    run_event(board, &parsed, room, output, text, writer);
-    after
 }
 
 // Runs an event, and sends the text of its record. What the console puts out waits in `output` meanwhile. Memory that
@@ -77,11 +58,10 @@ fn run_event<W: Write, I: Image, A: Allocator + Copy>(
 )
     requires fine { IsFineParsed parsed.now }
     requires room { parsed_len parsed.now ≤ length room.old }
-    requires empty { output.old.items ≡ [] }
-    ensures sent { RunsParsed parsed.now
+    ensures { RunsParsed parsed.now
         (SendsOne I.disk board.old board.new (W.contents writer.old) (W.contents writer.new) (waiting text.old) (waiting text.new)) }
-    ensures empty { output.new.items ≡ [] }
 {
+    output.clear();
     let slot = parsed.event.slot;
     if let EventKind::MemRead { addr, len } = parsed.event.what {
         if let Some(part) = part_of(board, slot, addr, len) {
@@ -89,10 +69,13 @@ fn run_event<W: Write, I: Image, A: Allocator + Copy>(
             return;
         }
     }
-    let reply = answer(board, parsed, room, output);
-    let words = words(board, slot);
+    let Handled {
+        reply,
+        block_irq,
+        console_irq,
+    } = answer(board, parsed, room, output);
+    let words = (block_irq, console_irq);
     put_line(text, writer, slot, &reply, output.as_slice(), words);
-    output.clear();
 }
 
 // The bytes of a slot's memory from an address on, where they lie.
@@ -119,26 +102,48 @@ fn words<I: Image, A: Allocator>(board: &Board<I, A>, slot: u8) -> (u8, u8)
     }
 }
 
-// Handles an event.
+// Handles an event, and tells both interrupt words after it.
 fn answer<I: Image, A: Allocator + Copy>(
     board: &mut Board<I, A>,
     parsed: &ParsedEvent<'_, A>,
     room: &mut [u8],
     output: &mut Vec<u8, A>,
-) -> Reply<A>
+) -> Handled<A>
     requires fine { IsFineParsed parsed.now }
     requires room { parsed_len parsed.now ≤ length room.old }
     requires empty { output.old.items ≡ [] }
-    ensures { AnswersParsed I.disk parsed.now board.old result output.new.items board.new }
+    ensures answers { AnswersParsed I.disk parsed.now board.old result.reply output.new.items board.new }
+    ensures words { Tells (I.disk board.old.image) →
+        (result.block_irq, result.console_irq) ≡ words_of (slice_get board.new.slots parsed.now.event.slot) }
+    ensures few { AreInterruptWords result.block_irq result.console_irq }
 {
     let slot = parsed.event.slot;
     match parsed.event.what {
         EventKind::MemWrite { addr, .. } => {
-            write_memory(board, slot, addr, bytes_in(room, parsed.bytes))
+            let reply = write_memory(board, slot, addr, bytes_in(room, parsed.bytes));
+            told(reply, words(board, slot))
         }
-        EventKind::Input { .. } => input(board, slot, bytes_in(room, parsed.bytes)),
-        EventKind::Restore { .. } => restore(board, slot, bytes_in(room, parsed.bytes)),
-        _ => board.step(&parsed.event, output),
+        EventKind::Input { .. } => {
+            let reply = input(board, slot, bytes_in(room, parsed.bytes));
+            told(reply, words(board, slot))
+        }
+        EventKind::Restore { .. } => {
+            let reply = restore(board, slot, bytes_in(room, parsed.bytes));
+            told(reply, words(board, slot))
+        }
+        _ => board.handle(slot, &parsed.event.what, output),
+    }
+}
+
+/// What an event came to, by its reply and both interrupt words after it.
+#[inline]
+pub(crate) fn told<A: Allocator>(reply: Reply<A>, words: (u8, u8)) -> Handled<A>
+    ensures { result ≡ record { reply = reply; block_irq = words.0; console_irq = words.1 } }
+{
+    Handled {
+        reply,
+        block_irq: words.0,
+        console_irq: words.1,
     }
 }
 

@@ -5,30 +5,24 @@ use Rattle.replay.proofs.Lines.{begins, fits, run_all, run_more, run_none}
 use Rattle.replay.proofs.hosted.run_lines.Goals as goal
 
 pub loop-rest-init : goal.loop-rest-init
-loop-rest-init g c = record {
-  sofar = run_none _ c.args.lines.now _ _ c.requires (hosts_none c.args.board.now _ _);
-  empty = c.new-output.ensures.items;
-}
+loop-rest-init g c = run_none _ c.args.lines.now _ _ c.requires (hosts_none c.args.board.now _ _)
 
-pub run_line-rest-requires-clause-begins : goal.run_line-rest-requires-clause-begins
-run_line-rest-requires-clause-begins g c =
-    begins _ c.args.lines.now _ c.loop-rest.rest.now _ c.loop-rest.invariant.sofar
+pub take_event-parsed-requires : goal.take_event-parsed-requires
+take_event-parsed-requires g c =
+    begins _ c.args.lines.now _ c.loop-rest.rest.now _ c.loop-rest.invariant
     (eqb-false (length c.loop-rest.rest.now) 0 (sym c.loop-rest-test.ensures))
 
-pub run_line-rest-requires-clause-room : goal.run_line-rest-requires-clause-room
-run_line-rest-requires-clause-room g c =
-    rw c.loop-rest.auto.room (fits _ c.args.lines.now _ c.loop-rest.rest.now _ c.loop-rest.invariant.sofar)
+pub run_event-requires-clause-room : goal.run_event-requires-clause-room
+run_event-requires-clause-room g c =
+    rw c.loop-rest.auto.room (fits _ c.args.lines.now _ c.loop-rest.rest.now _ c.loop-rest.invariant _ _
+    c.take_event-parsed.ensures)
 
 pub loop-rest-preserved : goal.loop-rest-preserved
-loop-rest-preserved g c = record {
-  sofar =
-      run_more _ c.args.lines.now _ c.loop-rest.rest.now _ _ _ _ c.loop-rest.invariant.sofar
-      c.run_line-rest.ensures.ran
-      (λ es e. hosts_one_more c.args.board.now _ _ es e _ _ _ _ _ _);
-  empty = c.run_line-rest.ensures.empty;
-}
+loop-rest-preserved g c =
+    run_more _ c.args.lines.now _ c.loop-rest.rest.now _ _ _ _ _ c.loop-rest.invariant
+    c.take_event-parsed.ensures c.run_event.ensures (λ es e. hosts_one_more c.args.board.now _ _ es e _ _ _ _ _ _)
 
 pub returns : goal.returns
 returns g c events are =
-    run_all _ c.args.lines.now _ c.loop-rest.rest.now events _ c.loop-rest.invariant.sofar
+    run_all _ c.args.lines.now _ c.loop-rest.rest.now events _ c.loop-rest.invariant
     (eqb-true (length c.loop-rest.rest.now) 0 (sym c.loop-rest-test.ensures)) are

@@ -1,4 +1,4 @@
-use Rattle.std.proofs.Common.{◌≡◌, [], length}
+use Rattle.std.proofs.Common.{length}
 use Rattle.trace.specs.Sends.{waiting}
 use Rattle.replay.proofs.Hosting.{SendsAllHosted}
 use Rattle.replay.proofs.Lines.{RunSofar}
@@ -6,13 +6,10 @@ use Rattle.replay.proofs.hosted.run_lines.Given as goal
 
 -- the first events are run and the text of their records sent
 abbrev pub invariant-loop-rest : goal.invariant-loop-rest
-invariant-loop-rest g l = record {
-  sofar :
-      RunSofar g.row.A.Denot l.lines (length l.fn.room) l.rest
-      (SendsAllHosted l.fn.board l.board (g.W.Write.contents l.fn.writer) (g.W.Write.contents l.writer)
-      (waiting l.fn.text) (waiting l.text));
-  empty : l.output.items ≡ [];
-}
+invariant-loop-rest g l =
+    RunSofar g.row.A.Denot l.lines (length l.fn.room) l.rest
+    (SendsAllHosted l.fn.board l.board (g.W.Write.contents l.fn.writer) (g.W.Write.contents l.writer)
+    (waiting l.fn.text) (waiting l.text))
 
 abbrev pub decreases-loop-rest : goal.decreases-loop-rest
 decreases-loop-rest g l = length l.rest
