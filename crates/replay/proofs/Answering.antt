@@ -25,7 +25,7 @@ use Rattle.board.proofs.Alone.{get_set}
 use Rattle.board.proofs.Seats.{extents_of-set, handles_missing, noted_none, set_same, step_there}
 use Rattle.replay.specs.Pieces.{SendsRun}
 use Rattle.trace.specs.Records.{entry_of, read_line, record_line, records_text}
-use Rattle.replay.specs.Running.{AnswersEvent, AnswersParsed, IsPart, RunsParsed, SendsOne, words_of}
+use Rattle.replay.specs.Running.{AnswersEvent, AnswersParsed, IsPart, RunsParsed, words_of}
 use Rattle.trace.specs.declared.read.parsed_event.ParsedEvent.{ParsedEvent}
 use Rattle.trace.specs.ParsedEvent.{IsFineParsed}
 use Rattle.trace.specs.Sends.{Sends}
@@ -269,7 +269,7 @@ pub parsed_run : {A I : Type 0} (disk : I → Disk) (parsed : ParsedEvent A) (ol
     → AnswersParsed disk parsed old reply out new
     → (Tells (disk old.image) → words ≡ words_of (slice_get new.slots parsed.event.slot))
     → Sends a b s (ended (record_line (entry_of parsed.event.slot reply out words))) t
-    → RunsParsed parsed (SendsOne disk old new a b s t)
+    → RunsParsed parsed (λ event. SendsRun disk old new (event ∷ []) a b s t)
 parsed_run disk parsed old new reply out words a b s t it is sent = record {
   event = it.event;
   fields = it.fields;
@@ -283,7 +283,7 @@ pub read_run : {A I : Type 0} (disk : I → Disk) (parsed : ParsedEvent A) (boar
     → parsed.event.what ≡ MemRead addr len → IsPart board parsed.event.slot addr len part
     → words ≡ words_of (slice_get board.slots parsed.event.slot)
     → Sends a b s (ended (read_line parsed.event.slot part words)) t
-    → RunsParsed parsed (SendsOne disk board board a b s t)
+    → RunsParsed parsed (λ event. SendsRun disk board board (event ∷ []) a b s t)
 unfolding read_line record_line
 read_run {A} disk parsed board addr len part words a b s t fine is it same sent =
     let event : Event A = record { slot = parsed.event.slot; what = MemRead addr len } in

@@ -224,3 +224,7 @@ pub run_all : (A : Type 0) (lines : List ℕ) (room : ℕ) (rest : List ℕ) (ev
     → RunSofar A lines room rest Run → length rest ≡ 0 → AreLinesOf events lines → Run events
 run_all A lines room rest events Run so none are =
     all_at A lines rest so.done so.left events Run so.whole so.more so.run none are
+
+-- the same of what waited before and after by other names
+pub by_both : {X : Type 0} (Run : X → X → Type 0) {a b c d : X} → a ≡ c → b ≡ d → Run a b → Run c d
+by_both Run {a} {b} {c} {d} start last run = subst (λ x. Run x d) start (subst (λ x. Run a x) last run)

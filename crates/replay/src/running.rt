@@ -1,81 +1,51 @@
-//! Running the events of lines that were validated, one after another.
-//!
-//! Each line is read, its event handled and the text of its record sent before the next. Bytes that it spells are
-//! written into room that is lent.
+//! Running events on a board over an image.
 
-ghost use Rattle.std.specs.Prelude.{◌≡◌, ◌≤◌, ◌/◌, [], List, IfSome, length};
+ghost use Rattle.std.specs.Prelude.{◌≡◌, ◌≤◌, ◌/◌, [], IfSome, length};
 ghost use Rattle.std.specs.List.{slice_get};
-ghost use Rattle.board.specs.declared.event.Event.{Event};
 ghost use Rattle.board.specs.declared.event.EventKind.{EventKind};
 ghost use Rattle.board.specs.Image.{Tells};
 ghost use Rattle.board.specs.Slot.{AreInterruptWords};
-ghost use Rattle.trace.specs.Validating.{AreEventLines, AreLinesOf, parsed_len};
+ghost use Rattle.trace.specs.Validating.{parsed_len};
 ghost use Rattle.replay.specs.Pieces.{SendsRun};
-ghost use Rattle.replay.specs.Running.{AnswersEvent, AnswersParsed, IsPart, RunsParsed, SendsOne, words_of};
+ghost use Rattle.replay.specs.Running.{AnswersEvent, AnswersParsed, IsPart, words_of};
 ghost use Rattle.trace.specs.ParsedEvent.{IsFineParsed};
-ghost use Rattle.trace.specs.Sends.{waiting};
 ghost use Rattle.hexadecimal.specs.Fields.{IsBytesField};
 ghost use Rattle.trace.specs.Words.{Says, Bytes as ByBytes};
 
+use crate::lines::RunsEvents;
 use board::{Board, EventKind, Handled, Reply};
 use sector_cache::Image;
 use std::alloc::Allocator;
 use std::io::Write;
-use trace::{Buffer, ParsedEvent, put_line, put_read, read_bytes, spelled_len, take_event};
+use trace::{Buffer, ParsedEvent, put_line, put_read, read_bytes, spelled_len};
 
-/// Runs the events that the lines say, and sends the text of their records. Where the writer fails the run goes on, so
-/// that what becomes of the image isn't decided by the writer.
-pub(crate) fn run_lines<W: Write, I: Image, A: Allocator + Copy>(
-    alloc: A,
-    board: &mut Board<I, A>,
-    lines: &[u8],
-    room: &mut [u8],
-    text: &mut Buffer<A>,
-    writer: &mut W,
-)
-    requires { AreEventLines A (length room.old) lines.now }
-    ensures { (events : List (Event A)) → AreLinesOf events lines.now →
-        SendsRun I.disk board.old board.new events (W.contents writer.old) (W.contents writer.new) (waiting text.old) (waiting text.new) }
-{
-    let mut output = Vec::new(alloc);
-    let mut rest = lines;
-    while !rest.is_empty() {
-        let (parsed, after) = take_event(alloc, rest);
-        run_event(board, &parsed, room, &mut output, text, writer);
-        rest = after;
-    }
-}
+impl<I: Image, A: Allocator + Copy> RunsEvents<A> for Board<I, A> {
+    ghost sends = { λ old new events before after waits left. SendsRun I.disk old new events before after waits left };
 
-// Runs an event, and sends the text of its record. What the console puts out waits in `output` meanwhile. Memory that
-// is read is printed where it lies.
-fn run_event<W: Write, I: Image, A: Allocator + Copy>(
-    board: &mut Board<I, A>,
-    parsed: &ParsedEvent<'_, A>,
-    room: &mut [u8],
-    output: &mut Vec<u8, A>,
-    text: &mut Buffer<A>,
-    writer: &mut W,
-)
-    requires fine { IsFineParsed parsed.now }
-    requires room { parsed_len parsed.now ≤ length room.old }
-    ensures { RunsParsed parsed.now
-        (SendsOne I.disk board.old board.new (W.contents writer.old) (W.contents writer.new) (waiting text.old) (waiting text.new)) }
-{
-    output.clear();
-    let slot = parsed.event.slot;
-    if let EventKind::MemRead { addr, len } = parsed.event.what {
-        if let Some(part) = part_of(board, slot, addr, len) {
-            put_read(text, writer, slot, part, words(board, slot), b'\n');
-            return;
+    fn run_event<W: Write>(
+        &mut self,
+        parsed: &ParsedEvent<'_, A>,
+        room: &mut [u8],
+        output: &mut Vec<u8, A>,
+        text: &mut Buffer<A>,
+        writer: &mut W,
+    ) {
+        output.clear();
+        let slot = parsed.event.slot;
+        if let EventKind::MemRead { addr, len } = parsed.event.what {
+            if let Some(part) = part_of(self, slot, addr, len) {
+                put_read(text, writer, slot, part, words(self, slot), b'\n');
+                return;
+            }
         }
+        let Handled {
+            reply,
+            block_irq,
+            console_irq,
+        } = answer(self, parsed, room, output);
+        let words = (block_irq, console_irq);
+        put_line(text, writer, slot, &reply, output.as_slice(), words);
     }
-    let Handled {
-        reply,
-        block_irq,
-        console_irq,
-    } = answer(board, parsed, room, output);
-    let words = (block_irq, console_irq);
-    put_line(text, writer, slot, &reply, output.as_slice(), words);
 }
 
 // The bytes of a slot's memory from an address on, where they lie.

@@ -1,11 +1,12 @@
 use Rattle.std.proofs.Common.{length, sym}
 use Rattle.std.proofs.lemmas.Bool.{eqb-false, eqb-true}
-use Rattle.replay.proofs.Hosting.{hosts_none, hosts_one_more}
 use Rattle.replay.proofs.Lines.{begins, fits, run_all, run_more, run_none}
-use Rattle.replay.proofs.hosted.run_lines.Goals as goal
+use Rattle.replay.proofs.lines.run_lines.Goals as goal
 
 pub loop-rest-init : goal.loop-rest-init
-loop-rest-init g c = run_none _ c.args.lines.now _ _ c.requires (hosts_none c.args.board.now _ _)
+loop-rest-init g c =
+    run_none _ c.args.lines.now _ _ c.requires.lines
+    (c.requires.joins.none c.args.board.now _ _)
 
 pub take_event-parsed-requires : goal.take_event-parsed-requires
 take_event-parsed-requires g c =
@@ -20,7 +21,7 @@ run_event-requires-clause-room g c =
 pub loop-rest-preserved : goal.loop-rest-preserved
 loop-rest-preserved g c =
     run_more _ c.args.lines.now _ c.loop-rest.rest.now _ _ _ _ _ c.loop-rest.invariant
-    c.take_event-parsed.ensures c.run_event.ensures (λ es e. hosts_one_more c.args.board.now _ _ es e _ _ _ _ _ _)
+    c.take_event-parsed.ensures c.run_event.ensures (λ es e. c.requires.joins.more c.args.board.now _ _ es e _ _ _ _ _ _)
 
 pub returns : goal.returns
 returns g c events are =

@@ -1,14 +1,13 @@
 use Rattle.std.proofs.Common.{length}
 use Rattle.trace.specs.Sends.{waiting}
 use Rattle.replay.proofs.Lines.{RunSofar}
-use Rattle.replay.proofs.Pieces.{SendsAll}
-use Rattle.replay.proofs.running.run_lines.Given as goal
+use Rattle.replay.proofs.lines.run_lines.Given as goal
 
 -- the first events are run and the text of their records sent
 abbrev pub invariant-loop-rest : goal.invariant-loop-rest
 invariant-loop-rest g l =
     RunSofar g.row.A.Denot l.lines (length l.fn.room) l.rest
-    (SendsAll g.I.Image.disk l.fn.board l.board (g.W.Write.contents l.fn.writer)
+    (λ events. g.B.RunsEvents.sends l.fn.board l.board events (g.W.Write.contents l.fn.writer)
     (g.W.Write.contents l.writer) (waiting l.fn.text) (waiting l.text))
 
 abbrev pub decreases-loop-rest : goal.decreases-loop-rest
