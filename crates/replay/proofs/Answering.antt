@@ -225,19 +225,8 @@ pub words_told : {A I : Type 0} (disk : I → Disk) (old new : BoardState I) (ev
     → (block, console) ≡ words_of (slice_get new.slots event.slot)
 words_told {A} disk old new event reply block console out h =
     ap (λ (r : Record A). (r.block_irq, r.console_irq))
-    (entry_told disk old new event reply out
-    (record {
-      written = record {
-        slot = event.slot;
-        reply = reply;
-        output = h.output;
-        block_irq = block;
-        console_irq = console;
-      };
-      step = h.step;
-      replied = refl;
-      appended = h.appended;
-    }))
+    (told_at (world_of disk old) event (entry_of event.slot reply h.output (block, console)) new.slots
+    (disk new.image) (slice_get (world_of disk old).slots event.slot) refl h.step)
 
 one_line : {A : Type 0} (entry : Record A) → ended (record_line entry) ≡ records_text (entry ∷ [])
 unfolding joined

@@ -28,7 +28,7 @@ use Rattle.hexadecimal.specs.Spelling.{num, fixed, bytes}
 use Rattle.trace.specs.Spelling.{window, mode, verdict, width_digit, region_text, regions_text}
 use Rattle.trace.specs.Text.{line, disks_fields, disks_line, disks_word, memory_fields, region_fields, slot_fields, slot_line, event_fields, event_line, what_fields, word_for}
 use Rattle.trace.specs.Version.{since_version_2}
-use Rattle.hexadecimal.specs.Fields.{IsFixed}
+use Rattle.hexadecimal.specs.Fields.{IsBytesField, IsFixed}
 use Rattle.trace.specs.Words.{RegionInRange, Shape, Num, Offset, Window, Width, Value, Mode, Verdict as ByVerdict, Bytes, Says, behind_memory, fields_in, memory_in, shape_of, shapes, spelled, width_among, IsWidth, IsWordOf}
 use Rattle.hexadecimal.proofs.ByteFields.{AreBytes}
 use Rattle.trace.proofs.Signs.{bytes_digits}
@@ -221,8 +221,8 @@ last_field : (none : Bool) (width : List ℕ) (s : SlotSpec) → SlotInRange s
     (if none then [] else bytes s.identity ∷ [])
 last_field true width s h = tt
 last_field false width s h =
-    let stands = some_bytes s.identity h.identity in
-    (((s.identity, record { bytes_are = stands.0.1; twenty = h.twenty }), stands.1), tt)
+    let is : IsBytesField (bytes s.identity) s.identity = record { fits = h.identity; spelled = refl } in
+    (((s.identity, record { bytes_are = is; twenty = h.twenty }), bytes_digits s.identity h.identity), tt)
 
 -- its memory: one region by two fields, or all regions by one
 abbrev memory_row : Bool → List Field

@@ -2,6 +2,7 @@
 use Rattle.std.proofs.Common.{◌≡◌, ℕ, suc, ◌+◌, ◌*◌, ◌-◌, ◌^◌, ◌<◌, ◌≤◌, Bool, true, false, nat_lt, List, [], ◌∷◌, ◌++◌, All, length, get_or, drop, map, Result, Ok, refl, sym, ap, subst, ◌∙◌, arith, inl, inr}
 use Rattle.std.proofs.lemmas.List.{append_cancel_right, append-nil, get_or_past}
 use Rattle.std.specs.List.{flat_map}
+use Rattle.std.specs.Prelude.{⊤}
 use Rattle.std.proofs.lemmas.Bool.{cases_eq, cases_lt, cases_order, ltb-true}
 use Rattle.hex.specs.Hex.{decode_of, encode_lower, lower_digits}
 use Rattle.hex.proofs.HexLemmas.{decode_of-encode_lower, length-encode_with}
@@ -72,6 +73,19 @@ same_bytes (x ∷ xs) (y ∷ ys) hx hy e =
 same_at : {fs gs : List (List ℕ)} → fs ≡ gs → (i : ℕ) → get_or fs i [] ≡ get_or gs i []
 same_at e i = ap (λ (xs : List (List ℕ)). get_or xs i []) e
 
+-- lists of equal texts, where a text is one element's
+same_list : {X Y : Type 0} (P : X → Type 0) (f : X → Y) → ((x y : X) → P x → P y → f x ≡ f y → x ≡ y)
+    → (xs ys : List X) → All P xs → All P ys → map f xs ≡ map f ys → xs ≡ ys
+same_list P f one [] [] hx hy e = refl
+same_list P f one (x ∷ xs) (y ∷ ys) hx hy e =
+    let first : f x ≡ f y = cc in
+    let others : map f xs ≡ map f ys = cc in
+    let a = one x y (hx 0 x (omega arith)) (hy 0 y (omega arith)) first in
+    let b = same_list P f one xs ys (λ k d lt. hx (suc k) d (omega arith))
+    (λ k d lt. hy (suc k) d (omega arith)) others in
+    cc
+same_list P f one xs ys hx hy e = absurd cc
+
 -- ---- lines
 
 made_slot : List RegionSpec → ℕ → ℕ → Bool → ℕ → ℕ → List ℕ → SlotSpec
@@ -120,14 +134,8 @@ same_region r s e =
     ∙ ap (λ (n : ℕ). record { base = s.base; len = n }) len
 
 same_each : (rs ss : List RegionSpec) → map region_text rs ≡ map region_text ss → rs ≡ ss
-same_each [] [] e = refl
-same_each [] (s ∷ ss) e = absurd (omega (arith, ap length e))
-same_each (r ∷ rs) [] e = absurd (omega (arith, ap length e))
-same_each (r ∷ rs) (s ∷ ss) e =
-    let first : region_text r ≡ region_text s = same_at e 0 in
-    let others : map region_text rs ≡ map region_text ss = ap (drop 1) e in
-    ap (λ (x : RegionSpec). x ∷ rs) (same_region r s first)
-    ∙ ap (λ (xs : List RegionSpec). s ∷ xs) (same_each rs ss others)
+same_each rs ss e =
+    same_list (λ _. ⊤) region_text (λ r s _ _. same_region r s) rs ss (λ k d lt. tt) (λ k d lt. tt) e
 
 same_texts : (one : Bool) (rs ss : List RegionSpec) → 1 ≤ length rs → 1 ≤ length ss
     → (one ≡ true → length rs ≡ 1) → (one ≡ true → length ss ≡ 1)
@@ -269,16 +277,7 @@ AllFine es = All IsFine es
 
 same_events : {A : Type 0} (ds es : List (Event A)) → AllFine ds → AllFine es
     → map event_line ds ≡ map event_line es → ds ≡ es
-same_events [] [] hd he e = refl
-same_events [] (y ∷ es) hd he e = absurd cc
-same_events (x ∷ ds) [] hd he e = absurd cc
-same_events (x ∷ ds) (y ∷ es) hd he e =
-    let first : event_line x ≡ event_line y = cc in
-    let rest : map event_line ds ≡ map event_line es = cc in
-    let a = same_event_line x y (hd 0 x (omega arith)) (he 0 y (omega arith)) first in
-    let b = same_events ds es (λ k d lt. hd (suc k) d (omega arith))
-    (λ k d lt. he (suc k) d (omega arith)) rest in
-    cc
+same_events ds es hd he e = same_list IsFine event_line same_event_line ds es hd he e
 
 module _ {A : Type 0} (version : ℕ) (one_of : IsVersion version) where
   same_parts : (ss ts : List SlotSpec) (ds es : List (Event A)) → All (IsFineSlot version) ss

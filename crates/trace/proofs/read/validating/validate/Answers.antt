@@ -5,35 +5,35 @@ use Rattle.trace.proofs.Validations.{ValidatedSofar, fault_later, first_more, fi
 use Rattle.trace.proofs.Sofar.{begun_so, numbered}
 use Rattle.trace.proofs.read.validating.validate.Goals as goal
 
-pub returns-in_err-after_head-clause-fault : goal.returns-in_err-after_head-clause-fault
-returns-in_err-after_head-clause-fault g c =
-    let head = c.in_err-after_head.ensures in
+pub returns-in_err-version-clause-fault : goal.returns-in_err-version-clause-fault
+returns-in_err-version-clause-fault g c =
+    let head = c.in_err-version.ensures in
     is_fault g.row.A.Denot c.args.text.now _ head.fault head.numbered head.clean
 
 pub loop-rest-init : goal.loop-rest-init
 loop-rest-init g c =
-    let head = c.in_ok-after_head in
+    let head = c.in_ok-version in
     subst (λ (slots : List SlotSpec). ValidatedSofar g.row.A.Denot c.args.text.now
     (record {
-      version = head.field-0.0;
-      disks = head.field-0.1;
+      version = head.version;
+      disks = head.disks;
       slots = slots;
-      events = head.field-0.2.now;
+      events = head.rest.now;
       longest = 0;
       longest_line = 1;
-    }) 3 head.field-0.2.now)
+    }) 3 head.rest.now)
     (sym c.new.ensures.items)
-    (validated_first g.row.A.Denot c.args.text.now head.field-0.0 head.field-0.1 head.field-0.2.now
-    (begun_so c.args.text.now _ _ _ head.ensures.ok))
+    (validated_first g.row.A.Denot c.args.text.now head.version head.disks head.rest.now
+    (begun_so c.args.text.now head.version head.disks head.rest.now head.ensures.ok))
 
-pub returns-in-Err-validate_first-clause-fault : goal.returns-in-Err-validate_first-clause-fault
-returns-in-Err-validate_first-clause-fault g c =
+pub returns-in-Err-clause-fault : goal.returns-in-Err-clause-fault
+returns-in-Err-clause-fault g c =
     let rest = c.loop-rest.rest.now in
     fault_later g.row.A.Denot c.args.text.now _ c.loop-rest.line rest _ c.loop-rest.invariant refl
-    (λ known. first_refused g.row.A.Denot c.args.text.now _ c.loop-rest.line rest c.in-Err-validate_first.kind
+    (λ known. first_refused g.row.A.Denot c.args.text.now _ c.loop-rest.line rest c.in-Err.kind
     c.loop-rest.invariant
     (eqb-false (length rest) 0 (sym c.loop-rest-test.ensures))
-    (c.in-Err-validate_first.ensures.err known) known)
+    (c.in-Err.ensures.err known) known)
 
 pub overflow_add-line : goal.overflow_add-line
 overflow_add-line g c =
@@ -44,7 +44,7 @@ overflow_add-line g c =
 pub loop-rest-preserved : goal.loop-rest-preserved
 loop-rest-preserved g c =
     first_more g.row.A.Denot c.args.text.now _ _ c.loop-rest.line c.loop-rest.rest.now
-    c.in-Ok-validate_first.after.now c.loop-rest.invariant c.in-Ok-validate_first.ensures.ok
+    c.in-Ok.after.now c.loop-rest.invariant c.in-Ok.ensures.ok
 
 pub returns-clause-ok : goal.returns-clause-ok
 returns-clause-ok g c =
