@@ -1,4 +1,5 @@
 use Rattle.std.proofs.Common.{length, sym, ap, subst, ◌∙◌, arith}
+use Rattle.std.proofs.lemmas.Result.{err_from_is_err_and}
 use Rattle.std.proofs.lemmas.Bool.{eqb-false, eqb-true, ltb-false, ltb-true}
 use Rattle.trace.specs.declared.fault.FaultKind.TheVariants as kind
 use Rattle.trace.specs.Text.{content}
@@ -8,9 +9,11 @@ use Rattle.trace.proofs.Unique.{no_fault, one_trace}
 use Rattle.trace.proofs.read.read_trace.Goals as goal
 
 pub returns-in_err-version-clause-none : goal.returns-in_err-version-clause-none
-returns-in_err-version-clause-none g c known u range printable is =
+returns-in_err-version-clause-none g c =
+    let p = err_from_is_err_and c.from_residual.result c.from_residual.ensures.1 in
+    rw (p.1, p.2) (λ known u range printable is.
     no_fault c.args.text.now u _ _ (record { range = range; printable = printable }) is
-    (c.in_err-version.ensures.fault known)
+    (c.in_err-version.ensures.fault known))
 
 pub loop-rest-init : goal.loop-rest-init
 loop-rest-init g c =

@@ -1,4 +1,5 @@
 use Rattle.std.proofs.Common.{List, length, refl, sym, subst, arith}
+use Rattle.std.proofs.lemmas.Result.{err_from_is_err_and}
 use Rattle.std.proofs.lemmas.Bool.{eqb-false, eqb-true}
 use Rattle.board.specs.declared.spec.SlotSpec.{SlotSpec}
 use Rattle.trace.proofs.Validations.{ValidatedSofar, fault_later, first_more, first_refused, is_fault, validated_first, validated_whole}
@@ -8,7 +9,8 @@ use Rattle.trace.proofs.read.validating.validate.Goals as goal
 pub returns-in_err-version-clause-fault : goal.returns-in_err-version-clause-fault
 returns-in_err-version-clause-fault g c =
     let head = c.in_err-version.ensures in
-    is_fault g.row.A.Denot c.args.text.now _ head.fault head.numbered head.clean
+    let p = err_from_is_err_and c.from_residual.result c.from_residual.ensures.1 in
+    rw (p.1, p.2) (is_fault g.row.A.Denot c.args.text.now _ head.fault head.numbered head.clean)
 
 pub loop-rest-init : goal.loop-rest-init
 loop-rest-init g c =
