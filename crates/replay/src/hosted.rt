@@ -13,8 +13,8 @@ ghost use Rattle.trace.specs.ParsedEvent.{IsFineParsed};
 ghost use Rattle.replay.specs.Hosted.{SendsHosted, begins, flight_at, told_of_flight};
 ghost use Rattle.replay.specs.Running.{HostsEvent, HostsParsed, IsHostedPart, words_at};
 
-use crate::lines::RunsEvents;
 use crate::running::{bytes_in, told};
+use crate::runs::RunsEvents;
 use block_device::Operation;
 use board::{Event, EventKind, Handled, HostedBoard, Reply, RestoreRefusal};
 use chain::Segment;

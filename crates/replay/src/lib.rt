@@ -1,6 +1,6 @@
 //! The replay of a trace: from its text to the text of its records.
 //!
-//! `replaying` has both passes over a text: `trace` validates it whole, and `lines` then
+//! `replaying` has both passes over a text: `trace` validates it whole, and `runs` then
 //! runs it line by line, on a board over an image (`running`) or one whose disks the host serves (`hosted`). `input` gathers what a reader gives, `fault` says why a replay did not come to its end, `last_line` tells how a program ends
 //! after it, `limits` says which memories a trace may describe, and `laws` that the version of a trace says nothing of what
 //! comes of it.
@@ -12,9 +12,9 @@ mod input;
 mod last_line;
 mod laws;
 mod limits;
-mod lines;
 mod replaying;
 mod running;
+mod runs;
 
 pub use fault::ReplayFault;
 pub use input::gather;

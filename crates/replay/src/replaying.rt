@@ -17,7 +17,7 @@ ghost use Rattle.replay.specs.Replay.{AfterRun, EndsReading, HasTooMany, Refuses
 use crate::fault::ReplayFault;
 use crate::input::gather;
 use crate::limits::limit_memories;
-use crate::lines::run_text;
+use crate::runs::run_text;
 use board::{Board, BoardFault, HostedBoard, SlotSpec};
 use sector_cache::{Image, Refused};
 use std::alloc::Allocator;

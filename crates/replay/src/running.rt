@@ -12,7 +12,7 @@ ghost use Rattle.trace.specs.ParsedEvent.{IsFineParsed};
 ghost use Rattle.hexadecimal.specs.Fields.{IsBytesField};
 ghost use Rattle.trace.specs.Words.{Says, Bytes as ByBytes};
 
-use crate::lines::RunsEvents;
+use crate::runs::RunsEvents;
 use board::{Board, EventKind, Handled, Reply};
 use sector_cache::Image;
 use std::alloc::Allocator;

@@ -93,6 +93,21 @@ pub passed : (b : Bool) (old new : Option (List ℕ)) (front rest all : List ℕ
     → Keeps (records_of b (append_known old all)) (records_of b (append_known new rest))
 passed b old new front rest all p e = records_kept b _ _ (append_known-moved old new front rest all p e)
 
+-- it took all of it
+pub ended : (b : Bool) (old new : Option (List ℕ)) (all : List ℕ) → Appends old new all
+    → Keeps (records_of b (append_known old all)) (records_of b new)
+ended b None new all p = tt
+ended b (Some xs) None all p = absurd p
+ended b (Some xs) (Some ys) all p =
+    subst (λ t. Keeps (records_of b (Some (xs ++ all))) (records_of b (Some t))) (sym p) (Keeps-refl _)
+
+-- nothing waits yet
+pub opened : (known : Option (List ℕ))
+    → Keeps (records_of false known) (records_of false (append_known known []))
+opened None = tt
+opened (Some xs) = subst (λ t. Keeps (records_of false (Some xs)) (records_of false (Some t)))
+    (sym (append-nil xs)) (Keeps-refl _)
+
 pub plain : (xs : List ℕ) → ((k : ℕ) → k < length xs → get_or xs k 0 ≡ 9 → ⊥) → IsPlain xs
 plain [] none = record { none = refl; outside = refl }
 plain (x ∷ xs) none =

@@ -1,7 +1,7 @@
 use Rattle.std.proofs.Common.{length}
 use Rattle.trace.specs.Sends.{waiting}
 use Rattle.replay.proofs.Lines.{RunSofar}
-use Rattle.replay.proofs.lines.run_lines.Given as goal
+use Rattle.replay.proofs.runs.run_lines.Given as goal
 
 -- the first events are run and the text of their records sent
 abbrev pub invariant-loop-rest : goal.invariant-loop-rest

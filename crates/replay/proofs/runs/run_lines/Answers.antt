@@ -1,7 +1,7 @@
 use Rattle.std.proofs.Common.{length, sym}
 use Rattle.std.proofs.lemmas.Bool.{eqb-false, eqb-true}
 use Rattle.replay.proofs.Lines.{begins, fits, run_all, run_more, run_none}
-use Rattle.replay.proofs.lines.run_lines.Goals as goal
+use Rattle.replay.proofs.runs.run_lines.Goals as goal
 
 pub loop-rest-init : goal.loop-rest-init
 loop-rest-init g c =

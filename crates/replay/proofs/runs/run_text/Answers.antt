@@ -2,7 +2,7 @@ use Rattle.std.proofs.Common.{refl}
 use Rattle.std.proofs.KnownBytes.{Keeps-refl}
 use Rattle.replay.proofs.Pieces.{flushed_whole}
 use Rattle.replay.proofs.Lines.{by_both}
-use Rattle.replay.proofs.lines.run_text.Goals as goal
+use Rattle.replay.proofs.runs.run_text.Goals as goal
 
 pub returns-in_default-clause-after : goal.returns-in_default-clause-after
 returns-in_default-clause-after g c events are = (refl, Keeps-refl _)
