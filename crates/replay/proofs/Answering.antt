@@ -19,13 +19,13 @@ use Rattle.board.specs.Line.{IsRun}
 use Rattle.board.specs.Machine.{block_irq, console_irq, record_of}
 use Rattle.board.specs.Outcome.{replies}
 use Rattle.board.specs.Slot.{BoardSlot, SlotState, state_of}
-use Rattle.board.specs.World.{Answers, BoardState, MissingStep, SlotStep, World, disturbed_of, extents_of, seen, world_of}
+use Rattle.board.specs.World.{Answers, BoardState, Handles, MissingStep, SlotStep, World, disturbed_of, extents_of, seen, world_of}
 use Rattle.board.proofs.Runs.{answered, step_run}
 use Rattle.board.proofs.Alone.{get_set}
 use Rattle.board.proofs.Seats.{extents_of-set, handles_missing, noted_none, set_same, step_there}
 use Rattle.replay.specs.Pieces.{SendsRun}
 use Rattle.trace.specs.Records.{entry_of, read_line, record_line, records_text}
-use Rattle.replay.specs.Running.{AnswersEvent, AnswersParsed, IsPart, RunsParsed, SendsOne, words_of}
+use Rattle.replay.specs.Running.{AnswersEvent, AnswersParsed, IsPart, RunsParsed, words_of}
 use Rattle.trace.specs.declared.read.parsed_event.ParsedEvent.{ParsedEvent}
 use Rattle.trace.specs.ParsedEvent.{IsFineParsed}
 use Rattle.trace.specs.Sends.{Sends}
@@ -218,6 +218,16 @@ entry_told disk old new event reply out a =
     a.replied ∙ ap (λ (o : List ℕ). entry_of event.slot reply o
     (words_of (slice_get new.slots event.slot))) (sym a.appended)
 
+-- and so are those that are told with the reply
+pub words_told : {A I : Type 0} (disk : I → Disk) (old new : BoardState I) (event : Event A) (reply : Reply A)
+    (block console : ℕ) (out : List ℕ)
+    → Handles (world_of disk old) event reply block console [] out (world_of disk new)
+    → (block, console) ≡ words_of (slice_get new.slots event.slot)
+words_told {A} disk old new event reply block console out h =
+    ap (λ (r : Record A). (r.block_irq, r.console_irq))
+    (told_at (world_of disk old) event (entry_of event.slot reply h.output (block, console)) new.slots
+    (disk new.image) (slice_get (world_of disk old).slots event.slot) refl h.step)
+
 one_line : {A : Type 0} (entry : Record A) → ended (record_line entry) ≡ records_text (entry ∷ [])
 unfolding joined
 one_line entry = sym (append-nil (ended (record_line entry)))
@@ -225,7 +235,7 @@ one_line entry = sym (append-nil (ended (record_line entry)))
 -- an event was answered, and the text of its record sent
 pub event_run : {A I : Type 0} (disk : I → Disk) (old new : BoardState I) (event : Event A) (reply : Reply A)
     (out : List ℕ) (words : ℕ × ℕ) (a b s t : Option (List ℕ)) → AnswersEvent disk old event reply out new
-    → words ≡ words_of (slice_get new.slots event.slot)
+    → (Tells (disk old.image) → words ≡ words_of (slice_get new.slots event.slot))
     → Sends a b s (ended (record_line (entry_of event.slot reply out words))) t
     → SendsRun disk old new (event ∷ []) a b s t
 event_run {A} disk old new event reply out words a b s t it is sent =
@@ -235,7 +245,7 @@ event_run {A} disk old new event reply out words a b s t it is sent =
       run = λ tells.
           let answers = it.answers tells in
           let same : answers.written ≡ entry = entry_told disk old new event reply out answers
-          ∙ ap (λ ws. entry_of event.slot reply out ws) (sym is) in
+          ∙ ap (λ ws. entry_of event.slot reply out ws) (sym (is tells)) in
           subst (λ (w : Record A). IsRun (world_of disk old) (world_of disk new) (event ∷ []) [] (w ∷ []))
           same (step_run (world_of disk old) (world_of disk new) event answers.written [] answers.step);
       tells = it.keeps.tells;
@@ -245,9 +255,10 @@ event_run {A} disk old new event reply out words a b s t it is sent =
 
 pub parsed_run : {A I : Type 0} (disk : I → Disk) (parsed : ParsedEvent A) (old new : BoardState I)
     (reply : Reply A) (out : List ℕ) (words : ℕ × ℕ) (a b s t : Option (List ℕ))
-    → AnswersParsed disk parsed old reply out new → words ≡ words_of (slice_get new.slots parsed.event.slot)
+    → AnswersParsed disk parsed old reply out new
+    → (Tells (disk old.image) → words ≡ words_of (slice_get new.slots parsed.event.slot))
     → Sends a b s (ended (record_line (entry_of parsed.event.slot reply out words))) t
-    → RunsParsed parsed (SendsOne disk old new a b s t)
+    → RunsParsed parsed (λ event. SendsRun disk old new (event ∷ []) a b s t)
 parsed_run disk parsed old new reply out words a b s t it is sent = record {
   event = it.event;
   fields = it.fields;
@@ -261,7 +272,7 @@ pub read_run : {A I : Type 0} (disk : I → Disk) (parsed : ParsedEvent A) (boar
     → parsed.event.what ≡ MemRead addr len → IsPart board parsed.event.slot addr len part
     → words ≡ words_of (slice_get board.slots parsed.event.slot)
     → Sends a b s (ended (read_line parsed.event.slot part words)) t
-    → RunsParsed parsed (SendsOne disk board board a b s t)
+    → RunsParsed parsed (λ event. SendsRun disk board board (event ∷ []) a b s t)
 unfolding read_line record_line
 read_run {A} disk parsed board addr len part words a b s t fine is it same sent =
     let event : Event A = record { slot = parsed.event.slot; what = MemRead addr len } in
@@ -271,5 +282,5 @@ read_run {A} disk parsed board addr len part words a b s t fine is it same sent 
       fields = rw is refl;
       fine = record { fits = record { slot = fine.slot; what = plain.range }; printable = tt };
       run = event_run disk board board event (Bytes part) [] words a b s t
-          (part_read A disk board parsed.event.slot addr len part it) same sent;
+          (part_read A disk board parsed.event.slot addr len part it) (λ tells. same) sent;
     }

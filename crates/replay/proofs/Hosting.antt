@@ -1,5 +1,5 @@
 -- Calls of a board whose disks the host serves, whose records go out as text, one after another.
-use Rattle.std.proofs.Common.{◌≡◌, ◌∙◌, ℕ, ◌<◌, ◌≤◌, ◌+◌, Bool, true, false, not, if◌then◌else◌, List, [], ◌∷◌, ◌++◌, Option, None, Some, length, map, take, refl, sym, ap, subst, append-nil, arith, IfSome, IsSome, IsSomeAnd, ◌↔◌, IsTrue, Bor, inl, inr}
+use Rattle.std.proofs.Common.{◌≡◌, ◌∙◌, ℕ, ◌<◌, ◌≤◌, ◌+◌, Bool, true, false, if◌then◌else◌, List, [], ◌∷◌, ◌++◌, Option, None, Some, length, map, take, Result, Ok, Err, refl, sym, ap, subst, append-nil, arith, IfSome, IsSome, IsSomeAnd, ◌↔◌, IsTrue, Bor, inl, inr}
 use Rattle.std.specs.Prelude.{MatchOption, is_none, nat_lt}
 use Rattle.std.proofs.lemmas.Bool.{cases_lt, le-ltb, lt-ltb}
 use Rattle.std.proofs.lemmas.Option.{slice_get_past}
@@ -34,8 +34,10 @@ use Rattle.trace.proofs.Passing.{sends_more, sends_none, sends_same, sent_all, s
 use Rattle.trace.proofs.Printed.{joined_append, joined_none}
 use Rattle.trace.proofs.RecordLines.{asked_is}
 use Rattle.replay.specs.Hosted.{AreCallsOf, RecordedHosted, SendsHosted, asked_by, begins, called, flight_at, move_line, move_lines, moves_text, record_of_move, told_of_flight}
-use Rattle.replay.specs.Replay.{RecordedFront}
-use Rattle.replay.specs.Running.{HostsEvent, HostsParsed, IsHostedPart, RunsParsed, SendsOneHosted, words_at}
+use Rattle.replay.specs.declared.fault.ReplayFault.{ReplayFault}
+use Rattle.replay.specs.declared.fault.ReplayFault.TheVariants.{Write, NoMemory}
+use Rattle.replay.specs.Replay.{AfterRun}
+use Rattle.replay.specs.Running.{AfterLines, HostsEvent, HostsParsed, IsHostedPart, Joins, RunsParsed, words_at}
 
 -- ---- what is in flight
 
@@ -70,24 +72,16 @@ pub taken_quietly : {A : Type 0} (old new : List HostedState) (event : Event A) 
 taken_quietly old new event reply it =
     record { block = it.block; console = it.console; takes = it.takes None [] }
 
--- a range of memory that isn't there, of a slot that is there and of one that isn't
-pub range_missing : {A : Type 0} (old new : List HostedState) (event : Event A) (count : ℕ)
-    → event.slot < count → count ≡ length new → new ≡ old
+-- a range of memory that isn't there
+pub range_missing : {A : Type 0} (old new : List HostedState) (event : Event A) (count : ℕ) (reply : Reply A)
+    → out_of_range event.slot count ≡ reply → count ≡ length new → new ≡ old
     → TakesQuietly old event.slot event.what (out_of_range event.slot (length old)) new
-    → HostsEvent old event BadRange [] new
-range_missing old new event count below same kept it =
-    let test : nat_lt event.slot (length old) ≡ true =
-    lt-ltb event.slot (length old) (omega (arith, same, ap length kept)) in
-    taken_quietly old new event BadRange (rw test at it)
-
-pub slot_missing : {A : Type 0} (old new : List HostedState) (event : Event A) (count : ℕ)
-    → count ≤ event.slot → count ≡ length new → new ≡ old
-    → TakesQuietly old event.slot event.what (out_of_range event.slot (length old)) new
-    → HostsEvent old event BadSlot [] new
-slot_missing old new event count past same kept it =
-    let test : nat_lt event.slot (length old) ≡ false =
-    le-ltb event.slot (length old) (omega (arith, same, ap length kept)) in
-    taken_quietly old new event BadSlot (rw test at it)
+    → HostsEvent old event reply [] new
+range_missing old new event count reply is same kept it =
+    let answered : out_of_range event.slot (length old) ≡ reply =
+    ap (out_of_range event.slot) (sym (same ∙ ap length kept)) ∙ is in
+    taken_quietly old new event reply
+    (subst (λ (r : Reply _). TakesQuietly old event.slot event.what r new) answered it)
 
 pub past_slots : (slots : List HostedState) (h : ℕ) → (h < length slots → ⊥) → slice_get slots h ≡ None
 past_slots slots h past =
@@ -116,7 +110,7 @@ words_told_at old h call told new (Some state) here calls =
     ∙ get_set old h state calls.outcome.state here in
     rw (there, calls.told_is) refl
 
-words_told : {A : Type 0} (old : List HostedState) (h : ℕ) (call : HostedCall A) (told : Told A)
+pub words_told : {A : Type 0} (old : List HostedState) (h : ℕ) (call : HostedCall A) (told : Told A)
     (new : List HostedState) → Calls old h call told new
     → (told.block_irq, told.console_irq) ≡ words_at (slice_get new h)
 words_told old h call told new calls = words_told_at old h call told new (slice_get old h) refl calls
@@ -132,7 +126,7 @@ hosted_run : {A : Type 0} (old new : List HostedState) (event : Event A) (reply 
     → asked ≡ asked_by event.slot event.what old new
     → Sends a b s (line (record_fields (entry_of event.slot reply out words)) ++ 32 ∷ []) t
     → Sends b c t (asked_field asked ++ 10 ∷ []) u
-    → SendsOneHosted old new a c s u event
+    → SendsHosted old new (event ∷ []) a c s u
 hosted_run {A} old new event reply out words asked a b c s t u it same begun front last =
     let takes = it.takes in
     let call : HostedCall A = called event.what in
@@ -169,7 +163,7 @@ pub parsed_hosted : {A : Type 0} (parsed : ParsedEvent A) (old new : List Hosted
     → asked ≡ told_of_flight (if next then flight_at new parsed.event.slot else None)
     → Sends a b s (line (record_fields (entry_of parsed.event.slot reply out words)) ++ 32 ∷ []) t
     → Sends b c t (asked_field asked ++ 10 ∷ []) u
-    → RunsParsed parsed (SendsOneHosted old new a c s u)
+    → RunsParsed parsed (λ event. SendsHosted old new (event ∷ []) a c s u)
 parsed_hosted parsed old new reply out words next asked a b c s t u it same test begun front last =
     let event = it.event in
     let asks : asked ≡ asked_by event.slot event.what old new
@@ -190,7 +184,7 @@ pub read_hosted : {A : Type 0} (parsed : ParsedEvent A) (board : List HostedStat
     → words ≡ words_at (slice_get board parsed.event.slot)
     → Sends a b s (read_line parsed.event.slot part words ++ 32 ∷ []) t
     → Sends b c t (asked_field None ++ 10 ∷ []) u
-    → RunsParsed parsed (SendsOneHosted board board a c s u)
+    → RunsParsed parsed (λ event. SendsHosted board board (event ∷ []) a c s u)
 unfolding read_line
 read_hosted {A} parsed board addr len part words a b c s t u fine is it same front last =
     let event : Event A = record { slot = parsed.event.slot; what = MemRead addr len } in
@@ -208,13 +202,8 @@ read_hosted {A} parsed board addr len part words a b c s t u fine is it same fro
 
 -- ---- one event after another
 
--- a run over some events, with the events last
-abbrev pub SendsAllHosted : {A : Type 0} → List HostedState → List HostedState → Option (List ℕ)
-    → Option (List ℕ) → Option (List ℕ) → Option (List ℕ) → List (Event A) → Type 0
-SendsAllHosted old new a b s t events = SendsHosted old new events a b s t
-
-pub hosts_none : {A : Type 0} (board : List HostedState) (a s : Option (List ℕ))
-    → SendsAllHosted {A = A} board board a a s s []
+hosts_none : {A : Type 0} (board : List HostedState) (a s : Option (List ℕ))
+    → SendsHosted {A = A} board board [] a a s s
 hosts_none board a s = record {
   moves = [];
   line = refl;
@@ -233,10 +222,10 @@ lines_joined old mid [] ys p = ap (λ (b : List HostedState). move_lines b ys) (
 lines_joined old mid (x ∷ xs) ys p =
     ap (λ (ls : List (List ℕ)). move_line old x ∷ ls) (lines_joined x.after mid xs ys p.1)
 
-pub hosts_one_more : {A : Type 0} (old mid new : List HostedState) (events : List (Event A)) (event : Event A)
+hosts_one_more : {A : Type 0} (old mid new : List HostedState) (events : List (Event A)) (event : Event A)
     (a b c s t u : Option (List ℕ))
-    → SendsAllHosted old mid a b s t events → SendsOneHosted mid new b c t u event
-    → SendsAllHosted old new a c s u (events ++ event ∷ [])
+    → SendsHosted old mid events a b s t → SendsHosted mid new (event ∷ []) b c t u
+    → SendsHosted old new (events ++ event ∷ []) a c s u
 hosts_one_more old mid new events event a b c s t u p q = record {
   moves = p.moves ++ q.moves;
   line = line_joined old mid new p.moves q.moves p.line q.line;
@@ -251,6 +240,23 @@ hosts_one_more old mid new events event a b c s t u p q = record {
       ∙ ap joined (sym (lines_joined old mid p.moves q.moves p.line)))
       (sends_more a b c s t u _ _ p.sent q.sent);
 }
+
+-- what waited was written
+hosted_flushed : {A : Type 0} (old new : List HostedState) (events : List (Event A))
+    (a b c s t u : Option (List ℕ)) → SendsHosted old new events a b s t → Sends b c t [] u
+    → SendsHosted old new events a c s u
+hosted_flushed old new events a b c s t u p q = record {
+  moves = p.moves;
+  line = p.line;
+  calls = p.calls;
+  sent =
+      sends_same a c s u (moves_text old p.moves ++ []) (moves_text old p.moves)
+      (append-nil (moves_text old p.moves))
+      (sends_more a b c s t u (moves_text old p.moves) [] p.sent q);
+}
+
+pub calls_join : {A : Type 0} → Joins {A = A} SendsHosted
+calls_join = record { none = hosts_none; more = hosts_one_more; flushed = hosted_flushed }
 
 -- ---- a new board
 
@@ -270,53 +276,23 @@ recorded_hosted slots board after image events a b s Output new run out = record
       (out (moves_text board run.moves) run.sent);
 }
 
--- what waited was written
-pub hosted_flushed : {A : Type 0} (old new : List HostedState) (events : List (Event A))
-    (a b c t u w : Option (List ℕ)) → w ≡ Some [] → SendsHosted old new events a b w t → Sends b c t [] u
-    → SendsHosted old new events a c (Some []) u
-hosted_flushed old new events a b c t u w start p q = record {
-  moves = p.moves;
-  line = p.line;
-  calls = p.calls;
-  sent =
-      subst (λ (s : Option (List ℕ)). Sends a c s (moves_text old p.moves) u) start
-      (sends_same a c w u (moves_text old p.moves ++ []) (moves_text old p.moves)
-      (append-nil (moves_text old p.moves))
-      (sends_more a b c w t u (moves_text old p.moves) [] p.sent q));
-}
-
--- all of the text went out
-pub hosted_all_out : {A I : Type 0} (slots : List SlotSpec) (board after : List HostedState) (image : I)
-    (events : List (Event A)) (a b u : Option (List ℕ)) → board ≡ map hosted_opened slots → u ≡ Some []
-    → SendsHosted board after events a b (Some []) u → RecordedHosted slots events image image (Appends a b)
-hosted_all_out slots board after image events a b u new whole run =
-    recorded_hosted slots board after image events a b (Some []) (Appends a b) new
-    (subst (λ (s : Option (List ℕ)). SendsHosted board after events a b (Some []) s) whole run) (sent_all a b)
-
--- the writer failed
-pub hosted_front_out : {A I : Type 0} (disk : I → Disk) (slots : List SlotSpec)
-    (board after : List HostedState) (image : I) (events : List (Event A)) (a b u : Option (List ℕ))
-    → board ≡ map hosted_opened slots → u ≡ None
-    → SendsHosted board after events a b (Some []) u
-    → RecordedFront Hosted disk slots events image image (AppendsFront a b)
-hosted_front_out disk slots board after image events a b u new broken run = record {
+-- what comes of the lines is what comes of the events
+pub after_hosted : {A I : Type 0} (disk : I → Disk) (slots : List SlotSpec) (board after : List HostedState)
+    (image : I) (events : List (Event A)) (a b : Option (List ℕ)) (outcome : Result (Unit {0}) ReplayFault)
+    → board ≡ map hosted_opened slots → AfterLines SendsHosted events board after a b outcome
+    → AfterRun Hosted disk slots events image image a b outcome
+after_hosted disk slots board after image events a b (Ok _) new run =
+    recorded_hosted slots board after image events a b (Some []) (Appends a b) new run (sent_all a b)
+after_hosted disk slots board after image events a b (Err Write) new run = record {
   done = length events;
   recorded =
       recorded_hosted slots board after image (take (length events) events) a b None (AppendsFront a b) new
-      (subst (λ (s : Option (List ℕ)). SendsHosted board after (take (length events) events) a b
-      (Some []) s) broken
-      (subst (λ (es : List (Event _)). SendsHosted board after es a b (Some []) u)
-      (sym (take_all (length events) events (omega arith))) run))
-      (sent_front a b);
+      (subst (λ (es : List (Event _)). SendsHosted board after es a b (Some []) None)
+      (sym (take_all (length events) events (omega arith))) run) (sent_front a b);
 }
-
--- nothing was run, and nothing written
-pub hosted_none_out : {A I : Type 0} (disk : I → Disk) (slots : List SlotSpec) (board : List HostedState)
-    (image : I) (events : List (Event A)) (a b : Option (List ℕ))
-    → board ≡ map hosted_opened slots → Keeps a b
-    → RecordedFront Hosted disk slots events image image (λ _. Keeps a b)
-hosted_none_out disk slots board image events a b new same = record {
+after_hosted disk slots board after image events a b (Err NoMemory) new run = record {
   done = 0;
   recorded = recorded_hosted slots board board image [] a a (Some []) (λ _. Keeps a b) new
-      (hosts_none board a (Some [])) (λ _ _. same);
+      (hosts_none board a (Some [])) (λ _ _. run.1);
 }
+after_hosted disk slots board after image events a b (Err fault) new run = absurd run

@@ -12,7 +12,7 @@ use Rattle.trace.specs.Validating.{AreEventLines, AreLinesOf, HaveRoom, bytes_le
 use Rattle.trace.specs.Printable.{IsPrintableSlot, SlotInRange}
 use Rattle.trace.specs.Refusals.{IsFine, RefusesLine}
 use Rattle.trace.specs.Events.{BeginsWithEvent, TakesEvent}
-use Rattle.replay.specs.Running.{HasRoomFor, RunsLine, RunsParsed}
+use Rattle.replay.specs.Running.{RunsParsed}
 use Rattle.trace.specs.ParsedEvent.{parsed_fields}
 use Rattle.trace.specs.Text.{Content, ended, event_fields, event_line, front_text, joined, text, trace_lines, word_for}
 use Rattle.trace.proofs.Entries.{cut_event, entered_event}
@@ -80,15 +80,8 @@ refused_not {A} e fault fine known h =
 
 never_refused : {A : Type 0} (e : Event A) → IsFine e → (fault : FaultKind)
     → RefusesLine 3 true (event_line e) fault → ⊥
-never_refused e fine kind.Cut h = refused_not e kind.Cut fine (λ is. cc) h
-never_refused e fine kind.Header h = refused_not e kind.Header fine (λ is. cc) h
-never_refused e fine kind.Word h = refused_not e kind.Word fine (λ is. cc) h
-never_refused e fine kind.Order h = refused_not e kind.Order fine (λ is. cc) h
-never_refused e fine kind.Fields h = refused_not e kind.Fields fine (λ is. cc) h
-never_refused e fine kind.Number h = refused_not e kind.Number fine (λ is. cc) h
-never_refused e fine kind.Choice h = refused_not e kind.Choice fine (λ is. cc) h
-never_refused e fine kind.Bytes h = refused_not e kind.Bytes fine (λ is. cc) h
 never_refused e fine kind.NoMemory h = h.refused
+never_refused e fine fault h = refused_not e fault fine (λ is. cc) h
 
 -- ---- the next line
 
@@ -174,7 +167,8 @@ module _ (A : Type 0) (lines : List ℕ) (room : ℕ) (rest : List ℕ) (Run : L
   pub begins : length rest ≢ 0 → BeginsWithEvent rest
   begins some = begins_at so.left rest so.more some
 
-  pub fits : HasRoomFor A rest room
+  pub fits : (parsed : ParsedEvent A) (after : List ℕ) → TakesEvent rest parsed after
+      → parsed_len parsed ≤ room
   fits parsed after takes = fits_at so.left room rest parsed after so.more so.fit takes
 
 -- one event more
@@ -200,14 +194,14 @@ more_at A lines room rest parsed after done (e ∷ left) Old New One whole more 
       run = join done e run (subst One same it.run);
     }
 
-pub run_more : (A : Type 0) (lines : List ℕ) (room : ℕ) (rest after : List ℕ) (Old New : List (Event A)
-    → Type 0) (One : Event A → Type 0)
-    → RunSofar A lines room rest Old → RunsLine A rest after One
+pub run_more : (A : Type 0) (lines : List ℕ) (room : ℕ) (rest : List ℕ) (parsed : ParsedEvent A)
+    (after : List ℕ) (Old New : List (Event A) → Type 0) (One : Event A → Type 0)
+    → RunSofar A lines room rest Old → TakesEvent rest parsed after → RunsParsed parsed One
     → ((es : List (Event A)) (e : Event A) → Old es → One e → New (es ++ e ∷ []))
     → RunSofar A lines room after New
-run_more A lines room rest after Old New One so it join =
-    more_at A lines room rest it.parsed after so.done so.left Old New One so.whole so.more so.fit so.run
-    it.taken it.ran join
+run_more A lines room rest parsed after Old New One so taken ran join =
+    more_at A lines room rest parsed after so.done so.left Old New One so.whole so.more so.fit so.run
+    taken ran join
 
 -- no line is left
 all_at : (A : Type 0) (lines : List ℕ) (rest : List ℕ) (done left events : List (Event A))
@@ -230,3 +224,7 @@ pub run_all : (A : Type 0) (lines : List ℕ) (room : ℕ) (rest : List ℕ) (ev
     → RunSofar A lines room rest Run → length rest ≡ 0 → AreLinesOf events lines → Run events
 run_all A lines room rest events Run so none are =
     all_at A lines rest so.done so.left events Run so.whole so.more so.run none are
+
+-- the same of what waited before and after by other names
+pub by_both : {X : Type 0} (Run : X → X → Type 0) {a b c d : X} → a ≡ c → b ≡ d → Run a b → Run c d
+by_both Run {a} {b} {c} {d} start last run = subst (λ x. Run x d) start (subst (λ x. Run a x) last run)

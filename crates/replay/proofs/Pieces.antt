@@ -1,5 +1,5 @@
 -- Runs whose records go out as text, one after another.
-use Rattle.std.proofs.Common.{◌≡◌, ℕ, List, [], ◌∷◌, ◌++◌, Option, None, Some, length, map, take, refl, sym, ap, subst, ◌∙◌, append-nil, arith, Bool, false, ◌⊎◌, inl, inr, ◌↔◌, IsTrue}
+use Rattle.std.proofs.Common.{◌≡◌, ℕ, List, [], ◌∷◌, ◌++◌, Option, None, Some, length, map, take, Result, Ok, Err, refl, sym, ap, subst, ◌∙◌, append-nil, arith, Bool, false, ◌⊎◌, inl, inr, ◌↔◌, IsTrue}
 use Rattle.std.proofs.lemmas.List.{map-append, take_all}
 use Rattle.std.specs.Io.KnownBytes.{Appends, Keeps}
 use Rattle.sector_cache.specs.Disk.{Disk}
@@ -14,18 +14,15 @@ use Rattle.trace.specs.Sends.{AppendsFront}
 use Rattle.replay.specs.Pieces.{SendsRun}
 use Rattle.trace.specs.Records.{record_line, records_text}
 use Rattle.trace.specs.Text.{joined}
-use Rattle.replay.specs.Replay.{Recorded, RecordedFront}
-use Rattle.replay.specs.Running.{SendsOne}
+use Rattle.replay.specs.declared.fault.ReplayFault.{ReplayFault}
+use Rattle.replay.specs.declared.fault.ReplayFault.TheVariants.{Write, NoMemory}
+use Rattle.replay.specs.Replay.{AfterRun, Recorded}
+use Rattle.replay.specs.Running.{AfterLines, Joins}
 use Rattle.trace.specs.declared.disks.Disks.TheVariants.{Cached}
 use Rattle.trace.specs.Sends.{Sends}
 use Rattle.trace.proofs.Passing.{sends_more, sends_none, sends_same, sent_all, sent_front}
 use Rattle.trace.proofs.Printed.{joined_append, joined_none}
 use Rattle.replay.proofs.RunLemmas.{runs_on}
-
--- a run over some events, with the events last
-abbrev pub SendsAll : {A I : Type 0} → (I → Disk) → BoardState I → BoardState I → Option (List ℕ)
-    → Option (List ℕ) → Option (List ℕ) → Option (List ℕ) → List (Event A) → Type 0
-SendsAll disk old new a b s t events = SendsRun disk old new events a b s t
 
 -- a run whose records come behind others
 behind : {A : Type 0} (old new : World) (events : List (Event A)) (front records : List (Record A))
@@ -69,13 +66,6 @@ sends_runs disk old mid new events more a b c s t u p q = record {
   sent = sends_same a c s u _ _ (text_append p.records q.records) (sends_more a b c s t u _ _ p.sent q.sent);
 }
 
--- one event more
-pub sends_one_more : {A I : Type 0} (disk : I → Disk) (old mid new : BoardState I) (events : List (Event A))
-    (event : Event A) (a b c s t u : Option (List ℕ)) → SendsAll disk old mid a b s t events
-    → SendsOne disk mid new b c t u event → SendsAll disk old new a c s u (events ++ event ∷ [])
-sends_one_more disk old mid new events event a b c s t u p q =
-    sends_runs disk old mid new events (event ∷ []) a b c s t u p q
-
 -- the same events by another name
 pub sends_run_of : {A I : Type 0} (disk : I → Disk) (old new : BoardState I) (events others : List (Event A))
     (a b s t : Option (List ℕ)) → events ≡ others → SendsRun disk old new events a b s t
@@ -97,58 +87,50 @@ recorded disk slots board after image events a b s Output new kept run out = rec
 }
 
 -- what waited was written
-pub sends_flushed : {A I : Type 0} (disk : I → Disk) (old new : BoardState I) (events : List (Event A))
-    (a b c t u w : Option (List ℕ)) → w ≡ Some [] → SendsRun disk old new events a b w t → Sends b c t [] u
-    → SendsRun disk old new events a c (Some []) u
-sends_flushed disk old new events a b c t u w start p q = record {
+sends_flushed : {A I : Type 0} (disk : I → Disk) (old new : BoardState I) (events : List (Event A))
+    (a b c s t u : Option (List ℕ)) → SendsRun disk old new events a b s t → Sends b c t [] u
+    → SendsRun disk old new events a c s u
+sends_flushed disk old new events a b c s t u p q = record {
   records = p.records;
   run = p.run;
   tells = p.tells;
   extents = p.extents;
   sent =
-      subst (λ (s : Option (List ℕ)). Sends a c s (records_text p.records) u) start
-      (sends_same a c w u (records_text p.records ++ []) (records_text p.records)
+      sends_same a c s u (records_text p.records ++ []) (records_text p.records)
       (append-nil (records_text p.records))
-      (sends_more a b c w t u (records_text p.records) [] p.sent q));
+      (sends_more a b c s t u (records_text p.records) [] p.sent q);
 }
 
--- all of the text went out
-pub all_out : {A I : Type 0} (disk : I → Disk) (slots : List SlotSpec) (board after : BoardState I)
-    (image : I) (events : List (Event A)) (a b u : Option (List ℕ)) → board.slots ≡ map opened slots
-    → image ≡ after.image → u ≡ Some [] → SendsRun disk board after events a b (Some []) u
-    → Recorded disk slots events board.image image (Appends a b)
-all_out disk slots board after image events a b u new kept whole run =
-    recorded disk slots board after image events a b (Some []) (Appends a b) new kept
-    (subst (λ (s : Option (List ℕ)). SendsRun disk board after events a b (Some []) s) whole
-    run) (sent_all a b)
+pub runs_join_on : {A I : Type 0} (disk : I → Disk) → Joins {A = A} (SendsRun disk)
+runs_join_on disk = record {
+  none = sends_no_run disk;
+  more = λ old mid new events event a b c s t u p q.
+      sends_runs disk old mid new events (event ∷ []) a b c s t u p q;
+  flushed = sends_flushed disk;
+}
 
--- the writer failed
-pub front_out : {A I : Type 0} (capacity : ℕ) (disk : I → Disk) (slots : List SlotSpec)
-    (board after : BoardState I) (image : I) (events : List (Event A)) (a b u : Option (List ℕ))
-    → board.slots ≡ map opened slots → image ≡ after.image → u ≡ None
-    → SendsRun disk board after events a b (Some []) u
-    → RecordedFront (Cached capacity) disk slots events board.image image (AppendsFront a b)
-front_out capacity disk slots board after image events a b u new kept broken run = record {
+-- what comes of the lines is what comes of the events
+pub after_cached : {A I : Type 0} (capacity : ℕ) (disk : I → Disk) (slots : List SlotSpec)
+    (board after : BoardState I) (image : I) (events : List (Event A)) (a b : Option (List ℕ))
+    (outcome : Result (Unit {0}) ReplayFault) → board.slots ≡ map opened slots → image ≡ after.image
+    → AfterLines (SendsRun disk) events board after a b outcome
+    → AfterRun (Cached capacity) disk slots events board.image image a b outcome
+after_cached capacity disk slots board after image events a b (Ok _) new kept run =
+    recorded disk slots board after image events a b (Some []) (Appends a b) new kept run (sent_all a b)
+after_cached capacity disk slots board after image events a b (Err Write) new kept run = record {
   done = length events;
   recorded =
       recorded disk slots board after image (take (length events) events) a b None (AppendsFront a b) new kept
-      (subst (λ (s : Option (List ℕ)). SendsRun disk board after (take (length events) events) a b
-      (Some []) s) broken
-      (sends_run_of disk board after events (take (length events) events) a b (Some []) u
-      (sym (take_all (length events) events (omega arith))) run))
-      (sent_front a b);
+      (sends_run_of disk board after events (take (length events) events) a b (Some []) None
+      (sym (take_all (length events) events (omega arith))) run) (sent_front a b);
 }
-
--- nothing was run, and nothing written
-pub none_out : {A I : Type 0} (capacity : ℕ) (disk : I → Disk) (slots : List SlotSpec) (board : BoardState I)
-    (image : I) (events : List (Event A)) (a b : Option (List ℕ)) → board.slots ≡ map opened slots
-    → image ≡ board.image → Keeps a b
-    → RecordedFront (Cached capacity) disk slots events board.image image (λ _. Keeps a b)
-none_out capacity disk slots board image events a b new kept same = record {
+after_cached capacity disk slots board after image events a b (Err NoMemory) new kept run = record {
   done = 0;
-  recorded = recorded disk slots board board image [] a a (Some []) (λ _. Keeps a b) new kept
-      (sends_no_run disk board a (Some [])) (λ _ _. same);
+  recorded = recorded disk slots board board image [] a a (Some []) (λ _. Keeps a b) new
+      (kept ∙ ap (λ (state : BoardState _). state.image) run.0) (sends_no_run disk board a (Some []))
+      (λ _ _. run.1);
 }
+after_cached capacity disk slots board after image events a b (Err fault) new kept run = absurd run
 
 -- a flushed buffer whose writer has not failed is empty
 pub flushed_whole : (u : Option (List ℕ)) (broken : Bool) → (u ≡ Some []) ⊎ (u ≡ None) → IsTrue broken

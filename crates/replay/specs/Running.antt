@@ -1,5 +1,6 @@
 -- Running the events of lines that were validated, one after another.
-use Rattle.std.specs.Prelude.{◌≡◌, ◌≤◌, ℕ, List, [], ◌∷◌, Option, None, Some, IsSomeAnd}
+use Rattle.std.specs.Prelude.{◌≡◌, ℕ, List, [], ◌∷◌, ◌++◌, Option, None, Some, Result, Ok, Err, IsSomeAnd}
+use Rattle.std.specs.Io.KnownBytes.{Keeps}
 use Rattle.guest_memory.specs.Memory.{Inside, Memory, part_of}
 use Rattle.std.specs.List.{slice_get}
 use Rattle.sector_cache.specs.Disk.{Disk}
@@ -12,10 +13,9 @@ use Rattle.board.specs.Image.{Tells}
 use Rattle.board.specs.Slot.{BoardSlot, interrupt_words}
 use Rattle.board.specs.World.{Answers, BoardState, extents_of, world_of}
 use Rattle.trace.specs.declared.read.parsed_event.ParsedEvent.{ParsedEvent}
-use Rattle.replay.specs.Hosted.{SendsHosted}
-use Rattle.replay.specs.Pieces.{SendsRun}
-use Rattle.trace.specs.Events.{TakesEvent}
-use Rattle.trace.specs.Validating.{parsed_len}
+use Rattle.replay.specs.declared.fault.ReplayFault.{ReplayFault}
+use Rattle.replay.specs.declared.fault.ReplayFault.TheVariants.{Write, NoMemory}
+use Rattle.trace.specs.Sends.{Sends}
 use Rattle.trace.specs.Refusals.{IsFine}
 use Rattle.trace.specs.ParsedEvent.{parsed_fields}
 use Rattle.trace.specs.Text.{event_fields}
@@ -59,27 +59,30 @@ pub record RunsParsed {A : Type 0} (parsed : ParsedEvent A) (Run : Event A → T
   pub fine : IsFine event
   pub run : Run event
 
--- an event is run, and the text of its record sent
-abbrev pub SendsOne : {A I : Type 0} → (I → Disk) → BoardState I → BoardState I → Option (List ℕ)
-    → Option (List ℕ) → Option (List ℕ) → Option (List ℕ) → Event A → Type 0
-SendsOne disk old new before after waiting waiting' event =
-    SendsRun disk old new (event ∷ []) before after waiting waiting'
+-- runs over events, from one board to another, whose text is added to what waits for a writer
+abbrev pub Runs : Type 0 → Type 0 → Type 1
+Runs A B = B → B → List (Event A) → Option (List ℕ) → Option (List ℕ) → Option (List ℕ)
+    → Option (List ℕ) → Type 0
 
-abbrev pub SendsOneHosted : {A : Type 0} → List HostedState → List HostedState → Option (List ℕ)
-    → Option (List ℕ) → Option (List ℕ) → Option (List ℕ) → Event A → Type 0
-SendsOneHosted old new before after waiting waiting' event =
-    SendsHosted old new (event ∷ []) before after waiting waiting'
+-- they join, from none on, and what waits may be written behind one
+pub record Joins {A B : Type 0} (Run : Runs A B) : Type 0 where
+  pub none : (board : B) (a s : Option (List ℕ)) → Run board board [] a a s s
+  pub more :
+      (old mid new : B) (events : List (Event A)) (event : Event A) (a b c s t u : Option (List ℕ))
+      → Run old mid events a b s t → Run mid new (event ∷ []) b c t u
+      → Run old new (events ++ event ∷ []) a c s u
+  pub flushed :
+      (old new : B) (events : List (Event A)) (a b c s t u : Option (List ℕ))
+      → Run old new events a b s t → Sends b c t [] u → Run old new events a c s u
 
--- the bytes of the event that the first of these lines says have room
-abbrev pub HasRoomFor : Type 0 → List ℕ → ℕ → Type 0
-HasRoomFor A lines room = (parsed : ParsedEvent A) (after : List ℕ) → TakesEvent lines parsed after
-    → parsed_len parsed ≤ room
-
--- that event was taken off and run
-pub record RunsLine (A : Type 0) (lines rest : List ℕ) (Run : Event A → Type 0) : Type 0 where
-  pub parsed : ParsedEvent A
-  pub taken : TakesEvent lines parsed rest
-  pub ran : RunsParsed parsed Run
+-- What comes of a run whose text goes through a buffer of its own: it is written whole, or the writer fails;
+-- where there is no memory for the buffer nothing is run.
+abbrev pub AfterLines : {A B : Type 0} → Runs A B → List (Event A) → B → B → Option (List ℕ) → Option (List ℕ)
+    → Result (Unit {0}) ReplayFault → Type 0
+AfterLines Run events old new before after (Ok _) = Run old new events before after (Some []) (Some [])
+AfterLines Run events old new before after (Err Write) = Run old new events before after (Some []) None
+AfterLines Run events old new before after (Err NoMemory) = (new ≡ old) × Keeps before after
+AfterLines Run events old new before after (Err _) = ⊥
 
 -- ---- a board whose disks the host serves
 

@@ -1,101 +1,57 @@
-//! Running the events of lines that were validated on a board whose disks the host serves.
+//! Running events on a board whose disks the host serves.
 //!
 //! As `running` does it over an image; each record says besides which operation began with its event.
 
-ghost use Rattle.std.specs.Prelude.{◌≡◌, ◌≤◌, [], if◌then◌else◌, None, List, IfSome, length};
+ghost use Rattle.std.specs.Prelude.{◌≡◌, ◌≤◌, [], if◌then◌else◌, None, IfSome, length};
 ghost use Rattle.std.specs.List.{slice_get};
 ghost use Rattle.std.specs.Option.{option_map};
-ghost use Rattle.board.specs.declared.event.Event.{Event};
 ghost use Rattle.board.specs.declared.event.EventKind.{EventKind};
 ghost use Rattle.board.specs.Hosting.{verdict_in};
-ghost use Rattle.trace.specs.Validating.{AreEventLines, AreLinesOf, parsed_len};
-ghost use Rattle.trace.specs.Events.{BeginsWithEvent};
+ghost use Rattle.board.specs.Slot.{AreInterruptWords};
+ghost use Rattle.trace.specs.Validating.{parsed_len};
 ghost use Rattle.trace.specs.ParsedEvent.{IsFineParsed};
-ghost use Rattle.trace.specs.Sends.{waiting};
 ghost use Rattle.replay.specs.Hosted.{SendsHosted, begins, flight_at, told_of_flight};
-ghost use Rattle.replay.specs.Running.{HasRoomFor, HostsEvent, HostsParsed, IsHostedPart, RunsLine, RunsParsed, SendsOneHosted, words_at};
+ghost use Rattle.replay.specs.Running.{HostsEvent, HostsParsed, IsHostedPart, words_at};
 
-use crate::running::bytes_in;
+use crate::running::{bytes_in, told};
+use crate::runs::RunsEvents;
 use block_device::Operation;
 use board::{Event, EventKind, Handled, HostedBoard, Reply, RestoreRefusal};
 use chain::Segment;
 use std::alloc::Allocator;
 use std::io::Write;
-use trace::{Buffer, ParsedEvent, put_asked, put_fields, put_read, take_event};
+use trace::{Buffer, ParsedEvent, put_asked, put_fields, put_read};
 
-/// Runs the events that the lines say, and sends the text of their records.
-pub(crate) fn run_lines<W: Write, A: Allocator + Copy>(
-    alloc: A,
-    board: &mut HostedBoard<A>,
-    lines: &[u8],
-    room: &mut [u8],
-    text: &mut Buffer<A>,
-    writer: &mut W,
-)
-    requires { AreEventLines A (length room.old) lines.now }
-    ensures { (events : List (Event A)) → AreLinesOf events lines.now →
-        SendsHosted board.old board.new events (W.contents writer.old) (W.contents writer.new) (waiting text.old) (waiting text.new) }
-{
-    let mut output = Vec::new(alloc);
-    let mut rest = lines;
-    while !rest.is_empty() {
-        rest = run_line(alloc, board, rest, room, &mut output, text, writer);
-    }
-}
+impl<A: Allocator + Copy> RunsEvents<A> for HostedBoard<A> {
+    ghost sends = { λ old new events before after waits left. SendsHosted old new events before after waits left };
 
-// Runs the event that the first line says, sends the text of its record, and answers what follows that line.
-fn run_line<'a, W: Write, A: Allocator + Copy>(
-    alloc: A,
-    board: &mut HostedBoard<A>,
-    lines: &'a [u8],
-    room: &mut [u8],
-    output: &mut Vec<u8, A>,
-    text: &mut Buffer<A>,
-    writer: &mut W,
-) -> &'a [u8]
-    requires begins { BeginsWithEvent lines.now }
-    requires room { HasRoomFor A lines.now (length room.old) }
-    requires empty { output.old.items ≡ [] }
-    ensures ran { RunsLine A lines.now result.now
-        (SendsOneHosted board.old board.new (W.contents writer.old) (W.contents writer.new) (waiting text.old) (waiting text.new)) }
-    ensures empty { output.new.items ≡ [] }
-{
-    let (parsed, after) = take_event(alloc, lines);
-    run_event(board, &parsed, room, output, text, writer);
-    after
-}
-
-// Runs an event, and sends the text of its record. What the console puts out waits in `output` meanwhile. Memory that
-// is read is printed where it lies.
-fn run_event<W: Write, A: Allocator + Copy>(
-    board: &mut HostedBoard<A>,
-    parsed: &ParsedEvent<'_, A>,
-    room: &mut [u8],
-    output: &mut Vec<u8, A>,
-    text: &mut Buffer<A>,
-    writer: &mut W,
-)
-    requires fine { IsFineParsed parsed.now }
-    requires room { parsed_len parsed.now ≤ length room.old }
-    requires empty { output.old.items ≡ [] }
-    ensures sent { RunsParsed parsed.now
-        (SendsOneHosted board.old board.new (W.contents writer.old) (W.contents writer.new) (waiting text.old) (waiting text.new)) }
-    ensures empty { output.new.items ≡ [] }
-{
-    let slot = parsed.event.slot;
-    if let EventKind::MemRead { addr, len } = parsed.event.what {
-        if let Some(part) = part_of(board, slot, addr, len) {
-            put_read(text, writer, slot, part, words(board, slot), b' ');
-            put_asked(text, writer, None);
-            return;
+    fn run_event<W: Write>(
+        &mut self,
+        parsed: &ParsedEvent<'_, A>,
+        room: &mut [u8],
+        output: &mut Vec<u8, A>,
+        text: &mut Buffer<A>,
+        writer: &mut W,
+    ) {
+        output.clear();
+        let slot = parsed.event.slot;
+        if let EventKind::MemRead { addr, len } = parsed.event.what {
+            if let Some(part) = part_of(self, slot, addr, len) {
+                put_read(text, writer, slot, part, words(self, slot), b' ');
+                put_asked(text, writer, None);
+                return;
+            }
         }
+        let is_next = begins_next(self, &parsed.event);
+        let Handled {
+            reply,
+            block_irq,
+            console_irq,
+        } = answer(self, parsed, room, output);
+        let words = (block_irq, console_irq);
+        put_fields(text, writer, slot, &reply, output.as_slice(), words, b' ');
+        put_asked(text, writer, begun(self, slot, is_next));
     }
-    let is_next = begins_next(board, &parsed.event);
-    let reply = answer(board, parsed, room, output);
-    let words = words(board, slot);
-    put_fields(text, writer, slot, &reply, output.as_slice(), words, b' ');
-    put_asked(text, writer, begun(board, slot, is_next));
-    output.clear();
 }
 
 // Whether what is in flight behind the event begins with it.
@@ -143,29 +99,35 @@ fn words<A: Allocator>(board: &HostedBoard<A>, slot: u8) -> (u8, u8)
     }
 }
 
-// Handles an event.
+// Handles an event, and tells both interrupt words after it.
 fn answer<A: Allocator + Copy>(
     board: &mut HostedBoard<A>,
     parsed: &ParsedEvent<'_, A>,
     room: &mut [u8],
     output: &mut Vec<u8, A>,
-) -> Reply<A>
+) -> Handled<A>
     requires fine { IsFineParsed parsed.now }
     requires room { parsed_len parsed.now ≤ length room.old }
     requires empty { output.old.items ≡ [] }
-    ensures { HostsParsed parsed.now board.old result output.new.items board.new }
+    ensures answers { HostsParsed parsed.now board.old result.reply output.new.items board.new }
+    ensures words { (result.block_irq, result.console_irq) ≡ words_at (slice_get board.new parsed.now.event.slot) }
+    ensures few { AreInterruptWords result.block_irq result.console_irq }
 {
     let slot = parsed.event.slot;
     match parsed.event.what {
         EventKind::MemWrite { addr, .. } => {
-            write_memory(board, slot, addr, bytes_in(room, parsed.bytes))
+            let reply = write_memory(board, slot, addr, bytes_in(room, parsed.bytes));
+            told(reply, words(board, slot))
         }
-        EventKind::Input { .. } => input(board, slot, bytes_in(room, parsed.bytes)),
-        EventKind::Restore { .. } => restore(board, slot, bytes_in(room, parsed.bytes)),
-        _ => {
-            let Handled { reply, .. } = board.step(slot, &parsed.event.what, output);
-            reply
+        EventKind::Input { .. } => {
+            let reply = input(board, slot, bytes_in(room, parsed.bytes));
+            told(reply, words(board, slot))
         }
+        EventKind::Restore { .. } => {
+            let reply = restore(board, slot, bytes_in(room, parsed.bytes));
+            told(reply, words(board, slot))
+        }
+        _ => board.step(slot, &parsed.event.what, output),
     }
 }
 

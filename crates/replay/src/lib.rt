@@ -1,7 +1,7 @@
 //! The replay of a trace: from its text to the text of its records.
 //!
-//! `replaying` has both passes over a text: `trace` validates it whole, and `running` or `hosted` then
-//! runs it line by line, by where the disks are. `input` gathers what a reader gives, `fault` says why a replay did not come to its end, `last_line` tells how a program ends
+//! `replaying` has both passes over a text: `trace` validates it whole, and `runs` then
+//! runs it line by line, on a board over an image (`running`) or one whose disks the host serves (`hosted`). `input` gathers what a reader gives, `fault` says why a replay did not come to its end, `last_line` tells how a program ends
 //! after it, `limits` says which memories a trace may describe, and `laws` that the version of a trace says nothing of what
 //! comes of it.
 #![tactic(auto)]
@@ -14,6 +14,7 @@ mod laws;
 mod limits;
 mod replaying;
 mod running;
+mod runs;
 
 pub use fault::ReplayFault;
 pub use input::gather;

@@ -1,7 +1,6 @@
 //! Replaying a trace: from its text to the text of its records.
 //!
-//! The text goes through two passes: `validate` looks at all of it, and `run_lines`, of `running` or of
-//! `hosted`, then reads and runs line by line.
+//! The text goes through two passes: `validate` looks at all of it, and `run_text` then reads and runs line by line.
 
 ghost use Rattle.std.specs.Prelude.{◌≡◌, ◌≢◌, ℕ, All, List, Some, Err, IfErr, IfOk, OnOk, length, map};
 ghost use Rattle.board.specs.declared.event.Event.{Event};
@@ -18,21 +17,18 @@ ghost use Rattle.replay.specs.Replay.{AfterRun, EndsReading, HasTooMany, Refuses
 use crate::fault::ReplayFault;
 use crate::input::gather;
 use crate::limits::limit_memories;
-use crate::{hosted, running};
+use crate::runs::run_text;
 use board::{Board, BoardFault, HostedBoard, SlotSpec};
 use sector_cache::{Image, Refused};
 use std::alloc::Allocator;
 use std::io::{Read, Write};
-use trace::{Buffer, Disks, FaultKind, TraceFault, VERSION_1, Validated, validate};
+use trace::{Disks, FaultKind, TraceFault, VERSION_1, Validated, validate};
 
 /// The fault where there is no memory for the input.
 const NO_ROOM: TraceFault = TraceFault {
     line: 1,
     kind: FaultKind::NoMemory,
 };
-
-/// How many bytes of text wait for the writer at most.
-const TEXT_ROOM: usize = 65536;
 
 /// How many slots a trace of version 1 has at most.
 const MOST_SLOTS_IN_VERSION_1: usize = 16;
@@ -190,16 +186,7 @@ fn run_validated<W: Write, I: Image, A: Allocator + Copy>(
         AfterRun (Disks.Cached capacity) I.disk slots events board.image result.0 (W.contents writer.old) (W.contents writer.new) result.1 }
     ensures whole { (done : ℕ) → result.1 ≢ Err (ReplayFault.Run done) }
 {
-    let Ok(mut text) = Buffer::with_room(alloc, TEXT_ROOM) else {
-        return (board.into_image(), Err(ReplayFault::NoMemory));
-    };
-    running::run_lines(alloc, &mut board, lines, room, &mut text, writer);
-    text.flush(writer);
-    let outcome = if text.is_broken() {
-        Err(ReplayFault::Write)
-    } else {
-        Ok(())
-    };
+    let outcome = run_text(alloc, &mut board, lines, room, writer);
     (board.into_image(), outcome)
 }
 
@@ -217,15 +204,6 @@ fn run_hosted<W: Write, I: Image, A: Allocator + Copy>(
         AfterRun Disks.Hosted I.disk slots events image result.0 (W.contents writer.old) (W.contents writer.new) result.1 }
     ensures whole { (done : ℕ) → result.1 ≢ Err (ReplayFault.Run done) }
 {
-    let Ok(mut text) = Buffer::with_room(alloc, TEXT_ROOM) else {
-        return (image, Err(ReplayFault::NoMemory));
-    };
-    hosted::run_lines(alloc, &mut board, lines, room, &mut text, writer);
-    text.flush(writer);
-    let outcome = if text.is_broken() {
-        Err(ReplayFault::Write)
-    } else {
-        Ok(())
-    };
+    let outcome = run_text(alloc, &mut board, lines, room, writer);
     (image, outcome)
 }

@@ -1,98 +1,51 @@
-//! Running the events of lines that were validated, one after another.
-//!
-//! Each line is read, its event handled and the text of its record sent before the next. Bytes that it spells are
-//! written into room that is lent.
+//! Running events on a board over an image.
 
-ghost use Rattle.std.specs.Prelude.{◌≡◌, ◌≤◌, ◌/◌, [], List, IfSome, length};
+ghost use Rattle.std.specs.Prelude.{◌≡◌, ◌≤◌, ◌/◌, [], IfSome, length};
 ghost use Rattle.std.specs.List.{slice_get};
-ghost use Rattle.board.specs.declared.event.Event.{Event};
 ghost use Rattle.board.specs.declared.event.EventKind.{EventKind};
-ghost use Rattle.trace.specs.Events.{BeginsWithEvent};
-ghost use Rattle.trace.specs.Validating.{AreEventLines, AreLinesOf, parsed_len};
+ghost use Rattle.board.specs.Image.{Tells};
+ghost use Rattle.board.specs.Slot.{AreInterruptWords};
+ghost use Rattle.trace.specs.Validating.{parsed_len};
 ghost use Rattle.replay.specs.Pieces.{SendsRun};
-ghost use Rattle.replay.specs.Running.{AnswersEvent, AnswersParsed, HasRoomFor, IsPart, RunsLine, RunsParsed, SendsOne, words_of};
+ghost use Rattle.replay.specs.Running.{AnswersEvent, AnswersParsed, IsPart, words_of};
 ghost use Rattle.trace.specs.ParsedEvent.{IsFineParsed};
-ghost use Rattle.trace.specs.Sends.{waiting};
 ghost use Rattle.hexadecimal.specs.Fields.{IsBytesField};
 ghost use Rattle.trace.specs.Words.{Says, Bytes as ByBytes};
 
-use board::{Board, EventKind, Reply};
+use crate::runs::RunsEvents;
+use board::{Board, EventKind, Handled, Reply};
 use sector_cache::Image;
 use std::alloc::Allocator;
 use std::io::Write;
-use trace::{Buffer, ParsedEvent, put_line, put_read, read_bytes, spelled_len, take_event};
+use trace::{Buffer, ParsedEvent, put_line, put_read, read_bytes, spelled_len};
 
-/// Runs the events that the lines say, and sends the text of their records. Where the writer fails the run goes on, so
-/// that what becomes of the image isn't decided by the writer.
-pub(crate) fn run_lines<W: Write, I: Image, A: Allocator + Copy>(
-    alloc: A,
-    board: &mut Board<I, A>,
-    lines: &[u8],
-    room: &mut [u8],
-    text: &mut Buffer<A>,
-    writer: &mut W,
-)
-    requires { AreEventLines A (length room.old) lines.now }
-    ensures { (events : List (Event A)) → AreLinesOf events lines.now →
-        SendsRun I.disk board.old board.new events (W.contents writer.old) (W.contents writer.new) (waiting text.old) (waiting text.new) }
-{
-    let mut output = Vec::new(alloc);
-    let mut rest = lines;
-    while !rest.is_empty() {
-        rest = run_line(alloc, board, rest, room, &mut output, text, writer);
-    }
-}
+impl<I: Image, A: Allocator + Copy> RunsEvents<A> for Board<I, A> {
+    ghost sends = { λ old new events before after waits left. SendsRun I.disk old new events before after waits left };
 
-// Runs the event that the first line says, sends the text of its record, and answers what follows that line.
-fn run_line<'a, W: Write, I: Image, A: Allocator + Copy>(
-    alloc: A,
-    board: &mut Board<I, A>,
-    lines: &'a [u8],
-    room: &mut [u8],
-    output: &mut Vec<u8, A>,
-    text: &mut Buffer<A>,
-    writer: &mut W,
-) -> &'a [u8]
-    requires begins { BeginsWithEvent lines.now }
-    requires room { HasRoomFor A lines.now (length room.old) }
-    requires empty { output.old.items ≡ [] }
-    ensures ran { RunsLine A lines.now result.now
-        (SendsOne I.disk board.old board.new (W.contents writer.old) (W.contents writer.new) (waiting text.old) (waiting text.new)) }
-    ensures empty { output.new.items ≡ [] }
-{
-    let (parsed, after) = take_event(alloc, lines);
-    run_event(board, &parsed, room, output, text, writer);
-    after
-}
-
-// Runs an event, and sends the text of its record. What the console puts out waits in `output` meanwhile. Memory that
-// is read is printed where it lies.
-fn run_event<W: Write, I: Image, A: Allocator + Copy>(
-    board: &mut Board<I, A>,
-    parsed: &ParsedEvent<'_, A>,
-    room: &mut [u8],
-    output: &mut Vec<u8, A>,
-    text: &mut Buffer<A>,
-    writer: &mut W,
-)
-    requires fine { IsFineParsed parsed.now }
-    requires room { parsed_len parsed.now ≤ length room.old }
-    requires empty { output.old.items ≡ [] }
-    ensures sent { RunsParsed parsed.now
-        (SendsOne I.disk board.old board.new (W.contents writer.old) (W.contents writer.new) (waiting text.old) (waiting text.new)) }
-    ensures empty { output.new.items ≡ [] }
-{
-    let slot = parsed.event.slot;
-    if let EventKind::MemRead { addr, len } = parsed.event.what {
-        if let Some(part) = part_of(board, slot, addr, len) {
-            put_read(text, writer, slot, part, words(board, slot), b'\n');
-            return;
+    fn run_event<W: Write>(
+        &mut self,
+        parsed: &ParsedEvent<'_, A>,
+        room: &mut [u8],
+        output: &mut Vec<u8, A>,
+        text: &mut Buffer<A>,
+        writer: &mut W,
+    ) {
+        output.clear();
+        let slot = parsed.event.slot;
+        if let EventKind::MemRead { addr, len } = parsed.event.what {
+            if let Some(part) = part_of(self, slot, addr, len) {
+                put_read(text, writer, slot, part, words(self, slot), b'\n');
+                return;
+            }
         }
+        let Handled {
+            reply,
+            block_irq,
+            console_irq,
+        } = answer(self, parsed, room, output);
+        let words = (block_irq, console_irq);
+        put_line(text, writer, slot, &reply, output.as_slice(), words);
     }
-    let reply = answer(board, parsed, room, output);
-    let words = words(board, slot);
-    put_line(text, writer, slot, &reply, output.as_slice(), words);
-    output.clear();
 }
 
 // The bytes of a slot's memory from an address on, where they lie.
@@ -119,26 +72,48 @@ fn words<I: Image, A: Allocator>(board: &Board<I, A>, slot: u8) -> (u8, u8)
     }
 }
 
-// Handles an event.
+// Handles an event, and tells both interrupt words after it.
 fn answer<I: Image, A: Allocator + Copy>(
     board: &mut Board<I, A>,
     parsed: &ParsedEvent<'_, A>,
     room: &mut [u8],
     output: &mut Vec<u8, A>,
-) -> Reply<A>
+) -> Handled<A>
     requires fine { IsFineParsed parsed.now }
     requires room { parsed_len parsed.now ≤ length room.old }
     requires empty { output.old.items ≡ [] }
-    ensures { AnswersParsed I.disk parsed.now board.old result output.new.items board.new }
+    ensures answers { AnswersParsed I.disk parsed.now board.old result.reply output.new.items board.new }
+    ensures words { Tells (I.disk board.old.image) →
+        (result.block_irq, result.console_irq) ≡ words_of (slice_get board.new.slots parsed.now.event.slot) }
+    ensures few { AreInterruptWords result.block_irq result.console_irq }
 {
     let slot = parsed.event.slot;
     match parsed.event.what {
         EventKind::MemWrite { addr, .. } => {
-            write_memory(board, slot, addr, bytes_in(room, parsed.bytes))
+            let reply = write_memory(board, slot, addr, bytes_in(room, parsed.bytes));
+            told(reply, words(board, slot))
         }
-        EventKind::Input { .. } => input(board, slot, bytes_in(room, parsed.bytes)),
-        EventKind::Restore { .. } => restore(board, slot, bytes_in(room, parsed.bytes)),
-        _ => board.step(&parsed.event, output),
+        EventKind::Input { .. } => {
+            let reply = input(board, slot, bytes_in(room, parsed.bytes));
+            told(reply, words(board, slot))
+        }
+        EventKind::Restore { .. } => {
+            let reply = restore(board, slot, bytes_in(room, parsed.bytes));
+            told(reply, words(board, slot))
+        }
+        _ => board.handle(slot, &parsed.event.what, output),
+    }
+}
+
+/// What an event came to, by its reply and both interrupt words after it.
+#[inline]
+pub(crate) fn told<A: Allocator>(reply: Reply<A>, words: (u8, u8)) -> Handled<A>
+    ensures { result ≡ record { reply = reply; block_irq = words.0; console_irq = words.1 } }
+{
+    Handled {
+        reply,
+        block_irq: words.0,
+        console_irq: words.1,
     }
 }
 

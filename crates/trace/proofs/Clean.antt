@@ -11,7 +11,7 @@ use Rattle.trace.specs.Cuts.{lines_of}
 use Rattle.trace.specs.Faults.{AllSay, AreAsMany, HasWord, IsEnded, IsHeader, IsOfVersion, MayStand, Passes, first_field, line_at, other_fields}
 use Rattle.trace.specs.Text.{header}
 use Rattle.trace.specs.Version.{IsVersion}
-use Rattle.trace.specs.Words.{spelled, shapes}
+use Rattle.trace.specs.Words.{spelled, shapes, IsWordOf}
 use Rattle.trace.proofs.Entries.{Entered, EnteredEvent, EnteredSecond, same_word}
 use Rattle.trace.proofs.Refused.{may_move}
 
@@ -121,6 +121,26 @@ module _ (version : ℕ) (text k : List ℕ) (S E more : List (List ℕ)) (is : 
   event_there j le lt = subst (EnteredEvent version) (sym (at_event j le lt))
       (All-get_or (EnteredEvent version) E (j - 3 - length S) [] (omega arith) events)
 
+  -- a line after the first
+  good_entry : (j : ℕ) → 2 ≤ j → IsEnded text j → (word : Word) → MayStand j word → IsWordOf version word
+      → Entered version (line_at text j) word
+      → (first_field (line_at text j) ≡ spelled Slot → (i : ℕ) → 3 ≤ i → i < j
+      → first_field (line_at text i) ≡ spelled Slot)
+      → Good version text j
+  good_entry j late end word may of entry ordered = record {
+    ended = end;
+    names = at_one;
+    first = λ one. absurd (omega arith);
+    word = λ _. record {
+      word = word;
+      may = may;
+      of_version = of;
+      first = first_is version (line_at text j) word entry;
+    };
+    order = ordered;
+    entry = λ _. (word, entry);
+  }
+
   pub good : (j : ℕ) → 1 ≤ j → j < 3 + (length S + length E) → Good version text j
   good j le lt =
       let end : IsEnded text j = omega (arith, total) in
@@ -140,55 +160,21 @@ module _ (version : ℕ) (text k : List ℕ) (S E more : List (List ℕ)) (is : 
                   let two : j ≡ 2 = omega arith in
                   let e : EnteredSecond version (line_at text j) =
                   subst (EnteredSecond version) (sym (ap (line_at text) two ∙ at_two)) second in
-                  record {
-                    ended = end;
-                    names = at_one;
-                    first = λ one. absurd (omega arith);
-                    word = λ _. record {
-                      word = e.word;
-                      may = subst (λ (n : ℕ). MayStand n e.word) (sym two) e.may;
-                      of_version = e.of_version;
-                      first = first_is version (line_at text j) e.word e.entry;
-                    };
-                    order = λ _ i low high. absurd (omega arith);
-                    entry = λ _. (e.word, e.entry);
-                  }
+                  good_entry j (omega arith) end e.word
+                  (subst (λ (n : ℕ). MayStand n e.word) (sym two) e.may) e.of_version e.entry
+                  (λ _ i low high. absurd (omega arith))
             ]
         | inr late ↦
             elim (cases_lt j (3 + length S)) [
               | inl slot ↦
-                  let e = slot_there j late slot in
-                  record {
-                    ended = end;
-                    names = at_one;
-                    first = λ one. absurd (omega arith);
-                    word = λ _. record {
-                      word = Slot;
-                      may = late;
-                      of_version = tt;
-                      first = first_is version (line_at text j) Slot e;
-                    };
-                    order = λ _ i low high. first_is version (line_at text i) Slot
-                        (slot_there i low (omega arith));
-                    entry = λ _. (Slot, e);
-                  }
+                  good_entry j (omega arith) end Slot late tt (slot_there j late slot)
+                  (λ _ i low high. first_is version (line_at text i) Slot (slot_there i low (omega arith)))
               | inr event ↦
                   let e = event_there j event lt in
-                  record {
-                    ended = end;
-                    names = at_one;
-                    first = λ one. absurd (omega arith);
-                    word = λ _. record {
-                      word = e.word;
-                      may = may_move e.word 3 j (omega arith) late e.may;
-                      of_version = e.of_version;
-                      first = first_is version (line_at text j) e.word e.entry;
-                    };
-                    order = λ is i low high. absurd
-                        (e.other (same_word e.word Slot
-                        (sym (first_is version (line_at text j) e.word e.entry) ∙ is)));
-                    entry = λ _. (e.word, e.entry);
-                  }
+                  good_entry j (omega arith) end e.word (may_move e.word 3 j (omega arith) late e.may)
+                  e.of_version e.entry
+                  (λ is i low high. absurd (e.other (same_word e.word Slot
+                  (sym (first_is version (line_at text j) e.word e.entry) ∙ is))))
             ]
       ]
 

@@ -1,5 +1,6 @@
 -- From what one line is refused for to the fault of the text.
-use Rattle.std.proofs.Common.{◌≡◌, ◌≢◌, ℕ, ◌<◌, ◌≤◌, List, refl, sym, subst, ◌∙◌, arith}
+use Rattle.std.proofs.Common.{◌≡◌, ◌≢◌, ℕ, ◌+◌, ◌<◌, ◌≤◌, List, sym, subst, ◌∙◌, arith, inl, inr}
+use Rattle.std.proofs.lemmas.Bool.{cases_eq}
 use Rattle.trace.specs.declared.fault.FaultKind.{FaultKind}
 use Rattle.trace.specs.declared.fault.FaultKind.TheVariants as kind
 use Rattle.trace.specs.declared.word.Word.{Word}
@@ -9,35 +10,29 @@ use Rattle.trace.specs.Refusals.{RefusesFields}
 use Rattle.trace.specs.Words.{IsWordOf, spelled, shapes}
 use Rattle.trace.proofs.Clean.{same_version}
 use Rattle.trace.proofs.Entries.{same_word}
+use Rattle.trace.proofs.FaultKinds.{same_kind}
 
--- the checks before the n-th, one by one
-earlier_by : (text : List ℕ) (k n : ℕ) → (1 < n → Passes text k kind.Cut)
-    → (2 < n → Passes text k kind.Header) → (3 < n → Passes text k kind.Word)
-    → (4 < n → Passes text k kind.Order) → (5 < n → Passes text k kind.Fields)
-    → (6 < n → Passes text k kind.Number) → (7 < n → Passes text k kind.Choice)
-    → (8 < n → Passes text k kind.Bytes) → (other : FaultKind) → order other < n → Passes text k other
-earlier_by text k n a b c d e f g h kind.Cut lt = a lt
-earlier_by text k n a b c d e f g h kind.Header lt = b lt
-earlier_by text k n a b c d e f g h kind.Word lt = c lt
-earlier_by text k n a b c d e f g h kind.Order lt = d lt
-earlier_by text k n a b c d e f g h kind.Fields lt = e lt
-earlier_by text k n a b c d e f g h kind.Number lt = f lt
-earlier_by text k n a b c d e f g h kind.Choice lt = g lt
-earlier_by text k n a b c d e f g h kind.Bytes lt = h lt
-earlier_by text k n a b c d e f g h kind.NoMemory lt = tt
+-- line k passes the checks before the n-th
+abbrev PassesBefore : List ℕ → ℕ → ℕ → Type 0
+PassesBefore text k n = (other : FaultKind) → order other < n → Passes text k other
+
+none_before : (text : List ℕ) (k : ℕ) → PassesBefore text k 1
+none_before text k kind.Cut lt = absurd (omega arith)
+none_before text k other lt = absurd (omega arith)
+
+then_passes : (text : List ℕ) (k : ℕ) (fault : FaultKind) → Passes text k fault
+    → PassesBefore text k (order fault) → PassesBefore text k (order fault + 1)
+then_passes text k fault passes before other lt =
+    elim (cases_eq (order other) (order fault)) [
+      | inl same ↦ subst (Passes text k) (same_kind fault other (sym same)) passes
+      | inr ne ↦ before other (omega arith)
+    ]
 
 -- a line that isn't ended where one is owed
 pub cut_fault : (text : List ℕ) (k : ℕ) → 1 ≤ k → IsCleanBefore text k → IsOwed text k → ¬ IsEnded text k
     → IsFault text k kind.Cut
 cut_fault text k le clean owed open' =
-    record {
-      numbered = le;
-      before = clean;
-      earlier = earlier_by text k 1 (λ lt. absurd (omega arith)) (λ lt. absurd (omega arith))
-          (λ lt. absurd (omega arith)) (λ lt. absurd (omega arith)) (λ lt. absurd (omega arith))
-          (λ lt. absurd (omega arith)) (λ lt. absurd (omega arith)) (λ lt. absurd (omega arith));
-      fails = λ p. open' (p owed);
-    }
+    record { numbered = le; before = clean; earlier = none_before text k; fails = λ p. open' (p owed) }
 
 -- a first line that is another one
 pub header_fault : (text : List ℕ) → IsCleanBefore text 1 → IsEnded text 1 → ¬ Passes text 1 kind.Header
@@ -46,47 +41,36 @@ header_fault text clean end fails =
     record {
       numbered = omega arith;
       before = clean;
-      earlier = earlier_by text 1 2 (λ _ _. end) (λ lt. absurd (omega arith)) (λ lt. absurd (omega arith))
-          (λ lt. absurd (omega arith)) (λ lt. absurd (omega arith)) (λ lt. absurd (omega arith))
-          (λ lt. absurd (omega arith)) (λ lt. absurd (omega arith));
+      earlier = then_passes text 1 kind.Cut (λ owed. end) (none_before text 1);
       fails = fails;
     }
 
 -- a line after the first that is ended, where the lines before it are clean
 module _ (text : List ℕ) (k : ℕ) (late : 2 ≤ k) (clean : IsCleanBefore text k) (end : IsEnded text k) where
-  cut_passes : Passes text k kind.Cut
-  cut_passes owed = end
+  fault_at : (fault : FaultKind) → PassesBefore text k (order fault) → ¬ Passes text k fault
+      → IsFault text k fault
+  fault_at fault earlier fails =
+      record { numbered = omega arith; before = clean; earlier = earlier; fails = fails }
 
-  header_passes : Passes text k kind.Header
-  header_passes _ one = absurd (omega arith)
+  before_word : PassesBefore text k 3
+  before_word =
+      then_passes text k kind.Header (λ _ one. absurd (omega arith))
+      (then_passes text k kind.Cut (λ owed. end) (none_before text k))
 
   -- none of the words of its version that may stand begins it
   pub word_fault : (version : ℕ) → IsOfVersion text version
       → ((w : Word) → MayStand k w → IsWordOf version w → first_field (line_at text k) ≡ spelled w → ⊥)
       → IsFault text k kind.Word
-  word_fault version names none =
-      record {
-        numbered = omega arith;
-        before = clean;
-        earlier = earlier_by text k 3 (λ _. cut_passes) (λ _. header_passes) (λ lt. absurd (omega arith))
-            (λ lt. absurd (omega arith)) (λ lt. absurd (omega arith)) (λ lt. absurd (omega arith))
-            (λ lt. absurd (omega arith)) (λ lt. absurd (omega arith));
-        fails = λ p. let has = p end late version names in none has.word has.may has.of_version has.first;
-      }
+  word_fault version names none = fault_at kind.Word before_word (λ p.
+      let has = p end late version names in none has.word has.may has.of_version has.first)
 
   -- a slot, where there is a line before it that isn't one
   pub order_fault : 3 ≤ k → first_field (line_at text k) ≡ spelled Slot → (j : ℕ) → 3 ≤ j → j < k
       → (first_field (line_at text j) ≡ spelled Slot → ⊥) → IsFault text k kind.Order
   order_fault third is j le lt other =
-      record {
-        numbered = omega arith;
-        before = clean;
-        earlier = earlier_by text k 4 (λ _. cut_passes) (λ _. header_passes)
-            (λ _ _ _ _ _. record { word = Slot; may = third; of_version = tt; first = is })
-            (λ lt'. absurd (omega arith)) (λ lt'. absurd (omega arith)) (λ lt'. absurd (omega arith))
-            (λ lt'. absurd (omega arith)) (λ lt'. absurd (omega arith));
-        fails = λ p. other (p end is j le lt);
-      }
+      let passes : Passes text k kind.Word = λ _ _ _ _.
+      record { word = Slot; may = third; of_version = tt; first = is } in
+      fault_at kind.Order (then_passes text k kind.Word passes before_word) (λ p. other (p end is j le lt))
 
   module _ (version : ℕ) (names : IsOfVersion text version) (w : Word) (may : MayStand k w)
       (of : IsWordOf version w) (is : first_field (line_at text k) ≡ spelled w)
@@ -97,8 +81,7 @@ module _ (text : List ℕ) (k : ℕ) (late : 2 ≤ k) (clean : IsCleanBefore tex
           word = w;
           may = may;
           of_version = subst (λ (x : ℕ). IsWordOf x w) (same_version version u text names other) of;
-          first =
-              is;
+          first = is;
         }
 
     fields_pass : AreAsMany version w (other_fields (line_at text k)) → Passes text k kind.Fields
@@ -118,47 +101,30 @@ module _ (text : List ℕ) (k : ℕ) (late : 2 ≤ k) (clean : IsCleanBefore tex
         (subst (λ (x : Word). AllSay fault (shapes version x (other_fields (line_at text k)))
         (other_fields (line_at text k))) (same_word w v (sym is ∙ first)) all)
 
+    before_fields : PassesBefore text k 5
+    before_fields =
+        then_passes text k kind.Order ordered (then_passes text k kind.Word word_passes before_word)
+
+    before_number : AreAsMany version w (other_fields (line_at text k)) → PassesBefore text k 6
+    before_number same = then_passes text k kind.Fields (fields_pass same) before_fields
+
+    before_choice : AreAsMany version w (other_fields (line_at text k))
+        → AllSay kind.Number (shapes version w (other_fields (line_at text k)))
+        (other_fields (line_at text k))
+        → PassesBefore text k 7
+    before_choice same numbers =
+        then_passes text k kind.Number (λ _ _. say_pass kind.Number numbers) (before_number same)
+
     -- its fields are refused
     pub fields_fault : (fault : FaultKind) → RefusesFields version w (other_fields (line_at text k)) fault
         → fault ≢ kind.NoMemory → IsFault text k fault
-    fields_fault kind.Cut h some = absurd h
-    fields_fault kind.Header h some = absurd h
-    fields_fault kind.Word h some = absurd h
-    fields_fault kind.Order h some = absurd h
-    fields_fault kind.NoMemory h some = absurd (some refl)
-    fields_fault kind.Fields h some =
-        record {
-          numbered = omega arith;
-          before = clean;
-          earlier = earlier_by text k 5 (λ _. cut_passes) (λ _. header_passes) (λ _. word_passes)
-              (λ _. ordered) (λ lt. absurd (omega arith)) (λ lt. absurd (omega arith))
-              (λ lt. absurd (omega arith)) (λ lt. absurd (omega arith));
-          fails = λ p. h (p end late version names w is);
-        }
-    fields_fault kind.Number h some =
-        record {
-          numbered = omega arith;
-          before = clean;
-          earlier = earlier_by text k 6 (λ _. cut_passes) (λ _. header_passes) (λ _. word_passes)
-              (λ _. ordered) (λ _. fields_pass h.0) (λ lt. absurd (omega arith)) (λ lt. absurd (omega arith))
-              (λ lt. absurd (omega arith));
-          fails = λ p. h.1 (p end late version names w is);
-        }
-    fields_fault kind.Choice h some =
-        record {
-          numbered = omega arith;
-          before = clean;
-          earlier = earlier_by text k 7 (λ _. cut_passes) (λ _. header_passes) (λ _. word_passes)
-              (λ _. ordered) (λ _. fields_pass h.0) (λ _ _ _. say_pass kind.Number h.1)
-              (λ lt. absurd (omega arith)) (λ lt. absurd (omega arith));
-          fails = λ p. h.2 (p end late version names w is);
-        }
+    fields_fault kind.Fields h some = fault_at kind.Fields before_fields (λ p.
+        h (p end late version names w is))
+    fields_fault kind.Number h some = fault_at kind.Number (before_number h.0) (λ p.
+        h.1 (p end late version names w is))
+    fields_fault kind.Choice h some = fault_at kind.Choice (before_choice h.0 h.1) (λ p.
+        h.2 (p end late version names w is))
     fields_fault kind.Bytes h some =
-        record {
-          numbered = omega arith;
-          before = clean;
-          earlier = earlier_by text k 8 (λ _. cut_passes) (λ _. header_passes) (λ _. word_passes)
-              (λ _. ordered) (λ _. fields_pass h.0) (λ _ _ _. say_pass kind.Number h.1)
-              (λ _ _ _. say_pass kind.Choice h.2) (λ lt. absurd (omega arith));
-          fails = λ p. h.3 (p end late version names w is);
-        }
+        fault_at kind.Bytes (then_passes text k kind.Choice (λ _ _. say_pass kind.Choice h.2)
+        (before_choice h.0 h.1)) (λ p. h.3 (p end late version names w is))
+    fields_fault fault h some = absurd h

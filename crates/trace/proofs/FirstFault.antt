@@ -12,9 +12,9 @@ use Rattle.trace.specs.Faults.{AllSay, IsAtFault, fault_of, first_field, order, 
 use Rattle.trace.specs.declared.table.Field.{Field}
 use Rattle.trace.specs.declared.word.Word.{Word}
 use Rattle.trace.specs.Cuts.{fields_of}
-use Rattle.trace.specs.Words.{AllRight, AreRight, Says, Shape, Num, Regions, Offset, Value, Window, Width, Mode, Verdict, Bytes, Identity, fields_in, shape_of, shapes, spelled, width_among}
+use Rattle.trace.specs.Words.{AllRight, AreRight, Says, Shape, Num, fields_in, shape_of, shapes, spelled, width_among}
 use Rattle.trace.proofs.Entries.{one_way, same_word}
-use Rattle.trace.proofs.Unique.{same_kind}
+use Rattle.trace.proofs.FaultKinds.{same_kind}
 
 -- it is the first of them
 pub at_fault_here : (kind : FaultKind) (shape : Shape) (shapes : List Shape) (field : List ℕ)
@@ -191,15 +191,7 @@ one_right : (shape : Shape) (field : List ℕ)
     → MatchBool (order (fault_of shape) == order kind.Choice) (Says shape field) ⊤
     → MatchBool (order (fault_of shape) == order kind.Bytes) (Says shape field) ⊤ → Says shape field
 one_right (Num bits) field n c b = n
-one_right Regions field n c b = n
-one_right Offset field n c b = n
-one_right (Value width) field n c b = n
-one_right Window field n c b = c
-one_right Width field n c b = c
-one_right Mode field n c b = c
-one_right Verdict field n c b = c
-one_right Bytes field n c b = b
-one_right Identity field n c b = b
+one_right shape field n c b = assumption
 
 -- as many fields, of which each passes each check, are right
 all_right : (ss : List Shape) (fs : List (List ℕ)) → length fs ≡ length ss → AllSay kind.Number ss fs

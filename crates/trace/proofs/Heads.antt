@@ -25,13 +25,7 @@ head_fault text kind.Header h =
     header_fault text (nothing_before text) (omega (arith, ap length h.cut, some_lines h.rest))
     (λ p. h.other (subst IsHeader (ap (λ (ls : List (List ℕ)). get_or ls 0 []) h.cut)
     (p (omega (arith, ap length h.cut, some_lines h.rest)) refl)))
-head_fault text kind.Word h = absurd h
-head_fault text kind.Order h = absurd h
-head_fault text kind.Fields h = absurd h
-head_fault text kind.Number h = absurd h
-head_fault text kind.Choice h = absurd h
-head_fault text kind.Bytes h = absurd h
-head_fault text kind.NoMemory h = absurd h
+head_fault text fault h = absurd h
 
 -- after a good first line
 module _ (version : ℕ) (text rest : List ℕ) (one_of : IsVersion version) (whole : text ≡ header version
@@ -82,10 +76,4 @@ module _ (version : ℕ) (text rest : List ℕ) (one_of : IsVersion version) (wh
       let end : IsEnded text 2 = omega (arith, ap length headed, ap length h.cut, some_lines h.rest) in
       word_fault text 2 (omega arith) head_clean end version names_it
       (λ w may of is. h.other w may of (sym (ap first_field here) ∙ is))
-  second_fault kind.Header h known = fields_of_second kind.Header h known
-  second_fault kind.Order h known = fields_of_second kind.Order h known
-  second_fault kind.Fields h known = fields_of_second kind.Fields h known
-  second_fault kind.Number h known = fields_of_second kind.Number h known
-  second_fault kind.Choice h known = fields_of_second kind.Choice h known
-  second_fault kind.Bytes h known = fields_of_second kind.Bytes h known
-  second_fault kind.NoMemory h known = absurd (known refl)
+  second_fault fault h known = fields_of_second fault h known

@@ -10,6 +10,7 @@ pub mod Saying
 pub mod Taking
 pub mod Values
 pub mod Clean
+pub mod FaultKinds
 pub mod Faulty
 pub mod Sofar
 pub mod Heads

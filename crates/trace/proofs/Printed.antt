@@ -36,6 +36,11 @@ pub joined_none : joined [] ≡ []
 unfolding joined
 joined_none = refl
 
+-- no line yet of some things
+pub lines_none : {X : Type 0} (f : X → List ℕ) (front : List ℕ) (xs : List X)
+    → front ≡ front ++ joined (map f (take 0 xs))
+lines_none f front xs = sym (append-nil front) ∙ ap (λ (t : List ℕ). front ++ t) (sym joined_none)
+
 -- one line more, of what stands at place i
 pub joined_more : {X : Type 0} (f : X → List ℕ) (front : List ℕ) (xs : List X) (i : ℕ) (x : X) → i < length xs
     → x ≡ get_or xs i x → (front ++ joined (map f (take i xs))) ++ ended (f x) ≡ front
@@ -44,6 +49,12 @@ joined_more f front xs i x lt is =
     append_assoc front (joined (map f (take i xs))) (ended (f x))
     ∙ ap (λ (t : List ℕ). front ++ t) (sym (joined_push (map f (take i xs)) (f x))
     ∙ ap joined (ap (λ y. map f (take i xs) ++ f y ∷ []) is ∙ sym (map_more f xs i x lt)))
+
+pub lines_more : {X : Type 0} (f : X → List ℕ) (front old new : List ℕ) (xs : List X) (i : ℕ) (x : X)
+    → i < length xs → x ≡ get_or xs i x → old ≡ front ++ joined (map f (take i xs))
+    → new ≡ old ++ ended (f x) → new ≡ front ++ joined (map f (take (i + 1) xs))
+lines_more f front old new xs i x lt is sofar more =
+    more ∙ ap (λ (t : List ℕ). t ++ ended (f x)) sofar ∙ joined_more f front xs i x lt is
 
 pub joined_append : (xs ys : List (List ℕ)) → joined (xs ++ ys) ≡ joined xs ++ joined ys
 unfolding joined

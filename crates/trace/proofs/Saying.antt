@@ -11,6 +11,8 @@ use Rattle.trace.specs.Printable.{IsPrintableKind, KindInRange}
 use Rattle.trace.specs.Refusals.{IsFine}
 use Rattle.trace.specs.ParsedEvent.{IsFineParsed, IsFineWhat, IsPlain, parsed_fields, parsed_line, what_parsed}
 use Rattle.trace.specs.Text.{event_fields, event_line, line, what_fields, word_for}
+use Rattle.hexadecimal.specs.Fields.{SpellsBytes}
+use Rattle.hexadecimal.specs.Spelling.{bytes}
 use Rattle.hexadecimal.proofs.ByteFields.{spelled_len}
 use Rattle.trace.specs.Words.{IsInEach, IsWordOf}
 use Rattle.trace.specs.declared.word.Word.{Word}
@@ -45,48 +47,33 @@ plain slot w field h none same =
       printable = h.printable;
     }
 
+-- bytes that its field spells
+with_bytes : {A : Type 0} (slot : ℕ) (w : EventKind A) (field : List ℕ) (kind : List ℕ → EventKind A)
+    (h : SpellsBytes field) → bytes_len (kind h.0) ≡ length h.0
+    → what_fields slot (kind h.0) ≡ what_parsed slot w (bytes h.0) → word_for (kind h.0) ≡ word_for w
+    → KindInRange (kind h.0) → IsPrintableKind (kind h.0) → MeantWhat slot w field
+with_bytes slot w field kind h len same word range printable =
+    record {
+      kind = kind h.0;
+      len = len ∙ spelled_len field h.0 h.1;
+      fields_are = same ∙ ap (what_parsed slot w) (sym h.1.spelled);
+      word = word;
+      range = range;
+      printable = printable;
+    }
+
 by_what : {A : Type 0} (slot : ℕ) (w : EventKind A) (field : List ℕ) → IsFineWhat w field
     → MeantWhat slot w field
-by_what slot (event.Read kind offset width) field h =
-    plain slot (event.Read kind offset width) field h refl refl
-by_what slot (event.Write kind offset width value) field h =
-    plain slot (event.Write kind offset width value) field h refl refl
-by_what slot (event.MemRead addr len) field h = plain slot (event.MemRead addr len) field h refl refl
 by_what slot (event.MemWrite addr bs) field h =
-    let spelled = h.bytes.parsed.0 in
-    let is = h.bytes.parsed.1 in
-    record {
-      kind = event.MemWrite addr spelled;
-      fields_are = rw (← is.spelled) refl;
-      word = refl;
-      len = spelled_len field spelled is;
-      range = record { from = h.from; each = is.fits };
-      printable = tt;
-    }
+    with_bytes slot (event.MemWrite addr bs) field (event.MemWrite addr) h.bytes.parsed refl refl refl
+    (record { from = h.from; each = h.bytes.parsed.1.fits }) tt
 by_what slot (event.Input bs) field h =
-    let spelled = h.parsed.0 in
-    let is = h.parsed.1 in
-    record {
-      kind = event.Input spelled;
-      fields_are = rw (← is.spelled) refl;
-      word = refl;
-      len = spelled_len field spelled is;
-      range = record { each = is.fits };
-      printable = tt;
-    }
-by_what slot (event.Resize cols rows) field h = plain slot (event.Resize cols rows) field h refl refl
-by_what slot (event.Complete came) field h = plain slot (event.Complete came) field h refl refl
+    with_bytes slot (event.Input bs) field event.Input h.parsed refl refl refl
+    (record { each = h.parsed.1.fits }) tt
 by_what slot (event.Restore bs) field h =
-    let spelled = h.parsed.0 in
-    let is = h.parsed.1 in
-    record {
-      kind = event.Restore spelled;
-      fields_are = rw (← is.spelled) refl;
-      word = refl;
-      len = spelled_len field spelled is;
-      range = record { each = is.fits };
-      printable = tt;
-    }
+    with_bytes slot (event.Restore bs) field event.Restore h.parsed refl refl refl
+    (record { each = h.parsed.1.fits }) tt
+by_what slot w field h = plain slot w field h refl refl
 
 -- what is said is an event's
 pub meant : {A : Type 0} (s : ParsedEvent A) → IsFineParsed s → Meant (parsed_fields s) s

@@ -18,7 +18,7 @@ use Rattle.trace.specs.Printable.{DisksInRange, InRange, IsPrintable, EventInRan
 use Rattle.trace.specs.ParsedEvent.{parsed_fields}
 use Rattle.trace.specs.Version.{IsVersion}
 use Rattle.trace.specs.Words.{IsWordOf}
-use Rattle.trace.specs.Refusals.{AddsLine, AddsParsed, IsFine, IsFineSlot, RefusesLine, RefusesAfterWord, has_begun}
+use Rattle.trace.specs.Refusals.{AddsLine, AddsParsed, IsFine, IsFineSlot, IsHead, RefusesLine, RefusesAfterWord, SaysEvent, has_begun, with_event, with_slot}
 use Rattle.trace.specs.Text.{Content, ended, header, joined, text, line, disks_fields, disks_line, disks_word, slot_fields, slot_line, event_fields, event_line, trace_lines, word_for}
 use Rattle.trace.proofs.Clean.{Good, IsSlotLine, good, good_passes, only_slots, one_event}
 use Rattle.trace.proofs.Entries.{EnteredEvent, entered_disks, entered_event, entered_slot, same_word}
@@ -179,8 +179,6 @@ module _ {A : Type 0} (text : List ℕ) (c : Content A) (k : ℕ) (rest : List �
   refused : (begun : Bool) (fault : FaultKind) → IsEnded text k → 2 ≤ k → (begun ≡ true → 0 < length c.events)
       → (begun ≡ false → length c.events ≡ 0) → RefusesLine c.version begun (line_at text k) fault
       → fault ≢ kind.NoMemory → IsFault text k fault
-  refused begun kind.Cut end late some none h known = fault_after begun kind.Cut end late none h known
-  refused begun kind.Header end late some none h known = fault_after begun kind.Header end late none h known
   refused begun kind.Word end late some none h known =
       let count = s.count in
       word_fault text k late clean end c.version names_it
@@ -196,11 +194,7 @@ module _ {A : Type 0} (text : List ℕ) (c : Content A) (k : ℕ) (rest : List �
       (slot_lines c.version c.slots s.fits.range.slots s.fits.printable.slots)
       (event_lines c.version c.events s.fits.range.events s.fits.printable.events s.fits.printable.words)
       (omega (arith, events_len)))
-  refused begun kind.Fields end late some none h known = fault_after begun kind.Fields end late none h known
-  refused begun kind.Number end late some none h known = fault_after begun kind.Number end late none h known
-  refused begun kind.Choice end late some none h known = fault_after begun kind.Choice end late none h known
-  refused begun kind.Bytes end late some none h known = fault_after begun kind.Bytes end late none h known
-  refused begun kind.NoMemory end late some none h known = absurd (known refl)
+  refused begun fault end late some none h known = fault_after begun fault end late none h known
 
   -- the next line is refused
   pub is_refused : (begun : Bool) (l after : List ℕ) (fault : FaultKind) → lines_of rest ≡ l ∷ lines_of after
@@ -254,92 +248,102 @@ taken text front more rest l after whole cut is =
     ∙ sym (append_assoc (joined front) (ended l) after)
     ∙ ap (λ (xs : List ℕ). xs ++ after) (sym (ap joined is ∙ joined_push front l))
 
-pub slot_read : {A : Type 0} (text : List ℕ) (c : Content A) (k : ℕ) (rest l after : List ℕ) (s : SlotSpec)
-    → Sofar text c k rest → rest ≡ l ++ 10 ∷ after → fields_of l ≡ slot_fields c.version s
-    → IsFineSlot c.version s → length c.events ≡ 0
-    → Sofar text (record c { slots = c.slots ++ s ∷ [] }) (k + 1) after
-unfolding slot_line
-slot_read text c k rest l after s so cut is fine none =
+-- one line more, which has these fields
+line_read : {A : Type 0} (text : List ℕ) (c d : Content A) (k : ℕ) (rest l after : List ℕ)
+    (fields : List (List ℕ)) → Sofar text c k rest → rest ≡ l ++ 10 ∷ after → fields_of l ≡ fields
+    → trace_lines d ≡ trace_lines c ++ line fields ∷ [] → Fits d
+    → length d.slots + length d.events ≡ length c.slots + length c.events + 1 → Sofar text d (k + 1) after
+line_read text c d k rest l after fields so cut is lines fits more =
     let count = so.count in
     record {
-      spelled = taken text (trace_lines c) (trace_lines (record c { slots = c.slots ++ s ∷ [] })) rest l
-          after so.spelled cut
-          (push_slot c s none ∙ ap (λ (x : List ℕ). trace_lines c
-          ++ x ∷ []) (sym (line-fields_of l (slot_fields c.version s) is)));
-      fits = record {
-        range = record {
-          disks = so.fits.range.disks;
-          slots = All-push SlotInRange c.slots s so.fits.range.slots fine.fits;
-          events =
-              so.fits.range.events;
-        };
-        printable = record {
-          version = so.fits.printable.version;
-          disks = so.fits.printable.disks;
-          slots = All-push (IsPrintableSlot c.version) c.slots s so.fits.printable.slots fine.printable;
-          events = so.fits.printable.events;
-          words = so.fits.printable.words;
-        };
+      spelled = taken text (trace_lines c) (trace_lines d) rest l after so.spelled cut
+          (lines ∙ ap (λ (x : List ℕ). trace_lines c ++ x ∷ []) (sym (line-fields_of l fields is)));
+      fits = fits;
+      count = omega arith;
+    }
+
+fits_slot : {A : Type 0} (c : Content A) (s : SlotSpec) → Fits c → IsFineSlot c.version s
+    → Fits (with_slot c s)
+fits_slot c s h fine =
+    let range = h.range in
+    let printable = h.printable in
+    record {
+      range = record {
+        disks = range.disks;
+        slots = All-push SlotInRange c.slots s range.slots fine.fits;
+        events = range.events;
       };
-      count = omega (arith, length_push c.slots s);
+      printable = record {
+        version = printable.version;
+        disks = printable.disks;
+        slots = All-push (IsPrintableSlot c.version) c.slots s printable.slots fine.printable;
+        events = printable.events;
+        words = printable.words;
+      };
+    }
+
+pub slot_read : {A : Type 0} (text : List ℕ) (c : Content A) (k : ℕ) (rest l after : List ℕ) (s : SlotSpec)
+    → Sofar text c k rest → rest ≡ l ++ 10 ∷ after → fields_of l ≡ slot_fields c.version s
+    → IsFineSlot c.version s → length c.events ≡ 0 → Sofar text (with_slot c s) (k + 1) after
+unfolding slot_line
+slot_read text c k rest l after s so cut is fine none =
+    line_read text c (with_slot c s) k rest l after (slot_fields c.version s) so cut is (push_slot c s none)
+    (fits_slot c s so.fits fine) (omega (arith, length_push c.slots s))
+
+fits_event : {A : Type 0} (c : Content A) (e : Event A) → Fits c → IsFine e
+    → IsWordOf c.version (word_for e.what) → Fits (with_event c e)
+fits_event c e h fine of =
+    let range = h.range in
+    let printable = h.printable in
+    record {
+      range = record {
+        disks = range.disks;
+        slots = range.slots;
+        events = All-push EventInRange c.events e range.events fine.fits;
+      };
+      printable = record {
+        version = printable.version;
+        disks = printable.disks;
+        slots = printable.slots;
+        events = All-push (λ x. IsPrintableKind x.what) c.events e printable.events fine.printable;
+        words = All-push (λ x. IsWordOf c.version (word_for x.what)) c.events e printable.words of;
+      };
     }
 
 pub event_read : {A : Type 0} (text : List ℕ) (c : Content A) (k : ℕ) (rest l after : List ℕ) (e : Event A)
     → Sofar text c k rest → rest ≡ l ++ 10 ∷ after → fields_of l ≡ event_fields e → IsFine e
-    → IsWordOf c.version (word_for e.what)
-    → Sofar text (record c { events = c.events ++ e ∷ [] }) (k + 1) after
+    → IsWordOf c.version (word_for e.what) → Sofar text (with_event c e) (k + 1) after
 unfolding event_line
 event_read text c k rest l after e so cut is fine of =
-    let count = so.count in
-    record {
-      spelled = taken text (trace_lines c) (trace_lines (record c { events = c.events ++ e ∷ [] })) rest l
-          after so.spelled cut
-          (push_event c e ∙ ap (λ (x : List ℕ). trace_lines c
-          ++ x ∷ []) (sym (line-fields_of l (event_fields e) is)));
-      fits = record {
-        range = record {
-          disks = so.fits.range.disks;
-          slots = so.fits.range.slots;
-          events = All-push EventInRange c.events e so.fits.range.events fine.fits;
-        };
-        printable = record {
-          version = so.fits.printable.version;
-          disks = so.fits.printable.disks;
-          slots = so.fits.printable.slots;
-          events =
-              All-push (λ x. IsPrintableKind x.what) c.events e so.fits.printable.events fine.printable;
-          words =
-              All-push (λ x. IsWordOf c.version (word_for x.what)) c.events e so.fits.printable.words of;
-        };
-      };
-      count = omega (arith, length_push c.events e);
-    }
+    line_read text c (with_event c e) k rest l after (event_fields e) so cut is (push_event c e)
+    (fits_event c e so.fits fine of) (omega (arith, length_push c.events e))
 
 two_lines : (a b rest : List ℕ) → ((a ++ 10 ∷ []) ++ ((b ++ 10 ∷ []) ++ [])) ++ rest ≡ a
     ++ 10 ∷ (b ++ 10 ∷ rest)
 two_lines a b rest = simp (append_assoc, append-nil)
 
 -- the first two lines
-pub begun_so : {A : Type 0} (text : List ℕ) (version : ℕ) (disks : Disks) (middle l rest : List ℕ)
-    → IsVersion version → IsWordOf version (disks_word disks) → text ≡ header version ++ 10 ∷ middle
-    → middle ≡ l ++ 10 ∷ rest → fields_of l ≡ disks_fields disks → DisksInRange disks
+pub begun_so : {A : Type 0} (text : List ℕ) (version : ℕ) (disks : Disks) (rest : List ℕ)
+    → IsHead text version disks rest
     → Sofar {A = A} text (record { version = version; disks = disks; slots = []; events = [] }) 3 rest
 unfolding trace_lines joined disks_line
-begun_so text version disks middle l rest one_of of first second is range =
-    let e = line-fields_of l (disks_fields disks) is in
+begun_so text version disks rest h =
+    let first = h.version_is in
+    let second = h.disks_are in
+    let e = line-fields_of second.line (disks_fields disks) second.fields in
     record {
-      spelled = first ∙ ap (λ (m : List ℕ). header version ++ 10 ∷ m) (second
+      spelled = first.ended ∙ ap (λ (m : List ℕ). header version ++ 10 ∷ m) (second.ended
           ∙ ap (λ (x : List ℕ). x ++ 10 ∷ rest) e)
           ∙ sym (two_lines (header version) (line (disks_fields disks)) rest);
       fits = record {
         range = record {
-          disks = range;
+          disks = second.fits;
           slots = All-nil SlotInRange;
           events = λ k d lt. absurd (omega arith);
         };
         printable = record {
-          version = one_of;
-          disks = of;
+          version = first.one_of;
+          disks = second.of_version;
           slots = All-nil (IsPrintableSlot version);
           events = λ k d lt. absurd (omega arith);
           words = λ k d lt. absurd (omega arith);
@@ -363,6 +367,17 @@ entry_read text c d k rest l after so cut (inr adds) =
     (event_read text c k rest l after adds.event so cut adds.parsed.fields adds.parsed.fine
     adds.parsed.of_version)
 
+-- the line of an event that was said is that of the event
+pub says_event : {A : Type 0} (version : ℕ) (l : List ℕ) (parsed : ParsedEvent A) (e : Event A)
+    → fields_of l ≡ parsed_fields parsed → IsWordOf version (word_for parsed.event.what)
+    → event_fields e ≡ parsed_fields parsed → word_for e.what ≡ word_for parsed.event.what → IsFine e
+    → SaysEvent version l e
+says_event version l parsed e is of same word fine = record {
+  fields = is ∙ sym same;
+  fine = fine;
+  of_version = subst (λ (w : Word). IsWordOf version w) (sym word) of;
+}
+
 -- what a line says was added
 pub parsed_added : {A : Type 0} (old : Content A) (l : List ℕ) (parsed : ParsedEvent A)
     (events : List (Event A)) → fields_of l ≡ parsed_fields parsed
@@ -371,11 +386,7 @@ pub parsed_added : {A : Type 0} (old : Content A) (l : List ℕ) (parsed : Parse
 parsed_added old l parsed events is of adds =
     inr (record {
       event = adds.event;
-      parsed = record {
-        fields = is ∙ sym adds.fields;
-        fine = adds.fine;
-        of_version = subst (λ (w : Word). IsWordOf old.version w) (sym adds.word) of;
-      };
+      parsed = says_event old.version l parsed adds.event is of adds.fields adds.word adds.fine;
       added = ap (λ es. record old { events = es }) adds.added;
     })
 

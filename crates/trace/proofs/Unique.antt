@@ -1,7 +1,8 @@
 -- A text belongs to one trace, and the text of a trace has no fault.
-use Rattle.std.proofs.Common.{◌≡◌, ℕ, suc, ◌+◌, ◌*◌, ◌-◌, ◌^◌, ◌<◌, ◌≤◌, Bool, true, false, nat_lt, cond, eqb, if◌then◌else◌, List, [], ◌∷◌, ◌++◌, All, length, get_or, drop, map, Result, Ok, refl, sym, ap, subst, ◌∙◌, arith, inl, inr}
+use Rattle.std.proofs.Common.{◌≡◌, ℕ, suc, ◌+◌, ◌*◌, ◌-◌, ◌^◌, ◌<◌, ◌≤◌, Bool, true, false, nat_lt, List, [], ◌∷◌, ◌++◌, All, length, get_or, drop, map, Result, Ok, refl, sym, ap, subst, ◌∙◌, arith, inl, inr}
 use Rattle.std.proofs.lemmas.List.{append_cancel_right, append-nil, get_or_past}
 use Rattle.std.specs.List.{flat_map}
+use Rattle.std.specs.Prelude.{⊤}
 use Rattle.std.proofs.lemmas.Bool.{cases_eq, cases_lt, cases_order, ltb-true}
 use Rattle.hex.specs.Hex.{decode_of, encode_lower, lower_digits}
 use Rattle.hex.proofs.HexLemmas.{decode_of-encode_lower, length-encode_with}
@@ -24,13 +25,14 @@ use Rattle.trace.specs.Cuts.{fields_of, lines_of, parts}
 use Rattle.trace.specs.Faults.{IsCleanBefore, IsEnded, IsFault, Passes, line_at, order}
 use Rattle.trace.specs.Printable.{IsPrintableKind, IsWriteAccess, KindInRange}
 use Rattle.trace.specs.Refusals.{IsFine, IsFineSlot}
-use Rattle.trace.specs.Version.{IsVersion, since_version_2}
+use Rattle.trace.specs.Version.{IsVersion}
 use Rattle.hexadecimal.specs.Spelling.{bytes, fixed, num}
-use Rattle.trace.specs.Spelling.{mode, region_text, regions_text, verdict, window}
+use Rattle.trace.specs.Spelling.{mode, region_text, verdict, window}
 use Rattle.trace.specs.Text.{Content, disks_fields, disks_line, event_fields, event_line, memory_fields, region_fields, slot_fields, slot_line, text, trace_lines, what_fields, word_for}
 use Rattle.trace.specs.Words.{spelled}
 use Rattle.hexadecimal.proofs.ByteFields.{AreBytes, is_bytes}
-use Rattle.trace.proofs.Entries.{cut_disks, cut_event, cut_slot, entered_event, entered_slot, fits_digits, same_word}
+use Rattle.trace.proofs.FaultKinds.{same_kind}
+use Rattle.trace.proofs.Entries.{behind, cut_disks, cut_event, cut_slot, entered_event, entered_slot, fits_digits, memory_texts, same_word}
 use Rattle.hexadecimal.proofs.Numbers.{same_fixed, same_num}
 use Rattle.trace.proofs.RegionFields.{region_parts, regions_parts}
 use Rattle.trace.proofs.Signs.{lines_of-joined}
@@ -41,21 +43,18 @@ use Rattle.trace.proofs.Versions.{word_of_3}
 
 same_window : (a b : DeviceKind) → window a ≡ window b → a ≡ b
 same_window Block Block e = refl
-same_window Block Console e = absurd (omega (arith, ap (λ (xs : List ℕ). get_or xs 0 0) e))
-same_window Console Block e = absurd (omega (arith, ap (λ (xs : List ℕ). get_or xs 0 0) e))
 same_window Console Console e = refl
+same_window a b e = absurd (omega (arith, ap (λ (xs : List ℕ). get_or xs 0 0) e))
 
 same_mode : (a b : Bool) → mode a ≡ mode b → a ≡ b
 same_mode false false e = refl
-same_mode false true e = absurd (omega (arith, ap (λ (xs : List ℕ). get_or xs 1 0) e))
-same_mode true false e = absurd (omega (arith, ap (λ (xs : List ℕ). get_or xs 1 0) e))
 same_mode true true e = refl
+same_mode a b e = absurd (omega (arith, ap (λ (xs : List ℕ). get_or xs 1 0) e))
 
 same_verdict : (a b : Verdict) → verdict a ≡ verdict b → a ≡ b
 same_verdict Done Done e = refl
-same_verdict Done Failed e = absurd (omega (arith, ap length e))
-same_verdict Failed Done e = absurd (omega (arith, ap length e))
 same_verdict Failed Failed e = refl
+same_verdict a b e = absurd (omega (arith, ap length e))
 
 ok_is : (x y : List ℕ) (r : Result (List ℕ) FromHexError) → r ≡ Ok x → r ≡ Ok y → x ≡ y
 ok_is x y r p q = cc
@@ -71,8 +70,21 @@ same_bytes (x ∷ xs) (y ∷ ys) hx hy e =
     ∙ decode_of-encode_lower (y ∷ ys) (is_bytes (y ∷ ys) hy))
 
 -- the field at a place of equal lists
-field : (fs gs : List (List ℕ)) (i : ℕ) → fs ≡ gs → get_or fs i [] ≡ get_or gs i []
-field fs gs i e = ap (λ (xs : List (List ℕ)). get_or xs i []) e
+same_at : {fs gs : List (List ℕ)} → fs ≡ gs → (i : ℕ) → get_or fs i [] ≡ get_or gs i []
+same_at e i = ap (λ (xs : List (List ℕ)). get_or xs i []) e
+
+-- lists of equal texts, where a text is one element's
+same_list : {X Y : Type 0} (P : X → Type 0) (f : X → Y) → ((x y : X) → P x → P y → f x ≡ f y → x ≡ y)
+    → (xs ys : List X) → All P xs → All P ys → map f xs ≡ map f ys → xs ≡ ys
+same_list P f one [] [] hx hy e = refl
+same_list P f one (x ∷ xs) (y ∷ ys) hx hy e =
+    let first : f x ≡ f y = cc in
+    let others : map f xs ≡ map f ys = cc in
+    let a = one x y (hx 0 x (omega arith)) (hy 0 y (omega arith)) first in
+    let b = same_list P f one xs ys (λ k d lt. hx (suc k) d (omega arith))
+    (λ k d lt. hy (suc k) d (omega arith)) others in
+    cc
+same_list P f one xs ys hx hy e = absurd cc
 
 -- ---- lines
 
@@ -107,10 +119,8 @@ same_single (r ∷ rs) [] hr hs e = absurd (omega (arith, hs))
 same_single (r ∷ (q ∷ rs)) (s ∷ ss) hr hs e = absurd (omega (arith, hr))
 same_single (r ∷ []) (s ∷ (q ∷ ss)) hr hs e = absurd (omega (arith, hs))
 same_single (r ∷ []) (s ∷ []) hr hs e =
-    let base = same_num r.base s.base
-    (field (flat_map region_fields (r ∷ [])) (flat_map region_fields (s ∷ [])) 0 e) in
-    let len = same_num r.len s.len
-    (field (flat_map region_fields (r ∷ [])) (flat_map region_fields (s ∷ [])) 1 e) in
+    let base = same_num r.base s.base (same_at e 0) in
+    let len = same_num r.len s.len (same_at e 1) in
     ap (λ (n : ℕ). record { base = n; len = r.len } ∷ []) base
     ∙ ap (λ (n : ℕ). record { base = s.base; len = n } ∷ []) len
 
@@ -118,30 +128,20 @@ same_single (r ∷ []) (s ∷ []) hr hs e =
 same_region : (r s : RegionSpec) → region_text r ≡ region_text s → r ≡ s
 same_region r s e =
     let both = sym (region_parts r) ∙ ap (parts 43) e ∙ region_parts s in
-    let base = same_num r.base s.base (ap (λ (xs : List (List ℕ)). get_or xs 0 []) both) in
-    let len = same_num r.len s.len (ap (λ (xs : List (List ℕ)). get_or xs 1 []) both) in
+    let base = same_num r.base s.base (same_at both 0) in
+    let len = same_num r.len s.len (same_at both 1) in
     ap (λ (n : ℕ). record { base = n; len = r.len }) base
     ∙ ap (λ (n : ℕ). record { base = s.base; len = n }) len
 
 same_each : (rs ss : List RegionSpec) → map region_text rs ≡ map region_text ss → rs ≡ ss
-same_each [] [] e = refl
-same_each [] (s ∷ ss) e = absurd (omega (arith, ap length e))
-same_each (r ∷ rs) [] e = absurd (omega (arith, ap length e))
-same_each (r ∷ rs) (s ∷ ss) e =
-    let first : region_text r ≡ region_text s = ap (λ (xs : List (List ℕ)). get_or xs 0 []) e in
-    let others : map region_text rs ≡ map region_text ss = ap (drop 1) e in
-    ap (λ (x : RegionSpec). x ∷ rs) (same_region r s first)
-    ∙ ap (λ (xs : List RegionSpec). s ∷ xs) (same_each rs ss others)
-
-abbrev memory_texts : Bool → List RegionSpec → List (List ℕ)
-memory_texts one regions = if one then flat_map region_fields regions else regions_text regions ∷ []
+same_each rs ss e =
+    same_list (λ _. ⊤) region_text (λ r s _ _. same_region r s) rs ss (λ k d lt. tt) (λ k d lt. tt) e
 
 same_texts : (one : Bool) (rs ss : List RegionSpec) → 1 ≤ length rs → 1 ≤ length ss
     → (one ≡ true → length rs ≡ 1) → (one ≡ true → length ss ≡ 1)
     → memory_texts one rs ≡ memory_texts one ss → rs ≡ ss
 same_texts false rs ss hr hs or os e =
-    same_each rs ss (sym (regions_parts rs hr) ∙ ap (parts 44) (ap (λ (xs : List (List ℕ)). get_or xs 0 []) e)
-    ∙ regions_parts ss hs)
+    same_each rs ss (sym (regions_parts rs hr) ∙ ap (parts 44) (same_at e 0) ∙ regions_parts ss hs)
 same_texts true rs ss hr hs or os e = same_single rs ss (or refl) (os refl) e
 
 equally_long : (one : Bool) (rs ss : List RegionSpec) → 1 ≤ length rs → 1 ≤ length ss
@@ -154,22 +154,16 @@ equally_long true (r ∷ (q ∷ rs)) (s ∷ ss) hr hs or os = absurd (omega (ari
 equally_long true (r ∷ []) (s ∷ (q ∷ ss)) hr hs or os = absurd (omega (arith, os refl))
 equally_long true (r ∷ []) (s ∷ []) hr hs or os = refl
 
--- what stands behind a slot's memory
-abbrev behind : ℕ → SlotSpec → List (List ℕ)
-behind version s = num s.extent.start ∷ num s.extent.count ∷ mode s.read_only ∷ num s.cols ∷ num s.rows
-    ∷ since_version_2 version (bytes s.identity ∷ [])
-
 -- the identities of slots of one version
 same_identity : (version : ℕ) (s t : SlotSpec) → IsVersion version → IsFineSlot version s
     → IsFineSlot version t → behind version s ≡ behind version t → s.identity ≡ t.identity
 same_identity version s t one_of fs ft e =
+    let same = same_bytes s.identity t.identity fs.fits.identity ft.fits.identity in
     elim one_of [
       | inl one ↦ fs.printable.identity one ∙ sym (ft.printable.identity one)
       | inr more ↦ elim more [
-        | inl two ↦ same_bytes s.identity t.identity fs.fits.identity ft.fits.identity
-            (field (behind 2 s) (behind 2 t) 5 (subst (λ (v : ℕ). behind v s ≡ behind v t) two e))
-        | inr three ↦ same_bytes s.identity t.identity fs.fits.identity ft.fits.identity
-            (field (behind 3 s) (behind 3 t) 5 (subst (λ (v : ℕ). behind v s ≡ behind v t) three e))
+        | inl two ↦ same (same_at (subst (λ (v : ℕ). behind v s ≡ behind v t) two e) 5)
+        | inr three ↦ same (same_at (subst (λ (v : ℕ). behind v s ≡ behind v t) three e) 5)
       ]
     ]
 
@@ -186,12 +180,11 @@ same_slot_fields version s t one_of fs ft e =
     (behind version s) (behind version t) long (ap (drop 1) e) in
     let regions = same_texts one s.regions t.regions fs.printable.memory.some ft.printable.memory.some
     single_s single_t halves.0 in
-    let here = field (behind version s) (behind version t) in
-    let start = same_num s.extent.start t.extent.start (here 0 halves.1) in
-    let count = same_num s.extent.count t.extent.count (here 1 halves.1) in
-    let read_only = same_mode s.read_only t.read_only (here 2 halves.1) in
-    let cols = same_num s.cols t.cols (here 3 halves.1) in
-    let rows = same_num s.rows t.rows (here 4 halves.1) in
+    let start = same_num s.extent.start t.extent.start (same_at halves.1 0) in
+    let count = same_num s.extent.count t.extent.count (same_at halves.1 1) in
+    let read_only = same_mode s.read_only t.read_only (same_at halves.1 2) in
+    let cols = same_num s.cols t.cols (same_at halves.1 3) in
+    let rows = same_num s.rows t.rows (same_at halves.1 4) in
     let identity = same_identity version s t one_of fs ft halves.1 in
     ap (λ (x : List RegionSpec). made_slot x s.extent.start s.extent.count s.read_only s.cols s.rows
     s.identity) regions
@@ -220,103 +213,35 @@ same_what : {A : Type 0} (m n : ℕ) (v w : EventKind A) → KindInRange v → K
     → IsPrintableKind w → what_fields m v ≡ what_fields n w → (m ≡ n) × (v ≡ w)
 unfolding sign
 same_what m n (what.Read k o w) (what.Read l p x) rv rw' fv fw e =
-    let slot = same_num m n (ap (λ (fs : List (List ℕ)). get_or fs 1 []) e) in
-    let kind = same_window k l (ap (λ (fs : List (List ℕ)). get_or fs 2 []) e) in
-    let offset = same_fixed 3 o p fv.three_digits fw.three_digits
-    (ap (λ (fs : List (List ℕ)). get_or fs 3 []) e) in
-    let width : w ≡ x = omega (arith, ap (λ (fs : List (List ℕ)). get_or (get_or fs 4 []) 0 0) e) in
-    (slot, cc)
+    let kind = same_window k l (same_at e 2) in
+    let offset = same_fixed 3 o p fv.three_digits fw.three_digits (same_at e 3) in
+    let width : w ≡ x = omega (arith, ap (λ (xs : List ℕ). get_or xs 0 0) (same_at e 4)) in
+    (same_num m n (same_at e 1), cc)
 same_what m n (what.Write k o w u) (what.Write l p x v) rv rw' fv fw e =
-    let slot = same_num m n (ap (λ (fs : List (List ℕ)). get_or fs 1 []) e) in
-    let kind = same_window k l (ap (λ (fs : List (List ℕ)). get_or fs 2 []) e) in
-    let offset = same_fixed 3 o p fv.access.three_digits fw.access.three_digits
-    (ap (λ (fs : List (List ℕ)). get_or fs 3 []) e) in
-    let width : w ≡ x = omega (arith, ap (λ (fs : List (List ℕ)). get_or (get_or fs 4 []) 0 0) e) in
-    let value = same_value w x u v o p width fv fw (ap (λ (fs : List (List ℕ)). get_or fs 5 []) e) in
-    (slot, cc)
+    let kind = same_window k l (same_at e 2) in
+    let offset = same_fixed 3 o p fv.access.three_digits fw.access.three_digits (same_at e 3) in
+    let width : w ≡ x = omega (arith, ap (λ (xs : List ℕ). get_or xs 0 0) (same_at e 4)) in
+    let value = same_value w x u v o p width fv fw (same_at e 5) in
+    (same_num m n (same_at e 1), cc)
 same_what m n (what.MemRead a l) (what.MemRead b k) rv rw' fv fw e =
-    let slot = same_num m n (ap (λ (fs : List (List ℕ)). get_or fs 1 []) e) in
-    let addr = same_num a b (ap (λ (fs : List (List ℕ)). get_or fs 2 []) e) in
-    let len = same_num l k (ap (λ (fs : List (List ℕ)). get_or fs 3 []) e) in
-    (slot, cc)
+    let addr = same_num a b (same_at e 2) in
+    let len = same_num l k (same_at e 3) in
+    (same_num m n (same_at e 1), cc)
 same_what m n (what.MemWrite a xs) (what.MemWrite b ys) rv rw' fv fw e =
-    let slot = same_num m n (ap (λ (fs : List (List ℕ)). get_or fs 1 []) e) in
-    let addr = same_num a b (ap (λ (fs : List (List ℕ)). get_or fs 2 []) e) in
-    let data' = same_bytes xs ys rv.each rw'.each (ap (λ (fs : List (List ℕ)). get_or fs 3 []) e) in
-    (slot, cc)
+    let addr = same_num a b (same_at e 2) in
+    let data' = same_bytes xs ys rv.each rw'.each (same_at e 3) in
+    (same_num m n (same_at e 1), cc)
 same_what m n (what.Input xs) (what.Input ys) rv rw' fv fw e =
-    let slot = same_num m n (ap (λ (fs : List (List ℕ)). get_or fs 1 []) e) in
-    let data' = same_bytes xs ys rv.each rw'.each (ap (λ (fs : List (List ℕ)). get_or fs 2 []) e) in
-    (slot, cc)
+    (same_num m n (same_at e 1), ap what.Input (same_bytes xs ys rv.each rw'.each (same_at e 2)))
 same_what m n (what.Resize a l) (what.Resize b k) rv rw' fv fw e =
-    let slot = same_num m n (ap (λ (fs : List (List ℕ)). get_or fs 1 []) e) in
-    let cols = same_num a b (ap (λ (fs : List (List ℕ)). get_or fs 2 []) e) in
-    let rows = same_num l k (ap (λ (fs : List (List ℕ)). get_or fs 3 []) e) in
-    (slot, cc)
-same_what m n (what.Read k o w) (what.Write l p x v') rv rw' fv fw e = absurd (omega (arith, ap sign e))
-same_what m n (what.Read k o w) (what.MemRead b t) rv rw' fv fw e = absurd (omega (arith, ap sign e))
-same_what m n (what.Read k o w) (what.MemWrite b ys) rv rw' fv fw e = absurd (omega (arith, ap sign e))
-same_what m n (what.Read k o w) (what.Input ys) rv rw' fv fw e = absurd (omega (arith, ap sign e))
-same_what m n (what.Read k o w) (what.Resize b t) rv rw' fv fw e = absurd (omega (arith, ap sign e))
-same_what m n (what.Write k o w u) (what.Read l p x) rv rw' fv fw e = absurd (omega (arith, ap sign e))
-same_what m n (what.Write k o w u) (what.MemRead b t) rv rw' fv fw e = absurd (omega (arith, ap sign e))
-same_what m n (what.Write k o w u) (what.MemWrite b ys) rv rw' fv fw e = absurd (omega (arith, ap sign e))
-same_what m n (what.Write k o w u) (what.Input ys) rv rw' fv fw e = absurd (omega (arith, ap sign e))
-same_what m n (what.Write k o w u) (what.Resize b t) rv rw' fv fw e = absurd (omega (arith, ap sign e))
-same_what m n (what.MemRead a r) (what.Read l p x) rv rw' fv fw e = absurd (omega (arith, ap sign e))
-same_what m n (what.MemRead a r) (what.Write l p x v') rv rw' fv fw e = absurd (omega (arith, ap sign e))
-same_what m n (what.MemRead a r) (what.MemWrite b ys) rv rw' fv fw e = absurd (omega (arith, ap sign e))
-same_what m n (what.MemRead a r) (what.Input ys) rv rw' fv fw e = absurd (omega (arith, ap sign e))
-same_what m n (what.MemRead a r) (what.Resize b t) rv rw' fv fw e = absurd (omega (arith, ap sign e))
-same_what m n (what.MemWrite a xs) (what.Read l p x) rv rw' fv fw e = absurd (omega (arith, ap sign e))
-same_what m n (what.MemWrite a xs) (what.Write l p x v') rv rw' fv fw e = absurd (omega (arith, ap sign e))
-same_what m n (what.MemWrite a xs) (what.MemRead b t) rv rw' fv fw e = absurd (omega (arith, ap sign e))
-same_what m n (what.MemWrite a xs) (what.Input ys) rv rw' fv fw e = absurd (omega (arith, ap sign e))
-same_what m n (what.MemWrite a xs) (what.Resize b t) rv rw' fv fw e = absurd (omega (arith, ap sign e))
-same_what m n (what.Input xs) (what.Read l p x) rv rw' fv fw e = absurd (omega (arith, ap sign e))
-same_what m n (what.Input xs) (what.Write l p x v') rv rw' fv fw e = absurd (omega (arith, ap sign e))
-same_what m n (what.Input xs) (what.MemRead b t) rv rw' fv fw e = absurd (omega (arith, ap sign e))
-same_what m n (what.Input xs) (what.MemWrite b ys) rv rw' fv fw e = absurd (omega (arith, ap sign e))
-same_what m n (what.Input xs) (what.Resize b t) rv rw' fv fw e = absurd (omega (arith, ap sign e))
-same_what m n (what.Resize a r) (what.Read l p x) rv rw' fv fw e = absurd (omega (arith, ap sign e))
-same_what m n (what.Resize a r) (what.Write l p x v') rv rw' fv fw e = absurd (omega (arith, ap sign e))
-same_what m n (what.Resize a r) (what.MemRead b t) rv rw' fv fw e = absurd (omega (arith, ap sign e))
-same_what m n (what.Resize a r) (what.MemWrite b ys) rv rw' fv fw e = absurd (omega (arith, ap sign e))
-same_what m n (what.Resize a r) (what.Input ys) rv rw' fv fw e = absurd (omega (arith, ap sign e))
+    let cols = same_num a b (same_at e 2) in
+    let rows = same_num l k (same_at e 3) in
+    (same_num m n (same_at e 1), cc)
 same_what m n (what.Restore xs) (what.Restore ys) rv rw' fv fw e =
-    let slot = same_num m n (ap (λ (fs : List (List ℕ)). get_or fs 1 []) e) in
-    let data' = same_bytes xs ys rv.each rw'.each (ap (λ (fs : List (List ℕ)). get_or fs 2 []) e) in
-    (slot, cc)
-same_what m n (what.Restore xs) (what.Read l p x) rv rw' fv fw e = absurd (omega (arith, ap sign e))
-same_what m n (what.Restore xs) (what.Write l p x v') rv rw' fv fw e = absurd (omega (arith, ap sign e))
-same_what m n (what.Restore xs) (what.MemRead b t) rv rw' fv fw e = absurd (omega (arith, ap sign e))
-same_what m n (what.Restore xs) (what.MemWrite b ys) rv rw' fv fw e = absurd (omega (arith, ap sign e))
-same_what m n (what.Restore xs) (what.Input ys) rv rw' fv fw e = absurd (omega (arith, ap sign e))
-same_what m n (what.Restore xs) (what.Resize b t) rv rw' fv fw e = absurd (omega (arith, ap sign e))
-same_what m n (what.Read k o w) (what.Restore ys) rv rw' fv fw e = absurd (omega (arith, ap sign e))
-same_what m n (what.Write k o w u) (what.Restore ys) rv rw' fv fw e = absurd (omega (arith, ap sign e))
-same_what m n (what.MemRead a r) (what.Restore ys) rv rw' fv fw e = absurd (omega (arith, ap sign e))
-same_what m n (what.MemWrite a xs) (what.Restore ys) rv rw' fv fw e = absurd (omega (arith, ap sign e))
-same_what m n (what.Input xs) (what.Restore ys) rv rw' fv fw e = absurd (omega (arith, ap sign e))
-same_what m n (what.Resize a r) (what.Restore ys) rv rw' fv fw e = absurd (omega (arith, ap sign e))
+    (same_num m n (same_at e 1), ap what.Restore (same_bytes xs ys rv.each rw'.each (same_at e 2)))
 same_what m n (what.Complete a) (what.Complete b) rv rw' fv fw e =
-    let slot = same_num m n (ap (λ (fs : List (List ℕ)). get_or fs 1 []) e) in
-    let verdict' = same_verdict a b (ap (λ (fs : List (List ℕ)). get_or fs 2 []) e) in
-    (slot, cc)
-same_what m n (what.Complete c) (what.Read l p x) rv rw' fv fw e = absurd (omega (arith, ap sign e))
-same_what m n (what.Complete c) (what.Write l p x v') rv rw' fv fw e = absurd (omega (arith, ap sign e))
-same_what m n (what.Complete c) (what.MemRead b t) rv rw' fv fw e = absurd (omega (arith, ap sign e))
-same_what m n (what.Complete c) (what.MemWrite b ys) rv rw' fv fw e = absurd (omega (arith, ap sign e))
-same_what m n (what.Complete c) (what.Input ys) rv rw' fv fw e = absurd (omega (arith, ap sign e))
-same_what m n (what.Complete c) (what.Resize b t) rv rw' fv fw e = absurd (omega (arith, ap sign e))
-same_what m n (what.Complete c) (what.Restore ys) rv rw' fv fw e = absurd (omega (arith, ap sign e))
-same_what m n (what.Read k o w) (what.Complete c) rv rw' fv fw e = absurd (omega (arith, ap sign e))
-same_what m n (what.Write k o w u) (what.Complete c) rv rw' fv fw e = absurd (omega (arith, ap sign e))
-same_what m n (what.MemRead a r) (what.Complete c) rv rw' fv fw e = absurd (omega (arith, ap sign e))
-same_what m n (what.MemWrite a xs) (what.Complete c) rv rw' fv fw e = absurd (omega (arith, ap sign e))
-same_what m n (what.Input xs) (what.Complete c) rv rw' fv fw e = absurd (omega (arith, ap sign e))
-same_what m n (what.Resize a r) (what.Complete c) rv rw' fv fw e = absurd (omega (arith, ap sign e))
-same_what m n (what.Restore xs) (what.Complete c) rv rw' fv fw e = absurd (omega (arith, ap sign e))
+    (same_num m n (same_at e 1), ap what.Complete (same_verdict a b (same_at e 2)))
+same_what m n v w rv rw' fv fw e = absurd (omega (arith, ap sign e))
 
 pub same_event_fields : {A : Type 0} (d e : Event A) → IsFine d → IsFine e
     → event_fields d ≡ event_fields e → d ≡ e
@@ -328,8 +253,8 @@ same_event_fields d e fd fe h =
 same_slot_line : (version : ℕ) (s t : SlotSpec) → IsVersion version → IsFineSlot version s
     → IsFineSlot version t → slot_line version s ≡ slot_line version t → s ≡ t
 same_slot_line version s t one_of fs ft e =
-    same_slot_fields version s t one_of fs ft (sym (cut_slot version s fs.fits) ∙ ap fields_of e
-    ∙ cut_slot version t ft.fits)
+    same_slot_fields version s t one_of fs ft (sym (cut_slot version s fs) ∙ ap fields_of e
+    ∙ cut_slot version t ft)
 
 same_event_line : {A : Type 0} (d e : Event A) → IsFine d → IsFine e → event_line d ≡ event_line e → d ≡ e
 same_event_line d e hd he h =
@@ -342,7 +267,7 @@ other_line version s e hs he h =
     let event = entered_event 3 e he (word_of_3 (word_for e.what)) in
     let slot = entered_slot version s hs in
     let words : spelled Slot ≡ spelled event.word =
-    ap (λ (fs : List (List ℕ)). get_or fs 0 []) (sym slot.cut ∙ ap fields_of h ∙ event.entry.cut) in
+    same_at (sym slot.cut ∙ ap fields_of h ∙ event.entry.cut) 0 in
     event.other (sym (same_word Slot event.word words))
 
 -- ---- traces
@@ -352,16 +277,7 @@ AllFine es = All IsFine es
 
 same_events : {A : Type 0} (ds es : List (Event A)) → AllFine ds → AllFine es
     → map event_line ds ≡ map event_line es → ds ≡ es
-same_events [] [] hd he e = refl
-same_events [] (y ∷ es) hd he e = absurd cc
-same_events (x ∷ ds) [] hd he e = absurd cc
-same_events (x ∷ ds) (y ∷ es) hd he e =
-    let first : event_line x ≡ event_line y = cc in
-    let rest : map event_line ds ≡ map event_line es = cc in
-    let a = same_event_line x y (hd 0 x (omega arith)) (he 0 y (omega arith)) first in
-    let b = same_events ds es (λ k d lt. hd (suc k) d (omega arith))
-    (λ k d lt. he (suc k) d (omega arith)) rest in
-    cc
+same_events ds es hd he e = same_list IsFine event_line same_event_line ds es hd he e
 
 module _ {A : Type 0} (version : ℕ) (one_of : IsVersion version) where
   same_parts : (ss ts : List SlotSpec) (ds es : List (Event A)) → All (IsFineSlot version) ss
@@ -399,19 +315,18 @@ lines_of_text c h = ap lines_of (sym (append-nil (text c)))
 -- the second line says where the disks are
 same_disks : (c d : Disks) → disks_fields c ≡ disks_fields d → c ≡ d
 same_disks (kept.Cached m) (kept.Cached n) e =
-    ap kept.Cached (same_num m n (ap (λ (fs : List (List ℕ)). get_or fs 1 []) e))
-same_disks (kept.Cached m) kept.Hosted e = absurd (omega (arith, ap length e))
-same_disks kept.Hosted (kept.Cached n) e = absurd (omega (arith, ap length e))
+    ap kept.Cached (same_num m n (same_at e 1))
 same_disks kept.Hosted kept.Hosted e = refl
+same_disks c d e = absurd (omega (arith, ap length e))
 
 same_lines : {A : Type 0} (c d : Content A) → Fits c → Fits d → trace_lines c ≡ trace_lines d → c ≡ d
 unfolding trace_lines
 same_lines c d hc hd e =
     let version : c.version ≡ d.version =
     omega (arith, ap (λ (ls : List (List ℕ)). get_or (get_or ls 0 []) 8 0) e) in
-    let seconds : disks_line c.disks ≡ disks_line d.disks = ap (λ (ls : List (List ℕ)). get_or ls 1 []) e in
-    let disks = same_disks c.disks d.disks (sym (cut_disks c.disks) ∙ ap fields_of seconds
-    ∙ cut_disks d.disks) in
+    let seconds : disks_line c.disks ≡ disks_line d.disks = same_at e 1 in
+    let disks = same_disks c.disks d.disks (sym (cut_disks c.disks hc.range.disks) ∙ ap fields_of seconds
+    ∙ cut_disks d.disks hd.range.disks) in
     let fine : All (IsFineSlot c.version) d.slots =
     subst (λ (v : ℕ). All (IsFineSlot v) d.slots) (sym version) (all_fine_slots d hd) in
     let lines : map (slot_line c.version) c.slots
@@ -448,14 +363,8 @@ past : (text : List ℕ) (k : ℕ) → 3 ≤ k → ¬ IsEnded text k → line_at
     → Passes text k fault
 past text k le open' none kind.Cut =
     λ owed. elim owed [ inl early ↦ absurd (omega arith) | inr some ↦ absurd (some none) ]
-past text k le open' none kind.Header = λ end. absurd (open' end)
-past text k le open' none kind.Word = λ end. absurd (open' end)
-past text k le open' none kind.Order = λ end. absurd (open' end)
-past text k le open' none kind.Fields = λ end. absurd (open' end)
-past text k le open' none kind.Number = λ end. absurd (open' end)
-past text k le open' none kind.Choice = λ end. absurd (open' end)
-past text k le open' none kind.Bytes = λ end. absurd (open' end)
 past text k le open' none kind.NoMemory = tt
+past text k le open' none fault = λ end. absurd (open' end)
 
 empty_past : {A : Type 0} (whole : List ℕ) (c : Content A) (k : ℕ) → Fits c → whole ≡ text c
     → 3 + (length c.slots + length c.events) ≤ k → line_at whole k ≡ []
@@ -465,7 +374,7 @@ empty_past whole c k h e le =
     let last = ap length nothing_left in
     elim (cases_eq k (3 + (length c.slots + length c.events))) [
       | inl here ↦ ap (line_at whole) here ∙ next_is whole c (3 + (length c.slots + length c.events)) [] so
-          ∙ ap (λ (ls : List (List ℕ)). get_or ls 0 []) nothing_left
+          ∙ same_at nothing_left 0
       | inr later ↦ get_or_past (lines_of whole) (k - 1) [] (omega arith)
     ]
 
@@ -489,29 +398,6 @@ pub text_clean : {A : Type 0} (c : Content A) (k : ℕ) → Fits c → IsCleanBe
 text_clean c k h j numbered lt fault = every_check (text c) c j fault h refl numbered
 
 -- ---- a text has one fault
-
-kind_at : ℕ → FaultKind
-kind_at n = cond (eqb n 1) kind.Cut
-    (cond (eqb n 2) kind.Header
-    (cond (eqb n 3) kind.Word
-    (cond (eqb n 4) kind.Order
-    (cond (eqb n 5) kind.Fields
-    (cond (eqb n 6) kind.Number (cond (eqb n 7) kind.Choice (cond (eqb n 8) kind.Bytes kind.NoMemory)))))))
-
-kind_is : (c : FaultKind) → kind_at (order c) ≡ c
-unfolding kind_at
-kind_is kind.Cut = refl
-kind_is kind.Header = refl
-kind_is kind.Word = refl
-kind_is kind.Order = refl
-kind_is kind.Fields = refl
-kind_is kind.Number = refl
-kind_is kind.Choice = refl
-kind_is kind.Bytes = refl
-kind_is kind.NoMemory = refl
-
-pub same_kind : (c d : FaultKind) → order c ≡ order d → c ≡ d
-same_kind c d e = sym (kind_is c) ∙ ap kind_at e ∙ kind_is d
 
 same_line : (text : List ℕ) (k l : ℕ) (c d : FaultKind) → IsFault text k c → IsFault text l d → k ≡ l
 same_line text k l c d f g =

@@ -10,7 +10,6 @@ use Rattle.trace.specs.declared.fault.FaultKind.{FaultKind}
 use Rattle.trace.specs.declared.fault.FaultKind.TheVariants as kind
 use Rattle.trace.specs.declared.fault.TraceFault.{TraceFault}
 use Rattle.trace.specs.declared.read.parsed_event.ParsedEvent.{ParsedEvent}
-use Rattle.trace.specs.declared.word.Word.{Word}
 use Rattle.trace.specs.Cuts.{fields_of, lines_of}
 use Rattle.trace.specs.Faults.{IsFault, IsCleanBefore}
 use Rattle.trace.specs.Validating.{HaveRoom, IsValidated, ValidatesFirst, ValidatesLine, Validation, RefusesFirst, begun_before, bytes_len, parsed_len}
@@ -21,7 +20,7 @@ use Rattle.trace.specs.Text.{Content, event_fields, event_line, joined, slot_fie
 use Rattle.trace.specs.Words.{IsInEach, IsWordOf}
 use Rattle.trace.proofs.Saying.{cut_parsed, meant}
 use Rattle.trace.proofs.Signs.{line-fields_of}
-use Rattle.trace.proofs.Sofar.{Sofar, all_read, clean, event_read, is_cut, is_refused, length_joined, slot_read, taken}
+use Rattle.trace.proofs.Sofar.{Sofar, all_read, clean, event_read, is_cut, is_refused, length_joined, says_event, slot_read, taken}
 use Rattle.trace.proofs.Unique.{no_fault, one_trace, text_clean}
 
 -- a line that says an event was validated, and this is kept of how many bytes it spells
@@ -36,11 +35,7 @@ counted_as A begun line after longest longest_line s old new is fine of fits lon
     let len = it.len in
     inr (record {
       event = it.event;
-      parsed = record {
-        fields = is ∙ sym it.fields_are;
-        fine = it.fine;
-        of_version = subst (λ (w : Word). IsWordOf old.version w) (sym it.word) of;
-      };
+      parsed = says_event old.version line s it.event is of it.fields_are it.word it.fine;
       fits = rw e (omega arith);
       longer = rw e longer;
       numbered = rw e numbered;

@@ -1,5 +1,5 @@
 -- The values of a line's fields, read one after another.
-use Rattle.std.proofs.Common.{◌≡◌, ◌≢◌, ◌==◌, ℕ, Bool, true, false, nat_lt, if◌then◌else◌, ◌+◌, ◌*◌, ◌^◌, ◌<◌, ◌≤◌, List, [], ◌∷◌, ◌++◌, length, get_or, map, take, drop, slice_index_or, refl, sym, ap, subst, ◌∙◌, arith, inl, inr}
+use Rattle.std.proofs.Common.{◌≡◌, ◌≢◌, ◌==◌, ℕ, Bool, true, false, nat_lt, if◌then◌else◌, ◌+◌, ◌*◌, ◌^◌, ◌<◌, ◌≤◌, List, [], ◌∷◌, ◌++◌, length, get_or, map, take, drop, slice_index_or, refl, sym, ap, subst, ◌∙◌, arith}
 use Rattle.std.proofs.lemmas.List.{append-nil, append_assoc, drop_all, drop_more, length-map, map-append, map_more, take_all}
 use Rattle.mmio_window.specs.declared.device_kind.DeviceKind.{DeviceKind}
 use Rattle.trace.specs.declared.table.Field.{Field}
@@ -8,12 +8,12 @@ use Rattle.trace.specs.declared.table.Field.TheVariants.{Identity, Sectors}
 use Rattle.trace.specs.declared.value.FieldValue.{FieldValue}
 use Rattle.trace.specs.declared.value.FieldValue.TheVariants as value
 use Rattle.trace.specs.declared.word.Word.{Word}
-use Rattle.trace.specs.declared.word.Word.TheVariants.{Cache, Hosted, Slot, Read, Write, MemRead, MemWrite, Input, Resize, Restore, Complete}
+use Rattle.trace.specs.declared.word.Word.TheVariants.{Slot, Write}
 use Rattle.trace.specs.Printable.{IsWriteAccess}
 use Rattle.trace.specs.Spelling.{value_text}
 use Rattle.trace.specs.Values.{AreOf, IsOf, SaysValue, SayValues}
 use Rattle.trace.specs.Words.{AllRight, AreRight, IsWidth, Mode, Num, Offset, Says, Shape, Value, Width, Window, fields_in, shape_of, shapes, width_among}
-use Rattle.trace.proofs.Widths.{num_width}
+use Rattle.trace.proofs.Widths.{digits_bound, num_width}
 
 -- ---- the values so far
 
@@ -112,50 +112,24 @@ slot_row_alike true false v w = refl
 slot_row_alike true true v w = refl
 
 pub at_most_eight : (version : ℕ) (word : Word) → length (fields_in version word) ≤ 8
-at_most_eight version Cache = omega arith
-at_most_eight version Hosted = omega arith
 at_most_eight version Slot = slot_row_few (nat_lt version 3) (version == 1)
-at_most_eight version Read = omega arith
-at_most_eight version Write = omega arith
-at_most_eight version MemRead = omega arith
-at_most_eight version MemWrite = omega arith
-at_most_eight version Input = omega arith
-at_most_eight version Resize = omega arith
-at_most_eight version Restore = omega arith
-at_most_eight version Complete = omega arith
+at_most_eight version word = omega arith
 
 -- only a write's shapes depend on a width
 pub shapes_by : (version : ℕ) (word : Word) (width : List ℕ) (fields : List (List ℕ))
     → (word ≡ Write → width ≡ width_among fields) → map (shape_of width) (fields_in version word)
     ≡ shapes version word fields
-shapes_by version Cache width fields same = refl
-shapes_by version Hosted width fields same = refl
 shapes_by version Slot width fields same =
     slot_row_alike (nat_lt version 3) (version == 1) width (width_among fields)
-shapes_by version Read width fields same = refl
 shapes_by version Write width fields same =
     ap (λ (by : List ℕ). Num 8 ∷ Window ∷ Offset ∷ Width ∷ Value by ∷ []) (same refl)
-shapes_by version MemRead width fields same = refl
-shapes_by version MemWrite width fields same = refl
-shapes_by version Input width fields same = refl
-shapes_by version Resize width fields same = refl
-shapes_by version Restore width fields same = refl
-shapes_by version Complete width fields same = refl
+shapes_by version word width fields same = refl
 
 -- the fields of an event are the same in each version
 pub same_right : (version other : ℕ) (word : Word) (fields : List (List ℕ)) → word ≢ Slot
     → AreRight version word fields → AreRight other word fields
-same_right version other Cache fields event h = h
-same_right version other Hosted fields event h = h
 same_right version other Slot fields event h = absurd (event refl)
-same_right version other Read fields event h = h
-same_right version other Write fields event h = h
-same_right version other MemRead fields event h = h
-same_right version other MemWrite fields event h = h
-same_right version other Input fields event h = h
-same_right version other Resize fields event h = h
-same_right version other Restore fields event h = h
-same_right version other Complete fields event h = h
+same_right version other word fields event h = h
 
 -- ---- a write
 
@@ -170,13 +144,6 @@ pub record IsWrite (vs : List FieldValue) : Type 0 where
       ∷ value.Value width val ∷ []
   pub small : slot < 2 ^ 8
   pub fine : IsWriteAccess offset width val
-
-within_width : (width n : ℕ) → IsWidth width → n < 16 ^ (2 * width) → n < 2 ^ (8 * width)
-within_width width n wide within =
-    elim wide [
-      | inl one ↦ rw one (rw one at within)
-      | inr more ↦ elim more [ inl two ↦ rw two (rw two at within) | inr four ↦ rw four (rw four at within) ]
-    ]
 
 pub written : (vs : List FieldValue) → AreOf (shapes 3 Write (map value_text vs)) vs → IsWrite vs
 written vs h =
@@ -210,6 +177,6 @@ written vs h =
       small = number.1.1;
       fine = record {
         access = record { three_digits = offset.1.1; wide = width.1.1 };
-        within = within_width width.0 val.0 width.1.1 val.1.1;
+        within = subst (λ (most : ℕ). val.0 < most) (digits_bound width.0 width.1.1) val.1.1;
       };
     }

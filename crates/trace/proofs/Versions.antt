@@ -2,7 +2,7 @@
 use Rattle.std.proofs.Common.{◌≡◌, ◌==◌, ◌≤◌, ℕ, Bool, true, false, if◌then◌else◌, List, [], get_or, map, refl, arith, inl, inr}
 use Rattle.board.specs.declared.spec.SlotSpec.{SlotSpec}
 use Rattle.trace.specs.declared.word.Word.{Word}
-use Rattle.trace.specs.declared.word.Word.TheVariants.{Cache, Hosted, Slot, Read, Write, MemRead, MemWrite, Input, Resize, Restore, Complete}
+use Rattle.trace.specs.declared.word.Word.TheVariants.{Hosted, Restore, Complete}
 use Rattle.trace.specs.Printable.{IsPrintable, IsPrintableMemory, IsPrintableSlot}
 use Rattle.trace.specs.Text.{Content, as_version, disks_word, word_for}
 use Rattle.trace.specs.Version.{IsVersion, since_version_2}
@@ -20,31 +20,17 @@ map_since_version_2 f version xs = map_if f (version == 1) xs
 
 -- a word stays one of the later versions
 pub word_later : (v w : ℕ) (word : Word) → v ≤ w → IsWordOf v word → IsWordOf w word
-word_later v w Cache le h = tt
 word_later v w Hosted le h = omega arith
-word_later v w Slot le h = tt
-word_later v w Read le h = tt
-word_later v w Write le h = tt
-word_later v w MemRead le h = tt
-word_later v w MemWrite le h = tt
-word_later v w Input le h = tt
-word_later v w Resize le h = tt
 word_later v w Restore le h = omega arith
 word_later v w Complete le h = omega arith
+word_later v w word le h = tt
 
 -- version 3 has every word
 pub word_of_3 : (word : Word) → IsWordOf 3 word
-word_of_3 Cache = tt
 word_of_3 Hosted = omega arith
-word_of_3 Slot = tt
-word_of_3 Read = tt
-word_of_3 Write = tt
-word_of_3 MemRead = tt
-word_of_3 MemWrite = tt
-word_of_3 Input = tt
-word_of_3 Resize = tt
 word_of_3 Restore = omega arith
 word_of_3 Complete = omega arith
+word_of_3 word = tt
 
 pub first_is_1 : (v w : ℕ) → IsVersion v → v ≤ w → w ≡ 1 → v ≡ 1
 first_is_1 v w one_of le e =

@@ -1,5 +1,5 @@
 -- The width of a register access, spelled as a number.
-use Rattle.std.proofs.Common.{◌≡◌, ℕ, [], ◌∷◌, ap, ◌∙◌, arith, inl, inr}
+use Rattle.std.proofs.Common.{◌≡◌, ℕ, ◌*◌, ◌^◌, [], ◌∷◌, refl, ap, ◌∙◌, arith, inl, inr}
 use Rattle.hexadecimal.specs.Spelling.{num}
 use Rattle.hexadecimal.proofs.Digits.{digit_low}
 use Rattle.hexadecimal.proofs.Numbers.{num_digit}
@@ -16,4 +16,12 @@ num_width width h =
             | inl two ↦ rw two (num_digit 2 (omega arith) ∙ ap (λ c. c ∷ []) (digit_low 2 (omega arith)))
             | inr four ↦ rw four (num_digit 4 (omega arith) ∙ ap (λ c. c ∷ []) (digit_low 4 (omega arith)))
           ]
+    ]
+
+-- two digits for each byte of a width
+pub digits_bound : (width : ℕ) → IsWidth width → 16 ^ (2 * width) ≡ 2 ^ (8 * width)
+digits_bound width h =
+    elim h [
+      | inl one ↦ rw one refl
+      | inr more ↦ elim more [ inl two ↦ rw two refl | inr four ↦ rw four refl ]
     ]

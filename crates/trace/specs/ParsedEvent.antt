@@ -1,13 +1,13 @@
 -- An event as its line says it: the fields of the line, whose bytes are still spelled.
-use Rattle.std.specs.Prelude.{◌≡◌, ℕ, ◌^◌, ◌<◌, List, [], ◌∷◌}
+use Rattle.std.specs.Prelude.{◌≡◌, ℕ, ◌^◌, ◌<◌, List, [], ◌∷◌, ◌++◌}
 use Rattle.board.specs.declared.event.EventKind.{EventKind}
 use Rattle.board.specs.declared.event.EventKind.TheVariants as what
 use Rattle.trace.specs.declared.read.parsed_event.ParsedEvent.{ParsedEvent}
 use Rattle.trace.specs.declared.word.Word.TheVariants.{MemWrite, Input, Restore}
 use Rattle.trace.specs.Printable.{IsPrintableKind, KindInRange}
 use Rattle.hexadecimal.specs.Spelling.{num}
-use Rattle.trace.specs.Text.{line, what_fields}
-use Rattle.trace.specs.Words.{Bytes, Says, spelled}
+use Rattle.trace.specs.Text.{line, what_fields, word_for}
+use Rattle.trace.specs.Words.{Bytes, IsInEach, Says, spelled}
 
 -- the fields of what a slot is said to do; where it has bytes, this field spells them
 abbrev pub what_parsed : {A : Type 0} → ℕ → EventKind A → List ℕ → List (List ℕ)
@@ -47,3 +47,9 @@ IsFineWhat w field = IsPlain w field
 pub record IsFineParsed {A : Type 0} (s : ParsedEvent A) : Type 0 where
   pub slot : s.event.slot < 2 ^ 8
   pub what : IsFineWhat s.event.what s.bytes.now
+
+-- the text's first line says this event, whose word every version has, and this follows it
+pub record IsTaken {A : Type 0} (text : List ℕ) (s : ParsedEvent A) (after : List ℕ) : Type 0 where
+  pub line : text ≡ parsed_line s ++ 10 ∷ after
+  pub fine : IsFineParsed s
+  pub each : IsInEach (word_for s.event.what)

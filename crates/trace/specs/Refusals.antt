@@ -95,6 +95,12 @@ pub record IsSecond (version : ℕ) (text : List ℕ) (disks : Disks) (rest : Li
   pub ended : text ≡ line ++ 10 ∷ rest
   pub fields : fields_of line ≡ disks_fields disks
 
+-- a text whose first two lines say the version and where the disks are
+pub record IsHead (text : List ℕ) (version : ℕ) (disks : Disks) (rest : List ℕ) : Type 0 where
+  pub second : List ℕ
+  pub version_is : IsFirst text version second
+  pub disks_are : IsSecond version second disks rest
+
 -- a text whose first line is ended and begins with no word of the version that may stand in line 2
 pub record IsOtherWord (version : ℕ) (text : List ℕ) : Type 0 where
   pub line : List ℕ

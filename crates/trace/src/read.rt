@@ -9,7 +9,7 @@ ghost use Rattle.std.specs.Prelude.{◌≡◌, ◌≢◌, ◌≤◌, IfOk, IfErr
 ghost use Rattle.trace.specs.Faults.{IsFault, IsCleanBefore};
 ghost use Rattle.trace.specs.Text.{Content, content, text as text_of};
 ghost use Rattle.trace.specs.Printable.{InRange, IsPrintable};
-ghost use Rattle.trace.specs.Refusals.{RefusesHead, IsFirst, IsSecond, RefusesSecond, AddsLine, AddsParsed, RefusesLine, has_begun};
+ghost use Rattle.trace.specs.Refusals.{RefusesHead, IsFirst, IsHead, IsSecond, RefusesSecond, AddsLine, AddsParsed, RefusesLine, has_begun};
 ghost use Rattle.trace.specs.ParsedEvent.{IsFineParsed};
 ghost use Rattle.trace.specs.Version.{IsVersion};
 
@@ -48,8 +48,25 @@ use board::Event;
 pub use hexadecimal::{read_bytes, spelled_len};
 use std::alloc::{AllocError, Allocator};
 
-/// The version that the first line names, and what follows it.
-pub(crate) fn after_header(text: &[u8]) -> Result<(u8, &[u8]), FaultKind>
+/// The version and where the disks are, from the first two lines, and what follows these.
+pub(crate) fn after_head(text: &[u8]) -> Result<(u8, Disks, &[u8]), TraceFault>
+    ensures ok { IfOk result (λ x. IsHead text.now x.0 x.1 x.2.now) }
+    ensures fault { IfErr result (λ e. e.kind ≢ FaultKind.NoMemory → IsFault text.now e.line e.kind) }
+    ensures numbered { IfErr result (λ e. 1 ≤ e.line) }
+    ensures clean { IfErr result (λ e. IsCleanBefore text.now e.line) }
+{
+    let (version, rest) = match after_header(text) {
+        Ok(found) => found,
+        Err(kind) => return Err(TraceFault { line: 1, kind }),
+    };
+    match after_disks(version, rest) {
+        Ok((disks, rest)) => Ok((version, disks, rest)),
+        Err(kind) => Err(TraceFault { line: 2, kind }),
+    }
+}
+
+// The version that the first line names, and what follows it.
+fn after_header(text: &[u8]) -> Result<(u8, &[u8]), FaultKind>
     ensures ok { IfOk result (λ x. IsFirst text.now x.0 x.1.now) }
     ensures err { IfErr result (λ fault. RefusesHead text.now fault) }
 {
@@ -62,8 +79,8 @@ pub(crate) fn after_header(text: &[u8]) -> Result<(u8, &[u8]), FaultKind>
     Ok((version, rest))
 }
 
-/// Where the disks are in a trace of a version, from the second line, and what follows it.
-pub(crate) fn after_disks(version: u8, rest: &[u8]) -> Result<(Disks, &[u8]), FaultKind>
+// Where the disks are in a trace of a version, from the second line, and what follows it.
+fn after_disks(version: u8, rest: &[u8]) -> Result<(Disks, &[u8]), FaultKind>
     ensures ok { IfOk result (λ x. IsSecond version rest.now x.0 x.1.now) }
     ensures err { IfErr result (λ fault. RefusesSecond version rest.now fault) }
 {
@@ -99,14 +116,7 @@ pub fn read_trace<A: Allocator + Copy>(alloc: A, text: &[u8]) -> Result<Trace<A>
     ensures numbered { IfErr result (λ e. 1 ≤ e.line) }
     ensures clean { IfErr result (λ e. IsCleanBefore text.now e.line) }
 {
-    let (version, rest) = match after_header(text) {
-        Ok(found) => found,
-        Err(kind) => return Err(TraceFault { line: 1, kind }),
-    };
-    let (disks, mut rest) = match after_disks(version, rest) {
-        Ok(found) => found,
-        Err(kind) => return Err(TraceFault { line: 2, kind }),
-    };
+    let (version, disks, mut rest) = after_head(text)?;
     let mut trace = Trace::new(alloc, version, disks);
     let mut line = 3;
     while !rest.is_empty() {

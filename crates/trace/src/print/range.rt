@@ -19,8 +19,12 @@ pub(crate) fn in_range<A: Allocator>(trace: &Trace<A>)
     ensures { InRange (content trace.now) }
 {
     disks_in_range(trace.disks);
-    slots_in_range(&trace.slots);
-    events_in_range(&trace.events);
+    for slot in trace.slots.iter() {
+        slot_in_range(slot);
+    }
+    for event in trace.events.iter() {
+        event_in_range(event);
+    }
 }
 
 fn disks_in_range(disks: Disks)
@@ -34,18 +38,12 @@ fn disks_in_range(disks: Disks)
     }
 }
 
-fn slots_in_range(slots: &[SlotSpec])
-    ensures { All SlotInRange slots.now }
-{
-    for slot in slots {
-        slot_in_range(slot);
-    }
-}
-
 fn slot_in_range(slot: &SlotSpec)
     ensures { SlotInRange slot.now }
 {
-    regions_in_range(slot.regions.as_slice());
+    for region in slot.regions.as_slice() {
+        region_in_range(region);
+    }
     let _start = slot.extent.start;
     let _count = slot.extent.count;
     let _cols = slot.cols;
@@ -53,27 +51,11 @@ fn slot_in_range(slot: &SlotSpec)
     bytes_in_range(&slot.identity);
 }
 
-fn regions_in_range(regions: &[RegionSpec])
-    ensures { All RegionInRange regions.now }
-{
-    for region in regions {
-        region_in_range(region);
-    }
-}
-
 fn region_in_range(region: &RegionSpec)
     ensures { RegionInRange region.now }
 {
     let _base = region.base;
     let _len = region.len;
-}
-
-fn events_in_range<A: Allocator>(events: &[Event<A>])
-    ensures { All EventInRange events.now }
-{
-    for event in events {
-        event_in_range(event);
-    }
 }
 
 fn event_in_range<A: Allocator>(event: &Event<A>)

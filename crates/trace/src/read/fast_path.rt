@@ -2,13 +2,13 @@
 //!
 //! Each is read from the front of a text to its line feed, and no fault is looked for. What isn't spelled so is `None` here,
 //! and `entry` reads it field by field: it may have a fault, or be a line of another kind.
+#![tactic(auto, unfolding(crate::specs::ParsedEvent::parsed_line))]
 
 ghost use Rattle.std.specs.Prelude.{◌≡◌, ◌++◌, ◌∷◌, ◌^◌, ◌<◌, IfSome};
-ghost use Rattle.trace.specs.ParsedEvent.{IsFineParsed, parsed_line};
+ghost use Rattle.trace.specs.ParsedEvent.{IsTaken};
 ghost use Rattle.hexadecimal.specs.Spelling.{fixed, num};
 ghost use Rattle.trace.specs.Spelling.{width_digit, window};
-ghost use Rattle.trace.specs.Text.{word_for};
-ghost use Rattle.trace.specs.Words.{Bytes as ByBytes, IsInEach, IsWidth, Says, spelled};
+ghost use Rattle.trace.specs.Words.{Bytes as ByBytes, IsWidth, Says, spelled};
 
 use crate::read::choice::{width_of, window_of};
 use crate::read::cut::take_line;
@@ -16,17 +16,18 @@ use crate::read::number::take_number;
 use crate::read::offset::offset_of;
 use crate::read::parsed_event::ParsedEvent;
 use crate::word::Word;
-use board::{DeviceKind, EventKind};
+use board::{Bytes, DeviceKind, EventKind};
 use hexadecimal::{digits_len, fixed_number, number_u32, value_of};
 use std::alloc::Allocator;
+
+/// An event and what follows its line, where that is spelled so.
+type Taken<'a, A> = Option<(ParsedEvent<'a, A>, &'a [u8])>;
 
 /// The event of a text's first line, where that is spelled so, and what follows it. It is read into its caller, who may want a
 /// part of the event alone.
 #[inline(always)]
-pub(crate) fn take_fast<A: Allocator>(alloc: A, text: &[u8]) -> Option<(ParsedEvent<'_, A>, &[u8])>
-    ensures line { IfSome result (λ x. text.now ≡ parsed_line x.0 ++ 10 ∷ x.1.now) }
-    ensures fine { IfSome result (λ x. IsFineParsed x.0) }
-    ensures each { IfSome result (λ x. IsInEach (word_for x.0.event.what)) }
+pub(crate) fn take_fast<A: Allocator>(alloc: A, text: &[u8]) -> Taken<'_, A>
+    ensures { IfSome result (λ x. IsTaken text.now x.0 x.1.now) }
 {
     match text {
         [b'r', b' ', rest @ ..] => read_in(rest),
@@ -40,16 +41,10 @@ pub(crate) fn take_fast<A: Allocator>(alloc: A, text: &[u8]) -> Option<(ParsedEv
 
 // The event that these bytes after its word and a space say.
 #[inline(always)]
-#[tactic(auto, unfolding(crate::specs::ParsedEvent::parsed_line))]
-fn read_in<A: Allocator>(rest: &[u8]) -> Option<(ParsedEvent<'_, A>, &[u8])>
-    ensures line { IfSome result (λ x. spelled Word.Read ++ 32 ∷ rest.now ≡ parsed_line x.0 ++ 10 ∷ x.1.now) }
-    ensures fine { IfSome result (λ x. IsFineParsed x.0) }
-    ensures each { IfSome result (λ x. IsInEach (word_for x.0.event.what)) }
+fn read_in<A: Allocator>(rest: &[u8]) -> Taken<'_, A>
+    ensures { IfSome result (λ x. IsTaken (spelled Word.Read ++ 32 ∷ rest.now) x.0 x.1.now) }
 {
-    let (slot, window, offset, width, rest) = access(rest)?;
-    let [b'\n', after @ ..] = rest else {
-        return None;
-    };
+    let (slot, window, offset, width, after) = access(rest, b'\n')?;
     let what = EventKind::Read {
         window,
         offset,
@@ -59,16 +54,10 @@ fn read_in<A: Allocator>(rest: &[u8]) -> Option<(ParsedEvent<'_, A>, &[u8])>
 }
 
 #[inline(always)]
-#[tactic(auto, unfolding(crate::specs::ParsedEvent::parsed_line))]
-fn write_in<A: Allocator>(rest: &[u8]) -> Option<(ParsedEvent<'_, A>, &[u8])>
-    ensures line { IfSome result (λ x. spelled Word.Write ++ 32 ∷ rest.now ≡ parsed_line x.0 ++ 10 ∷ x.1.now) }
-    ensures fine { IfSome result (λ x. IsFineParsed x.0) }
-    ensures each { IfSome result (λ x. IsInEach (word_for x.0.event.what)) }
+fn write_in<A: Allocator>(rest: &[u8]) -> Taken<'_, A>
+    ensures { IfSome result (λ x. IsTaken (spelled Word.Write ++ 32 ∷ rest.now) x.0 x.1.now) }
 {
-    let (slot, window, offset, width, rest) = access(rest)?;
-    let [b' ', rest @ ..] = rest else {
-        return None;
-    };
+    let (slot, window, offset, width, rest) = access(rest, b' ')?;
     let digits = 2 * width as usize;
     let (value, rest) = rest.split_at_checked(digits)?;
     let [b'\n', after @ ..] = rest else {
@@ -88,11 +77,8 @@ fn write_in<A: Allocator>(rest: &[u8]) -> Option<(ParsedEvent<'_, A>, &[u8])>
 }
 
 #[inline(always)]
-#[tactic(auto, unfolding(crate::specs::ParsedEvent::parsed_line))]
-fn mem_read_in<A: Allocator>(rest: &[u8]) -> Option<(ParsedEvent<'_, A>, &[u8])>
-    ensures line { IfSome result (λ x. spelled Word.MemRead ++ 32 ∷ rest.now ≡ parsed_line x.0 ++ 10 ∷ x.1.now) }
-    ensures fine { IfSome result (λ x. IsFineParsed x.0) }
-    ensures each { IfSome result (λ x. IsInEach (word_for x.0.event.what)) }
+fn mem_read_in<A: Allocator>(rest: &[u8]) -> Taken<'_, A>
+    ensures { IfSome result (λ x. IsTaken (spelled Word.MemRead ++ 32 ∷ rest.now) x.0 x.1.now) }
 {
     let (slot, rest) = take_slot(rest)?;
     let (addr, rest) = take_number(rest)?;
@@ -105,46 +91,47 @@ fn mem_read_in<A: Allocator>(rest: &[u8]) -> Option<(ParsedEvent<'_, A>, &[u8])>
 }
 
 #[inline(always)]
-#[tactic(auto, unfolding(crate::specs::ParsedEvent::parsed_line))]
-fn mem_write_in<A: Allocator>(alloc: A, rest: &[u8]) -> Option<(ParsedEvent<'_, A>, &[u8])>
-    ensures line { IfSome result (λ x. spelled Word.MemWrite ++ 32 ∷ rest.now ≡ parsed_line x.0 ++ 10 ∷ x.1.now) }
-    ensures fine { IfSome result (λ x. IsFineParsed x.0) }
-    ensures each { IfSome result (λ x. IsInEach (word_for x.0.event.what)) }
+fn mem_write_in<A: Allocator>(alloc: A, rest: &[u8]) -> Taken<'_, A>
+    ensures { IfSome result (λ x. IsTaken (spelled Word.MemWrite ++ 32 ∷ rest.now) x.0 x.1.now) }
 {
     let (slot, rest) = take_slot(rest)?;
     let (addr, rest) = take_number(rest)?;
     let (bytes, after) = take_bytes(rest)?;
-    Some((ParsedEvent::mem_write(alloc, slot, addr, bytes), after))
+    let what = EventKind::MemWrite {
+        addr,
+        bytes: Bytes::new(alloc),
+    };
+    Some((ParsedEvent::new(slot, what, bytes), after))
 }
 
 #[inline(always)]
-#[tactic(auto, unfolding(crate::specs::ParsedEvent::parsed_line))]
-fn input_in<A: Allocator>(alloc: A, rest: &[u8]) -> Option<(ParsedEvent<'_, A>, &[u8])>
-    ensures line { IfSome result (λ x. spelled Word.Input ++ 32 ∷ rest.now ≡ parsed_line x.0 ++ 10 ∷ x.1.now) }
-    ensures fine { IfSome result (λ x. IsFineParsed x.0) }
-    ensures each { IfSome result (λ x. IsInEach (word_for x.0.event.what)) }
+fn input_in<A: Allocator>(alloc: A, rest: &[u8]) -> Taken<'_, A>
+    ensures { IfSome result (λ x. IsTaken (spelled Word.Input ++ 32 ∷ rest.now) x.0 x.1.now) }
 {
     let (slot, rest) = take_slot(rest)?;
     let (bytes, after) = take_bytes(rest)?;
-    Some((ParsedEvent::input(alloc, slot, bytes), after))
+    let what = EventKind::Input {
+        bytes: Bytes::new(alloc),
+    };
+    Some((ParsedEvent::new(slot, what, bytes), after))
 }
 
 /// The slot, the window, the offset and the width of a register access, of which the last three stand in fixed
-/// columns, and what follows the width.
+/// columns, and what follows this byte behind the width.
 #[inline(always)]
-fn access(line: &[u8]) -> Option<(u8, DeviceKind, u16, u8, &[u8])>
-    ensures line { IfSome result (λ x. line.now ≡ num x.0 ++ 32 ∷ window x.1 ++ 32 ∷ fixed 3 x.2 ++ 32 ∷ width_digit x.3 ++ x.4.now) }
+fn access(line: &[u8], end: u8) -> Option<(u8, DeviceKind, u16, u8, &[u8])>
+    ensures line { IfSome result (λ x. line.now ≡ num x.0 ++ 32 ∷ window x.1 ++ 32 ∷ fixed 3 x.2 ++ 32 ∷ width_digit x.3 ++ end ∷ x.4.now) }
     ensures offset { IfSome result (λ x. x.2 < 16 ^ 3) }
     ensures width { IfSome result (λ x. IsWidth x.3) }
 {
     let (slot, line) = take_slot(line)?;
-    if line.len() < 7 || line[1] != b' ' || line[5] != b' ' {
+    if line.len() < 8 || line[1] != b' ' || line[5] != b' ' || line[7] != end {
         return None;
     }
     let window = window_of(&line[..1])?;
     let offset = offset_of(&line[2..5])?;
     let width = width_of(&line[6..7])?;
-    Some((slot, window, offset, width, &line[7..]))
+    Some((slot, window, offset, width, &line[8..]))
 }
 
 /// The digits at the front of a text, two for each of some bytes, and what follows the line feed after them.

@@ -25,7 +25,7 @@ use crate::value::FieldValue::{
 };
 use crate::version::{VERSION_1, VERSION_3, identity_in_version_1};
 use crate::word::Word;
-use board::{EventKind, Extent, SlotSpec};
+use board::{Bytes, EventKind, Extent, SlotSpec};
 use guest_memory::Regions;
 use std::alloc::Allocator;
 
@@ -78,6 +78,7 @@ fn parsed_of<'a, A: Allocator>(
     ensures word { word_for result.event.what ≡ word }
     ensures fine { IsFineParsed result }
 {
+    let none = Bytes::new(alloc);
     match word {
         Word::Read => read_of(values),
         Word::Write => write_of(values),
@@ -92,13 +93,14 @@ fn parsed_of<'a, A: Allocator>(
             let &[Number(slot), Number(addr), Spelled(bytes)] = values else {
                 unreachable!()
             };
-            ParsedEvent::mem_write(alloc, slot as u8, addr, bytes)
+            let what = EventKind::MemWrite { addr, bytes: none };
+            ParsedEvent::new(slot as u8, what, bytes)
         }
         Word::Input => {
             let &[Number(slot), Spelled(bytes)] = values else {
                 unreachable!()
             };
-            ParsedEvent::input(alloc, slot as u8, bytes)
+            ParsedEvent::new(slot as u8, EventKind::Input { bytes: none }, bytes)
         }
         Word::Resize => {
             let &[Number(slot), Number(cols), Number(rows)] = values else {
@@ -111,7 +113,7 @@ fn parsed_of<'a, A: Allocator>(
             let &[Number(slot), Spelled(bytes)] = values else {
                 unreachable!()
             };
-            ParsedEvent::restore(alloc, slot as u8, bytes)
+            ParsedEvent::new(slot as u8, EventKind::Restore { bytes: none }, bytes)
         }
         Word::Complete => {
             let &[Number(slot), Verdict(verdict)] = values else {

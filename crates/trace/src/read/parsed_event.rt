@@ -3,7 +3,6 @@
 //! Its bytes are left in the field that spells them, so it takes no memory.
 
 ghost use Rattle.std.specs.Prelude.{◌≡◌, ◌/◌, [], IfOk};
-ghost use Rattle.board.specs.declared.event.EventKind.{EventKind};
 ghost use Rattle.trace.specs.Validating.{parsed_len};
 ghost use Rattle.trace.specs.Refusals.{IsFine};
 ghost use Rattle.trace.specs.ParsedEvent.{IsFineParsed, parsed_fields};
@@ -25,58 +24,25 @@ pub struct ParsedEvent<'a, A: Allocator = Global> {
 }
 
 impl<'a, A: Allocator> ParsedEvent<'a, A> {
+    /// An event whose bytes a field spells.
+    #[inline]
+    pub(crate) fn new(slot: u8, what: EventKind<A>, bytes: &'a [u8]) -> ParsedEvent<'a, A>
+        ensures event { result.event ≡ record { slot = slot; what = what } }
+        ensures bytes { result.bytes.now ≡ bytes.now }
+    {
+        ParsedEvent {
+            event: Event { slot, what },
+            bytes,
+        }
+    }
+
     /// An event without bytes.
+    #[inline]
     pub(crate) fn plain(slot: u8, what: EventKind<A>) -> ParsedEvent<'a, A>
         ensures event { result.event ≡ record { slot = slot; what = what } }
         ensures bytes { result.bytes.now ≡ [] }
     {
-        ParsedEvent {
-            event: Event { slot, what },
-            bytes: &[],
-        }
-    }
-
-    /// A write to memory of the bytes that a field spells.
-    pub(crate) fn mem_write(alloc: A, slot: u8, addr: u64, bytes: &'a [u8]) -> ParsedEvent<'a, A>
-        ensures event { result.event ≡ record { slot = slot; what = EventKind.MemWrite addr [] } }
-        ensures bytes { result.bytes.now ≡ bytes.now }
-    {
-        let what = EventKind::MemWrite {
-            addr,
-            bytes: Bytes::new(alloc),
-        };
-        ParsedEvent {
-            event: Event { slot, what },
-            bytes,
-        }
-    }
-
-    /// Console input of the bytes that a field spells.
-    pub(crate) fn input(alloc: A, slot: u8, bytes: &'a [u8]) -> ParsedEvent<'a, A>
-        ensures event { result.event ≡ record { slot = slot; what = EventKind.Input [] } }
-        ensures bytes { result.bytes.now ≡ bytes.now }
-    {
-        let what = EventKind::Input {
-            bytes: Bytes::new(alloc),
-        };
-        ParsedEvent {
-            event: Event { slot, what },
-            bytes,
-        }
-    }
-
-    /// A restore from the snapshot that a field spells.
-    pub(crate) fn restore(alloc: A, slot: u8, bytes: &'a [u8]) -> ParsedEvent<'a, A>
-        ensures event { result.event ≡ record { slot = slot; what = EventKind.Restore [] } }
-        ensures bytes { result.bytes.now ≡ bytes.now }
-    {
-        let what = EventKind::Restore {
-            bytes: Bytes::new(alloc),
-        };
-        ParsedEvent {
-            event: Event { slot, what },
-            bytes,
-        }
+        ParsedEvent::new(slot, what, &[])
     }
 
     /// How many bytes it spells.

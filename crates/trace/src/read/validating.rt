@@ -8,10 +8,10 @@ ghost use Rattle.trace.specs.Version.{IsVersion};
 
 use crate::disks::Disks;
 use crate::fault::{FaultKind, TraceFault};
+use crate::read::after_head;
 use crate::read::cut::take_line;
 use crate::read::entry::{Entry, entry_of};
 use crate::read::fast_path::take_fast;
-use crate::read::{after_disks, after_header};
 use board::SlotSpec;
 use std::alloc::{Allocator, Global};
 
@@ -33,14 +33,7 @@ pub fn validate<A: Allocator + Copy>(alloc: A, text: &[u8]) -> Result<Validated<
     ensures ok { IfOk result (λ j. IsValidated A text.now (validation j)) }
     ensures fault { IfErr result (λ e. IsTraceFault A text.now e) }
 {
-    let (version, rest) = match after_header(text) {
-        Ok(found) => found,
-        Err(kind) => return Err(TraceFault { line: 1, kind }),
-    };
-    let (disks, mut rest) = match after_disks(version, rest) {
-        Ok(found) => found,
-        Err(kind) => return Err(TraceFault { line: 2, kind }),
-    };
+    let (version, disks, mut rest) = after_head(text)?;
     let mut validated = Validated {
         version,
         disks,

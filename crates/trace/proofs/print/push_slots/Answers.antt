@@ -1,16 +1,12 @@
-use Rattle.std.proofs.Common.{ℕ, ◌++◌, List, sym, ap, ◌∙◌, arith}
-use Rattle.std.proofs.lemmas.List.{append-nil}
-use Rattle.trace.specs.Text.{ended, slot_line}
-use Rattle.trace.proofs.Printed.{joined_more, joined_none}
+use Rattle.std.proofs.Common.{arith}
+use Rattle.trace.specs.Text.{slot_line}
+use Rattle.trace.proofs.Printed.{lines_more, lines_none}
 use Rattle.trace.proofs.print.push_slots.Goals as goal
 
 pub loop-slot-init : goal.loop-slot-init
-loop-slot-init g c = sym (append-nil c.args.out.now.items)
-    ∙ ap (λ (t : List ℕ). c.args.out.now.items ++ t) (sym joined_none)
+loop-slot-init g c = lines_none (slot_line c.args.version) c.args.out.now.items c.args.slots.now
 
 pub loop-slot-preserved : goal.loop-slot-preserved
 loop-slot-preserved g c =
-    c.in_ok-push_slot.ensures
-    ∙ ap (λ (t : List ℕ). t ++ ended (slot_line c.args.version c.slot-item.result)) c.loop-slot.invariant
-    ∙ joined_more (slot_line c.args.version) c.args.out.now.items c.args.slots.now c.loop-slot.slot-index
-    c.slot-item.result (omega arith) c.slot-item.is
+    lines_more (slot_line c.args.version) c.args.out.now.items _ _ c.args.slots.now c.loop-slot.slot-index
+    c.slot-item.result (omega arith) c.slot-item.is c.loop-slot.invariant c.in_ok-push_slot.ensures

@@ -1,43 +1,25 @@
 use Rattle.std.proofs.Common.{length, sym, ap, subst, ◌∙◌, arith}
+use Rattle.std.proofs.lemmas.Result.{err_from_is_err_and}
 use Rattle.std.proofs.lemmas.Bool.{eqb-false, eqb-true, ltb-false, ltb-true}
 use Rattle.trace.specs.declared.fault.FaultKind.TheVariants as kind
 use Rattle.trace.specs.Text.{content}
 use Rattle.trace.specs.Refusals.{has_begun}
-use Rattle.trace.proofs.Heads.{head_clean, head_fault, second_fault}
 use Rattle.trace.proofs.Sofar.{Sofar, all_read, begun_so, clean, entry_read, is_cut, is_refused, numbered}
 use Rattle.trace.proofs.Unique.{no_fault, one_trace}
 use Rattle.trace.proofs.read.read_trace.Goals as goal
 
-pub returns-in-Err-clause-fault : goal.returns-in-Err-clause-fault
-returns-in-Err-clause-fault g c known = head_fault c.args.text.now c.in-Err.kind c.in-Err.ensures.err
-
-pub returns-in-Err-clause-none : goal.returns-in-Err-clause-none
-returns-in-Err-clause-none g c known u range printable is =
-    no_fault c.args.text.now u 1 c.in-Err.kind (record { range = range; printable = printable }) is
-    (returns-in-Err-clause-fault g c known)
-
-pub returns-in-Err-after_disks-clause-fault : goal.returns-in-Err-after_disks-clause-fault
-returns-in-Err-after_disks-clause-fault g c known =
-    second_fault c.in-Ok.found.0 c.args.text.now c.in-Ok.found.1.now c.in-Ok.ensures.ok.one_of
-    c.in-Ok.ensures.ok.ended c.in-Err-after_disks.kind c.in-Err-after_disks.ensures.err known
-
-pub returns-in-Err-after_disks-clause-none : goal.returns-in-Err-after_disks-clause-none
-returns-in-Err-after_disks-clause-none g c known u range printable is =
-    no_fault c.args.text.now u 2 c.in-Err-after_disks.kind (record { range = range; printable = printable })
-    is (returns-in-Err-after_disks-clause-fault g c known)
-
-pub returns-in-Err-after_disks-clause-clean : goal.returns-in-Err-after_disks-clause-clean
-returns-in-Err-after_disks-clause-clean g c =
-    head_clean c.in-Ok.found.0 c.args.text.now c.in-Ok.found.1.now c.in-Ok.ensures.ok.one_of
-    c.in-Ok.ensures.ok.ended
+pub returns-in_err-version-clause-none : goal.returns-in_err-version-clause-none
+returns-in_err-version-clause-none g c =
+    let p = err_from_is_err_and c.from_residual.result c.from_residual.ensures.1 in
+    rw (p.1, p.2) (λ known u range printable is.
+    no_fault c.args.text.now u _ _ (record { range = range; printable = printable }) is
+    (c.in_err-version.ensures.fault known))
 
 pub loop-rest-init : goal.loop-rest-init
 loop-rest-init g c =
-    let second = c.in-Ok-after_disks.ensures.ok in
-    subst (λ x. Sofar c.args.text.now x 3 c.in-Ok-after_disks.found.1.now) (sym c.new-trace.ensures)
-    (begun_so c.args.text.now c.in-Ok.found.0 c.in-Ok-after_disks.found.0 c.in-Ok.found.1.now second.line
-    c.in-Ok-after_disks.found.1.now c.in-Ok.ensures.ok.one_of second.of_version c.in-Ok.ensures.ok.ended
-    second.ended second.fields second.fits)
+    subst (λ x. Sofar c.args.text.now x 3 c.in_ok-version.rest.now) (sym c.new-trace.ensures)
+    (begun_so c.args.text.now c.in_ok-version.version c.in_ok-version.disks c.in_ok-version.rest.now
+    c.in_ok-version.ensures.ok)
 
 pub returns-in_default-clause-fault : goal.returns-in_default-clause-fault
 returns-in_default-clause-fault g c known =
@@ -58,25 +40,25 @@ returns-in_default-clause-clean g c =
     clean c.args.text.now (content c.loop-rest.trace) c.loop-rest.line c.loop-rest.rest.now
     c.loop-rest.invariant
 
-pub returns-in-Err-add_line-clause-fault : goal.returns-in-Err-add_line-clause-fault
-returns-in-Err-add_line-clause-fault g c known =
+pub returns-in-Err-clause-fault : goal.returns-in-Err-clause-fault
+returns-in-Err-clause-fault g c known =
     is_refused c.args.text.now (content c.loop-rest.trace) c.loop-rest.line c.loop-rest.rest.now
     c.loop-rest.invariant (has_begun (content c.loop-rest.trace)) c.in-Some.this.now c.in-Some.after.now
-    c.in-Err-add_line.kind c.in-Some.ensures.lines
+    c.in-Err.kind c.in-Some.ensures.lines
     (ltb-true 0 (length c.loop-rest.trace.events.items))
     (λ e. let none = ltb-false 0 (length c.loop-rest.trace.events.items) e in
-    omega arith) (c.in-Err-add_line.ensures.err known) known
+    omega arith) (c.in-Err.ensures.err known) known
 
-pub returns-in-Err-add_line-clause-none : goal.returns-in-Err-add_line-clause-none
-returns-in-Err-add_line-clause-none g c known u range printable is =
-    no_fault c.args.text.now u c.loop-rest.line c.in-Err-add_line.kind
-    (record { range = range; printable = printable }) is (returns-in-Err-add_line-clause-fault g c known)
+pub returns-in-Err-clause-none : goal.returns-in-Err-clause-none
+returns-in-Err-clause-none g c known u range printable is =
+    no_fault c.args.text.now u c.loop-rest.line c.in-Err.kind
+    (record { range = range; printable = printable }) is (returns-in-Err-clause-fault g c known)
 
-pub returns-in-Err-add_line-clause-numbered : goal.returns-in-Err-add_line-clause-numbered
-returns-in-Err-add_line-clause-numbered g c = let n = c.loop-rest.invariant.count in omega arith
+pub returns-in-Err-clause-numbered : goal.returns-in-Err-clause-numbered
+returns-in-Err-clause-numbered g c = let n = c.loop-rest.invariant.count in omega arith
 
-pub returns-in-Err-add_line-clause-clean : goal.returns-in-Err-add_line-clause-clean
-returns-in-Err-add_line-clause-clean g c =
+pub returns-in-Err-clause-clean : goal.returns-in-Err-clause-clean
+returns-in-Err-clause-clean g c =
     clean c.args.text.now (content c.loop-rest.trace) c.loop-rest.line c.loop-rest.rest.now
     c.loop-rest.invariant
 

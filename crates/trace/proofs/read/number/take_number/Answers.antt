@@ -1,4 +1,4 @@
-use Rattle.std.proofs.Common.{get_or, refl, arith}
+use Rattle.std.proofs.Common.{[], get_or, refl, arith}
 use Rattle.std.proofs.lemmas.List.{take_rest}
 use Rattle.hexadecimal.proofs.Numbers.{reads_more, room}
 use Rattle.trace.proofs.Fronts.{number_taken}
@@ -10,12 +10,12 @@ returns-then-c-eq32 c =
     (omega arith) c.if-c-eq32.true)
 
 pub overflow_mul-n : goal.overflow_mul-n
-overflow_mul-n c = let r =
-    room c.args.line.now c.loop-i.i c.loop-i.n 16 c.loop-i.invariant.below (omega arith) in omega arith
+overflow_mul-n c =
+    let r = room [] c.loop-i.i c.loop-i.n 16 c.loop-i.invariant.below (omega arith) in omega arith
 
 pub overflow_add-n : goal.overflow_add-n
-overflow_add-n c = let r =
-    room c.args.line.now c.loop-i.i c.loop-i.n 16 c.loop-i.invariant.below (omega arith) in
+overflow_add-n c =
+    let r = room [] c.loop-i.i c.loop-i.n 16 c.loop-i.invariant.below (omega arith) in
     omega (arith, c.in-Some.ensures.some, c.from.ensures)
 
 pub loop-i-preserved : goal.loop-i-preserved

@@ -1,4 +1,4 @@
-use Rattle.std.proofs.Common.{refl, inl, inr}
+use Rattle.std.proofs.Common.{refl, inl}
 use Rattle.trace.proofs.Validations.{first_event_validated}
 use Rattle.trace.proofs.read.validating.Validated.validate_first.Goals as goal
 

@@ -1,0 +1,17 @@
+use Rattle.replay.proofs.Hosting.{read_hosted, parsed_hosted}
+use Rattle.replay.proofs.hosted.HostedBoardRunsEvents.run_event.Goals as goal
+
+pub returns-in-Some : goal.returns-in-Some
+returns-in-Some g c =
+    read_hosted c.args.parsed.now c.args.self.now c.in-MemRead.addr c.in-MemRead.len c.in-Some.part.now
+    c.words.result _ _ _ _ _ _ c.requires.fine c.in-MemRead.is c.in-Some.ensures
+    c.words.ensures.is c.put_read.ensures
+    c.put_asked.ensures
+
+pub returns : goal.returns
+returns g c =
+    parsed_hosted c.args.parsed.now c.args.self.now c.answer.new.board c.answer.result.reply
+    c.answer.new.output.items (c.answer.result.block_irq, c.answer.result.console_irq)
+    c.begins_next-is_next.result _ _ _ _ _ _ _ c.answer.ensures.answers c.answer.ensures.words
+    c.begins_next-is_next.ensures c.begun.ensures (rw c.as_slice.ensures.value at c.put_fields.ensures)
+    c.put_asked-2.ensures

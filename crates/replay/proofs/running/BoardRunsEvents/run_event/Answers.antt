@@ -1,0 +1,15 @@
+use Rattle.replay.proofs.Answering.{read_run, parsed_run}
+use Rattle.replay.proofs.running.BoardRunsEvents.run_event.Goals as goal
+
+pub returns-in-Some : goal.returns-in-Some
+returns-in-Some g c =
+    read_run g.I.Image.disk c.args.parsed.now c.args.self.now c.in-MemRead.addr c.in-MemRead.len
+    c.in-Some.part.now c.words.result _ _ _ _ c.requires.fine c.in-MemRead.is c.in-Some.ensures
+    c.words.ensures.is c.put_read.ensures
+
+pub returns : goal.returns
+returns g c =
+    parsed_run g.I.Image.disk c.args.parsed.now c.args.self.now c.answer.new.board
+    c.answer.result.reply c.answer.new.output.items (c.answer.result.block_irq, c.answer.result.console_irq)
+    _ _ _ _ c.answer.ensures.answers c.answer.ensures.words
+    (rw c.as_slice.ensures.value at c.put_line.ensures)

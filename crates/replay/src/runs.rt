@@ -1,0 +1,90 @@
+//! Running the events of lines that were validated, one after another, on a board of either kind.
+//!
+//! Each line is read, its event handled and the text of its record sent before the next. Bytes that it spells are
+//! written into room that is lent.
+
+ghost use Rattle.std.specs.Prelude.{◌≡◌, ◌≢◌, ◌≤◌, ℕ, [], ◌∷◌, List, Option, Err, length};
+ghost use Rattle.board.specs.declared.event.Event.{Event};
+ghost use Rattle.replay.specs.declared.fault.ReplayFault.{ReplayFault};
+ghost use Rattle.replay.specs.Running.{AfterLines, Joins, RunsParsed};
+ghost use Rattle.trace.specs.ParsedEvent.{IsFineParsed};
+ghost use Rattle.trace.specs.Sends.{waiting};
+ghost use Rattle.trace.specs.Validating.{AreEventLines, AreLinesOf, parsed_len};
+
+use crate::fault::ReplayFault;
+use std::alloc::Allocator;
+use std::io::Write;
+use trace::{Buffer, ParsedEvent, take_event};
+
+/// How many bytes of text wait for the writer at most.
+const TEXT_ROOM: usize = 65536;
+
+/// A board that runs events, and sends the text of their records.
+pub(crate) trait RunsEvents<A: Allocator> {
+    // these events lead from one board to another, and the text of their records is added to what waits for a writer
+    ghost sends: { Self → Self → List (Event A) → Option (List ℕ) → Option (List ℕ) → Option (List ℕ) → Option (List ℕ) → Type 0 };
+
+    /// Runs an event, and sends the text of its record. What the console puts out waits in `output` meanwhile. Memory that
+    /// is read is printed where it lies.
+    fn run_event<W: Write>(
+        &mut self,
+        parsed: &ParsedEvent<'_, A>,
+        room: &mut [u8],
+        output: &mut Vec<u8, A>,
+        text: &mut Buffer<A>,
+        writer: &mut W,
+    )
+        requires fine { IsFineParsed parsed.now }
+        requires room { parsed_len parsed.now ≤ length room.old }
+        ensures { RunsParsed parsed.now (λ event. sends self.old self.new (event ∷ [])
+            (W.contents writer.old) (W.contents writer.new) (waiting text.old) (waiting text.new)) };
+}
+
+/// Runs the events that the lines say, and writes the text of their records.
+pub(crate) fn run_text<W: Write, B: RunsEvents<A>, A: Allocator + Copy>(
+    alloc: A,
+    board: &mut B,
+    lines: &[u8],
+    room: &mut [u8],
+    writer: &mut W,
+) -> Result<(), ReplayFault>
+    requires joins { Joins B.sends }
+    requires lines { AreEventLines A (length room.old) lines.now }
+    ensures after { (events : List (Event A)) → AreLinesOf events lines.now →
+        AfterLines B.sends events board.old board.new (W.contents writer.old) (W.contents writer.new) result }
+    ensures whole { (done : ℕ) → result ≢ Err (ReplayFault.Run done) }
+{
+    let Ok(mut text) = Buffer::with_room(alloc, TEXT_ROOM) else {
+        return Err(ReplayFault::NoMemory);
+    };
+    run_lines(alloc, board, lines, room, &mut text, writer);
+    text.flush(writer);
+    if text.is_broken() {
+        return Err(ReplayFault::Write);
+    }
+    Ok(())
+}
+
+// Runs the events that the lines say, and sends the text of their records. Where the writer fails the run goes on, so
+// that what becomes of the image isn't decided by the writer.
+fn run_lines<W: Write, B: RunsEvents<A>, A: Allocator + Copy>(
+    alloc: A,
+    board: &mut B,
+    lines: &[u8],
+    room: &mut [u8],
+    text: &mut Buffer<A>,
+    writer: &mut W,
+)
+    requires joins { Joins B.sends }
+    requires lines { AreEventLines A (length room.old) lines.now }
+    ensures { (events : List (Event A)) → AreLinesOf events lines.now →
+        B.sends board.old board.new events (W.contents writer.old) (W.contents writer.new) (waiting text.old) (waiting text.new) }
+{
+    let mut output = Vec::new(alloc);
+    let mut rest = lines;
+    while !rest.is_empty() {
+        let (parsed, after) = take_event(alloc, rest);
+        board.run_event(&parsed, room, &mut output, text, writer);
+        rest = after;
+    }
+}

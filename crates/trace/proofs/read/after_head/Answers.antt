@@ -1,0 +1,18 @@
+use Rattle.trace.proofs.Heads.{head_clean, head_fault, nothing_before, second_fault}
+use Rattle.trace.proofs.read.after_head.Goals as goal
+
+pub returns-in-Err-clause-fault : goal.returns-in-Err-clause-fault
+returns-in-Err-clause-fault c known = head_fault c.args.text.now c.in-Err.kind c.in-Err.ensures.err
+
+pub returns-in-Err-clause-clean : goal.returns-in-Err-clause-clean
+returns-in-Err-clause-clean c = nothing_before c.args.text.now
+
+pub returns-in-Err-after_disks-clause-fault : goal.returns-in-Err-after_disks-clause-fault
+returns-in-Err-after_disks-clause-fault c known =
+    second_fault c.in-Ok.found.0 c.args.text.now c.in-Ok.found.1.now c.in-Ok.ensures.ok.one_of
+    c.in-Ok.ensures.ok.ended c.in-Err-after_disks.kind c.in-Err-after_disks.ensures.err known
+
+pub returns-in-Err-after_disks-clause-clean : goal.returns-in-Err-after_disks-clause-clean
+returns-in-Err-after_disks-clause-clean c =
+    head_clean c.in-Ok.found.0 c.args.text.now c.in-Ok.found.1.now c.in-Ok.ensures.ok.one_of
+    c.in-Ok.ensures.ok.ended
