@@ -5,8 +5,9 @@ use Rattle.std.specs.Bool.{OnTrue}
 use Rattle.std.specs.List.{slice_get}
 use Rattle.std.proofs.Math.Seq.{map-set_same}
 use Rattle.std.proofs.lemmas.Bool.Decides.{nat_tests}
-use Rattle.std.proofs.lemmas.Option.{get_or_from_slice_get}
+use Rattle.std.proofs.lemmas.Option.{get_or_from_slice_get, slice_get-map}
 use Rattle.guest_memory.specs.Memory.{is_inside, put}
+use Rattle.mmio_window.specs.declared.device_kind.DeviceKind.{DeviceKind}
 use Rattle.sector_cache.specs.Disk.{Disk, IsWhole}
 use Rattle.board.specs.declared.event.EventKind.{EventKind}
 use Rattle.board.specs.declared.event.EventKind.TheVariants.{MemWrite, Restore}
@@ -17,8 +18,8 @@ use Rattle.board.specs.declared.reply.Reply.{Reply}
 use Rattle.board.specs.declared.reply.Reply.TheVariants.{Done, Took}
 use Rattle.board.specs.declared.saved.RestoreFault.{RestoreFault}
 use Rattle.board.specs.Extent.{AreSound, IsApart}
-use Rattle.board.specs.Image.{Tells, bytes_of, health_of}
-use Rattle.board.specs.Machine.{block_irq, console_irq}
+use Rattle.board.specs.Image.{Tells, bytes_of, health_of, sectors_of}
+use Rattle.board.specs.Machine.{block_irq, console_irq, register}
 use Rattle.board.specs.Outcome.{replies}
 use Rattle.board.specs.Pausing.{met_in}
 use Rattle.board.specs.Restoring.{restore_reply}
@@ -125,3 +126,15 @@ restore_answers A slots disk h slot new bytes result tells whole sound here exte
     (restore_given A (bytes_of disk) slot new bytes result (health_of disk)
     (count_of slot.extent disk tells whole (slot_within disk.sector_count slots h slot sound.within here)) ok
     fault kept)
+
+-- what a register of a slot gives
+pub register_at : (slots : List BoardSlot) (disk : Disk) (h : ℕ) (slot : BoardSlot) (window : DeviceKind)
+    (offset width value : ℕ) → Tells disk → IsWhole disk → AreSound disk.sector_count (extents_of slots)
+    → slice_get slots h ≡ Some slot
+    → ((bytes : List ℕ) → sectors_of (state_of bytes slot).extent ≡ slot.extent.count
+    → value ≡ register (state_of bytes slot) window offset width)
+    → IsSomeAnd (slice_get (seen slots disk).slots h) (λ state. value ≡ register state window offset width)
+register_at slots disk h slot window offset width value tells whole sound here is =
+    rw (slice_get-map (state_of (bytes_of disk)) slots h, here)
+    (is (bytes_of disk) (count_of slot.extent disk tells whole (slot_within disk.sector_count slots h slot
+    sound.within here)))

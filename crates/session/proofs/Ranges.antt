@@ -2,18 +2,22 @@
 use Rattle.std.proofs.Common.{◌≡◌, inl, ℕ, ◌<◌, Bool, true, false, List, [], length, Option, Some, None, refl, sym, ap, append-nil, arith}
 use Rattle.std.specs.Prelude.{nat_lt, if◌then◌else◌, slice_set, IsSomeAnd}
 use Rattle.std.specs.List.{slice_get}
-use Rattle.std.proofs.lemmas.Option.{slice_get_within, same_Some}
+use Rattle.std.specs.Option.{option_map}
+use Rattle.std.proofs.lemmas.Option.{slice_get_within, slice_get-map, same_Some}
+use Rattle.mmio_window.specs.declared.device_kind.DeviceKind.{DeviceKind}
 use Rattle.guest_memory.specs.Memory.{Inside, is_inside, part_of, put}
 use Rattle.guest_memory.proofs.Ranges.{is_inside-tells}
 use Rattle.chain.specs.declared.budget.Budget.{Budget}
 use Rattle.board.specs.declared.event.Event.{Event}
-use Rattle.board.specs.declared.event.EventKind.TheVariants.{MemRead, MemWrite}
+use Rattle.board.specs.declared.event.EventKind.TheVariants.{MemRead, MemWrite, Read}
 use Rattle.board.specs.declared.pause.Pause.{Pause}
 use Rattle.board.specs.declared.reply.Reply.{Reply}
-use Rattle.board.specs.declared.reply.Reply.TheVariants.{Done, Bytes, BadSlot, BadRange}
+use Rattle.board.specs.declared.reply.Reply.TheVariants.{Done, Bytes, BadSlot, BadRange, Value}
+use Rattle.board.specs.Machine.{register}
 use Rattle.board.specs.Outcome.{replies}
 use Rattle.board.specs.Slot.{BoardSlot, state_of}
 use Rattle.board.specs.World.{World, Answers}
+use Rattle.board.proofs.Blocks.{read_given}
 use Rattle.board.proofs.Seats.{extents_of-set, others_kept}
 use Rattle.session.specs.Session.{IsStep, SessionState, Waiting, world_of}
 use Rattle.session.proofs.Places.{not_true}
@@ -46,6 +50,25 @@ read_at A s slot addr n new (Some found) here inside is =
       answered = λ is. absurd (cc);
       failures = refl;
     })) (λ limit found after waiting left reply. tt)
+
+register_in : (A : Type 0) (s : SessionState) (slot : ℕ) (window : DeviceKind) (offset width value : ℕ)
+    (o : Option BoardSlot) → slice_get s.slots slot ≡ o
+    → IsSomeAnd (option_map (state_of s.image) o) (λ state. value ≡ register state window offset width)
+    → IsStep {A = A} s (record { slot = slot; what = Read window offset width }) (Value value) s
+register_in A s slot window offset width value None here is = absurd is
+register_in A s slot window offset width value (Some found) here is =
+    unchanged s (record { slot = slot; what = Read window offset width }) (Value value) found here refl
+    (λ is. absurd (cc)) (λ is. absurd (cc))
+    (read_given (state_of s.image found) window offset width value _ is) (λ limit found after waiting left reply. tt)
+
+-- a register that was read is the answer to that read
+pub register_read : (A : Type 0) (s : SessionState) (slot : ℕ) (window : DeviceKind)
+    (offset width value : ℕ) → IsSomeAnd (slice_get (world_of s).slots slot) (λ state.
+    value ≡ register state window offset width)
+    → IsStep {A = A} s (record { slot = slot; what = Read window offset width }) (Value value) s
+register_read A s slot window offset width value is =
+    register_in A s slot window offset width value (slice_get s.slots slot) refl
+    (rw (← slice_get-map (state_of s.image) s.slots slot) is)
 
 -- what was read of it is the answer to that read
 pub was_read : (A : Type 0) (s : SessionState) (slot addr n : ℕ) (new : List ℕ) →

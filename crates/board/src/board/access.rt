@@ -12,6 +12,7 @@ ghost use Rattle.board.specs.declared.event.EventKind.{EventKind};
 ghost use Rattle.board.specs.declared.reply.Reply.{Reply};
 ghost use Rattle.board.specs.Image.{Tells};
 ghost use Rattle.board.specs.Lending.{with_slot_bytes};
+ghost use Rattle.board.specs.Machine.{register};
 ghost use Rattle.board.specs.contracts.board.Board.{the_row};
 ghost use Rattle.board.specs.Slot.{interrupt_words};
 ghost use Rattle.board.specs.World.{Answers, KeepsOthers, disturbed_of, extents_of, world_of};
@@ -22,6 +23,7 @@ use crate::reply::Reply;
 use crate::slot::copy_out;
 use chain::Budget;
 use guest_memory::GuestMemory;
+use mmio_window::DeviceKind;
 use sector_cache::Image;
 use std::alloc::Allocator;
 
@@ -113,6 +115,19 @@ impl<I: Image, A: Allocator> Board<I, A> {
 }
 
 impl<I: Image, A: Allocator + Copy> Board<I, A> {
+    /// What a guest's read of `width` bytes, 1, 2 or 4, at an offset of a window gets, extended by zeros: the answer to
+    /// the event of that read, which changes nothing. There is none for a slot that isn't there.
+    #[inline]
+    pub fn read(&self, slot: u8, window: DeviceKind, offset: u16, width: u8) -> Option<u32>
+        ensures there { IsSome result ↔ (slot < length self.now.slots) }
+        ensures value { Tells (I.disk self.now.image) → IfSome result (λ value.
+            IsSomeAnd (slice_get (world_of I.disk self.now).slots slot) (λ state.
+            value ≡ register state window offset width)) }
+    {
+        let found = self.slots.get(slot as usize)?;
+        Some(found.read_window(window, offset, width))
+    }
+
     /// Types bytes to the slot's console, and answers how many were taken: the event of that input, for who has
     /// the bytes in a slice. No memory is taken. There is no answer for a slot that isn't there.
     pub fn input(&mut self, slot: u8, bytes: &[u8]) -> Option<usize>

@@ -22,7 +22,7 @@ const EMERGENCY_WRITE: u16 = 0x108;
 
 impl<A: Allocator + Copy> Slot<A> {
     /// What a read of a window gives (4.2.2).
-    pub(super) fn read_window(&self, window: DeviceKind, offset: u16, width: u8) -> u32
+    pub(crate) fn read_window(&self, window: DeviceKind, offset: u16, width: u8) -> u32
         ensures { (bytes : List ℕ) →
             sectors_of (state_of bytes self.now).extent ≡ self.now.extent.count →
             result ≡ register (state_of bytes self.now) window offset width }

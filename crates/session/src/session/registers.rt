@@ -34,14 +34,12 @@ impl<A: Allocator + Copy> Session<A> {
             (record { slot = slot; what = EventKind.Read window offset width })
             (value_response result) self.new }
     {
-        let what = EventKind::Read {
-            window,
-            offset,
-            width,
-        };
-        match self.turn(slot, TurnKind::Begin(&what)) {
-            Response::Answered(Reply::Value(value)) => Ok(value),
-            response => Err(Refusal::of(&response)),
+        if self.is_paused(slot) {
+            return Err(Refusal::Busy);
+        }
+        match self.paced.board().read(slot, window, offset, width) {
+            Some(value) => Ok(value),
+            None => Err(Refusal::BadSlot),
         }
     }
 
