@@ -40,9 +40,6 @@ module _ (list : List ℕ) (done : ℕ) (before now : List ℕ) (room : ℕ)
   next = let e = ap (λ (l : List ℕ). length l) is ∙ length-take (length part) (drop done list) in
       omega (arith, e, length-drop done list, h.within)
 
-  pub room_for : length part ≤ room
-  room_for = omega (arith, next, h.holds)
-
   -- and then they are out as well
   pub put_out_more : (more : List ℕ) (left : ℕ) → more ≡ now ++ part → room ≤ left + length part
       → IsPuttingOut list (done + length part) before more left

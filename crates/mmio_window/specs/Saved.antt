@@ -14,6 +14,7 @@ use Rattle.mmio_window.specs.declared.queue_registers.QueueRegisters.{QueueRegis
 use Rattle.mmio_window.specs.declared.saved.Reached.{Reached}
 use Rattle.mmio_window.specs.declared.saved.SavedNegotiation.{SavedNegotiation}
 use Rattle.mmio_window.specs.declared.saved.SavedQueue.{SavedQueue}
+use Rattle.mmio_window.specs.declared.saved.SavedSelectors.{SavedSelectors}
 use Rattle.mmio_window.specs.declared.saved.SavedWindow.{SavedWindow}
 use Rattle.mmio_window.specs.QueueRegisters.{ring_of}
 use Rattle.mmio_window.specs.Window.{WindowState}
@@ -74,27 +75,30 @@ queue_restored m n saved = queue_at_reached m n saved saved.reached
 
 -- ---- the window
 
+abbrev pub saved_negotiation : NegotiationState → SavedNegotiation
+saved_negotiation n = record { offered = n.offered; status = n.status; accepted = n.accepted }
+
+abbrev pub saved_selectors : WindowState → SavedSelectors
+saved_selectors w = record {
+  device_features = w.device_features_sel;
+  driver_features = w.driver_features_sel;
+  queue = w.queue_sel;
+  shm = w.shm_sel;
+}
+
 abbrev pub saved_window : WindowState → SavedWindow
 saved_window w = record {
-  negotiation = record {
-    offered = w.negotiation.offered;
-    status = w.negotiation.status;
-    accepted = w.negotiation.accepted;
-  };
-  selectors = record {
-    device_features = w.device_features_sel;
-    driver_features = w.driver_features_sel;
-    queue = w.queue_sel;
-    shm = w.shm_sel;
-  };
+  negotiation = saved_negotiation w.negotiation;
+  selectors = saved_selectors w;
   queue_0 = saved_queue w.queue_0;
   queue_1 = saved_queue w.queue_1;
   interrupts = w.interrupts;
   config_generation = w.config_generation;
 }
 
-abbrev pub saved_negotiation : SavedNegotiation → NegotiationState
-saved_negotiation n = record { status = n.status; offered = n.offered; accepted = n.accepted }
+-- status and features as they were saved
+abbrev pub negotiation_saved : SavedNegotiation → NegotiationState
+negotiation_saved n = record { status = n.status; offered = n.offered; accepted = n.accepted }
 
 -- the window of a device of this kind with this negotiation and these queues, and the rest as it was saved
 abbrev pub window_with : DeviceKind → SavedWindow → NegotiationState → QueueRegisters
@@ -121,4 +125,4 @@ window_restored kind m saved =
     option_and_then (λ queue_0.
     option_map (λ queue_1. window_with kind saved n queue_0 queue_1) (queue_restored m n saved.queue_1))
     (queue_restored m n saved.queue_0))
-    (standing (saved_negotiation saved.negotiation))
+    (standing (negotiation_saved saved.negotiation))

@@ -7,7 +7,7 @@ use Rattle.std.proofs.lemmas.Nat.{le_bytes_2, le_bytes_4, le_bytes_8, from_le_by
 use Rattle.snapshot.specs.declared.fault.Stop.{Stop}
 use Rattle.snapshot.specs.declared.fault.Why.{Why}
 use Rattle.snapshot.specs.declared.fault.Why.TheVariants.{Short}
-use Rattle.snapshot.specs.Reading.{◌>>=◌, byte_at, constant_at, identity_at, number_at}
+use Rattle.snapshot.specs.Reading.{◌>>=◌, ◌&◌, Reader, byte_at, constant_at, identity_at, made, number_at}
 
 abbrev pub IsBytes : List ℕ → Type 0
 IsBytes bytes = (i : ℕ) → get_or bytes i 0 < 256
@@ -56,7 +56,7 @@ Takes-then a x b y c p q =
     }
 
 -- A field: what is read is spelled so, and what is spelled so is read, whatever follows it.
-pub record IsField {A : Type 0} (read : List ℕ → Result (A × List ℕ) Stop) (text : A → List ℕ) (Fits : A
+pub record IsField {A : Type 0} (read : Reader A) (text : A → List ℕ) (Fits : A
     → Type 0) : Type 0 where
   pub takes : (bytes : List ℕ) (x : A) (rest : List ℕ) → IsBytes bytes → read bytes ≡ Ok (x, rest)
       → Takes bytes (text x) rest × Fits x
@@ -71,7 +71,7 @@ pub record Steps {A B : Type 0} (text : A → List ℕ) (Fits : A → Type 0) (b
   pub fits : Fits value
   pub goes_on : f (value, rest) ≡ Ok y
 
-step_by : {A B : Type 0} (read : List ℕ → Result (A × List ℕ) Stop) (text : A → List ℕ) (Fits : A
+step_by : {A B : Type 0} (read : Reader A) (text : A → List ℕ) (Fits : A
     → Type 0) (bytes : List ℕ) (f : A × List ℕ → Result B Stop) (y : B)
     (r : Result (A × List ℕ) Stop) → IsField read text Fits → IsBytes bytes → read bytes ≡ r
     → (r >>= f) ≡ Ok y → Steps text Fits bytes f y
@@ -80,10 +80,86 @@ step_by read text Fits bytes f y (Ok x) field fits is e =
     record { value = x.0; rest = x.1; takes = t.0; fits = t.1; goes_on = e }
 step_by read text Fits bytes f y (Err d) field fits is e = absurd cc
 
-pub step : {A B : Type 0} (read : List ℕ → Result (A × List ℕ) Stop) (text : A → List ℕ) (Fits : A
+pub step : {A B : Type 0} (read : Reader A) (text : A → List ℕ) (Fits : A
     → Type 0) (bytes : List ℕ) (f : A × List ℕ → Result B Stop) (y : B)
     → IsField read text Fits → IsBytes bytes → (read bytes >>= f) ≡ Ok y → Steps text Fits bytes f y
 step read text Fits bytes f y field fits e = step_by read text Fits bytes f y (read bytes) field fits refl e
+
+-- ---- fields one behind another
+
+module _ {A B : Type 0} {first : Reader A} {second : Reader B} {text : A → List ℕ} {behind : B
+    → List ℕ} {Fits : A
+    → Type 0} {FitsBehind : B → Type 0}
+    (of_first : IsField first text Fits) (of_second : IsField second behind FitsBehind) where
+  both_takes : (bytes : List ℕ) (x : A × B) (rest : List ℕ) → IsBytes bytes
+      → (first & second) bytes ≡ Ok (x, rest)
+      → Takes bytes (text x.0 ++ behind x.1) rest × (Fits x.0 × FitsBehind x.1)
+  both_takes bytes x rest fits e =
+      let a = step first text Fits bytes _ (x, rest) of_first fits e in
+      let b = step second behind FitsBehind a.rest _ (x, rest) of_second a.takes.rest_fits a.goes_on in
+      let found : A × B = (a.value, b.value) in
+      subst (λ (y : (A × B) × List ℕ). Takes bytes (text y.0.0 ++ behind y.0.1) y.1
+      × (Fits y.0.0 × FitsBehind y.0.1)) (ok_is (found, b.rest) (x, rest) b.goes_on)
+      (Takes-then _ _ _ _ _ a.takes b.takes, (a.fits, b.fits))
+
+  both_again : (x : A × B) (rest : List ℕ) → Fits x.0 × FitsBehind x.1
+      → (first & second) ((text x.0 ++ behind x.1) ++ rest) ≡ Ok (x, rest)
+  both_again x rest fits =
+      rw (
+        append_assoc (text x.0) (behind x.1) rest,
+        of_first.again x.0 (behind x.1 ++ rest) fits.0,
+        of_second.again x.1 rest fits.1,
+      ) refl
+
+  pub both_field : IsField (first & second) (λ x. text x.0 ++ behind x.1) (λ x. Fits x.0 × FitsBehind x.1)
+  both_field = record {
+    takes = λ bytes x rest fits e. both_takes bytes x rest fits e;
+    again = λ x rest fits. both_again x rest fits;
+  }
+
+-- the same field as a value of another type
+module _ {A B : Type 0} {read : Reader A} {text : A → List ℕ} {Fits : A → Type 0}
+    (of_parts : IsField read text Fits) (make : A → B) (parts : B → A)
+    (parts_of : (x : A) → parts (make x) ≡ x) (made_of : (y : B) → make (parts y) ≡ y) where
+  made_takes : (bytes : List ℕ) (y : B) (rest : List ℕ) → IsBytes bytes → made make read bytes ≡ Ok (y, rest)
+      → Takes bytes (text (parts y)) rest × Fits (parts y)
+  made_takes bytes y rest fits e =
+      let x = step read text Fits bytes _ (y, rest) of_parts fits e in
+      subst (λ (z : B × List ℕ). Takes bytes (text (parts z.0)) z.1 × Fits (parts z.0))
+      (ok_is (make x.value, x.rest) (y, rest) x.goes_on)
+      (rw (parts_of x.value) (x.takes, x.fits))
+
+  made_again : (y : B) (rest : List ℕ) → Fits (parts y)
+      → made make read (text (parts y) ++ rest) ≡ Ok (y, rest)
+  made_again y rest fits = rw (of_parts.again (parts y) rest fits, made_of y) refl
+
+  pub made_field : IsField (made make read) (λ y. text (parts y)) (λ y. Fits (parts y))
+  made_field = record {
+    takes = λ bytes y rest fits e. made_takes bytes y rest fits e;
+    again = λ y rest fits. made_again y rest fits;
+  }
+
+-- the same field, of whose values the same have a spelling
+pub refit : {A : Type 0} {read : Reader A} {text : A → List ℕ} {Fits : A → Type 0}
+    (Same : A → Type 0) → IsField read text Fits → ((x : A) → Fits x → Same x) → ((x : A) → Same x → Fits x)
+    → IsField read text Same
+refit Same field into back = record {
+  takes = λ bytes x rest fits e. let t = field.takes bytes x rest fits e in (t.0, into x t.1);
+  again = λ x rest same. field.again x rest (back x same);
+}
+
+-- every value has a spelling
+abbrev pub Always : {A : Type 0} → A → Type 0
+Always x = Unit {0}
+
+-- a choice that is read, whose spelling is one byte
+pub chosen : {A : Type 0} (text : A → List ℕ) (Fits : A → Type 0) (value x : A) (b : ℕ) (bytes rest : List ℕ)
+    → text value ≡ b ∷ [] → Fits value → IsBytes (b ∷ bytes)
+    → done {A = A × List ℕ} (value, bytes) ≡ done (x, rest)
+    → Takes (b ∷ bytes) (text x) rest × Fits x
+chosen {A} text Fits value x b bytes rest is has fits e =
+    subst (λ (y : A × List ℕ). Takes (b ∷ bytes) (text y.0) y.1 × Fits y.0) (ok_is (value, bytes) (x, rest) e)
+    (record { parts = rw is refl; rest_fits = IsBytes-rest b bytes fits }, has)
 
 -- ---- bytes and numbers
 

@@ -1,23 +1,23 @@
 -- Texts, written one behind another.
-use Rattle.std.proofs.Common.{◌≡◌, ◌∙◌, ◌+◌, List, ℕ, [], ◌++◌, append_assoc, ap, arith, drop, length, length-append, refl, sym, take}
+use mir.Val.{bool_byte}
+use Rattle.std.proofs.Common.{◌≡◌, ◌∙◌, ◌+◌, Bool, true, false, List, ℕ, [], ◌++◌, append_assoc, ap, arith, drop, length, length-append, refl, sym, take}
 use Rattle.std.proofs.lemmas.List.{drop-drop, drop_at, take_at}
 use Rattle.snapshot.specs.declared.saved.SavedSlot.{SavedSlot}
 use Rattle.snapshot.specs.Spelling as spelling
-use Rattle.snapshot.specs.Spelling.{opening, slot, snapshot}
+use Rattle.snapshot.specs.Spelling.{Puts, flag, opening, slot, snapshot}
 use Rattle.std.specs.Int.{w32, to_le_bytes}
 
-pub joined3 : (old a b c i1 i2 i3 : List ℕ) → i1 ≡ old ++ a → i2 ≡ i1 ++ b → i3 ≡ i2 ++ c
-    → i3 ≡ old ++ (a ++ (b ++ c))
-joined3 old a b c i1 i2 i3 h1 h2 h3 = rw (h3, h2, h1) (simp append_assoc)
+-- one text behind another
+pub puts_then : {a b c x y : List ℕ} {m n : ℕ} → Puts a b x m → Puts b c y n → Puts a c (x ++ y) (m + n)
+puts_then {a} {b} {c} {x} {y} first second = record {
+  text = rw (second.text, first.text) (append_assoc a x y);
+  len = omega (arith, first.len, second.len);
+}
 
-pub joined4 : (old a b c d i1 i2 i3 i4 : List ℕ) → i1 ≡ old ++ a → i2 ≡ i1 ++ b → i3 ≡ i2 ++ c → i4 ≡ i3 ++ d
-    → i4 ≡ old ++ (a ++ (b ++ (c ++ d)))
-joined4 old a b c d i1 i2 i3 i4 h1 h2 h3 h4 = rw (h4, h3, h2, h1) (simp append_assoc)
-
-pub joined5 : (old a b c d e i1 i2 i3 i4 i5 : List ℕ)
-    → i1 ≡ old ++ a → i2 ≡ i1 ++ b → i3 ≡ i2 ++ c → i4 ≡ i3 ++ d → i5 ≡ i4 ++ e
-    → i5 ≡ old ++ (a ++ (b ++ (c ++ (d ++ e))))
-joined5 old a b c d e i1 i2 i3 i4 i5 h1 h2 h3 h4 h5 = rw (h5, h4, h3, h2, h1) (simp append_assoc)
+-- a flag is written as it is spelled
+pub flag_spelled : (b : Bool) → bool_byte b ≡ flag b
+flag_spelled true = refl
+flag_spelled false = refl
 
 -- ---- a snapshot is its head and the pending input
 

@@ -2,12 +2,11 @@
 #![tactic(auto)]
 
 mod fault;
-mod fields;
 mod head;
-mod parts;
+mod reader;
 mod reading;
 mod saved;
-mod windows;
+mod slot;
 mod writing;
 
 pub use fault::{ShortBuffer, SnapshotFault, Why};

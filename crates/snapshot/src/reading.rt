@@ -3,15 +3,13 @@
 ghost use Rattle.std.specs.Prelude.{◌≡◌, IfOk, ℕ, List, Ok, ◌≤◌, length};
 ghost use Rattle.std.specs.Int.{w32, w64};
 ghost use Rattle.snapshot.specs.declared.saved.SavedSlot.{SavedSlot};
-ghost use Rattle.snapshot.specs.Reading.{Gives, constant_at, input_at, opening_at, sizes_at, snapshot_at, slot_at, traits_at, whole_at};
+ghost use Rattle.snapshot.specs.Reading.{Gives, Reads, constant_at, input_at, opening_at, snapshot_at, whole_at};
 ghost use Rattle.snapshot.specs.declared.fault.Why.{Why};
 ghost use Rattle.snapshot.specs.Spelling.{SlotFits, magic, snapshot};
 
 use crate::fault::{SnapshotFault, Stop, Why};
-use crate::fields::{flag_of, identity_of, u16_at, u32_at, u64_at};
-use crate::parts::{Sizes, Traits};
+use crate::reader::Reader;
 use crate::saved::SavedSlot;
-use crate::windows::window_of;
 
 /// The first eight bytes of a snapshot as a number: KALYUBOS.
 const MAGIC: u64 = 6003089762645983563;
@@ -51,106 +49,61 @@ fn found(bytes: &[u8]) -> Result<(SavedSlot, &[u8]), SnapshotFault>
 fn whole_of(bytes: &[u8]) -> Result<(SavedSlot, &[u8]), Stop>
     ensures { Gives (λ x. (x.0, x.1.now)) result (whole_at bytes.now) }
 {
-    let (_, rest) = opening_of(bytes)?;
-    let (slot, rest) = slot_of(rest)?;
-    let pending = input_of(rest)?;
+    let mut reader = Reader { left: bytes };
+    reader.opening()?;
+    let slot = reader.slot()?;
+    let pending = reader.input()?;
     Ok((slot, pending))
 }
 
-// The version, behind the magic.
-#[tactic(auto, unfolding(crate::specs::Reading::opening_at))]
-fn opening_of(bytes: &[u8]) -> Result<(u32, &[u8]), Stop>
-    ensures { Gives (λ x. (x.0, x.1.now)) result (opening_at bytes.now) }
-{
-    let (_, rest) = magic_of(bytes)?;
-    version_of(rest)
-}
-
-fn magic_of(bytes: &[u8]) -> Result<(u64, &[u8]), Stop>
-    ensures { Gives (λ x. (x.0, x.1.now)) result (constant_at w64 magic Why.Magic bytes.now) }
-{
-    let (found, rest) = u64_at(bytes)?;
-    if found != MAGIC {
-        return Err(Stop::at(Why::Magic, bytes));
+impl<'a> Reader<'a> {
+    // The version, behind the magic.
+    #[tactic(auto, unfolding(crate::specs::Reading::opening_at))]
+    fn opening(&mut self) -> Result<u32, Stop>
+        ensures { Reads opening_at self.old.left.now result self.new.left.now }
+    {
+        self.magic()?;
+        self.version()
     }
-    Ok((found, rest))
-}
 
-fn version_of(bytes: &[u8]) -> Result<(u32, &[u8]), Stop>
-    ensures { Gives (λ x. (x.0, x.1.now)) result (constant_at w32 1 Why.Version bytes.now) }
-{
-    let (found, rest) = u32_at(bytes)?;
-    if found != VERSION {
-        return Err(Stop::at(Why::Version, bytes));
+    fn magic(&mut self) -> Result<u64, Stop>
+        ensures { Reads (constant_at w64 magic Why.Magic) self.old.left.now result self.new.left.now }
+    {
+        let bytes = self.left;
+        let found = self.u64()?;
+        if found != MAGIC {
+            return Err(Stop::at(Why::Magic, bytes));
+        }
+        Ok(found)
     }
-    Ok((found, rest))
-}
 
-#[tactic(auto, unfolding(crate::specs::Reading::sizes_at))]
-fn sizes_of(bytes: &[u8]) -> Result<(Sizes, &[u8]), Stop>
-    ensures { Gives (λ x. (x.0, x.1.now)) result (sizes_at bytes.now) }
-{
-    let (base, rest) = u64_at(bytes)?;
-    let (len, rest) = u64_at(rest)?;
-    let (sectors, rest) = u64_at(rest)?;
-    Ok((Sizes { base, len, sectors }, rest))
-}
-
-#[tactic(auto, unfolding(crate::specs::Reading::traits_at))]
-fn traits_of(bytes: &[u8]) -> Result<(Traits, &[u8]), Stop>
-    ensures { Gives (λ x. (x.0, x.1.now)) result (traits_at bytes.now) }
-{
-    let (read_only, rest) = flag_of(bytes)?;
-    let (identity, rest) = identity_of(rest)?;
-    let (cols, rest) = u16_at(rest)?;
-    let (rows, rest) = u16_at(rest)?;
-    let traits = Traits {
-        read_only,
-        identity,
-        cols,
-        rows,
-    };
-    Ok((traits, rest))
-}
-
-#[tactic(auto, unfolding(crate::specs::Reading::slot_at))]
-fn slot_of(bytes: &[u8]) -> Result<(SavedSlot, &[u8]), Stop>
-    ensures { Gives (λ x. (x.0, x.1.now)) result (slot_at bytes.now) }
-{
-    let (sizes, rest) = sizes_of(bytes)?;
-    let (traits, rest) = traits_of(rest)?;
-    let (block, rest) = window_of(rest)?;
-    let (console, rest) = window_of(rest)?;
-    let identity = traits.identity;
-    let slot = SavedSlot {
-        base: sizes.base,
-        len: sizes.len,
-        sectors: sizes.sectors,
-        read_only: traits.read_only,
-        identity,
-        block,
-        console,
-        cols: traits.cols,
-        rows: traits.rows,
-    };
-    Ok((slot, rest))
-}
-
-// The pending input, behind which nothing stands.
-#[tactic(auto, unfolding(crate::specs::Reading::input_at))]
-fn input_of(bytes: &[u8]) -> Result<&[u8], Stop>
-    ensures { Gives (λ pending. pending.now) result (input_at bytes.now) }
-{
-    let (count, pending) = u32_at(bytes)?;
-    let count = count as usize;
-    if count > MOST_PENDING {
-        return Err(Stop::at(Why::TooMuchInput, bytes));
+    fn version(&mut self) -> Result<u32, Stop>
+        ensures { Reads (constant_at w32 1 Why.Version) self.old.left.now result self.new.left.now }
+    {
+        let bytes = self.left;
+        let found = self.u32()?;
+        if found != VERSION {
+            return Err(Stop::at(Why::Version, bytes));
+        }
+        Ok(found)
     }
-    if pending.len() < count {
-        return Err(Stop::at(Why::Short, pending));
+
+    // The pending input, behind which nothing stands.
+    #[tactic(auto, unfolding(crate::specs::Reading::input_at))]
+    fn input(&mut self) -> Result<&'a [u8], Stop>
+        ensures { Gives (λ pending. pending.now) result (input_at self.old.left.now) }
+    {
+        let bytes = self.left;
+        let count = self.u32()? as usize;
+        if count > MOST_PENDING {
+            return Err(Stop::at(Why::TooMuchInput, bytes));
+        }
+        if self.left.len() < count {
+            return Err(Stop::at(Why::Short, self.left));
+        }
+        if self.left.len() > count {
+            return Err(Stop::at(Why::Trailing, &self.left[count..]));
+        }
+        Ok(self.left)
     }
-    if pending.len() > count {
-        return Err(Stop::at(Why::Trailing, &pending[count..]));
-    }
-    Ok(pending)
 }

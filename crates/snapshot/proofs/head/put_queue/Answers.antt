@@ -1,12 +1,11 @@
 use Rattle.snapshot.specs.Spelling.{queue}
-use Rattle.snapshot.proofs.Joining.{joined5}
+use Rattle.snapshot.proofs.Joining.{puts_then}
 use Rattle.snapshot.proofs.head.put_queue.Goals as goal
 
-pub returns-clause-text : goal.returns-clause-text
+pub returns-clause-puts : goal.returns-clause-puts
 unfolding queue
-returns-clause-text c =
-    joined5 c.args.out.now.items _ _ _ _ _
-    c.put_u32.new.out.items c.put_u64.new.out.items c.put_u64-2.new.out.items c.put_u64-3.new.out.items
-    c.put_reached.new.out.items
-    c.put_u32.ensures.text c.put_u64.ensures.text c.put_u64-2.ensures.text c.put_u64-3.ensures.text
-    c.put_reached.ensures.text
+returns-clause-puts c =
+    puts_then (rw c.to_le_bytes.ensures at c.put.ensures)
+    (puts_then (rw c.to_le_bytes-2.ensures at c.put-2.ensures)
+    (puts_then (rw c.to_le_bytes-3.ensures at c.put-3.ensures)
+    (puts_then (rw c.to_le_bytes-4.ensures at c.put-4.ensures) c.put_reached.ensures.puts)))
