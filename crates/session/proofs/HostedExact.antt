@@ -17,7 +17,9 @@ use Rattle.board.specs.Machine.{at_rest, task_at}
 use Rattle.board.specs.Outcome.{Outcome, replies}
 use Rattle.board.specs.Restoring.{IsRestoring}
 use Rattle.board.specs.Slot.{SlotState}
-use Rattle.board.specs.Task.{Task, Nothing, Serve, PutOut, Finishes}
+use Rattle.board.specs.declared.task.Task.{Task}
+use Rattle.board.specs.declared.task.Task.TheVariants.{Nothing, Serve, PutOut}
+use Rattle.board.specs.Task.{Finishes}
 use Rattle.board.specs.Within.{IsPuttingOut, MayPutOut}
 use Rattle.board.specs.World.{IsCutShort, MayGive}
 use Rattle.board.proofs.Waiting.{own_next, untied}

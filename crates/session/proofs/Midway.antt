@@ -33,7 +33,9 @@ use Rattle.board.specs.Machine.{IsNext, at_rest, task_at, with_input, with_write
 use Rattle.board.specs.Outcome.{Outcome}
 use Rattle.board.specs.Pausing.{IsBlockPiece, IsPiece, IsReceivePiece, IsTransmitPiece, asked, asked_by, readied, reply_of}
 use Rattle.board.specs.Slot.{SlotState}
-use Rattle.board.specs.Task.{Task, Nothing, Serve, PutOut, Finishes, IsBlockService, IsReceiveService, IsTransmitService, device_of}
+use Rattle.board.specs.declared.task.Task.{Task}
+use Rattle.board.specs.declared.task.Task.TheVariants.{Nothing, Serve, PutOut}
+use Rattle.board.specs.Task.{Finishes, IsBlockService, IsReceiveService, IsTransmitService, device_of}
 use Rattle.board.proofs.Alike.{PieceAs, piece_as}
 use Rattle.board.proofs.Guests.{same_disk}
 use Rattle.board.proofs.Whole.{came}

@@ -21,7 +21,8 @@ use Rattle.board.specs.Image.{Health, bytes_of}
 use Rattle.board.specs.Machine.{task_at, with_write}
 use Rattle.board.specs.Pausing.{Begins, GoesOn, HasLimit}
 use Rattle.board.specs.Slot.{SlotState, BoardSlot, state_of}
-use Rattle.board.specs.Task.{Task, Nothing, Serve, PutOut}
+use Rattle.board.specs.declared.task.Task.{Task}
+use Rattle.board.specs.declared.task.Task.TheVariants.{Nothing, Serve, PutOut}
 use Rattle.board.specs.World.{World, Answers, KeepsOthers, MayLackMemory, TakesMemory, extents_of}
 use Rattle.board.specs.Within.{BeginsWithin, GoesOnWithin, IsPuttingOut, MayPutOut, TakesWithin}
 use Rattle.board.proofs.Answered.{ended_within, handled}

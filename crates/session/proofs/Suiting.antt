@@ -18,7 +18,9 @@ use Rattle.board.specs.Outcome.{Outcome, replies}
 use Rattle.board.specs.Restoring.{IsRestoring}
 use Rattle.board.specs.Pausing.{Begins}
 use Rattle.board.specs.Slot.{SlotState}
-use Rattle.board.specs.Task.{Task, Nothing, Serve, PutOut, Finishes}
+use Rattle.board.specs.declared.task.Task.{Task}
+use Rattle.board.specs.declared.task.Task.TheVariants.{Nothing, Serve, PutOut}
+use Rattle.board.specs.Task.{Finishes}
 use Rattle.board.specs.World.{World, Answers, IsCutShort, MayGive, MissingStep, SlotStep}
 use Rattle.session.specs.declared.response.Response.TheVariants.{More}
 use Rattle.session.specs.Pacing.{response_to}
