@@ -110,10 +110,24 @@ words_told_at old h call told new (Some state) here calls =
     ∙ get_set old h state calls.outcome.state here in
     rw (there, calls.told_is) refl
 
-pub words_told : {A : Type 0} (old : List HostedState) (h : ℕ) (call : HostedCall A) (told : Told A)
+words_told : {A : Type 0} (old : List HostedState) (h : ℕ) (call : HostedCall A) (told : Told A)
     (new : List HostedState) → Calls old h call told new
     → (told.block_irq, told.console_irq) ≡ words_at (slice_get new h)
 words_told old h call told new calls = words_told_at old h call told new (slice_get old h) refl calls
+
+-- and so those that are told with the reply
+pub words_taken : {A : Type 0} {old : List HostedState} {h : ℕ} {event : EventKind A} {limit : Option ℕ}
+    {reply : Reply A} {block console : ℕ} {waiting left : List ℕ} {new : List HostedState}
+    → TakesCall old h event limit reply block console waiting left new
+    → (block, console) ≡ words_at (slice_get new h)
+words_taken {A} {old} {h} {event} {limit} {reply} {block} {console} {waiting} {left} {new} it =
+    let told : Told A = record {
+      reply = reply;
+      output = it.output;
+      block_irq = block;
+      console_irq = console;
+    } in
+    words_told old h (record { event = event; limit = limit; waiting = waiting }) told new it.calls
 
 one_line : (l : List ℕ) → ended l ≡ joined (l ∷ [])
 unfolding joined
