@@ -220,13 +220,20 @@ entry_told disk old new event reply out a =
 
 -- and so are those that are told with the reply
 pub words_told : {A I : Type 0} (disk : I → Disk) (old new : BoardState I) (event : Event A) (reply : Reply A)
-    (block console : ℕ) (out : List ℕ)
-    → Handles (world_of disk old) event reply block console [] out (world_of disk new)
+    (block console : ℕ) (before out : List ℕ)
+    → Handles (world_of disk old) event reply block console before out (world_of disk new)
     → (block, console) ≡ words_of (slice_get new.slots event.slot)
-words_told {A} disk old new event reply block console out h =
+words_told {A} disk old new event reply block console before out h =
     ap (λ (r : Record A). (r.block_irq, r.console_irq))
     (told_at (world_of disk old) event (entry_of event.slot reply h.output (block, console)) new.slots
     (disk new.image) (slice_get (world_of disk old).slots event.slot) refl h.step)
+
+-- where nothing was put out before an event, what is put out is its own
+pub answered_alone : {A : Type 0} {old new : World} {event : Event A} {reply : Reply A} {block console : ℕ}
+    {before out : List ℕ} → before ≡ [] → Handles old event reply block console before out new
+    → Answers old event reply [] out new
+answered_alone {A} {old} {new} {event} {reply} {out = out} none h =
+    subst (λ (xs : List ℕ). Answers old event reply xs out new) none (answered h)
 
 one_line : {A : Type 0} (entry : Record A) → ended (record_line entry) ≡ records_text (entry ∷ [])
 unfolding joined

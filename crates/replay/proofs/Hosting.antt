@@ -1,10 +1,10 @@
 -- Calls of a board whose disks the host serves, whose records go out as text, one after another.
-use Rattle.std.proofs.Common.{◌≡◌, ◌∙◌, ℕ, ◌<◌, ◌≤◌, ◌+◌, Bool, true, false, if◌then◌else◌, List, [], ◌∷◌, ◌++◌, Option, None, Some, length, map, take, Result, Ok, Err, refl, sym, ap, subst, append-nil, arith, IfSome, IsSome, IsSomeAnd, ◌↔◌, IsTrue, Bor, inl, inr}
-use Rattle.std.specs.Prelude.{MatchOption, is_none, nat_lt}
-use Rattle.std.proofs.lemmas.Bool.{cases_lt, le-ltb, lt-ltb}
+use Rattle.std.proofs.Common.{◌≡◌, ◌∙◌, ℕ, ◌<◌, Bool, if◌then◌else◌, List, [], ◌∷◌, ◌++◌, Option, None, Some, length, map, take, Result, Ok, Err, refl, sym, ap, subst, append-nil, arith, inl, inr}
+use Rattle.std.specs.Prelude.{MatchOption, is_none}
+use Rattle.std.proofs.lemmas.Bool.{cases_lt}
 use Rattle.std.proofs.lemmas.Option.{slice_get_past}
 use Rattle.std.specs.List.{slice_get}
-use Rattle.std.specs.Option.{option_and_then, option_map}
+use Rattle.std.specs.Option.{option_and_then}
 use Rattle.std.specs.Io.KnownBytes.{Appends, Keeps}
 use Rattle.std.proofs.lemmas.List.{map-append, take_all}
 use Rattle.chain.specs.declared.segment.Segment.{Segment}
@@ -15,7 +15,7 @@ use Rattle.board.specs.declared.event.EventKind.{EventKind}
 use Rattle.board.specs.declared.event.EventKind.TheVariants.{MemRead}
 use Rattle.board.specs.declared.reply.Record.{Record}
 use Rattle.board.specs.declared.reply.Reply.{Reply}
-use Rattle.board.specs.declared.reply.Reply.TheVariants.{BadRange, BadSlot, Bytes}
+use Rattle.board.specs.declared.reply.Reply.TheVariants.{BadSlot, Bytes}
 use Rattle.board.specs.declared.spec.SlotSpec.{SlotSpec}
 use Rattle.board.specs.Hosting.{HostedState, InFlight, hosted_opened, operation_in, verdict_in}
 use Rattle.board.specs.HostedLine.{Calls, CallsNone, CallsSlot, HostedCall, HostedMove, IsHostedLine, TakesCall, TakesQuietly, Told, out_of_range}
@@ -33,7 +33,7 @@ use Rattle.trace.specs.declared.disks.Disks.TheVariants.{Hosted}
 use Rattle.trace.proofs.Passing.{sends_more, sends_none, sends_same, sent_all, sent_front}
 use Rattle.trace.proofs.Printed.{joined_append, joined_none}
 use Rattle.trace.proofs.RecordLines.{asked_is}
-use Rattle.replay.specs.Hosted.{AreCallsOf, RecordedHosted, SendsHosted, asked_by, begins, called, flight_at, move_line, move_lines, moves_text, record_of_move, told_of_flight}
+use Rattle.replay.specs.Hosted.{RecordedHosted, SendsHosted, asked_by, begins, called, flight_at, move_line, move_lines, moves_text, record_of_move, told_of_flight}
 use Rattle.replay.specs.declared.fault.ReplayFault.{ReplayFault}
 use Rattle.replay.specs.declared.fault.ReplayFault.TheVariants.{Write, NoMemory}
 use Rattle.replay.specs.Replay.{AfterRun}
@@ -110,10 +110,24 @@ words_told_at old h call told new (Some state) here calls =
     ∙ get_set old h state calls.outcome.state here in
     rw (there, calls.told_is) refl
 
-pub words_told : {A : Type 0} (old : List HostedState) (h : ℕ) (call : HostedCall A) (told : Told A)
+words_told : {A : Type 0} (old : List HostedState) (h : ℕ) (call : HostedCall A) (told : Told A)
     (new : List HostedState) → Calls old h call told new
     → (told.block_irq, told.console_irq) ≡ words_at (slice_get new h)
 words_told old h call told new calls = words_told_at old h call told new (slice_get old h) refl calls
+
+-- and so those that are told with the reply
+pub words_taken : {A : Type 0} {old : List HostedState} {h : ℕ} {event : EventKind A} {limit : Option ℕ}
+    {reply : Reply A} {block console : ℕ} {waiting left : List ℕ} {new : List HostedState}
+    → TakesCall old h event limit reply block console waiting left new
+    → (block, console) ≡ words_at (slice_get new h)
+words_taken {A} {old} {h} {event} {limit} {reply} {block} {console} {waiting} {left} {new} it =
+    let told : Told A = record {
+      reply = reply;
+      output = it.output;
+      block_irq = block;
+      console_irq = console;
+    } in
+    words_told old h (record { event = event; limit = limit; waiting = waiting }) told new it.calls
 
 one_line : (l : List ℕ) → ended l ≡ joined (l ∷ [])
 unfolding joined

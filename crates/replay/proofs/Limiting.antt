@@ -1,6 +1,6 @@
 -- Slots of a trace that a board takes have memories as a trace may describe them.
 use Rattle.std.proofs.Common.{◌≡◌, ◌∙◌, ◌⊎◌, inl, inr, ℕ, suc, ◌+◌, ◌<◌, ◌≤◌, List, [], ◌∷◌, ◌++◌, Some, true, ap, drop, get_or, length, map, refl, slice_set, subst, take, arith}
-use Rattle.std.specs.Prelude.{All, ◌^◌, nat_lt, IfOk, OnOk, Result, Ok, Err}
+use Rattle.std.specs.Prelude.{All, nat_lt, IfOk, OnOk, Result, Ok, Err}
 use Rattle.std.specs.List.{slice_get}
 use Rattle.std.specs.Option.{option_map}
 use Rattle.std.proofs.lemmas.Option.{slice_get-get_or, slice_get-map, slice_get_within}

@@ -12,7 +12,7 @@ use Rattle.trace.specs.Validating.{AreEventLines, AreLinesOf, HaveRoom, bytes_le
 use Rattle.trace.specs.Printable.{IsPrintableSlot, SlotInRange}
 use Rattle.trace.specs.Refusals.{IsFine, RefusesLine}
 use Rattle.trace.specs.Events.{BeginsWithEvent, TakesEvent}
-use Rattle.replay.specs.Running.{RunsParsed}
+use Rattle.replay.specs.Running.{HasRoomFor, RunsLine, RunsParsed}
 use Rattle.trace.specs.ParsedEvent.{parsed_fields}
 use Rattle.trace.specs.Text.{Content, ended, event_fields, event_line, front_text, joined, text, trace_lines, word_for}
 use Rattle.trace.proofs.Entries.{cut_event, entered_event}
@@ -167,8 +167,7 @@ module _ (A : Type 0) (lines : List ℕ) (room : ℕ) (rest : List ℕ) (Run : L
   pub begins : length rest ≢ 0 → BeginsWithEvent rest
   begins some = begins_at so.left rest so.more some
 
-  pub fits : (parsed : ParsedEvent A) (after : List ℕ) → TakesEvent rest parsed after
-      → parsed_len parsed ≤ room
+  pub fits : HasRoomFor A rest room
   fits parsed after takes = fits_at so.left room rest parsed after so.more so.fit takes
 
 -- one event more
@@ -194,14 +193,14 @@ more_at A lines room rest parsed after done (e ∷ left) Old New One whole more 
       run = join done e run (subst One same it.run);
     }
 
-pub run_more : (A : Type 0) (lines : List ℕ) (room : ℕ) (rest : List ℕ) (parsed : ParsedEvent A)
-    (after : List ℕ) (Old New : List (Event A) → Type 0) (One : Event A → Type 0)
-    → RunSofar A lines room rest Old → TakesEvent rest parsed after → RunsParsed parsed One
+pub run_more : (A : Type 0) (lines : List ℕ) (room : ℕ) (rest after : List ℕ) (Old New : List (Event A)
+    → Type 0) (One : Event A → Type 0)
+    → RunSofar A lines room rest Old → RunsLine A rest after One
     → ((es : List (Event A)) (e : Event A) → Old es → One e → New (es ++ e ∷ []))
     → RunSofar A lines room after New
-run_more A lines room rest parsed after Old New One so taken ran join =
-    more_at A lines room rest parsed after so.done so.left Old New One so.whole so.more so.fit so.run
-    taken ran join
+run_more A lines room rest after Old New One so it join =
+    more_at A lines room rest it.parsed after so.done so.left Old New One so.whole so.more so.fit so.run
+    it.taken it.ran join
 
 -- no line is left
 all_at : (A : Type 0) (lines : List ℕ) (rest : List ℕ) (done left events : List (Event A))

@@ -10,7 +10,6 @@ use Rattle.trace.specs.declared.disks.Disks.{Disks}
 use Rattle.trace.specs.declared.fault.TraceFault.{TraceFault}
 use Rattle.replay.specs.declared.fault.ReplayFault.{ReplayFault}
 use Rattle.replay.specs.declared.fault.ReplayFault.TheVariants.{Read, Trace, Board, Run, Write, NoMemory}
-use Rattle.trace.specs.Printable.{IsPrintable}
 use Rattle.guest_memory.specs.Faults.{size_of}
 use Rattle.replay.specs.Limits.{IsSmallMemory, asked_of_board, most_memory, no_memory}
 use Rattle.replay.specs.Replay.{AcceptsBy, AfterRun, HasTooMany, Plays, RefusesBoard, RefusesBoardOf, RefusesBy, RefusesTrace, Replays}

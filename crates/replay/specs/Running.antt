@@ -1,5 +1,5 @@
 -- Running the events of lines that were validated, one after another.
-use Rattle.std.specs.Prelude.{◌≡◌, ℕ, List, [], ◌∷◌, ◌++◌, Option, None, Some, Result, Ok, Err, IsSomeAnd}
+use Rattle.std.specs.Prelude.{◌≡◌, ◌≤◌, ℕ, List, [], ◌∷◌, ◌++◌, Option, None, Some, Result, Ok, Err, IsSomeAnd}
 use Rattle.std.specs.Io.KnownBytes.{Keeps}
 use Rattle.guest_memory.specs.Memory.{Inside, Memory, part_of}
 use Rattle.std.specs.List.{slice_get}
@@ -13,6 +13,8 @@ use Rattle.board.specs.Image.{Tells}
 use Rattle.board.specs.Slot.{BoardSlot, interrupt_words}
 use Rattle.board.specs.World.{Answers, BoardState, extents_of, world_of}
 use Rattle.trace.specs.declared.read.parsed_event.ParsedEvent.{ParsedEvent}
+use Rattle.trace.specs.Events.{TakesEvent}
+use Rattle.trace.specs.Validating.{parsed_len}
 use Rattle.replay.specs.declared.fault.ReplayFault.{ReplayFault}
 use Rattle.replay.specs.declared.fault.ReplayFault.TheVariants.{Write, NoMemory}
 use Rattle.trace.specs.Sends.{Sends}
@@ -58,6 +60,17 @@ pub record RunsParsed {A : Type 0} (parsed : ParsedEvent A) (Run : Event A → T
   pub fields : event_fields event ≡ parsed_fields parsed
   pub fine : IsFine event
   pub run : Run event
+
+-- the bytes of the event that the first of these lines says have room
+abbrev pub HasRoomFor : Type 0 → List ℕ → ℕ → Type 0
+HasRoomFor A lines room = (parsed : ParsedEvent A) (after : List ℕ) → TakesEvent lines parsed after
+    → parsed_len parsed ≤ room
+
+-- that event was taken off and run
+pub record RunsLine (A : Type 0) (lines rest : List ℕ) (Run : Event A → Type 0) : Type 0 where
+  pub parsed : ParsedEvent A
+  pub taken : TakesEvent lines parsed rest
+  pub ran : RunsParsed parsed Run
 
 -- runs over events, from one board to another, whose text is added to what waits for a writer
 abbrev pub Runs : Type 0 → Type 0 → Type 1

@@ -6,7 +6,8 @@
 ghost use Rattle.std.specs.Prelude.{◌≡◌, ◌≢◌, ◌≤◌, ℕ, [], ◌∷◌, List, Option, Err, length};
 ghost use Rattle.board.specs.declared.event.Event.{Event};
 ghost use Rattle.replay.specs.declared.fault.ReplayFault.{ReplayFault};
-ghost use Rattle.replay.specs.Running.{AfterLines, Joins, RunsParsed};
+ghost use Rattle.replay.specs.Running.{AfterLines, HasRoomFor, Joins, RunsLine, RunsParsed};
+ghost use Rattle.trace.specs.Events.{BeginsWithEvent};
 ghost use Rattle.trace.specs.ParsedEvent.{IsFineParsed};
 ghost use Rattle.trace.specs.Sends.{waiting};
 ghost use Rattle.trace.specs.Validating.{AreEventLines, AreLinesOf, parsed_len};
@@ -83,8 +84,26 @@ fn run_lines<W: Write, B: RunsEvents<A>, A: Allocator + Copy>(
     let mut output = Vec::new(alloc);
     let mut rest = lines;
     while !rest.is_empty() {
-        let (parsed, after) = take_event(alloc, rest);
-        board.run_event(&parsed, room, &mut output, text, writer);
-        rest = after;
+        rest = run_line(alloc, board, rest, room, &mut output, text, writer);
     }
+}
+
+// Runs the event that the first line says, sends the text of its record, and answers what follows that line.
+fn run_line<'a, W: Write, B: RunsEvents<A>, A: Allocator + Copy>(
+    alloc: A,
+    board: &mut B,
+    lines: &'a [u8],
+    room: &mut [u8],
+    output: &mut Vec<u8, A>,
+    text: &mut Buffer<A>,
+    writer: &mut W,
+) -> &'a [u8]
+    requires begins { BeginsWithEvent lines.now }
+    requires room { HasRoomFor A lines.now (length room.old) }
+    ensures { RunsLine A lines.now result.now (λ event. B.sends board.old board.new (event ∷ [])
+        (W.contents writer.old) (W.contents writer.new) (waiting text.old) (waiting text.new)) }
+{
+    let (parsed, after) = take_event(alloc, lines);
+    board.run_event(&parsed, room, output, text, writer);
+    after
 }

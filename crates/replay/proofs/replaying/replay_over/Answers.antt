@@ -1,5 +1,4 @@
-use Rattle.std.proofs.Common.{◌≡◌, ◌∙◌, List, ap, map, subst}
-use Rattle.board.specs.declared.spec.SlotSpec.{SlotSpec}
+use Rattle.std.proofs.Common.{ap}
 use Rattle.trace.specs.Validating.{validation}
 use Rattle.trace.specs.declared.disks.Disks.TheVariants.{Cached}
 use Rattle.replay.proofs.Playing.{played_over, refused_board}

@@ -8,20 +8,19 @@ loop-rest-init g c =
     run_none _ c.args.lines.now _ _ c.requires.lines
     (c.requires.joins.none c.args.board.now _ _)
 
-pub take_event-parsed-requires : goal.take_event-parsed-requires
-take_event-parsed-requires g c =
+pub run_line-rest-requires-clause-begins : goal.run_line-rest-requires-clause-begins
+run_line-rest-requires-clause-begins g c =
     begins _ c.args.lines.now _ c.loop-rest.rest.now _ c.loop-rest.invariant
     (eqb-false (length c.loop-rest.rest.now) 0 (sym c.loop-rest-test.ensures))
 
-pub run_event-requires-clause-room : goal.run_event-requires-clause-room
-run_event-requires-clause-room g c =
-    rw c.loop-rest.auto.room (fits _ c.args.lines.now _ c.loop-rest.rest.now _ c.loop-rest.invariant _ _
-    c.take_event-parsed.ensures)
+pub run_line-rest-requires-clause-room : goal.run_line-rest-requires-clause-room
+run_line-rest-requires-clause-room g c =
+    rw c.loop-rest.auto.room (fits _ c.args.lines.now _ c.loop-rest.rest.now _ c.loop-rest.invariant)
 
 pub loop-rest-preserved : goal.loop-rest-preserved
 loop-rest-preserved g c =
-    run_more _ c.args.lines.now _ c.loop-rest.rest.now _ _ _ _ _ c.loop-rest.invariant
-    c.take_event-parsed.ensures c.run_event.ensures (λ es e. c.requires.joins.more c.args.board.now _ _ es e _ _ _ _ _ _)
+    run_more _ c.args.lines.now _ c.loop-rest.rest.now _ _ _ _ c.loop-rest.invariant
+    c.run_line-rest.ensures (λ es e. c.requires.joins.more c.args.board.now _ _ es e _ _ _ _ _ _)
 
 pub returns : goal.returns
 returns g c events are =

@@ -10,8 +10,8 @@ returns-in-Some g c =
 
 pub returns : goal.returns
 returns g c =
-    parsed_hosted c.args.parsed.now c.args.self.now c.answer.new.board c.answer.result.reply
-    c.answer.new.output.items (c.answer.result.block_irq, c.answer.result.console_irq)
-    c.begins_next-is_next.result _ _ _ _ _ _ _ c.answer.ensures.answers c.answer.ensures.words
+    parsed_hosted c.args.parsed.now c.args.self.now c.answer-reply.new.board c.answer-reply.result.reply
+    c.answer-reply.new.output.items (c.answer-reply.result.block_irq, c.answer-reply.result.console_irq)
+    c.begins_next-is_next.result _ _ _ _ _ _ _ c.answer-reply.ensures.answers c.answer-reply.ensures.words
     c.begins_next-is_next.ensures c.begun.ensures (rw c.as_slice.ensures.value at c.put_fields.ensures)
     c.put_asked-2.ensures
