@@ -6,10 +6,6 @@ use Rattle.chain.specs.declared.segment.Segment.{Segment}
 use Rattle.board_ffi.specs.declared.operation.Run.{Run}
 use Rattle.board_ffi.specs.Hosted.{told_run, told_runs}
 
--- none is told yet
-pub none_told : (runs : List Segment) (room : List Run) → room ≡ told_runs (take 0 runs) room
-none_told runs room = refl
-
 -- one more is told
 pub one_told : (place : ℕ) (runs : List Segment) (room : List Run) (run : Segment) → place < length room
     → slice_get runs place ≡ Some run → slice_set (told_runs (take place runs) room) place (told_run run)

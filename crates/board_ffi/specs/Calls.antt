@@ -4,8 +4,6 @@ use Rattle.std.specs.List.{slice_get}
 use Rattle.std.specs.Global.{Global}
 use Rattle.mmio_window.specs.declared.device_kind.DeviceKind.{DeviceKind}
 use Rattle.mmio_window.specs.declared.device_kind.DeviceKind.TheVariants.{Block, Console}
-use Rattle.board.specs.declared.event.EventKind.{EventKind}
-use Rattle.board.specs.declared.reply.Reply.{Reply}
 use Rattle.board.specs.declared.reply.Reply.TheVariants as reply
 use Rattle.board.specs.HostedLine.{words_of}
 use Rattle.board.specs.Slot.{interrupt_words}
@@ -20,6 +18,8 @@ use Rattle.board_ffi.specs.declared.pending.Pending.{Pending}
 use Rattle.board_ffi.specs.Handle.{Held}
 use Rattle.board_ffi.specs.Hosted as hosted
 use Rattle.board_ffi.specs.OfImage as image
+pub use Rattle.board.specs.declared.event.EventKind.{EventKind}
+pub use Rattle.board.specs.declared.reply.Reply.{Reply}
 pub use Rattle.board_ffi.specs.Kept.{HasCounters, HasSavedLen, HasWords, IsMissing, IsUndisturbed, Saves}
 
 -- A call on a handle: where it holds no board it answers 1 and goes on holding none; a board does this, and is

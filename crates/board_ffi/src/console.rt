@@ -1,9 +1,7 @@
 //! A guest's console from the outside: what is typed, its size, and what it puts out.
 
 ghost use Rattle.std.specs.Prelude.{◌≡◌, ◌≢◌, ◌⊎◌};
-ghost use Rattle.board.specs.declared.event.EventKind.{EventKind};
-ghost use Rattle.board.specs.declared.reply.Reply.{Reply};
-ghost use Rattle.board_ffi.specs.Calls.{Calls, IsMissing, MovesOutput, PausesBehind, Takes, Tells};
+ghost use Rattle.board_ffi.specs.Calls.{Calls, EventKind, IsMissing, MovesOutput, PausesBehind, Reply, Takes, Tells};
 
 use crate::handle::{Handle, session_of};
 use crate::pending::Pending;

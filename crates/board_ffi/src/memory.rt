@@ -1,9 +1,7 @@
 //! A guest's memory between its accesses. Nothing here takes memory.
 
 ghost use Rattle.std.specs.Prelude.{◌≡◌, ◌≢◌, length};
-ghost use Rattle.board.specs.declared.event.EventKind.{EventKind};
-ghost use Rattle.board.specs.declared.reply.Reply.{Reply};
-ghost use Rattle.board_ffi.specs.Calls.{Calls, HasMemory, HasNoRegion, IsBusy, IsMissing, Takes};
+ghost use Rattle.board_ffi.specs.Calls.{Calls, EventKind, HasMemory, HasNoRegion, IsBusy, IsMissing, Reply, Takes};
 
 use crate::handle::{Handle, session_of};
 

@@ -1,9 +1,7 @@
 //! A guest's reads and writes of its devices' registers, and the words that stand for its interrupt lines.
 
 ghost use Rattle.std.specs.Prelude.{◌≡◌, ◌≢◌, MatchOption};
-ghost use Rattle.board.specs.declared.event.EventKind.{EventKind};
-ghost use Rattle.board.specs.declared.reply.Reply.{Reply};
-ghost use Rattle.board_ffi.specs.Calls.{AtWindow, Calls, GoesOn, HasWords, IsMissing, IsUndisturbed, Takes, Tells, Writes, window_of};
+ghost use Rattle.board_ffi.specs.Calls.{AtWindow, Calls, EventKind, GoesOn, HasWords, IsMissing, IsUndisturbed, Reply, Takes, Tells, Writes, window_of};
 
 use crate::codes::BAD_WINDOW;
 use crate::handle::{Handle, session_of};

@@ -1,9 +1,7 @@
 //! A guest's console from the outside.
 
 ghost use Rattle.std.specs.Prelude.{◌≡◌, ◌≢◌, ◌⊎◌, None, Some};
-ghost use Rattle.board.specs.declared.event.EventKind.{EventKind};
-ghost use Rattle.board.specs.declared.reply.Reply.{Reply};
-ghost use Rattle.board_ffi.specs.Calls.{IsMissing, MovesOutput, PausesBehind, Takes};
+ghost use Rattle.board_ffi.specs.Calls.{EventKind, IsMissing, MovesOutput, PausesBehind, Reply, Takes};
 
 use crate::any_session::AnySession;
 use crate::codes::{BAD_SLOT, DONE, of_done, of_progress, of_refusal};

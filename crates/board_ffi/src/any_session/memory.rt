@@ -2,10 +2,8 @@
 
 ghost use Rattle.std.specs.Prelude.{◌≡◌, ◌≢◌, length};
 ghost use Rattle.guest_memory.specs.Memory.{Inside};
-ghost use Rattle.board.specs.declared.event.EventKind.{EventKind};
-ghost use Rattle.board.specs.declared.reply.Reply.{Reply};
 ghost use Rattle.board_ffi.specs.OfImage.{HasRoom};
-ghost use Rattle.board_ffi.specs.Calls.{HasMemory, HasNoRegion, IsBusy, IsMissing, Takes};
+ghost use Rattle.board_ffi.specs.Calls.{EventKind, HasMemory, HasNoRegion, IsBusy, IsMissing, Reply, Takes};
 
 use crate::any_session::AnySession;
 use crate::codes::{BAD_RANGE, DONE, of_done, of_refusal};
