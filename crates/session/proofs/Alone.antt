@@ -1,8 +1,7 @@
 -- Each guest of a session, as its own calls decide it.
-use Rattle.std.proofs.Common.{◌≡◌, ◌≢◌, ◌⊎◌, inl, inr, ℕ, ◌==◌, eqb, true, false, Option, Some, None, List, [], ◌∷◌, ◌++◌, take, drop, refl, sym, ◌∙◌, ap, subst}
-use Rattle.std.specs.Prelude.{MatchOption, unwrap_or}
+use Rattle.std.proofs.Common.{◌≡◌, ◌≢◌, ℕ, Option, Some, None, List, [], ◌∷◌, ◌++◌, take, drop, refl, sym, ◌∙◌, ap, subst}
+use Rattle.std.specs.Prelude.{MatchOption}
 use Rattle.std.specs.List.{slice_get}
-use Rattle.std.proofs.lemmas.Bool.Decides.{eqb_tells}
 use Rattle.board.specs.declared.event.Event.{Event}
 use Rattle.board.specs.declared.event.EventKind.{EventKind}
 use Rattle.board.specs.declared.reply.Reply.{Reply}
@@ -15,18 +14,20 @@ use Rattle.board.proofs.Alone.{served, get_set}
 use Rattle.board.proofs.OneRun.{next_of}
 use Rattle.board.proofs.OneSeat.{seat_once}
 use Rattle.board.specs.declared.pause.Pause.{Pause}
-use Rattle.board.specs.declared.pause.Turn.{Turn}
-use Rattle.board.specs.declared.pause.Turn.TheVariants as turn
 use Rattle.session.specs.declared.response.Response.{Response}
 use Rattle.session.specs.declared.response.Response.TheVariants.{Answered, More, Busy, Idle}
-use Rattle.session.specs.Alone.{Answer, Asking, Does, Gave, Goes, Takes, Told, IsNextAsked, IsSeatCourse, IsSeatedAlone, SeeAlike, own_answers, own_askings, seat_of}
-use Rattle.session.specs.Course.{SessionStep, Called, Took, IsCalled, IsCourse, IsTaken, NeverPauses, paced_world_of}
+use Rattle.session.specs.Alone.{Begins, GoesOn, OwnCall, IsNextAsked, IsSeatCourse, IsSeatedAlone, SeeAlike, own_answers, own_askings, own_call, seat_of}
+use Rattle.session.specs.Course.{Happens, SessionStep, IsCalled, IsCourse, IsTaken, NeverPauses, paced_world_of}
 use Rattle.session.specs.Line.{IsIdle}
-use Rattle.session.specs.Pacing.{Call, GoOn, Handle, response_to, slot_in}
-use Rattle.session.specs.Pausing.{ComesTo, IsCall}
-use Rattle.session.specs.Session.{IsStep, KeepsOtherOutputs, SessionState, Waiting, none_waiting, limit_of, output_of, world_of}
+use Rattle.session.specs.Pacing.{Call, GoOn, Handle, slot_in}
+use Rattle.session.specs.Pausing.{ComesTo}
+use Rattle.session.specs.Session.{IsStep, SessionState, Waiting, limit_of, output_of, world_of}
+use Rattle.session.specs.Steps.{Answer, Asking, Called, Does, Gave, Takes, Told, Took, after_step, slot_of}
 use Rattle.session.proofs.PacedAlone.{others_at}
+use Rattle.session.proofs.PacedCalls.{never_busy, never_idle}
 use Rattle.session.proofs.PacedCourses.{by_pause, step_of}
+use Rattle.session.proofs.Seats.{IsFairStep, OwnStep, alone}
+use Rattle.session.proofs.Waiting.{others_wait}
 
 -- what a guest's own event comes to
 record OwnEvent {A : Type 0} (h : ℕ) (state : SlotState) (what : EventKind A) (reply : Reply A)
@@ -68,195 +69,142 @@ own_event {A} old new event reply state h here =
       there = there;
     }
 
--- what others do leaves a guest as it is
-same_seat : (g : ℕ) (state : SlotState) (old new : SessionState) → output_of g new ≡ output_of g old
-    → seat_of g state new ≡ seat_of g state old
-same_seat g state old new same = rw same refl
+-- guest g sits so in a session, and nothing of it is paused
+record Sits (g : ℕ) (seat : Seat) (session : SessionState) : Type 0 where
+  there : slice_get (world_of session).slots g ≡ Some seat.state
+  waits : output_of g session ≡ seat.waiting
+  idle : IsIdle g (paced_world_of session)
 
-other_output : (g slot : ℕ) (old new : SessionState) → KeepsOtherOutputs slot old.outputs new.outputs
-    → slot ≢ g → output_of g new ≡ output_of g old
-other_output g slot old new kept other =
-    ap (λ (o : Option Waiting). (unwrap_or o (none_waiting 0)).bytes) (kept g (λ same. other (sym same)))
+module _ {A : Type 0} where
+  abbrev NeverMore : Response A → Type 0
+  NeverMore response = response ≢ More
 
--- the rest of a course, with what it begins with
-by_limit : {A : Type 0} (before after : ℕ) (old last : Seat) (askings : List (Asking A))
-    (answers : List (Answer A)) → after ≡ before → IsSeatCourse after old askings answers last
-    → IsSeatCourse before old askings answers last
-by_limit before after old last askings answers same course =
-    subst (λ (n : ℕ). IsSeatCourse n old askings answers last) same course
+  abbrev Came : Seat → SessionState → SessionStep A → Type 0
+  Came seat old step = OwnStep slot_in own_call IsNextAsked limit_of Sits seat old step
 
-abbrev Rests : {A : Type 0} → ℕ → SessionState → List (SessionStep A) → SessionState → Type 0
-Rests g after steps new =
-    (state : SlotState) → slice_get (world_of after).slots g ≡ Some state → IsIdle g (paced_world_of after)
-    → IsSeatedAlone g state after steps new
+  -- a call of a slot of which nothing is paused, and which doesn't pause
+  own_called : (old : SessionState) (call : Call A) (response : Response A)
+      (after : SessionState) (seat : Seat)
+      → IsCalled old call response after → ComesTo call (Some None) old response after → response ≢ More
+      → Sits (slot_in call) seat old → Came seat old (Called call response after)
+  own_called old (Handle event) (Answered reply) after seat h comes never sits =
+      let came = own_event old after event reply seat.state h.whole sits.there in
+      let same : seat_of event.slot seat.state old ≡ seat =
+      ap (λ (w : List ℕ). record { state = seat.state; waiting = w }) sits.waits in
+      record {
+        last = seat_of event.slot came.last after;
+        next = subst (λ (s : Seat). IsNextWithin (limit_of event.slot old) s event.what reply
+            (seat_of event.slot came.last after)) same came.next;
+        sits = record {
+          there = came.there;
+          waits = refl;
+          idle = ap (λ (ps : List (Option Pause)). slice_get ps event.slot) h.whole.paused ∙ sits.idle;
+        };
+      }
+  own_called old (Handle event) More after seat h comes never sits = absurd (never refl)
+  own_called old (Handle event) Busy after seat h comes never sits =
+      absurd (never_busy comes.turn.turn (sym comes.turn.told))
+  own_called old (Handle event) Idle after seat h comes never sits =
+      absurd (never_idle comes.turn.turn (sym comes.turn.told))
+  own_called old (GoOn slot) response after seat h comes never sits =
+      record {
+        last = seat;
+        next = (comes.0, refl);
+        sits = subst (λ (s : SessionState). Sits slot seat s) (sym comes.1) sits;
+      }
 
--- a call for another is none of this guest's
-call_of_other : {A : Type 0} (g : ℕ) (old : SessionState) (call : Call A) (response : Response A)
-    (after : SessionState) (steps : List (SessionStep A)) (new : SessionState) (state : SlotState)
-    → (slot_in call == g) ≡ false → slot_in call ≢ g → IsCall old call response after
-    → slice_get (world_of old).slots g ≡ Some state → IsIdle g (paced_world_of old) → Rests g after steps new
-    → IsSeatedAlone g state old (Called call response after ∷ steps) new
-call_of_other g old call response after steps new state test other h here idle rest =
-    let s = step_of old call response after h in
-    let kept = others_at g old.budget call (slice_get old.paused (slot_in call)) (paced_world_of old) response
-    s.output s.block s.console (paced_world_of after) other s.comes in
-    let alone = rest state (kept.slot ∙ here) (kept.paused ∙ idle) in
-    let same = same_seat g state old after (other_output g (slot_in call) old after s.outputs other) in
-    let own = by_limit (limit_of g old) (limit_of g after) (seat_of g state after) (seat_of g alone.last new)
-    (own_askings g steps) (own_answers g steps) (s.limits g) alone.own in
-    record { last = alone.last; own = rw test (rw same at own); state_after = alone.state_after }
+  -- the first bytes that wait are what is taken
+  own_taken : (old : SessionState) (slot room : ℕ) (bytes : List ℕ) (after : SessionState) (seat : Seat)
+      → IsTaken old slot room bytes after → Sits slot seat old → Came seat old (Took slot room bytes after)
+  own_taken old slot room bytes after seat h sits = record {
+    last = record seat { waiting = drop room seat.waiting };
+    next = (h.first ∙ ap (λ (w : List ℕ). take room w) sits.waits, refl);
+    sits = record {
+      there = ap (λ (w : World). slice_get w.slots slot) h.world ∙ sits.there;
+      waits = h.left ∙ ap (λ (w : List ℕ). drop room w) sits.waits;
+      idle = ap (λ (ps : List (Option Pause)). slice_get ps slot) h.paused ∙ sits.idle;
+    };
+  }
 
--- an event of its own is answered
-event_of_own : {A : Type 0} (g : ℕ) (old : SessionState) (event : Event A) (reply : Reply A)
-    (after : SessionState) (steps : List (SessionStep A)) (new : SessionState) (state : SlotState)
-    → (event.slot == g) ≡ true → event.slot ≡ g → IsStep old event reply after
-    → slice_get (world_of old).slots g ≡ Some state → IsIdle g (paced_world_of old) → Rests g after steps new
-    → IsSeatedAlone g state old (Called (Handle event) (Answered reply) after ∷ steps) new
-event_of_own {A} g old event reply after steps new state test mine h here idle rest =
-    let came : OwnEvent g state event.what reply old after =
-    subst (λ (k : ℕ). OwnEvent k state event.what reply old after) mine
-    (own_event old after event reply state h
-    (ap (λ (k : ℕ). slice_get (world_of old).slots k) mine ∙ here)) in
-    let alone = rest came.last came.there
-    (ap (λ (ps : List (Option Pause)). slice_get ps g) h.paused ∙ idle) in
-    let own = by_limit (limit_of g old) (limit_of g after) (seat_of g came.last after)
-    (seat_of g alone.last new) (own_askings g steps) (own_answers g steps) (h.limits g) alone.own in
-    record {
-      last = alone.last;
-      own = rw test (seat_of g came.last after, came.next, own);
-      state_after = alone.state_after;
-    }
+  own_step : (old : SessionState) (step : SessionStep A) (seat : Seat) → Happens old step
+      → IsFairStep slot_in own_call IsNextAsked limit_of Sits Happens NeverMore step
+      → Sits (slot_of slot_in step) seat old → Came seat old step
+  own_step old (Called call response after) seat h never sits =
+      own_called old call response after seat h
+      (subst (λ (p : Option (Option Pause)). ComesTo call p old response after) sits.idle
+      (by_pause old call response after h)) never sits
+  own_step old (Took slot room bytes after) seat h never sits =
+      own_taken old slot room bytes after seat h sits
 
--- nothing of its own goes on
-goes_of_own : {A : Type 0} (g slot : ℕ) (old : SessionState) (response : Response A) (after : SessionState)
-    (steps : List (SessionStep A)) (new : SessionState) (state : SlotState)
-    → (slot == g) ≡ true → (response ≡ Idle) × (after ≡ old)
-    → slice_get (world_of old).slots g ≡ Some state → IsIdle g (paced_world_of old) → Rests g after steps new
-    → IsSeatedAlone g state old (Called (GoOn slot) response after ∷ steps) new
-goes_of_own {A} g slot old response after steps new state test h here idle rest =
-    let alone : IsSeatedAlone g state old steps new =
-    subst (λ (s : SessionState). Rests g s steps new) h.1 rest state here idle in
-    record {
-      last = alone.last;
-      own = rw test (seat_of g state old, (h.0, refl), alone.own);
-      state_after = alone.state_after;
-    }
+  others_step : (old : SessionState) (step : SessionStep A) (g : ℕ) (seat : Seat) → slot_of slot_in step ≢ g
+      → Happens old step → Sits g seat old → Sits g seat (after_step step)
+  others_step old (Called call response after) g seat other h sits =
+      let s = step_of old call response after (by_pause old call response after h) in
+      let kept = others_at g old.budget call (slice_get old.paused (slot_in call))
+      (paced_world_of old) response
+      s.output s.block s.console (paced_world_of after) other s.comes in
+      record {
+        there = kept.slot ∙ sits.there;
+        waits = ap (λ (w : Waiting). w.bytes)
+            (others_wait g (slot_in call) old.outputs after.outputs s.outputs other) ∙ sits.waits;
+        idle = kept.paused ∙ sits.idle;
+      }
+  others_step old (Took slot room bytes after) g seat other h sits = record {
+    there = ap (λ (w : World). slice_get w.slots g) h.world ∙ sits.there;
+    waits = ap (λ (w : Waiting). w.bytes) (others_wait g slot old.outputs after.outputs h.others other)
+        ∙ sits.waits;
+    idle = ap (λ (ps : List (Option Pause)). slice_get ps g) h.paused ∙ sits.idle;
+  }
 
-not_busy : {A : Type 0} (t : Turn A) → Busy ≡ response_to t → ⊥
-not_busy (turn.Answered reply) told = cc (told)
-not_busy (turn.More pause) told = cc (told)
+  step_limits : (old : SessionState) (step : SessionStep A) → Happens old step → (slot : ℕ)
+      → limit_of slot (after_step step) ≡ limit_of slot old
+  step_limits old (Called call response after) h =
+      (step_of old call response after (by_pause old call response after h)).limits
+  step_limits old (Took slot room bytes after) h = h.limits
 
-not_idle : {A : Type 0} (t : Turn A) → Idle ≡ response_to t → ⊥
-not_idle (turn.Answered reply) told = cc (told)
-not_idle (turn.More pause) told = cc (told)
-
-call_of_own : {A : Type 0} (g : ℕ) (old : SessionState) (call : Call A) (response : Response A)
-    (after : SessionState) (steps : List (SessionStep A)) (new : SessionState) (state : SlotState)
-    → (slot_in call == g) ≡ true → slot_in call ≡ g → response ≢ More → IsCalled old call response after
-    → ComesTo call (Some None) old response after
-    → slice_get (world_of old).slots g ≡ Some state → IsIdle g (paced_world_of old) → Rests g after steps new
-    → IsSeatedAlone g state old (Called call response after ∷ steps) new
-call_of_own g old (Handle event) (Answered reply) after steps new state test mine never h comes here idle
-    rest = event_of_own g old event reply after steps new state test mine h.1 here idle rest
-call_of_own g old (Handle event) More after steps new state test mine never h comes here idle rest =
-    absurd (never refl)
-call_of_own g old (Handle event) Busy after steps new state test mine never h comes here idle rest =
-    absurd (not_busy comes.turn.turn comes.turn.told)
-call_of_own g old (Handle event) Idle after steps new state test mine never h comes here idle rest =
-    absurd (not_idle comes.turn.turn comes.turn.told)
-call_of_own g old (GoOn slot) response after steps new state test mine never h comes here idle rest =
-    goes_of_own g slot old response after steps new state test comes here idle rest
-
-call_either : {A : Type 0} (g : ℕ) (old : SessionState) (call : Call A) (response : Response A)
-    (after : SessionState) (steps : List (SessionStep A)) (new : SessionState) (state : SlotState)
-    → ((eqb (slot_in call) g ≡ true) × (slot_in call ≡ g))
-    ⊎ ((eqb (slot_in call) g ≡ false) × (slot_in call ≢ g)) → (slot_in call ≡ g → response ≢ More)
-    → IsCalled old call response after
-    → slice_get (world_of old).slots g ≡ Some state → IsIdle g (paced_world_of old) → Rests g after steps new
-    → IsSeatedAlone g state old (Called call response after ∷ steps) new
-call_either {A} g old call response after steps new state (inl is) never h here idle rest =
-    let waits : slice_get old.paused (slot_in call) ≡ Some None =
-    ap (λ (k : ℕ). slice_get old.paused k) is.1 ∙ idle in
-    call_of_own g old call response after steps new state is.0 is.1 (never is.1) h
-    (subst (λ (p : Option (Option Pause)). ComesTo call p old response after) waits
-    (by_pause old call response after h)) here idle rest
-call_either g old call response after steps new state (inr is) never h here idle rest =
-    call_of_other g old call response after steps new state is.0 is.1
-    (by_pause old call response after h) here idle rest
-
--- the first bytes that wait are what is taken
-taken_either : {A : Type 0} (g slot room : ℕ) (old : SessionState) (bytes : List ℕ) (after : SessionState)
-    (steps : List (SessionStep A)) (new : SessionState) (state : SlotState)
-    → ((eqb slot g ≡ true) × (slot ≡ g)) ⊎ ((eqb slot g ≡ false) × (slot ≢ g))
-    → IsTaken old slot room bytes after
-    → slice_get (world_of old).slots g ≡ Some state → IsIdle g (paced_world_of old) → Rests g after steps new
-    → IsSeatedAlone g state old (Took slot room bytes after ∷ steps) new
-taken_either {A} g slot room old bytes after steps new state (inl is) h here idle rest =
-    let alone = rest state (ap (λ (w : World). slice_get w.slots g) h.world
-    ∙ here) (ap (λ (ps : List (Option Pause)). slice_get ps g) h.paused ∙ idle) in
-    let own = by_limit (limit_of g old) (limit_of g after) (seat_of g state after) (seat_of g alone.last new)
-    (own_askings g steps) (own_answers g steps) (h.limits g) alone.own in
-    let first : bytes ≡ take room (output_of g old) = h.first
-    ∙ ap (λ (k : ℕ). take room (output_of k old)) is.1 in
-    let left : output_of g after ≡ drop room (output_of g old) =
-    subst (λ (k : ℕ). output_of k after ≡ drop room (output_of k old)) is.1 h.left in
-    record {
-      last = alone.last;
-      own = rw is.0 (
-        seat_of g state after,
-        (first, ap (λ (w : List ℕ). record { state = state; waiting = w }) left),
-        own,
-      );
-      state_after = alone.state_after;
-    }
-taken_either {A} g slot room old bytes after steps new state (inr is) h here idle rest =
-    let alone = rest state (ap (λ (w : World). slice_get w.slots g) h.world
-    ∙ here) (ap (λ (ps : List (Option Pause)). slice_get ps g) h.paused ∙ idle) in
-    let same = same_seat g state old after (other_output g slot old after h.others is.1) in
-    let own = by_limit (limit_of g old) (limit_of g after) (seat_of g state after) (seat_of g alone.last new)
-    (own_askings g steps) (own_answers g steps) (h.limits g) alone.own in
-    record { last = alone.last; own = rw is.0 (rw same at own); state_after = alone.state_after }
-
-pub seated_alone : {A : Type 0} (g : ℕ) (old : SessionState) (steps : List (SessionStep A))
-    (new : SessionState) (state : SlotState) → IsCourse old steps new → NeverPauses g steps
-    → slice_get (world_of old).slots g ≡ Some state → IsIdle g (paced_world_of old)
-    → IsSeatedAlone g state old steps new
-seated_alone g old [] new state course never here idle =
-    record { last = state; own = rw course refl; state_after = rw course here }
-seated_alone g old (Called call response after ∷ steps) new state course never here idle =
-    call_either g old call response after steps new state (eqb_tells (slot_in call) g) never.0 course.0 here
-    idle (λ s at none. seated_alone g after steps new s course.1 never.1 at none)
-seated_alone g old (Took slot room bytes after ∷ steps) new state course never here idle =
-    taken_either g slot room old bytes after steps new state (eqb_tells slot g) course.0 here idle
-    (λ s at none. seated_alone g after steps new s course.1 never at none)
+  pub seated_alone : (g : ℕ) (old : SessionState) (steps : List (SessionStep A))
+      (new : SessionState) (state : SlotState) → IsCourse old steps new → NeverPauses g steps
+      → slice_get (world_of old).slots g ≡ Some state → IsIdle g (paced_world_of old)
+      → IsSeatedAlone g state old steps new
+  seated_alone g old steps new state course never here idle =
+      let is = alone slot_in own_call IsNextAsked limit_of Sits Happens NeverMore
+      (record { limits = step_limits; of_own = own_step; of_other = others_step }) g old steps new
+      (seat_of g state old) course never (record { there = here; waits = refl; idle = idle }) in
+      record {
+        last = is.last.state;
+        own = subst (λ (w : List ℕ). IsSeatCourse (limit_of g old) (seat_of g state old) (own_askings g steps)
+            (own_answers g steps) (record { state = is.last.state; waiting = w })) (sym is.sits.waits) is.own;
+        state_after = is.sits.there;
+      }
 
 -- ---- and so its own calls decide all that it sees
 
-asked_once : {A : Type 0} (limit : ℕ) (old one other : Seat) (asking : Asking A) (p q : Answer A)
+asked_once : {A : Type 0} (limit : ℕ) (old one other : Seat) (asking : Asking (OwnCall A))
+    (p q : Answer (Response A))
     → IsNextAsked limit old asking p one → IsNextAsked limit old asking q other → (p ≡ q) × (one ≡ other)
-asked_once {A} limit old one other (Does what) (Told (Answered p)) (Told (Answered q)) x y =
+asked_once {A} limit old one other (Does (Begins what)) (Told (Answered p)) (Told (Answered q)) x y =
     let same = seat_once limit old one other what p q x y in
     (ap (λ (r : Reply A). Told (Answered r)) same.0, same.1)
-asked_once limit old one other (Does what) (Told More) q x y = absurd x
-asked_once limit old one other (Does what) (Told Busy) q x y = absurd x
-asked_once limit old one other (Does what) (Told Idle) q x y = absurd x
-asked_once limit old one other (Does what) (Gave p) q x y = absurd x
-asked_once limit old one other (Does what) (Told (Answered p)) (Told More) x y = absurd y
-asked_once limit old one other (Does what) (Told (Answered p)) (Told Busy) x y = absurd y
-asked_once limit old one other (Does what) (Told (Answered p)) (Told Idle) x y = absurd y
-asked_once limit old one other (Does what) (Told (Answered p)) (Gave q) x y = absurd y
-asked_once {A} limit old one other Goes (Told p) (Told q) x y =
+asked_once limit old one other (Does (Begins what)) (Told More) q x y = absurd x
+asked_once limit old one other (Does (Begins what)) (Told Busy) q x y = absurd x
+asked_once limit old one other (Does (Begins what)) (Told Idle) q x y = absurd x
+asked_once limit old one other (Does (Begins what)) (Gave p) q x y = absurd x
+asked_once limit old one other (Does (Begins what)) (Told (Answered p)) (Told More) x y = absurd y
+asked_once limit old one other (Does (Begins what)) (Told (Answered p)) (Told Busy) x y = absurd y
+asked_once limit old one other (Does (Begins what)) (Told (Answered p)) (Told Idle) x y = absurd y
+asked_once limit old one other (Does (Begins what)) (Told (Answered p)) (Gave q) x y = absurd y
+asked_once {A} limit old one other (Does GoesOn) (Told p) (Told q) x y =
     (ap (λ (r : Response A). Told r) (x.0 ∙ sym y.0), x.1 ∙ sym y.1)
-asked_once limit old one other Goes (Gave p) q x y = absurd x
-asked_once limit old one other Goes (Told p) (Gave q) x y = absurd y
+asked_once limit old one other (Does GoesOn) (Gave p) q x y = absurd x
+asked_once limit old one other (Does GoesOn) (Told p) (Gave q) x y = absurd y
 asked_once {A} limit old one other (Takes room) (Gave p) (Gave q) x y =
-    let gave : List ℕ → Answer A = λ b. Gave b in
+    let gave : List ℕ → Answer (Response A) = λ b. Gave b in
     (ap gave (x.0 ∙ sym y.0), x.1 ∙ sym y.1)
 asked_once limit old one other (Takes room) (Told p) q x y = absurd x
 asked_once limit old one other (Takes room) (Gave p) (Told q) x y = absurd y
 
-pub seat_course_once : {A : Type 0} (limit : ℕ) (old : Seat) (askings : List (Asking A))
-    (one other : List (Answer A)) (s t : Seat) → IsSeatCourse limit old askings one s
+pub seat_course_once : {A : Type 0} (limit : ℕ) (old : Seat) (askings : List (Asking (OwnCall A)))
+    (one other : List (Answer (Response A))) (s t : Seat) → IsSeatCourse limit old askings one s
     → IsSeatCourse limit old askings other t → (one ≡ other) × (s ≡ t)
 seat_course_once limit old [] [] [] s t x y = (refl, x ∙ sym y)
 seat_course_once limit old [] (p ∷ one) other s t x y = absurd x
@@ -266,8 +214,11 @@ seat_course_once limit old (asking ∷ askings) (p ∷ one) [] s t x y = absurd 
 seat_course_once {A} limit old (asking ∷ askings) (p ∷ one) (q ∷ other) s t x y =
     let same = asked_once limit old x.0 y.0 asking p q x.1 y.1 in
     let rest = seat_course_once limit x.0 askings one other s t x.2
-    (subst (λ (n : Seat). IsSeatCourse limit n askings other t) (sym same.1) y.2) in
-    (ap (λ (answer : Answer A). answer ∷ one) same.0 ∙ ap (λ (l : List (Answer A)). q ∷ l) rest.0, rest.1)
+    (subst (λ (n : Seat). IsSeatCourse limit n askings other t) (sym same.1) y.2) in (
+      ap (λ (answer : Answer (Response A)). answer ∷ one) same.0
+          ∙ ap (λ (l : List (Answer (Response A))). q ∷ l) rest.0,
+      rest.1,
+    )
 
 -- A guest of one session and one of another, as the same slot with the same output: where the same is asked
 -- of both,
@@ -287,7 +238,8 @@ see_alike {A} g h old new other last steps more state x y never never' idle idle
     (own_askings h more) (own_answers h more) (seat_of h b.last last) = b.own in
     let three : IsSeatCourse (limit_of g old) (seat_of g state old) (own_askings g steps) (own_answers h more)
     (seat_of h b.last last) =
-    subst (λ (c : List (Asking A)). IsSeatCourse (limit_of g old) (seat_of g state old) c (own_answers h more)
+    subst (λ (c : List (Asking (OwnCall A))). IsSeatCourse (limit_of g old) (seat_of g state old) c
+    (own_answers h more)
     (seat_of h b.last last)) askings
     (subst (λ (w : List ℕ). IsSeatCourse (limit_of g old) (record { state = state; waiting = w })
     (own_askings h more) (own_answers h more) (seat_of h b.last last)) out

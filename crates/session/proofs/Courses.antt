@@ -4,15 +4,16 @@ use Rattle.std.specs.Prelude.{if◌then◌else◌, min, slice_set, unwrap_or}
 use Rattle.std.specs.List.{slice_get}
 use Rattle.std.proofs.lemmas.Bool.Decides.{nat_tests}
 use Rattle.std.proofs.lemmas.List.{take_min, drop_min}
+use Rattle.board.proofs.Lists.{others_kept}
 use Rattle.session.specs.Course.{IsTaken}
 use Rattle.session.specs.Session.{KeepsOtherOutputs, SessionState, Waiting, none_waiting, output_of}
-use Rattle.session.proofs.Waiting.{limits_set, others_output, set_there}
+use Rattle.session.proofs.Waiting.{limits_set, others_wait, set_there}
 
 pub output_kept : (g slot : ℕ) (old new : SessionState) → KeepsOtherOutputs slot old.outputs new.outputs
     → (slot == g) ≡ false → output_of g new ≡ output_of g old
 output_kept g slot old new kept test =
-    let other : g ≢ slot = grind (arith, nat_tests) in
-    ap (λ (o : Option Waiting). (unwrap_or o (none_waiting 0)).bytes) (kept g other)
+    let other : slot ≢ g = grind (arith, nat_tests) in
+    ap (λ (w : Waiting). w.bytes) (others_wait g slot old.outputs new.outputs kept other)
 
 pub taken_output : (mine : Bool) (bytes before after out taken new : List ℕ) →
     (mine ≡ true → before ≡ bytes ++ after) → (mine ≡ false → after ≡ before) →
@@ -60,7 +61,7 @@ taken old slot room count before here fits is =
           (set_there old.outputs slot (record before { bytes = drop count before.bytes }) fits)
           ∙ (ap (λ (l : List ℕ). drop count l) (sym waits)
           ∙ (ap (λ (n : ℕ). drop n (output_of slot old)) many ∙ drop_min room (output_of slot old)));
-      others = others_output old.outputs slot _;
+      others = others_kept old.outputs slot _;
       limits = limits_set old.outputs slot before
           (record before { bytes = drop count before.bytes }) here refl;
       world = refl;

@@ -202,7 +202,7 @@ exact_from {A} old new h what reply (Some state) own here is =
     let came = came_to old new h what reply state here is in
     let fair : IsFair state what state.flight reply =
     subst (λ (r : Reply A). IsFair state what state.flight r) (sym came.replied)
-    (own_fair state what came.outcome state.flight (own_next state what came.outcome own came.next)) in
+    (own_fair state what came.outcome state.flight (own_next state what came.outcome own came.called.next)) in
     let below = slice_get_within old.slots h state here in
     record {
       bad_slot = (λ no. absurd (fair.there no), λ past. absurd (omega (arith, below, past)));
@@ -210,9 +210,10 @@ exact_from {A} old new h what reply (Some state) own here is =
       no_room = λ none any. rw here (fair.room none any);
     }
 
-pub exact : {A : Type 0} (old new : HostedSessionState) (h : ℕ) (what : EventKind A) (reply : Reply A)
+pub exact : {A : Type 0} {old new : HostedSessionState} {h : ℕ} {what : EventKind A} {reply : Reply A}
     → IsOwn what → IsHostedCall old h what reply new → IsExact old.slots h what reply
-exact old new h what reply own is = exact_from old new h what reply (slice_get old.slots h) own refl is
+exact {old = old} {new = new} {h = h} {what = what} {reply = reply} own is =
+    exact_from old new h what reply (slice_get old.slots h) own refl is
 
 -- and of a completion
 pub record IsExactCompletion {A : Type 0} (slots : List HostedState) (h : ℕ) (reply : Reply A) : Type 0 where
@@ -237,16 +238,17 @@ exact_completion_from old new h verdict reply None here is =
     record { bad_slot = (λ yes. past, λ yes. told); idle = rw here (λ no. absurd (cc), λ no. absurd no) }
 exact_completion_from {A} old new h verdict reply (Some state) here is =
     let came = came_to old new h (Complete verdict) reply state here is in
-    let fair = completed_from old.slots h state verdict came.outcome state.flight came.next in
+    let fair = completed_from old.slots h state verdict came.outcome state.flight came.called.next in
     let below = slice_get_within old.slots h state here in
     record {
       bad_slot = (λ no. absurd (fair.0 (sym came.replied ∙ no)), λ past. absurd (omega (arith, below, past)));
       idle = rw here (λ yes. fair.1.0 (sym came.replied ∙ yes), λ none. came.replied ∙ fair.1.1 none);
     }
 
-pub exact_completion : {A : Type 0} (old new : HostedSessionState) (h : ℕ) (verdict : Verdict)
-    (reply : Reply A) → IsHostedCall old h (Complete verdict) reply new → IsExactCompletion old.slots h reply
-exact_completion old new h verdict reply is =
+pub exact_completion : {A : Type 0} {old new : HostedSessionState} {h : ℕ}
+    {verdict : Verdict} {reply : Reply A}
+    → IsHostedCall old h (Complete verdict) reply new → IsExactCompletion old.slots h reply
+exact_completion {old = old} {new = new} {h = h} {verdict = verdict} {reply = reply} is =
     exact_completion_from old new h verdict reply (slice_get old.slots h) refl is
 
 -- ---- and what a call answers
@@ -268,7 +270,7 @@ abbrev pub refused : {T : Type 0} → Result T Refusal → Option Refusal
 refused (Ok value) = None
 refused (Err why) = Some why
 
-pub refusing_in : (A : Type 0) (why : Refusal) → refusal_in {A = A} (hosted_refusing why) ≡ Some why
+refusing_in : (A : Type 0) (why : Refusal) → refusal_in {A = A} (hosted_refusing why) ≡ Some why
 refusing_in A refusal.BadSlot = refl
 refusing_in A refusal.BadRange = refl
 refusing_in A refusal.NoRoom = refl
@@ -291,12 +293,12 @@ is_err : {T : Type 0} (r : Result T Refusal) (why : Refusal) → refused r ≡ S
 is_err (Ok value) why is = absurd (cc)
 is_err (Err w) why is = ap (λ x. Err x) (same_Some w why is)
 
-pub refused_only : {A T : Type 0} (told : Reply A) (r : Result T Refusal) (why : Refusal) (P : Type 0)
+refused_only : {A T : Type 0} (told : Reply A) (r : Result T Refusal) (why : Refusal) (P : Type 0)
     → refusal_in told ≡ refused r → (told ≡ hosted_refusing why → P) → IsErrOf r why → P
 refused_only {A} {T} told r why P same says is =
     says (telling told why (same ∙ ap (λ (x : Result T Refusal). refused x) is))
 
-pub refused_where : {A T : Type 0} (told : Reply A) (r : Result T Refusal) (why : Refusal) (P : Type 0)
+refused_where : {A T : Type 0} (told : Reply A) (r : Result T Refusal) (why : Refusal) (P : Type 0)
     → refusal_in told ≡ refused r → (told ≡ hosted_refusing why) ↔ P → IsErrOf r why ↔ P
 refused_where {A} told r why P same when = (
   refused_only told r why P same when.0,
@@ -304,7 +306,18 @@ refused_where {A} told r why P same when = (
       ∙ (ap (λ (t : Reply A). refusal_in t) (when.1 p) ∙ refusing_in A why)),
 )
 
-pub served_in : {A : Type 0} (told : Reply A) (r : Result HostedProgress Refusal) → told ≡ hosted_served r
+served_in : {A : Type 0} (told : Reply A) (r : Result HostedProgress Refusal) → told ≡ hosted_served r
     → refusal_in told ≡ refused r
 served_in told (Ok progress) is = rw is refl
 served_in {A} told (Err why) is = rw is (refusing_in A why)
+
+-- of what is served
+pub served_only : {A : Type 0} {told : Reply A} {r : Result HostedProgress Refusal}
+    (why : Refusal) {P : Type 0}
+    → told ≡ hosted_served r → (told ≡ hosted_refusing why → P) → IsErrOf r why → P
+served_only {told = told} {r = r} why {P = P} is says = refused_only told r why P (served_in told r is) says
+
+pub served_where : {A : Type 0} {told : Reply A} {r : Result HostedProgress Refusal}
+    (why : Refusal) {P : Type 0}
+    → told ≡ hosted_served r → (told ≡ hosted_refusing why) ↔ P → IsErrOf r why ↔ P
+served_where {told = told} {r = r} why {P = P} is when = refused_where told r why P (served_in told r is) when

@@ -13,7 +13,7 @@ use Rattle.board.specs.declared.reply.Reply.{Reply}
 use Rattle.board.specs.declared.reply.Reply.TheVariants as reply
 use Rattle.board.specs.declared.reply.Reply.TheVariants.{BadSlot, Busy, Done, Idle}
 use Rattle.board.specs.Hosting.{CompletesOrGives, CompletionGives, GivesAtRest, GivesInFlight, HostedOutcome, HostedState, InFlight, IsBesideDisk, IsHostedNext, IsOwn, OwnGives, WaitsOrGives, must_wait, notifies_block, verdict_in}
-use Rattle.board.specs.HostedLine.{CallsNone, CallsSlot, HostedCall, Told, put_back, with_bytes}
+use Rattle.board.specs.HostedLine.{CallsNone, CallsSlot, HostedCall, IsCalledNext, Told, put_back, with_bytes}
 use Rattle.board.specs.Machine.{at_rest}
 use Rattle.board.proofs.Alone.{get_set}
 use Rattle.board.proofs.HostedAccess.{set_same, was_written}
@@ -24,11 +24,34 @@ use Rattle.session.specs.Session.{Waiting, none_waiting, waiting_at}
 use Rattle.session.proofs.HostedSteps.{quiet}
 use Rattle.session.proofs.Waiting.{rebuilt}
 
+-- a call for a slot as the board takes it, and what it tells of it
+abbrev pub call_at : {A : Type 0} → HostedSessionState → ℕ → EventKind A → HostedCall A
+call_at old h event =
+    let waits = waiting_at h old.outputs in
+    record { event = event; limit = Some waits.limit; waiting = waits.bytes }
+
+abbrev told_in : {A : Type 0} {old new : HostedSessionState} {h : ℕ} {event : EventKind A} {reply : Reply A}
+    → IsHostedCall old h event reply new → Told A
+told_in {reply = reply} is = record {
+  reply = reply;
+  output = is.takes.output;
+  block_irq = is.block;
+  console_irq = is.console;
+}
+
+calls_at : {A : Type 0} (old new : HostedSessionState) (h : ℕ) (event : EventKind A) (reply : Reply A)
+    (o : Option HostedState) → slice_get old.slots h ≡ o → (is : IsHostedCall old h event reply new)
+    → MatchOption o (CallsNone old.slots (told_in is) new.slots)
+    (λ s. CallsSlot old.slots h s (call_at old h event) (told_in is) new.slots)
+calls_at old new h event reply o here is =
+    subst (λ (p : Option HostedState). MatchOption p (CallsNone old.slots (told_in is) new.slots)
+    (λ s. CallsSlot old.slots h s (call_at old h event) (told_in is) new.slots)) here is.takes.calls
+
 -- what a call for a slot that is there comes to
 pub record Came {A : Type 0} (h : ℕ) (state : HostedState) (event : EventKind A) (reply : Reply A)
     (old new : HostedSessionState) : Type 0 where
   pub outcome : HostedOutcome A
-  pub next : IsHostedNext state event outcome
+  pub called : IsCalledNext state (call_at old h event) outcome
   pub replied : reply ≡ outcome.reply
   pub slots : new.slots ≡ slice_set old.slots h outcome.state
   pub behind : (waiting_at h new.outputs).bytes ≡ (waiting_at h old.outputs).bytes ++ outcome.output
@@ -37,23 +60,15 @@ pub came_to : {A : Type 0} (old new : HostedSessionState) (h : ℕ) (event : Eve
     (state : HostedState) → slice_get old.slots h ≡ Some state → IsHostedCall old h event reply new
     → Came h state event reply old new
 came_to {A} old new h event reply state here is =
-    let waits = waiting_at h old.outputs in
-    let call : HostedCall A = record { event = event; limit = Some waits.limit; waiting = waits.bytes } in
-    let told : Told A = record {
-      reply = reply;
-      output = is.takes.output;
-      block_irq = is.block;
-      console_irq = is.console;
-    } in
-    let calls : CallsSlot old.slots h state call told new.slots =
-    subst (λ (o : Option HostedState). MatchOption o (CallsNone old.slots told new.slots)
-    (λ s. CallsSlot old.slots h s call told new.slots)) here is.takes.calls in
+    let calls : CallsSlot old.slots h state (call_at old h event) (told_in is) new.slots =
+    calls_at old new h event reply (Some state) here is in
     record {
       outcome = calls.outcome;
-      next = calls.next.next;
+      called = calls.next;
       replied = ap (λ (t : Told A). t.reply) calls.told_is;
       slots = calls.slots;
-      behind = is.takes.appended ∙ ap (λ (t : Told A). waits.bytes ++ t.output) calls.told_is;
+      behind = is.takes.appended
+          ∙ ap (λ (t : Told A). (waiting_at h old.outputs).bytes ++ t.output) calls.told_is;
     }
 
 -- ---- what is in flight
@@ -69,7 +84,7 @@ flies_at old new h what reply flying (Some state) own here is flies =
     (slice_get slots h)) came.slots
     ∙ (ap (λ (o : Option HostedState). option_and_then (λ (s : HostedState). s.flight) o)
     (get_set old.slots h state came.outcome.state here)
-    ∙ outlasts state flying what came.outcome own flies came.next)
+    ∙ outlasts state flying what came.outcome own flies came.called.next)
 
 pub flies_on : {A : Type 0} (old new : HostedSessionState) (h : ℕ) (what : EventKind A) (reply : Reply A)
     (flying : InFlight) → IsOwn what → IsHostedCall old h what reply new → flight_at h old ≡ Some flying
@@ -83,18 +98,7 @@ flies_on old new h what reply flying own is flies =
 pub told_none : {A : Type 0} (old new : HostedSessionState) (h : ℕ) (event : EventKind A) (reply : Reply A)
     → slice_get old.slots h ≡ None → IsHostedCall old h event reply new → reply ≡ BadSlot
 told_none {A} old new h event reply here is =
-    let waits = waiting_at h old.outputs in
-    let told : Told A = record {
-      reply = reply;
-      output = is.takes.output;
-      block_irq = is.block;
-      console_irq = is.console;
-    } in
-    let calls : CallsNone old.slots told new.slots =
-    subst (λ (o : Option HostedState). MatchOption o (CallsNone old.slots told new.slots)
-    (λ s. CallsSlot old.slots h s
-    (record { event = event; limit = Some waits.limit; waiting = waits.bytes }) told new.slots))
-    here is.takes.calls in
+    let calls : CallsNone old.slots (told_in is) new.slots = calls_at old new h event reply None here is in
     ap (λ (t : Told A). t.reply) calls.told_is
 
 -- a reply that says that nothing was done
@@ -174,7 +178,7 @@ output_stays : {A : Type 0} (old new : HostedSessionState) (h : ℕ) (event : Ev
 output_stays {A} old new h event reply state here is stalls slot (inl same) =
     let came = came_to old new h event reply state here is in
     let silent : came.outcome.output ≡ [] =
-    next_silent state event came.outcome came.next
+    next_silent state event came.outcome came.called.next
     (subst (λ (r : Reply A). Stalls r) came.replied stalls) in
     let bytes : (waiting_at h new.outputs).bytes ≡ (waiting_at h old.outputs).bytes =
     came.behind ∙ (ap (λ (b : List ℕ). (waiting_at h old.outputs).bytes ++ b) silent
@@ -190,7 +194,7 @@ busy_from {A} old new h what None here is = let told : ◌≡◌ {A = Reply A} B
     told_none old new h what Busy here is in absurd (cc)
 busy_from old new h what (Some state) here is =
     let came = came_to old new h what Busy state here is in
-    let stays = busy_stays state what came.outcome came.next (sym came.replied) in (
+    let stays = busy_stays state what came.outcome came.called.next (sym came.replied) in (
       record {
         slots = came.slots ∙ set_same old.slots h state came.outcome.state here stays.0;
         outputs = λ slot. output_stays old new h what Busy state here is tt slot (eqb_tells slot h);
@@ -210,7 +214,7 @@ idle_from old new h event (Some state) here is =
     let came = came_to old new h event Idle state here is in
     record {
       slots = came.slots ∙ set_same old.slots h state came.outcome.state here
-          (idle_stays state event came.outcome came.next (sym came.replied));
+          (idle_stays state event came.outcome came.called.next (sym came.replied));
       outputs = λ slot. output_stays old new h event Idle state here is tt slot (eqb_tells slot h);
     }
 

@@ -16,6 +16,7 @@ use Rattle.board.specs.Machine.{at_rest}
 use Rattle.board.specs.Slot.{SlotState}
 use Rattle.board.proofs.HostedSeats.{calls_missing}
 use Rattle.board.proofs.Waiting.{own_next, untied}
+use Rattle.board.proofs.Lists.{others_kept}
 use Rattle.session.specs.declared.refusal.Refusal.{Refusal}
 use Rattle.session.specs.declared.refusal.Refusal.TheVariants as refusal
 use Rattle.session.specs.Answering.{Suits}
@@ -23,7 +24,7 @@ use Rattle.session.specs.Hosted.{HostedSessionState, IsHostedCall}
 use Rattle.session.specs.HostedAnswering.{SuitsCompletion, SuitsHosted, hosted_typed}
 use Rattle.session.specs.Session.{Waiting, none_waiting, waiting_at}
 use Rattle.session.proofs.Suiting.{given_suits}
-use Rattle.session.proofs.Waiting.{limits_set, others_output, set_there}
+use Rattle.session.proofs.Waiting.{limits_set, set_there}
 
 -- what is answered of bytes that were typed, and so many taken
 abbrev pub typed_or : Option ℕ → Result ℕ Refusal
@@ -55,7 +56,7 @@ came slots new outputs h event reply block console queue later here takes others
       (subst (λ (w : Waiting). TakesCall slots h event (Some queue.limit) reply block console queue.bytes
       w.bytes new) (sym (set_there outputs h later (slice_get_within outputs h queue here))) takes);
   others = others;
-  outputs = others_output outputs h later;
+  outputs = others_kept outputs h later;
   limits = limits_set outputs h queue later here limit;
 }
 

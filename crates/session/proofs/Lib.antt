@@ -3,6 +3,7 @@ pub mod PacedAlone
 pub mod Turns
 pub mod PacedCalls
 pub mod Access
+pub mod IdleSlots
 pub mod Noted
 pub mod Places
 pub mod Suiting
@@ -16,6 +17,7 @@ pub mod SessionTurns
 pub mod Restoring
 pub mod Courses
 pub mod PacedCourses
+pub mod Seats
 pub mod Alone
 pub mod Made
 pub mod InPlace

@@ -56,9 +56,9 @@ module _ {State : Type 0} (device : Device State) (q : ℕ) where
   first_at budget (Some queue) m0 m1 w0 w1 s0 s1 is h =
       record { queue = queue; there = is; paused = pauses_first device budget q queue m0 m1 w0 w1 s0 s1 h }
 
-  pub first : (budget : Budget) (m0 m1 : Memory) (w0 w1 : WindowState) (s0 s1 : State)
+  pub first : (budget : Budget) {m0 m1 : Memory} {w0 w1 : WindowState} {s0 s1 : State}
       → BeginsTo device budget q (queue_at q w0) progress.More m0 m1 w0 w1 s0 s1 → OnItsWay m0 m1 w0 w1 s0 s1
-  first budget m0 m1 w0 w1 s0 s1 h = first_at budget (queue_at q w0) m0 m1 w0 w1 s0 s1 refl h
+  first budget {m0} {m1} {w0} {w1} {s0} {s1} h = first_at budget (queue_at q w0) m0 m1 w0 w1 s0 s1 refl h
 
   -- the queue that goes on is the one that stands open
   open_now : (m0 m1 : Memory) (w0 w1 : WindowState) (s0 s1 : State) → (way : OnItsWay m0 m1 w0 w1 s0 s1)
@@ -66,10 +66,10 @@ module _ {State : Type 0} (device : Device State) (q : ℕ) where
   open_now m0 m1 w0 w1 s0 s1 way = ap (λ w. queue_at q w) way.paused.window
       ∙ queue_stands_open q w0 way.queue way.paused.last way.there
 
-  pub again : (budget : Budget) (m0 m1 m2 : Memory) (w0 w1 w2 : WindowState) (s0 s1 s2 : State)
+  pub again : (budget : Budget) {m0 m1 m2 : Memory} {w0 w1 w2 : WindowState} {s0 s1 s2 : State}
       → OnItsWay m0 m1 w0 w1 s0 s1 → GoesOnTo device budget q (queue_at q w1) progress.More m1 m2 w1 w2 s1 s2
       → OnItsWay m0 m2 w0 w2 s0 s2
-  again budget m0 m1 m2 w0 w1 w2 s0 s1 s2 way h = record {
+  again budget {m0} {m1} {m2} {w0} {w1} {w2} {s0} {s1} {s2} way h = record {
     queue = way.queue;
     there = way.there;
     paused =
@@ -79,10 +79,10 @@ module _ {State : Type 0} (device : Device State) (q : ℕ) where
   }
 
   -- At its end it is one service.
-  pub ended : (budget : Budget) (m0 m1 m2 : Memory) (w0 w1 w2 : WindowState) (s0 s1 s2 : State)
+  pub ended : (budget : Budget) {m0 m1 m2 : Memory} {w0 w1 w2 : WindowState} {s0 s1 s2 : State}
       → OnItsWay m0 m1 w0 w1 s0 s1 → GoesOnTo device budget q (queue_at q w1) progress.Done m1 m2 w1 w2 s1 s2
       → IsNotified device q (queue_at q w0) m0 m2 w0 w2 s0 s2
-  ended budget m0 m1 m2 w0 w1 w2 s0 s1 s2 way h =
+  ended budget {m0} {m1} {m2} {w0} {w1} {w2} {s0} {s1} {s2} way h =
       let f : IsFinishedWithin device budget q (Some way.paused.last) m1 m2 w1 w2 s1 s2 =
       subst (λ (f : Option Queue). GoesOnTo device budget q f progress.Done m1 m2 w1 w2 s1 s2)
       (open_now m0 m1 w0 w1 s0 s1 way) h in
@@ -137,58 +137,12 @@ rested device stage budget progress old new before after start h =
           progress old.memory new.memory old.block new.block (disk_with old.extent start) d) is p.served;
     }
 
-block_first : (budget : Budget) (mid : SlotState) (before after : Health) (new : SlotState) (output : List ℕ)
-    → IsBlockPiece (exact_device (device_of mid)) First budget progress.More mid before after new output
-    → BlockWay mid new output
-block_first budget mid before after new output h =
-    let r : Rested (device_of mid) First budget progress.More mid new at_rest =
-    rested (device_of mid) First budget progress.More mid new before after at_rest h.served in
-    record {
-      health = r.health;
-      way = first (exact_device (device_of mid)) 0 budget mid.memory new.memory mid.block new.block
-          (disk_with mid.extent at_rest) (disk_with new.extent r.health) r.served;
-      is = h.is;
-      size = h.size;
-      silent = h.silent;
-    }
-
--- the piece that goes on, of the device as it began
-block_next : (budget : Budget) (progress : Progress) (mid now : SlotState) (out : List ℕ)
-    (before after : Health) (new : SlotState) (output : List ℕ) → (w : BlockWay mid now out)
-    → IsBlockPiece (exact_device (device_of now)) Next budget progress now before after new output
-    → Rested (device_of mid) Next budget progress now new w.health
-block_next budget progress mid now out before after new output w h =
-    let same : device_of now ≡ device_of mid =
-    same_device now mid w.size (ap (λ (s : SlotState). s.read_only) w.is)
-    (ap (λ (s : SlotState). s.identity) w.is) in
-    rested (device_of mid) Next budget progress now new before after w.health
-    (subst (λ (d : BlockDevice). ServesTo Next (exact_device d) budget 0 (queue_at 0 now.block) progress
-    now.memory new.memory now.block new.block (disk_with now.extent before)
-    (disk_with new.extent after)) same h.served)
-
 -- what two pieces put out that put out nothing
 silent_both : (out output : List ℕ) → out ≡ [] → output ≡ [] → out ++ output ≡ []
 silent_both out output x y = rw (x, y) refl
 
 abbrev with_block : SlotState → SlotState → SlotState
 with_block mid new = record mid { memory = new.memory; extent = new.extent; block = new.block }
-
-block_again : (budget : Budget) (mid now : SlotState) (out : List ℕ) (before after : Health) (new : SlotState)
-    (output : List ℕ) → BlockWay mid now out
-    → IsBlockPiece (exact_device (device_of now)) Next budget progress.More now before after new output
-    → BlockWay mid new (out ++ output)
-block_again budget mid now out before after new output w h =
-    let r : Rested (device_of mid) Next budget progress.More now new w.health =
-    block_next budget progress.More mid now out before after new output w h in
-    record {
-      health = r.health;
-      way = again (exact_device (device_of mid)) 0 budget mid.memory now.memory new.memory mid.block now.block
-          new.block (disk_with mid.extent at_rest) (disk_with now.extent w.health)
-          (disk_with new.extent r.health) w.way r.served;
-      is = h.is ∙ ap (λ (s : SlotState). with_block s new) w.is;
-      size = h.size ∙ w.size;
-      silent = silent_both out output w.silent h.silent;
-    }
 
 record BlockEnded (A : Type 0) (mid new : SlotState) (out : List ℕ) : Type 0 where
   health : Health
@@ -197,24 +151,6 @@ record BlockEnded (A : Type 0) (mid new : SlotState) (out : List ℕ) : Type 0 w
 same_came : {A : Type 0} (s t : SlotState) (reply : Reply A) (x y : List ℕ) → s ≡ t → x ≡ y
     → came s reply x ≡ came t reply y
 same_came s t reply x y a b = rw (a, b) refl
-
-block_ended : (A : Type 0) (budget : Budget) (mid now : SlotState) (out : List ℕ) (before after : Health)
-    (new : SlotState) (output : List ℕ) → BlockWay mid now out
-    → IsBlockPiece (exact_device (device_of now)) Next budget progress.Done now before after new output
-    → BlockEnded A mid new (out ++ output)
-block_ended A budget mid now out before after new output w h =
-    let r : Rested (device_of mid) Next budget progress.Done now new w.health =
-    block_next budget progress.Done mid now out before after new output w h in
-    record {
-      health = r.health;
-      service = record {
-        notified = ended (exact_device (device_of mid)) 0 budget mid.memory now.memory new.memory mid.block
-            now.block new.block (disk_with mid.extent at_rest) (disk_with now.extent w.health)
-            (disk_with new.extent r.health) w.way r.served;
-        is = same_came new (with_block mid new) Done (out ++ output) [] (h.is
-            ∙ ap (λ (s : SlotState). with_block s new) w.is) (silent_both out output w.silent h.silent);
-      };
-    }
 
 -- ---- the receive queue
 
@@ -225,38 +161,6 @@ pub record ReceiveWay (mid now : SlotState) (out : List ℕ) : Type 0 where
 
 abbrev with_receive : SlotState → SlotState → SlotState
 with_receive mid new = record mid { memory = new.memory; console = new.console; pending = new.pending }
-
-receive_first : (budget : Budget) (mid : SlotState) (before after : Health)
-    (new : SlotState) (output : List ℕ)
-    → IsReceivePiece First budget progress.More mid before after new output → ReceiveWay mid new output
-receive_first budget mid before after new output h = record {
-  way = first receive 0 budget mid.memory new.memory mid.console new.console mid.pending new.pending h.served;
-  is = h.is;
-  silent = h.silent;
-}
-
-receive_again : (budget : Budget) (mid now : SlotState) (out : List ℕ) (before after : Health)
-    (new : SlotState) (output : List ℕ) → ReceiveWay mid now out
-    → IsReceivePiece Next budget progress.More now before after new output
-    → ReceiveWay mid new (out ++ output)
-receive_again budget mid now out before after new output w h = record {
-  way = again receive 0 budget mid.memory now.memory new.memory mid.console now.console new.console
-      mid.pending now.pending new.pending w.way h.served;
-  is = h.is ∙ ap (λ (s : SlotState). with_receive s new) w.is;
-  silent = silent_both out output w.silent h.silent;
-}
-
-receive_ended : {A : Type 0} (budget : Budget) (mid now : SlotState) (out : List ℕ) (before after : Health)
-    (new : SlotState) (output : List ℕ) (reply : Reply A) → ReceiveWay mid now out
-    → IsReceivePiece Next budget progress.Done now before after new output
-    → IsReceiveService mid reply at_rest at_rest (came new reply (out ++ output))
-receive_ended budget mid now out before after new output reply w h = record {
-  notified = ended receive 0 budget mid.memory now.memory new.memory mid.console now.console new.console
-      mid.pending now.pending new.pending w.way h.served;
-  is = same_came new (with_receive mid new) reply (out ++ output) [] (h.is
-      ∙ ap (λ (s : SlotState). with_receive s new) w.is) (silent_both out output w.silent h.silent);
-  image = refl;
-}
 
 -- ---- the transmit queue, whose pieces go out one behind the other
 
@@ -298,36 +202,114 @@ transmit_next budget progress now out new output h =
     subst (λ (all : List ℕ). ServesTo Next exact_transmit budget 1 (queue_at 1 now.console) progress
     now.memory new.memory now.console new.console out all) p.alike p.served
 
-transmit_first : (budget : Budget) (mid : SlotState) (before after : Health)
-    (new : SlotState) (output : List ℕ)
-    → IsTransmitPiece First budget progress.More mid before after new output → TransmitWay mid new output
-transmit_first budget mid before after new output h = record {
-  way = first exact_transmit 1 budget mid.memory new.memory mid.console new.console [] output h.served;
-  is = h.is;
-}
+-- ---- the first piece of a service
 
-transmit_again : (budget : Budget) (mid now : SlotState) (out : List ℕ) (before after : Health)
-    (new : SlotState) (output : List ℕ) → TransmitWay mid now out
-    → IsTransmitPiece Next budget progress.More now before after new output
-    → TransmitWay mid new (out ++ output)
-transmit_again budget mid now out before after new output w h = record {
-  way = again exact_transmit 1 budget mid.memory now.memory new.memory mid.console now.console new.console []
-      out (out ++ output) w.way (transmit_next budget progress.More now out new output h.served);
-  is = h.is ∙ ap (λ (s : SlotState). with_transmit s new) w.is;
-}
+module _ {budget : Budget} {mid new : SlotState} {before after : Health} {output : List ℕ} where
+  block_first : IsBlockPiece (exact_device (device_of mid)) First budget progress.More mid
+      before after new output
+      → BlockWay mid new output
+  block_first h =
+      let r : Rested (device_of mid) First budget progress.More mid new at_rest =
+      rested (device_of mid) First budget progress.More mid new before after at_rest h.served in
+      record {
+        health = r.health;
+        way = first (exact_device (device_of mid)) 0 budget r.served;
+        is = h.is;
+        size = h.size;
+        silent = h.silent;
+      }
 
-transmit_ended : (A : Type 0) (budget : Budget) (mid now : SlotState) (out : List ℕ) (before after : Health)
-    (new : SlotState) (output : List ℕ) → TransmitWay mid now out
-    → IsTransmitPiece Next budget progress.Done now before after new output
-    → IsTransmitService {A = A} mid at_rest at_rest (came new Done (out ++ output))
-transmit_ended A budget mid now out before after new output w h = record {
-  notified = ended exact_transmit 1 budget mid.memory now.memory new.memory mid.console now.console
-      new.console [] out (out ++ output) w.way
-      (transmit_next budget progress.Done now out new output h.served);
-  is = same_came new (with_transmit mid new) Done (out ++ output) (out ++ output) (h.is
-      ∙ ap (λ (s : SlotState). with_transmit s new) w.is) refl;
-  image = refl;
-}
+  receive_first : IsReceivePiece First budget progress.More mid before after new output
+      → ReceiveWay mid new output
+  receive_first h = record { way = first receive 0 budget h.served; is = h.is; silent = h.silent }
+
+  transmit_first : IsTransmitPiece First budget progress.More mid before after new output
+      → TransmitWay mid new output
+  transmit_first h = record { way = first exact_transmit 1 budget h.served; is = h.is }
+
+-- ---- a piece that goes on
+
+module _ {budget : Budget} {mid now new : SlotState} {before after : Health} {out output : List ℕ} where
+  -- of the device as it began
+  block_next : (progress : Progress) (w : BlockWay mid now out)
+      → IsBlockPiece (exact_device (device_of now)) Next budget progress now before after new output
+      → Rested (device_of mid) Next budget progress now new w.health
+  block_next progress w h =
+      let same : device_of now ≡ device_of mid =
+      same_device now mid w.size (ap (λ (s : SlotState). s.read_only) w.is)
+      (ap (λ (s : SlotState). s.identity) w.is) in
+      rested (device_of mid) Next budget progress now new before after w.health
+      (subst (λ (d : BlockDevice). ServesTo Next (exact_device d) budget 0 (queue_at 0 now.block) progress
+      now.memory new.memory now.block new.block (disk_with now.extent before)
+      (disk_with new.extent after)) same h.served)
+
+  block_again : BlockWay mid now out
+      → IsBlockPiece (exact_device (device_of now)) Next budget progress.More now before after new output
+      → BlockWay mid new (out ++ output)
+  block_again w h =
+      let r = block_next progress.More w h in
+      record {
+        health = r.health;
+        way = again (exact_device (device_of mid)) 0 budget w.way r.served;
+        is = h.is ∙ ap (λ (s : SlotState). with_block s new) w.is;
+        size = h.size ∙ w.size;
+        silent = silent_both out output w.silent h.silent;
+      }
+
+  receive_again : ReceiveWay mid now out
+      → IsReceivePiece Next budget progress.More now before after new output
+      → ReceiveWay mid new (out ++ output)
+  receive_again w h = record {
+    way = again receive 0 budget w.way h.served;
+    is = h.is ∙ ap (λ (s : SlotState). with_receive s new) w.is;
+    silent = silent_both out output w.silent h.silent;
+  }
+
+  transmit_again : TransmitWay mid now out
+      → IsTransmitPiece Next budget progress.More now before after new output
+      → TransmitWay mid new (out ++ output)
+  transmit_again w h = record {
+    way = again exact_transmit 1 budget w.way
+        (transmit_next budget progress.More now out new output h.served);
+    is = h.is ∙ ap (λ (s : SlotState). with_transmit s new) w.is;
+  }
+
+  -- ---- and the last one
+
+  block_ended : (A : Type 0) → BlockWay mid now out
+      → IsBlockPiece (exact_device (device_of now)) Next budget progress.Done now before after new output
+      → BlockEnded A mid new (out ++ output)
+  block_ended A w h =
+      let r = block_next progress.Done w h in
+      record {
+        health = r.health;
+        service = record {
+          notified = ended (exact_device (device_of mid)) 0 budget w.way r.served;
+          is = same_came new (with_block mid new) Done (out ++ output) [] (h.is
+              ∙ ap (λ (s : SlotState). with_block s new) w.is) (silent_both out output w.silent h.silent);
+        };
+      }
+
+  receive_ended : {A : Type 0} (reply : Reply A) → ReceiveWay mid now out
+      → IsReceivePiece Next budget progress.Done now before after new output
+      → IsReceiveService mid reply at_rest at_rest (came new reply (out ++ output))
+  receive_ended reply w h = record {
+    notified = ended receive 0 budget w.way h.served;
+    is = same_came new (with_receive mid new) reply (out ++ output) [] (h.is
+        ∙ ap (λ (s : SlotState). with_receive s new) w.is) (silent_both out output w.silent h.silent);
+    image = refl;
+  }
+
+  transmit_ended : (A : Type 0) → TransmitWay mid now out
+      → IsTransmitPiece Next budget progress.Done now before after new output
+      → IsTransmitService {A = A} mid at_rest at_rest (came new Done (out ++ output))
+  transmit_ended A w h = record {
+    notified = ended exact_transmit 1 budget w.way
+        (transmit_next budget progress.Done now out new output h.served);
+    is = same_came new (with_transmit mid new) Done (out ++ output) (out ++ output) (h.is
+        ∙ ap (λ (s : SlotState). with_transmit s new) w.is) refl;
+    image = refl;
+  }
 
 -- ---- any service
 
@@ -340,13 +322,13 @@ pub way_first : (service : Service) (budget : Budget) (mid : SlotState) (before 
     (new : SlotState) (output : List ℕ) → after.failures ≡ before.failures
     → IsPiece service First budget progress.More mid before after new output → Way service mid new output
 way_first Block budget mid before after new output stood (inl h) =
-    block_first budget mid before after new output h.piece
+    block_first h.piece
 way_first Block budget mid before after new output stood (inr h) = let rose = h.failures in
     absurd (omega (arith, rose, stood))
 way_first Receive budget mid before after new output stood h =
-    receive_first budget mid before after new output h
+    receive_first h
 way_first Transmit budget mid before after new output stood h =
-    transmit_first budget mid before after new output h
+    transmit_first h
 
 pub way_again : (service : Service) (budget : Budget) (mid now : SlotState) (out : List ℕ)
     (before after : Health) (new : SlotState) (output : List ℕ) → after.failures ≡ before.failures
@@ -354,13 +336,13 @@ pub way_again : (service : Service) (budget : Budget) (mid now : SlotState) (out
     → IsPiece service Next budget progress.More now before after new output
     → Way service mid new (out ++ output)
 way_again Block budget mid now out before after new output stood w (inl h) =
-    block_again budget mid now out before after new output w h.piece
+    block_again w h.piece
 way_again Block budget mid now out before after new output stood w (inr h) = let rose = h.failures in
     absurd (omega (arith, rose, stood))
 way_again Receive budget mid now out before after new output stood w h =
-    receive_again budget mid now out before after new output w h
+    receive_again w h
 way_again Transmit budget mid now out before after new output stood w h =
-    transmit_again budget mid now out before after new output w h
+    transmit_again w h
 
 -- ---- at its end
 
@@ -376,13 +358,13 @@ way_ended : (A : Type 0) (service : Service) (budget : Budget) (mid now : SlotSt
     → IsPiece service Next budget progress.Done now before after new output
     → Ended A service mid new (out ++ output)
 way_ended A Block budget mid now out before after new output stood w (inl h) =
-    block_ended A budget mid now out before after new output w h.piece
+    block_ended A w h.piece
 way_ended A Block budget mid now out before after new output stood w (inr h) = let rose = h.failures in
     absurd (omega (arith, rose, stood))
 way_ended A Receive budget mid now out before after new output stood w h =
-    λ reply. receive_ended budget mid now out before after new output reply w h
+    λ reply. receive_ended reply w h
 way_ended A Transmit budget mid now out before after new output stood w h =
-    transmit_ended A budget mid now out before after new output w h
+    transmit_ended A w h
 
 record Finished {A : Type 0} (task : Task) (mid : SlotState) (outcome : Outcome A) : Type 0 where
   after : Health

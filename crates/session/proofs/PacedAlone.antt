@@ -163,15 +163,7 @@ module _ {A : Type 0} (g : ℕ) (budget : Budget) (new : PacedWorld) (ends : IsI
   standing_others old move moves other stays rest state s =
       let c : Comes g state (own_events g moves) (own_records g [] moves) new =
       rest.0 state (record { there = stays.slot ∙ s.there; idle = stays.paused ∙ s.idle }) in
-      record {
-        last = c.last;
-        own = rw (
-          other,
-          events_of_others g move.call move.response (own_events g moves)
-              other,
-        ) c.own;
-        state_after = c.state_after;
-      }
+      rw (other, events_of_others g move.call move.response (own_events g moves) other) c
 
   midway_others : (old : PacedWorld) (move : Move A) (moves : List (Move A))
       → eqb (slot_in move.call) g ≡ false → Stays g old move.after → Both move.after moves
@@ -186,15 +178,7 @@ module _ {A : Type 0} (g : ℕ) (budget : Budget) (new : PacedWorld) (ends : IsI
         asks = m.asks;
         way = m.way;
       }) in
-      record {
-        last = c.last;
-        own = rw (
-          other,
-          events_of_others g move.call move.response (own_events g moves)
-              other,
-        ) c.own;
-        state_after = c.state_after;
-      }
+      rw (other, events_of_others g move.call move.response (own_events g moves) other) c
 
   -- a move that changed nothing
   standing_same : (old : PacedWorld) (move : Move A) (moves : List (Move A)) (state : SlotState)
@@ -213,6 +197,23 @@ module _ {A : Type 0} (g : ℕ) (budget : Budget) (new : PacedWorld) (ends : IsI
   midway_same old move moves state what out events records same rest m =
       rw (events, records) (rest.1 state what out
       (subst (λ (w : PacedWorld). IsMidway g w state what out) (sym same) m))
+
+  -- an event that ends with a turn, and whose pieces before it put out so much
+  ended : {Does : SlotState → Health → Health → SlotState → List ℕ → Turn A → Type 0} {now : SlotState}
+      (old : PacedWorld) (move : Move A) (moves : List (Move A)) (state : SlotState) (what : EventKind A)
+      (out : List ℕ) (reply : Reply A) (t : Turned Does g old move now) → t.turn ≡ turn.Answered reply
+      → IsNext state what (came t.after reply (out ++ move.output)) → Both move.after moves
+      → Comes g state (what ∷ own_events g moves) (record_at g out move reply ∷ own_records g [] moves) new
+  ended old move moves state what out reply t is next rest =
+      let c : Comes g t.after (own_events g moves) (own_records g [] moves) new = rest.0 t.after
+      (record { there = t.there; idle = t.paused ∙ ap (λ (x : Turn A). Some (paused_by x)) is }) in
+      record {
+        last = c.last;
+        own = on_its_own g state c.last what (own_events g moves) (record_at g out move reply)
+            (own_records g [] moves) (came t.after reply (out ++ move.output)) next
+            (t.recorded reply out) c.own;
+        state_after = c.state_after;
+      }
 
   -- an event that the guest begins
   begins : (old : PacedWorld) (event : Event A) (move : Move A) (moves : List (Move A)) (state : SlotState)
@@ -234,20 +235,7 @@ module _ {A : Type 0} (g : ℕ) (budget : Budget) (new : PacedWorld) (ends : IsI
       next_of state event.what old.world.health move.after.world.health outcome
       (served state event.what old.world.health move.after.world.health outcome given
       (λ none. answered (said ∙ ap (λ (r : Reply A). Answered r) none)) stood) in
-      let c : Comes g t.after (own_events g moves) (own_records g [] moves) new =
-      rest.0 t.after (record {
-        there = t.there;
-        idle = t.paused
-            ∙ ap (λ (x : Turn A). Some (paused_by x)) is;
-      }) in
-      record {
-        last = c.last;
-        own =
-            rw (call, said, test)
-            (on_its_own g state c.last event.what (own_events g moves) (record_at g [] move reply)
-            (own_records g [] moves) outcome next (t.recorded reply []) c.own);
-        state_after = c.state_after;
-      }
+      rw (call, said, test) (ended old move moves state event.what [] reply t is next rest)
   begins old event move moves state call test answered stood t (turn.More pause) is rest =
       let said : move.response ≡ More = t.told ∙ ap response_to is in
       let does : Begins event.what budget state old.world.health move.after.world.health t.after move.output
@@ -267,7 +255,7 @@ module _ {A : Type 0} (g : ℕ) (budget : Budget) (new : PacedWorld) (ends : IsI
         asks = first.0;
         way = first.1;
       }) in
-      record { last = c.last; own = rw (call, said, test) c.own; state_after = c.state_after }
+      rw (call, said, test) c
 
   standing_own : (old : PacedWorld) (move : Move A) (moves : List (Move A)) (state : SlotState)
       (call : Call A) → move.call ≡ call → slot_in call ≡ g → eqb (slot_in call) g ≡ true
@@ -300,22 +288,8 @@ module _ {A : Type 0} (g : ℕ) (budget : Budget) (new : PacedWorld) (ends : IsI
       let next : IsNext state what (came t.after (reply_of m.pause) (out ++ move.output)) =
       next_of_pieces what budget state m.pause m.now out old.world.health move.after.world.health t.after
       move.output m.asks stood m.way piece in
-      let c : Comes g t.after (own_events g moves) (own_records g [] moves) new =
-      rest.0 t.after (record {
-        there = t.there;
-        idle = t.paused
-            ∙ ap (λ (x : Turn A). Some (paused_by x)) is;
-      }) in
-      record {
-        last = c.last;
-        own =
-            rw (call, said, test)
-            (on_its_own g state c.last what (own_events g moves) (record_at g out move reply)
-            (own_records g [] moves) (came t.after reply (out ++ move.output))
-            (subst (λ (r : Reply A). IsNext state what (came t.after r (out ++ move.output))) (sym done) next)
-            (t.recorded reply out) c.own);
-        state_after = c.state_after;
-      }
+      rw (call, said, test) (ended old move moves state what out reply t is
+      (subst (λ (r : Reply A). IsNext state what (came t.after r (out ++ move.output))) (sym done) next) rest)
   goes_on old slot move moves state what out m call test answered stood t (turn.Answered reply) is
       (inr (lacks, refused)) rest =
       absurd (answered (t.told ∙ ap response_to is ∙ ap (λ (r : Reply A). Answered r) lacks))
@@ -332,7 +306,7 @@ module _ {A : Type 0} (g : ℕ) (budget : Budget) (new : PacedWorld) (ends : IsI
         way = way_again m.pause.service budget (readied what state) m.now out old.world.health
             move.after.world.health t.after move.output stood m.way h.1;
       }) in
-      record { last = c.last; own = rw (call, said, test) c.own; state_after = c.state_after }
+      rw (call, said, test) c
 
   midway_own : (old : PacedWorld) (move : Move A) (moves : List (Move A)) (state : SlotState)
       (what : EventKind A) (out : List ℕ) (m : IsMidway g old state what out) (call : Call A)

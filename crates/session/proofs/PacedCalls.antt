@@ -1,6 +1,6 @@
 -- A call of a board whose services may pause, by what is paused of its slot and what the board says of its
 -- turn.
-use Rattle.std.proofs.Common.{◌≡◌, ℕ, ◌<◌, ◌≤◌, ◌↔◌, List, [], length, Option, Some, None, Ok, Err, refl, ap, subst, ◌∙◌, arith}
+use Rattle.std.proofs.Common.{◌≡◌, ℕ, ◌<◌, ◌≤◌, ◌↔◌, List, [], length, Option, Some, None, Ok, Err, refl, sym, ap, subst, ◌∙◌, arith}
 use Rattle.std.specs.Prelude.{slice_set, IsSomeAnd}
 use Rattle.std.specs.List.{slice_get}
 use Rattle.std.proofs.lemmas.Option.{slice_get_cases, slice_get_within}
@@ -31,6 +31,15 @@ no_turn : {A : Type 0} (response : Response A) (t : Turn A) → (response ≡ Mo
     → response ≡ response_to t → response ≡ Answered BadSlot
 no_turn {A} response (turn.Answered reply) never bad is = is ∙ ap (λ (a : Reply A). Answered a) (bad reply is)
 no_turn response (turn.More pause) never bad is = absurd (never is)
+
+-- a turn is neither busy nor idle
+pub never_busy : {A : Type 0} (t : Turn A) → response_to t ≡ Busy → ⊥
+never_busy (turn.Answered reply) is = cc (is)
+never_busy (turn.More pause) is = cc (is)
+
+pub never_idle : {A : Type 0} (t : Turn A) → response_to t ≡ Idle → ⊥
+never_idle (turn.Answered reply) is = cc (is)
+never_idle (turn.More pause) is = cc (is)
 
 -- a slot of which it is known what is paused
 there_of : {I : Type 0} (old : PacedState I) → length old.paused ≡ length old.board.slots
@@ -95,7 +104,7 @@ module _ {A I : Type 0} (disk : I → Disk) (limit : Option ℕ) (old : PacedSta
       (λ idle never. never) (λ more. absurd (cc (more))) (λ reply other. absurd (cc (other)))
       (λ other. absurd (cc (other)), λ past. absurd (omega (arith, past, fits)))
 
-  pub refused : (slot : ℕ) (kind : TurnKind A) (waiting : Option (Option Pause)) (response : Response A)
+  refused : (slot : ℕ) (kind : TurnKind A) (waiting : Option (Option Pause)) (response : Response A)
       (out : List ℕ)
       → slice_get old.paused slot ≡ waiting → work_in kind waiting ≡ Err response
       → IsPacedCall disk limit old (call_of slot kind) response out out old
@@ -159,13 +168,14 @@ module _ {A I : Type 0} (disk : I → Disk) (limit : Option ℕ) (old : PacedSta
     answer (turn.Answered other) reply is = cc (is)
     answer (turn.More pause) reply is = absurd (cc (is))
 
-    never_busy : (turns : Turn A) → response_to turns ≡ Busy → ⊥
-    never_busy (turn.Answered other) is = cc (is)
-    never_busy (turn.More pause) is = cc (is)
+    -- no turn of a slot that is there says that it is missing
+    module _ (fits : slot < length old.board.slots)
+        (told : (t ≡ turn.Answered BadSlot) ↔ (length old.board.slots ≤ slot)) where
+      present : response_to t ≡ Answered BadSlot → ⊥
+      present bad = let past = told.0 (answer t BadSlot bad) in omega (arith, past, fits)
 
-    never_idle : (turns : Turn A) → response_to turns ≡ Idle → ⊥
-    never_idle (turn.Answered other) is = cc (is)
-    never_idle (turn.More pause) is = cc (is)
+      missing : (response_to t ≡ Answered BadSlot) ↔ (length old.board.slots ≤ slot)
+      missing = (λ bad. told.0 (answer t BadSlot bad), λ past. absurd (omega (arith, past, fits)))
 
     began : (what : _) → slice_get old.paused slot ≡ Some None → Taken (work.Begin what)
         → IsPacedCall disk limit old (call_of slot (Begin what)) (response_to t) out out' noted
@@ -174,8 +184,7 @@ module _ {A I : Type 0} (disk : I → Disk) (limit : Option ℕ) (old : PacedSta
         record {
           responds = λ tells.
               begun disk old board slot t block console out out' (response_to t)
-              (record { slot = slot; what = what.now }) noted refl is
-              (taken.takes tells fits) refl refl;
+              (record { slot = slot; what = what.now }) noted refl is (taken.takes tells fits) refl refl;
           image = taken.stays.tells;
           budget = refl;
           busy = λ busy. absurd (never_busy t busy);
@@ -186,10 +195,8 @@ module _ {A I : Type 0} (disk : I → Disk) (limit : Option ℕ) (old : PacedSta
           extents = taken.stays.extents;
           others = taken.others;
           limited = limits t taken.limited;
-          bad_slot =
-              (λ bad. taken.bad_slot.0 (answer t BadSlot bad), λ past. absurd (omega (arith, past, fits)));
-          bad_slot_keeps =
-              λ bad. let past = taken.bad_slot.0 (answer t BadSlot bad) in absurd (omega (arith, past, fits));
+          bad_slot = missing fits taken.bad_slot;
+          bad_slot_keeps = λ bad. absurd (present fits taken.bad_slot bad);
           bad_range_keeps = λ range. taken.range (answer t BadRange range);
           no_memory = λ lacks. taken.memory (answer t NoMemory lacks);
         }
@@ -200,7 +207,7 @@ module _ {A I : Type 0} (disk : I → Disk) (limit : Option ℕ) (old : PacedSta
         let fits = there_of old many slot (Some pause) is in
         record {
           responds = λ tells.
-              went_on disk old board slot t block console out out' (response_to t) pause noted is
+              went_on disk old board slot t block console out out' _ pause _ is
               (taken.takes tells fits) refl refl;
           image = taken.stays.tells;
           budget = refl;
@@ -212,16 +219,14 @@ module _ {A I : Type 0} (disk : I → Disk) (limit : Option ℕ) (old : PacedSta
           extents = taken.stays.extents;
           others = taken.others;
           limited = limits t taken.limited;
-          bad_slot =
-              (λ bad. taken.bad_slot.0 (answer t BadSlot bad), λ past. absurd (omega (arith, past, fits)));
-          bad_slot_keeps =
-              λ bad. let past = taken.bad_slot.0 (answer t BadSlot bad) in absurd (omega (arith, past, fits));
+          bad_slot = missing fits taken.bad_slot;
+          bad_slot_keeps = λ bad. absurd (present fits taken.bad_slot bad);
           bad_range_keeps = λ range. tt;
           no_memory = λ lacks. tt;
         }
 
     -- by what is paused of its slot
-    pub took : (kind : TurnKind A) (waiting : Option (Option Pause)) (job : Work A)
+    took : (kind : TurnKind A) (waiting : Option (Option Pause)) (job : Work A)
         → slice_get old.paused slot ≡ waiting
         → work_in kind waiting ≡ Ok job → Taken job
         → IsPacedCall disk limit old (call_of slot kind) (response_to t) out out' noted
@@ -235,3 +240,26 @@ module _ {A I : Type 0} (disk : I → Disk) (limit : Option ℕ) (old : PacedSta
     took Resume (Some (Some pause)) job is told taken =
         let same : job ≡ work.Resume pause = cc (told) in
         resumed pause is (subst (λ (w : Work A). Taken w) same taken)
+
+-- so where the paced board is told by its parts and by itself
+module _ {A I : Type 0} (disk : I → Disk) (limit : Option ℕ) {parts paced : PacedState I}
+    (same : parts ≡ paced)
+    (many : length parts.paused ≡ length parts.board.slots) (slot : ℕ) (kind : TurnKind A)
+    {waiting : Option (Option Pause)} (found : waiting ≡ slice_get paced.paused slot) where
+  waits : slice_get parts.paused slot ≡ waiting
+  waits = ap (λ (p : PacedState I). slice_get p.paused slot) same ∙ sym found
+
+  pub turn_refused : (response : Response A) (out : List ℕ) → work_in kind waiting ≡ Err response
+      → IsPacedCall disk limit paced (call_of slot kind) response out out paced
+  turn_refused response out told =
+      subst (λ (p : PacedState I). IsPacedCall disk limit p (call_of slot kind) response out out p) same
+      (refused disk limit parts many slot kind waiting response out waits told)
+
+  pub turn_taken : (t : Turn A) (board : BoardState I) (block console : ℕ) (out out' : List ℕ) (job : Work A)
+      → work_in kind waiting ≡ Ok job → Taken disk limit parts many slot t board block console out out' job
+      → IsPacedCall disk limit paced (call_of slot kind) (response_to t) out out'
+      (noted disk limit parts many slot t board block console out out')
+  turn_taken t board block console out out' job told taken =
+      subst (λ (p : PacedState I). IsPacedCall disk limit p (call_of slot kind) (response_to t) out out'
+      (noted disk limit parts many slot t board block console out out')) same
+      (took disk limit parts many slot t board block console out out' kind waiting job waits told taken)

@@ -20,9 +20,10 @@ use Rattle.session.specs.Pacing.{Call, Handle, GoOn, Move, PacedWorld, slot_in}
 use Rattle.session.specs.Pacing as pacing
 use Rattle.board.proofs.Alone.{get_set}
 use Rattle.session.proofs.PacedAlone.{alone, others_at}
-use Rattle.session.specs.Course.{SessionStep, Called, Took, HadRoom, IsCalled, IsCourse, IsTaken, NeverPauses, RunsAlone, ended_by, events_begun, output_taken, paced_world_of, put_out, replies_ended}
+use Rattle.session.specs.Course.{SessionStep, HadRoom, IsCalled, IsCourse, IsTaken, NeverPauses, RunsAlone, ended_by, events_begun, output_taken, paced_world_of, put_out, replies_ended}
 use Rattle.session.specs.Pausing.{ComesTo, IsCall, IsTurn}
 use Rattle.session.specs.Session.{KeepsOtherOutputs, SessionState, limit_of, output_of, world_of}
+use Rattle.session.specs.Steps.{Called, Took}
 use Rattle.session.proofs.Courses.{output_kept, same_slot, taken_first, taken_output}
 
 -- ---- a call as a move
@@ -94,7 +95,7 @@ stepped (Some (Some pause)) old (GoOn slot) response after h =
 -- what it comes to by what is paused
 pub by_pause : {A : Type 0} (old : SessionState) (call : Call A) (response : Response A)
     (after : SessionState) → IsCalled old call response after → IsCall old call response after
-by_pause old (Handle event) response after h = h.0
+by_pause old (Handle event) response after h = h.turn
 by_pause old (GoOn slot) response after h = h
 
 pub step_of : {A : Type 0} (old : SessionState) (call : Call A) (response : Response A) (after : SessionState)

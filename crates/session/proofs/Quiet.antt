@@ -1,129 +1,183 @@
 -- A call that puts nothing out and touches no output.
-use Rattle.std.proofs.Common.{◌≡◌, ℕ, ◌≤◌, Bool, ◌↔◌, List, [], length, Option, Some, None, refl, sym, subst, append-nil, arith}
+use Rattle.std.proofs.Common.{◌≡◌, ℕ, ◌≤◌, ◌↔◌, List, [], length, Option, Some, None, refl, sym, ◌∙◌, ap, subst, append-nil, arith}
 use Rattle.std.specs.List.{slice_get}
 use Rattle.std.proofs.lemmas.Option.{slice_get_cases}
 use Rattle.chain.specs.declared.budget.Budget.{Budget}
+use Rattle.sector_cache.specs.declared.memory.MemoryImage.{MemoryImage}
+use Rattle.sector_cache.specs.MemoryImage.{disk_of as memory_disk_of}
 use Rattle.board.specs.declared.event.Event.{Event}
 use Rattle.board.specs.declared.event.EventKind.{EventKind}
 use Rattle.board.specs.declared.event.EventKind.TheVariants.{MemWrite, Input, Restore}
-use Rattle.board.specs.declared.pause.Pause.{Pause}
 use Rattle.board.specs.declared.pause.Turn.{Turn}
 use Rattle.board.specs.declared.pause.Turn.TheVariants as turn
 use Rattle.board.specs.declared.reply.Reply.TheVariants.{BadSlot, BadRange, NoMemory}
 use Rattle.board.specs.Pausing.{HasLimit}
-use Rattle.board.specs.Slot.{SlotState, BoardSlot}
+use Rattle.board.specs.Slot.{SlotState}
 use Rattle.board.specs.World.{KeepsOthers, extents_of}
 use Rattle.board.specs.Within.{BeginsWithin}
 use Rattle.session.specs.declared.response.Response.{Response}
 use Rattle.session.specs.declared.response.Response.TheVariants.{Answered, More, Busy, Idle}
-use Rattle.session.specs.Pacing.{Handle, Responds}
+use Rattle.session.specs.Pacing.{Handle, PacedState, Responds, paced_world}
 use Rattle.session.specs.Answering.{SuitsCall}
-use Rattle.session.specs.Pausing.{IsCall, IsWhole}
+use Rattle.session.specs.Pausing.{IsCall, IsEventCall, IsWhole}
 use Rattle.session.specs.Session.{HasNoRead, SessionState, Waiting}
 use Rattle.session.proofs.Calls.{called_past}
 use Rattle.session.proofs.Waiting.{stays_there}
 use Rattle.session.proofs.Unchanged.{missing}
-use Rattle.session.proofs.Steps.{called, paced_of, session, suits_call, whole}
+use Rattle.session.proofs.Steps.{as_many, called, paced_of, shown, suits_call, whole}
 
 -- ---- an event that puts nothing out, whose call touches no output
 
--- what is typed, a restore and a write of memory put nothing out
-pub quiet_input : {A : Type 0} (limit : ℕ) (bytes : List ℕ) (budget : Budget) (found after : SlotState)
-    (waiting left : List ℕ) (t : Turn A) → BeginsWithin limit (Input bytes) budget found after waiting left t
-quiet_input limit bytes budget found after waiting left t = tt
+-- it reads no memory, no outlet decides it, and it is never refused for want of room
+pub record PutsNothingOut {A : Type 0} (what : EventKind A) : Type 0 where
+  pub no_read : HasNoRead what
+  pub quiet :
+      (limit : ℕ) (budget : Budget) (found after : SlotState) (waiting left : List ℕ) (t : Turn A)
+      → BeginsWithin limit what budget found after waiting left t
+  pub room : SuitsCall {A = A} what (Answered NoMemory) → ⊥
 
-pub quiet_restore : {A : Type 0} (limit : ℕ) (bytes : List ℕ) (budget : Budget) (found after : SlotState)
+-- what is typed, a restore and a write of memory put nothing out
+pub quiet_input : {A : Type 0} (bytes : List ℕ) → PutsNothingOut {A = A} (Input bytes)
+quiet_input bytes = record {
+  no_read = tt;
+  quiet = λ limit budget found after waiting left t. tt;
+  room = λ never. never;
+}
+
+quiet_restored : {A : Type 0} (limit : ℕ) (bytes : List ℕ) (budget : Budget) (found after : SlotState)
     (waiting left : List ℕ) (t : Turn A)
     → BeginsWithin limit (Restore bytes) budget found after waiting left t
-quiet_restore limit bytes budget found after waiting left (turn.Answered reply) = tt
-quiet_restore limit bytes budget found after waiting left (turn.More pause) = tt
+quiet_restored limit bytes budget found after waiting left (turn.Answered reply) = tt
+quiet_restored limit bytes budget found after waiting left (turn.More pause) = tt
 
-pub quiet_write : {A : Type 0} (limit addr : ℕ) (bytes : List ℕ) (budget : Budget) (found after : SlotState)
+pub quiet_restore : {A : Type 0} (bytes : List ℕ) → PutsNothingOut {A = A} (Restore bytes)
+quiet_restore bytes =
+    record { no_read = tt; quiet = λ limit. quiet_restored limit bytes; room = λ never. never }
+
+quiet_written : {A : Type 0} (limit addr : ℕ) (bytes : List ℕ) (budget : Budget) (found after : SlotState)
     (waiting left : List ℕ) (t : Turn A)
     → BeginsWithin limit (MemWrite addr bytes) budget found after waiting left t
-quiet_write limit addr bytes budget found after waiting left (turn.Answered reply) = tt
-quiet_write limit addr bytes budget found after waiting left (turn.More pause) = tt
+quiet_written limit addr bytes budget found after waiting left (turn.Answered reply) = tt
+quiet_written limit addr bytes budget found after waiting left (turn.More pause) = tt
 
-module _ (A : Type 0) (slots slots' : List BoardSlot) (image image' : List ℕ) (dirty dirty' : Bool)
-    (outputs : List Waiting) (paused paused' : List (Option Pause)) (budget : Budget) (slot : ℕ)
-    (what : EventKind A) (response : Response A)
-    (many : length paused ≡ length outputs) (as_many_slots : length outputs ≡ length slots)
-    (others : KeepsOthers slot slots slots') (extents : extents_of slots' ≡ extents_of slots)
-    (no_read : HasNoRead what)
-    (quiet : (limit : ℕ) (found after : SlotState) (waiting left : List ℕ) (t : Turn A)
-    → BeginsWithin limit what budget found after waiting left t)
-    (limited : response ≡ More → HasLimit budget) (not_idle : response ≡ Idle
-    → ⊥) (missed : (response ≡ Answered BadSlot) ↔ (length slots ≤ slot))
-    (busy : response ≡ Busy → session slots' image' dirty' outputs paused' budget
-    ≡ session slots image dirty outputs paused budget)
-    (bad_slot_keeps : response ≡ Answered BadSlot → session slots' image' dirty' outputs paused' budget
-    ≡ session slots image dirty outputs paused budget)
-    (bad_range_keeps : SuitsCall {A = A} what (Answered BadRange) → response ≡ Answered BadRange
-    → session slots' image' dirty' outputs paused budget
-    ≡ session slots image dirty outputs paused budget)
-    (unsuited : SuitsCall {A = A} what (Answered NoMemory) → ⊥)
-    (r : Responds budget (paced_of (session slots image dirty outputs paused budget))
-    (Handle (record { slot = slot; what = what })) response [] []
-    (paced_of (session slots' image' dirty' outputs paused' budget))) where
-  abbrev before_it : SessionState
-  before_it = session slots image dirty outputs paused budget
+pub quiet_write : {A : Type 0} (addr : ℕ) (bytes : List ℕ) → PutsNothingOut {A = A} (MemWrite addr bytes)
+quiet_write addr bytes =
+    record { no_read = tt; quiet = λ limit. quiet_written limit addr bytes; room = λ never. never }
 
-  abbrev behind_it : SessionState
-  behind_it = session slots' image' dirty' outputs paused' budget
+-- as many outputs and pauses as slots
+abbrev pub AreAsMany : {X : Type 0} → PacedState (MemoryImage X) → List Waiting → Type 0
+AreAsMany p outputs = (length outputs ≡ length p.board.slots) × (length p.paused ≡ length p.board.slots)
 
+pub as_many_still : {X : Type 0} (p p' : PacedState (MemoryImage X)) (outputs : List Waiting)
+    → extents_of p'.board.slots ≡ extents_of p.board.slots → length p'.paused ≡ length p.paused
+    → AreAsMany p outputs → AreAsMany p' outputs
+as_many_still p p' outputs extents paused many =
+    let slots = sym (as_many p.board.slots p'.board.slots extents) in
+    (many.0 ∙ slots, paused ∙ (many.1 ∙ slots))
+
+module _ {A X : Type 0} (p p' : PacedState (MemoryImage X)) (outputs : List Waiting) (slot : ℕ)
+    (what : EventKind A) (response : Response A) where
   abbrev its_event : Event A
   its_event = record { slot = slot; what = what }
 
-  pub record Handled : Type 0 where
-    pub call : IsCall before_it (Handle its_event) response behind_it
-    pub whole : IsWhole before_it its_event response behind_it
+  abbrev at_budget : PacedState (MemoryImage X) → Budget → SessionState
+  at_budget q budget = shown q.board.slots (memory_disk_of q.board.image) outputs q.paused budget
+
+  -- what the paced board says of the call
+  pub record Says : Type 0 where
+    pub responds :
+        Responds p.budget (paced_world memory_disk_of p) (Handle its_event) response [] []
+        (paced_world memory_disk_of p')
+    pub budget : p'.budget ≡ p.budget
+    pub extents : extents_of p'.board.slots ≡ extents_of p.board.slots
+    pub others : KeepsOthers slot p.board.slots p'.board.slots
+    pub not_idle : response ≡ Idle → ⊥
+    pub bad_slot : (response ≡ Answered BadSlot) ↔ (length p.board.slots ≤ slot)
+    pub busy : response ≡ Busy → p' ≡ p
+    pub bad_slot_keeps : response ≡ Answered BadSlot → p' ≡ p
+
+  -- and what the session then does
+  pub record Handled (new : SessionState) : Type 0 where
+    pub call : IsEventCall (at_budget p p.budget) slot what response new
     pub suits : SuitsCall what response
 
-  told_at : (waiting : Waiting)
-      → Responds budget (paced_of before_it) (Handle its_event) response waiting.bytes waiting.bytes
-      (paced_of behind_it)
-  told_at waiting = record {
-    output = r.output;
-    block = r.block;
-    console = r.console;
-    comes = r.comes;
-    appended = rw (← r.appended) (sym (append-nil waiting.bytes));
-  }
+  module _ (many : AreAsMany p outputs) (event : PutsNothingOut what) (says : Says)
+      (limited : response ≡ More → HasLimit p.budget)
+      (bad_range_keeps : SuitsCall {A = A} what (Answered BadRange) → response ≡ Answered BadRange → p' ≡ p)
+    where
+      abbrev before_it : SessionState
+      before_it = at_budget p p.budget
 
-  handled_at : (o : Option Waiting) → slice_get outputs slot ≡ o → Handled
-  handled_at None none =
-      let past : length slots ≤ slot = grind (arith, as_many_slots, slice_get_cases outputs slot) in
-      let far : length paused ≤ slot = omega (arith, many, as_many_slots, past) in
-      let is = missed.1 past in
-      record {
-        call = rw (is, bad_slot_keeps is) (called_past before_it (Handle its_event) far);
-        whole = rw (is, bad_slot_keeps is) (missing before_it its_event past);
-        suits = rw is tt;
-      }
-  handled_at (Some waiting) here =
-      let same = stays_there outputs slot waiting here in
-      let told : Responds budget (paced_of before_it) (Handle its_event) response waiting.bytes waiting.bytes
-      (paced_of behind_it) = told_at waiting in
-      let suited = suits_call A slots slots' image image' dirty dirty' outputs paused paused' budget slot
-      waiting waiting here many refl others extents what response told not_idle in
-      record {
-        call =
-            subst (λ (os : List Waiting). IsCall before_it (Handle its_event) response
-            (session slots' image' dirty' os paused' budget)) same
-            (called A slots slots' image image' dirty dirty' outputs paused paused' budget slot waiting
-            waiting here many refl others extents what response
-            (λ found later a b t is. quiet waiting.limit _ _ waiting.bytes waiting.bytes t)
-            limited busy told);
-        whole =
-            subst (λ (os : List Waiting). IsWhole before_it its_event response
-            (session slots' image' dirty' os paused' budget)) same
-            (whole A slots slots' image image' dirty dirty' outputs paused paused' budget slot waiting waiting
-            here many refl others extents what response no_read told
-            (λ found later a b t is. quiet waiting.limit _ _ waiting.bytes waiting.bytes t) missed
-            (λ is. bad_range_keeps (subst (λ (a : Response A). SuitsCall what a) is suited) is)
-            (λ is. absurd (unsuited (subst (λ (a : Response A). SuitsCall what a) is suited))) as_many_slots);
-        suits = suited;
+      abbrev behind_it : SessionState
+      behind_it = at_budget p' p.budget
+
+      paused_as_many : length p.paused ≡ length outputs
+      paused_as_many = many.1 ∙ sym many.0
+
+      -- the session as it was, where the board is
+      same : p' ≡ p → behind_it ≡ before_it
+      same is = ap (λ (q : PacedState (MemoryImage X)). at_budget q p.budget) is
+
+      told_at : (waiting : Waiting)
+          → Responds p.budget (paced_of before_it) (Handle its_event) response waiting.bytes waiting.bytes
+          (paced_of behind_it)
+      told_at waiting = record {
+        output = says.responds.output;
+        block = says.responds.block;
+        console = says.responds.console;
+        comes = says.responds.comes;
+        appended = rw (← says.responds.appended) (sym (append-nil waiting.bytes));
       }
 
-  pub handled_quietly : Handled
-  handled_quietly = handled_at (slice_get outputs slot) refl
+      handled_at : (o : Option Waiting) → slice_get outputs slot ≡ o → Handled behind_it
+      handled_at None none =
+          let past : length p.board.slots ≤ slot = grind (arith, many.0, slice_get_cases outputs slot) in
+          let far : length p.paused ≤ slot = omega (arith, many.1, past) in
+          let is = says.bad_slot.1 past in
+          record {
+            call = record {
+              turn = rw (is, same (says.bad_slot_keeps is)) (called_past before_it (Handle its_event) far);
+              whole = rw (is, same (says.bad_slot_keeps is)) (missing before_it its_event past);
+            };
+            suits = rw is tt;
+          }
+      handled_at (Some waiting) here =
+          let same_outputs = stays_there outputs slot waiting here in
+          let told = told_at waiting in
+          let suited = suits_call A p.board.slots p'.board.slots _ _ _ _ outputs p.paused
+          p'.paused p.budget slot
+          waiting waiting here paused_as_many refl says.others says.extents what response
+          told says.not_idle in
+          record {
+            call = record {
+              turn =
+                  subst (λ (os : List Waiting). IsCall before_it (Handle its_event) response
+                  (record behind_it { outputs = os })) same_outputs
+                  (called A p.board.slots p'.board.slots _ _ _ _ outputs p.paused p'.paused
+                  p.budget slot waiting
+                  waiting here paused_as_many refl says.others says.extents what response
+                  (λ found later a b t is. event.quiet waiting.limit p.budget _ _
+                  waiting.bytes waiting.bytes t)
+                  limited (λ is. same (says.busy is)) told);
+              whole =
+                  subst (λ (os : List Waiting). IsWhole before_it its_event response
+                  (record behind_it { outputs = os })) same_outputs
+                  (whole A p.board.slots p'.board.slots _ _ _ _ outputs p.paused p'.paused
+                  p.budget slot waiting
+                  waiting here paused_as_many refl says.others says.extents what response event.no_read told
+                  (λ found later a b t is. event.quiet waiting.limit p.budget _ _
+                  waiting.bytes waiting.bytes t)
+                  says.bad_slot
+                  (λ is. ap (λ (q : PacedState (MemoryImage X)). shown q.board.slots
+                  (memory_disk_of q.board.image) outputs p.paused p.budget)
+                  (bad_range_keeps (subst (λ (a : Response A). SuitsCall what a) is suited) is))
+                  (λ is. absurd (event.room (subst (λ (a : Response A). SuitsCall what a) is suited)))
+                  many.0);
+            };
+            suits = suited;
+          }
+
+      pub handled_quietly : Handled (at_budget p' p'.budget)
+      handled_quietly =
+          subst (λ (b : Budget). Handled (at_budget p' b)) (sym says.budget)
+          (handled_at (slice_get outputs slot) refl)

@@ -2,6 +2,7 @@
 use Rattle.std.proofs.Common.{◌≡◌, ℕ, suc, List, [], ◌∷◌, length, map, drop, Result, Ok, Err, refl, sym, ap, subst, ◌∙◌}
 use Rattle.std.specs.Prelude.{◌≢◌, ◌⊎◌, ◌↔◌, ◌%◌, ◌/◌, OnOk, IfErr, IsErrAnd, IsErrOf}
 use Rattle.std.specs.Vec.{vec_items}
+use Rattle.std.proofs.lemmas.List.{length-map}
 use Rattle.chain.specs.declared.budget.Budget.{Budget}
 use Rattle.chain.specs.Budget.{IsSpent}
 use Rattle.guest_memory.specs.Memory.{Memory}
@@ -57,16 +58,23 @@ never_outlet (Ok x) want is = cc
 never_outlet (Err e) want is = cc
 
 -- as many slots are made as there are described
-pub length-made_over : {X : Type 0} (made : SlotSpec → Memory
+length-made_over : {X : Type 0} (made : SlotSpec → Memory
     → X) (slots : List SlotSpec) (bytes : List (List ℕ)) → length (made_over made slots bytes) ≡ length slots
 length-made_over made [] bytes = refl
 length-made_over made (spec ∷ slots) bytes =
     ap suc (length-made_over made slots (drop (length spec.regions) bytes))
 
+-- and so as many as there are guests
+pub many_made_over : {X : Type 0} (made : SlotSpec → Memory → X) (guests : List GuestSpec)
+    (bytes : List (List ℕ)) (slots : List X) → slots ≡ made_over made (slots_of guests) bytes
+    → length slots ≡ length guests
+many_made_over made guests bytes slots is =
+    ap length is ∙ length-made_over made (slots_of guests) bytes ∙ length-map guests (λ guest. guest.slot)
+
 -- what is judged of a slice is so of its list
-pub lent : (guests : List GuestSpec) (seen runs : List Run) → seen ≡ runs
+pub lent : (guests : List GuestSpec) {seen runs : List Run} → seen ≡ runs
     → AreBytesOf (slots_of guests) (map vec_items seen) → AreBytesOf (slots_of guests) (map vec_items runs)
-lent guests seen runs same are =
+lent guests same are =
     subst (λ (some : List Run). AreBytesOf (slots_of guests) (map vec_items some)) same are
 
 -- what a board is refused for, by the slots and the sectors that it was asked for

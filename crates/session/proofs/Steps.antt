@@ -27,6 +27,7 @@ use Rattle.board.specs.World.{World, Answers, KeepsOthers, MayLackMemory, TakesM
 use Rattle.board.specs.Within.{BeginsWithin, GoesOnWithin, IsPuttingOut, MayPutOut, TakesWithin}
 use Rattle.board.proofs.Answered.{ended_within, handled}
 use Rattle.board.proofs.Runs.{answered}
+use Rattle.board.proofs.Lists.{others_kept}
 use Rattle.session.specs.declared.response.Response.{Response}
 use Rattle.session.specs.declared.response.Response.TheVariants.{Answered, More, Busy, Idle}
 use Rattle.session.specs.Pacing.{GoOn, Handle, PacedWorld, Responds, paused_by, response_to}
@@ -36,7 +37,7 @@ use Rattle.session.specs.Pausing.{ComesTo, IsCall, IsTurn, IsWhole}
 use Rattle.session.specs.Session.{IsStep, HasNoRead, SessionState, Waiting, none_waiting, limit_of, output_of, world_of}
 use Rattle.session.proofs.Places.{is_there, stays}
 use Rattle.session.proofs.Suiting.{paused_suits, silent, suits}
-use Rattle.session.proofs.Waiting.{limits_set, others_output, same_outlet, set_there, stays_there}
+use Rattle.session.proofs.Waiting.{limits_set, same_outlet, set_there, stays_there}
 
 -- ---- an event that the board answered
 
@@ -203,7 +204,7 @@ module _ (A : Type 0) (slots slots' : List BoardSlot) (image image' : List ℕ) 
         within_for Within _ found _ later before.limit _ before.bytes _ after.bytes _ t.turn one.2 two.2
         limited_so waited waits (decided one.0 two.0 one.1 two.1 t.turn t.told);
     others = others;
-    outputs = others_output outputs slot after;
+    outputs = others_kept outputs slot after;
     extents = extents;
     size = same_size (extents_of slots) (extents_of slots') image image' t.taken.outside;
     limits = limits_set outputs slot before after here same_limit;
@@ -318,7 +319,7 @@ module _ (A : Type 0) (slots slots' : List BoardSlot) (image image' : List ℕ) 
         record {
           answers = answers_at _ _ event reply before.bytes _ after.bytes _ waited waits both.0;
           others = others;
-          outputs = others_output outputs slot after;
+          outputs = others_kept outputs slot after;
           extents = extents;
           size = same_size (extents_of slots) (extents_of slots') image image'
               (told_outside (slice_get paused slot) r.output r.block r.console

@@ -1,15 +1,16 @@
 -- What waits of each slot's output, where that of one slot changes.
-use Rattle.std.proofs.Common.{◌≡◌, ℕ, zero, suc, ◌<◌, List, [], ◌∷◌, length, Some, refl, ap, arith}
+use Rattle.std.proofs.Common.{◌≡◌, ◌≢◌, ℕ, zero, suc, ◌<◌, List, [], ◌∷◌, length, Option, Some, refl, sym, ap, arith}
 use Rattle.std.specs.Prelude.{slice_set, unwrap_or}
 use Rattle.std.specs.List.{slice_get}
 use Rattle.std.proofs.lemmas.List.{set-get_or, length-set, get_or-set_same}
 use Rattle.std.proofs.lemmas.Option.{get_or_from_slice_get, unwrap_or-slice_get, same_Some}
-use Rattle.board.proofs.Lists.{others_kept}
-use Rattle.session.specs.Session.{KeepsOtherOutputs, Waiting, none_waiting}
+use Rattle.session.specs.Session.{KeepsOtherOutputs, Waiting, none_waiting, waiting_at}
 
-pub others_output : (outputs : List Waiting) (h : ℕ) (new : Waiting)
-    → KeepsOtherOutputs h outputs (slice_set outputs h new)
-others_output outputs h new = others_kept outputs h new
+-- what waits of the others is the same
+pub others_wait : (g slot : ℕ) (old new : List Waiting) → KeepsOtherOutputs slot old new → slot ≢ g
+    → waiting_at g new ≡ waiting_at g old
+others_wait g slot old new kept other =
+    ap (λ (o : Option Waiting). unwrap_or o (none_waiting 0)) (kept g (λ same. other (sym same)))
 
 pub set_there : (outputs : List Waiting) (h : ℕ) (new : Waiting) → h < length outputs
     → unwrap_or (slice_get (slice_set outputs h new) h) (none_waiting 0) ≡ new

@@ -1,5 +1,5 @@
 -- Each guest of a session, as its own calls decide it and nothing else does.
-use Rattle.std.specs.Prelude.{◌≡◌, ℕ, ◌==◌, if◌then◌else◌, List, [], ◌∷◌, take, drop, Some}
+use Rattle.std.specs.Prelude.{◌≡◌, ℕ, List, [], ◌∷◌, map, take, drop, Some}
 use Rattle.std.specs.List.{slice_get}
 use Rattle.chain.specs.declared.budget.Budget.{Budget}
 use Rattle.sector_cache.specs.Sector.{extent_of}
@@ -9,41 +9,26 @@ use Rattle.board.specs.Within.{Seat, IsNextWithin}
 use Rattle.session.specs.declared.guest.GuestSpec.{GuestSpec}
 use Rattle.session.specs.declared.response.Response.{Response}
 use Rattle.session.specs.declared.response.Response.TheVariants.{Answered, Idle}
-use Rattle.session.specs.Course.{SessionStep, Called, Took}
+use Rattle.session.specs.Course.{SessionStep}
 use Rattle.session.specs.Pacing.{Call, Handle, GoOn, slot_in}
 use Rattle.session.specs.Session.{SessionState, limit_of, new_session, output_of, world_of}
+use Rattle.session.specs.Steps.{Answer, Asking, Does, Gave, IsAnsweredBy, Takes, Told, answer_of, asking_of, own_steps}
 
--- What is asked for one guest: an event, that its paused service goes on, or the bytes that its console put
--- out, as many as
--- find so much room.
-pub data Asking (A : Type 0) : Type 0 where
-  Does : EventKind A → Asking A
-  Goes : Asking A
-  Takes : ℕ → Asking A
+-- What a call is for its guest: an event, or that its paused service goes on.
+pub data OwnCall (A : Type 0) : Type 0 where
+  Begins : EventKind A → OwnCall A
+  GoesOn : OwnCall A
 
--- and what is answered
-pub data Answer (A : Type 0) : Type 0 where
-  Told : Response A → Answer A
-  Gave : List ℕ → Answer A
-
-abbrev pub asking_of : {A : Type 0} → Call A → Asking A
-asking_of (Handle event) = Does event.what
-asking_of (GoOn slot) = Goes
+abbrev pub own_call : {A : Type 0} → Call A → OwnCall A
+own_call (Handle event) = Begins event.what
+own_call (GoOn slot) = GoesOn
 
 -- what was asked for guest g, in order, and what was answered
-abbrev pub own_askings : {A : Type 0} → ℕ → List (SessionStep A) → List (Asking A)
-own_askings g [] = []
-own_askings g (Called call response after ∷ steps) =
-    if slot_in call == g then asking_of call ∷ own_askings g steps else own_askings g steps
-own_askings g (Took slot room bytes after ∷ steps) =
-    if slot == g then Takes room ∷ own_askings g steps else own_askings g steps
+abbrev pub own_askings : {A : Type 0} → ℕ → List (SessionStep A) → List (Asking (OwnCall A))
+own_askings g steps = map (asking_of own_call) (own_steps slot_in g steps)
 
-abbrev pub own_answers : {A : Type 0} → ℕ → List (SessionStep A) → List (Answer A)
-own_answers g [] = []
-own_answers g (Called call response after ∷ steps) =
-    if slot_in call == g then Told response ∷ own_answers g steps else own_answers g steps
-own_answers g (Took slot room bytes after ∷ steps) =
-    if slot == g then Gave bytes ∷ own_answers g steps else own_answers g steps
+abbrev pub own_answers : {A : Type 0} → ℕ → List (SessionStep A) → List (Answer (Response A))
+own_answers g steps = map answer_of (own_steps slot_in g steps)
 
 -- ---- the one-slot machine with its outlet
 
@@ -52,19 +37,18 @@ abbrev pub seat_of : ℕ → SlotState → SessionState → Seat
 seat_of g state session = record { state = state; waiting = output_of g session }
 
 -- What comes of what is asked for a guest that is alone with an outlet of this limit, and never paused.
-abbrev pub IsNextAsked : {A : Type 0} → ℕ → Seat → Asking A → Answer A → Seat → Type 0
-IsNextAsked limit old (Does what) (Told (Answered reply)) new = IsNextWithin limit old what reply new
-IsNextAsked limit old Goes (Told response) new = (response ≡ Idle) × (new ≡ old)
+abbrev pub IsNextAsked : {A : Type 0} → ℕ → Seat → Asking (OwnCall A) → Answer (Response A) → Seat → Type 0
+IsNextAsked limit old (Does (Begins what)) (Told (Answered reply)) new = IsNextWithin limit old what reply new
+IsNextAsked limit old (Does GoesOn) (Told response) new = (response ≡ Idle) × (new ≡ old)
 IsNextAsked limit old (Takes room) (Gave bytes) new =
     (bytes ≡ take room old.waiting) × (new ≡ record old { waiting = drop room old.waiting })
 IsNextAsked limit old asking answer new = ⊥
 
 -- one after another
-abbrev pub IsSeatCourse : {A : Type 0} → ℕ → Seat → List (Asking A) → List (Answer A) → Seat → Type 0
-IsSeatCourse limit old [] [] last = last ≡ old
-IsSeatCourse limit old (asking ∷ askings) (answer ∷ answers) last =
-    (next : Seat) × IsNextAsked limit old asking answer next × IsSeatCourse limit next askings answers last
-IsSeatCourse limit old askings answers last = ⊥
+abbrev pub IsSeatCourse : {A : Type 0} → ℕ → Seat → List (Asking (OwnCall A))
+    → List (Answer (Response A)) → Seat
+    → Type 0
+IsSeatCourse limit old askings answers last = IsAnsweredBy (IsNextAsked limit) old askings answers last
 
 -- Guest g, which was in this state, is answered, gives out its output and is left as it would alone.
 pub record IsSeatedAlone {A : Type 0} (g : ℕ) (state : SlotState) (old : SessionState)

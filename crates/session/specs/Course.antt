@@ -1,7 +1,7 @@
 -- What happens to a session, one thing after another, and what one guest has of it: its own events, as if it
 -- were alone and
 -- none paused.
-use Rattle.std.specs.Prelude.{◌≡◌, ◌≢◌, ℕ, ◌==◌, ⊤, if◌then◌else◌, List, [], ◌∷◌, ◌++◌, map, take, drop, Some}
+use Rattle.std.specs.Prelude.{◌≡◌, ◌≢◌, ℕ, ◌==◌, if◌then◌else◌, List, [], ◌∷◌, ◌++◌, map, take, drop, Some}
 use Rattle.std.specs.List.{slice_get}
 use Rattle.board.specs.declared.event.EventKind.{EventKind}
 use Rattle.board.specs.declared.reply.Reply.{Reply}
@@ -13,21 +13,18 @@ use Rattle.session.specs.declared.response.Response.{Response}
 use Rattle.session.specs.declared.response.Response.TheVariants.{Answered, More, Busy, Idle}
 use Rattle.session.specs.Line.{begun_by}
 use Rattle.session.specs.Pacing.{Call, Handle, GoOn, PacedWorld, slot_in}
-use Rattle.session.specs.Pausing.{IsCall, IsWhole}
+use Rattle.session.specs.Pausing.{IsCall, IsEventCall}
 use Rattle.session.specs.Session.{KeepsOtherOutputs, SessionState, limit_of, output_of, world_of}
+use Rattle.session.specs.Steps.{AreAnswered, Called, CourseStep, LeadTo, Took}
 
 -- A call is answered so: by what is paused of its slot, and an event that is answered at once as a whole one.
 abbrev pub IsCalled : {A : Type 0} → SessionState → Call A → Response A → SessionState → Type 0
-IsCalled old (Handle event) response new = IsCall old (Handle event) response new
-    × IsWhole old event response new
+IsCalled old (Handle event) response new = IsEventCall old event.slot event.what response new
 IsCalled old (GoOn slot) response new = IsCall old (GoOn slot) response new
 
--- Something that happened, and the session after it: a call was answered so, or these bytes of what a slot's
--- console put
--- out were taken, where there was room for so many.
-pub data SessionStep (A : Type 0) : Type 0 where
-  Called : Call A → Response A → SessionState → SessionStep A
-  Took : ℕ → ℕ → List ℕ → SessionState → SessionStep A
+-- Something that happened to a session.
+abbrev pub SessionStep : Type 0 → Type 0
+SessionStep A = CourseStep (Call A) (Response A) SessionState
 
 -- The first bytes of what a slot's console put out were taken, as many as found room, and nothing else
 -- changed.
@@ -40,13 +37,13 @@ pub record IsTaken (old : SessionState) (slot room : ℕ) (bytes : List ℕ) (ne
   pub paused : new.paused ≡ old.paused
   pub budget : new.budget ≡ old.budget
 
--- these things lead from one session to another
+abbrev pub Happens : {A : Type 0} → SessionState → SessionStep A → Type 0
+Happens old (Called call response after) = IsCalled old call response after
+Happens old (Took slot room bytes after) = IsTaken old slot room bytes after
+
+-- these steps lead from one session to another
 abbrev pub IsCourse : {A : Type 0} → SessionState → List (SessionStep A) → SessionState → Type 0
-IsCourse old [] new = new ≡ old
-IsCourse old (Called call response after ∷ steps) new = IsCalled old call response after
-    × IsCourse after steps new
-IsCourse old (Took slot room bytes after ∷ steps) new = IsTaken old slot room bytes after
-    × IsCourse after steps new
+IsCourse old steps new = LeadTo Happens old steps new
 
 -- what can be seen of the board and its pauses
 abbrev pub paced_world_of : SessionState → PacedWorld
@@ -87,17 +84,11 @@ put_out (written ∷ records) = written.output ++ put_out records
 
 -- no call for guest g was answered that room was wanting
 abbrev pub HadRoom : {A : Type 0} → ℕ → List (SessionStep A) → Type 0
-HadRoom g [] = ⊤
-HadRoom g (Called call response after ∷ steps) =
-    (slot_in call ≡ g → response ≢ Answered NoMemory) × HadRoom g steps
-HadRoom g (Took slot room bytes after ∷ steps) = HadRoom g steps
+HadRoom {A} g steps = AreAnswered slot_in (λ (response : Response A). response ≢ Answered NoMemory) g steps
 
 -- no service of guest g's was paused
 abbrev pub NeverPauses : {A : Type 0} → ℕ → List (SessionStep A) → Type 0
-NeverPauses g [] = ⊤
-NeverPauses g (Called call response after ∷ steps) = (slot_in call ≡ g → response ≢ More)
-    × NeverPauses g steps
-NeverPauses g (Took slot room bytes after ∷ steps) = NeverPauses g steps
+NeverPauses {A} g steps = AreAnswered slot_in (λ (response : Response A). response ≢ More) g steps
 
 -- Guest g, which was in this state, is answered what it would be answered alone where nothing pauses, its
 -- console puts

@@ -1,5 +1,5 @@
 -- A session whose disks the host serves, as its embedder sees it, and what one call does to it.
-use Rattle.std.specs.Prelude.{◌≡◌, ◌≢◌, ℕ, ◌&&◌, List, map, Option, Some, None, IsSomeAnd, IsTrue, is_some}
+use Rattle.std.specs.Prelude.{◌≡◌, ◌≢◌, ℕ, ◌&&◌, List, map, Option, Some, None, IsSome, IsSomeAnd, IsTrue, is_some}
 use Rattle.std.specs.List.{slice_get}
 use Rattle.std.specs.Option.{option_and_then}
 use Rattle.guest_memory.specs.Memory.{Inside}
@@ -79,6 +79,10 @@ HoldsUp slots slot what =
 -- the slot is there, and nothing of it is in flight
 abbrev pub IsAtRest : List HostedState → ℕ → Type 0
 IsAtRest slots slot = IsSomeAnd (slice_get slots slot) (λ found. found.flight ≡ None)
+
+-- or something is
+abbrev pub IsInFlight : List HostedState → ℕ → Type 0
+IsInFlight slots slot = IsSomeAnd (slice_get slots slot) (λ found. IsSome found.flight)
 
 -- the slot is there, and not all of a range of so many bytes lies in its memory
 abbrev pub IsOutside : ℕ → ℕ → ℕ → HostedSessionState → Type 0

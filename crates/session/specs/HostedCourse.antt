@@ -1,21 +1,20 @@
 -- What happens to a session whose disks the host serves, one thing after another, and each guest of it alone.
-use Rattle.std.specs.Prelude.{◌≡◌, ℕ, ◌==◌, if◌then◌else◌, List, [], ◌∷◌, ◌++◌, take, drop, Some}
+use Rattle.std.specs.Prelude.{◌≡◌, ℕ, List, ◌++◌, map, take, drop, Some}
 use Rattle.std.specs.List.{slice_get}
+use Rattle.board.specs.declared.event.Event.{Event}
 use Rattle.board.specs.declared.event.EventKind.{EventKind}
 use Rattle.board.specs.declared.reply.Reply.{Reply}
 use Rattle.board.specs.Hosting.{HostedState}
 use Rattle.board.specs.HostedLine.{IsCalledNext}
 use Rattle.session.specs.Hosted.{HostedSessionState, IsHostedCall}
 use Rattle.session.specs.Session.{KeepsOtherOutputs, waiting_at}
+use Rattle.session.specs.Steps.{Answer, Asking, Called, CourseStep, Does, Gave, IsAnsweredBy, LeadTo, Takes, Told, Took, answer_of, asking_of, own_steps}
 
 -- ---- a session
 
--- Something that happened, and the session after it: a call for a slot was answered so, an event of its guest
--- or a
--- completion, or these bytes of what its console put out were taken, where there was room for so many.
-pub data HostedStep (A : Type 0) : Type 0 where
-  Called : ℕ → EventKind A → Reply A → HostedSessionState → HostedStep A
-  Took : ℕ → ℕ → List ℕ → HostedSessionState → HostedStep A
+-- Something that happened to a session: a call is an event of a slot's guest, or a completion.
+abbrev pub HostedStep : Type 0 → Type 0
+HostedStep A = CourseStep (Event A) (Reply A) HostedSessionState
 
 -- The first bytes of what a slot's console put out were taken, as many as found room, and nothing else
 -- changed.
@@ -27,28 +26,16 @@ pub record IsHostedTaken (old : HostedSessionState) (slot room : ℕ) (bytes : L
   pub limits : (slot : ℕ) → (waiting_at slot new.outputs).limit ≡ (waiting_at slot old.outputs).limit
   pub slots : new.slots ≡ old.slots
 
--- these things lead from one session to another
+abbrev pub HostedHappens : {A : Type 0} → HostedSessionState → HostedStep A → Type 0
+HostedHappens old (Called event reply after) = IsHostedCall old event.slot event.what reply after
+HostedHappens old (Took slot room bytes after) = IsHostedTaken old slot room bytes after
+
+-- these steps lead from one session to another
 abbrev pub IsHostedCourse : {A : Type 0} → HostedSessionState → List (HostedStep A)
     → HostedSessionState → Type 0
-IsHostedCourse old [] new = new ≡ old
-IsHostedCourse old (Called slot event reply after ∷ steps) new =
-    IsHostedCall old slot event reply after × IsHostedCourse after steps new
-IsHostedCourse old (Took slot room bytes after ∷ steps) new =
-    IsHostedTaken old slot room bytes after × IsHostedCourse after steps new
+IsHostedCourse old steps new = LeadTo HostedHappens old steps new
 
 -- ---- a guest alone with its outlet
-
--- What is asked for one guest: an event of it or a completion, or the bytes that its console put out, as many
--- as find so
--- much room.
-pub data HostedAsking (A : Type 0) : Type 0 where
-  Does : EventKind A → HostedAsking A
-  Takes : ℕ → HostedAsking A
-
--- and what is answered
-pub data HostedAnswer (A : Type 0) : Type 0 where
-  Replied : Reply A → HostedAnswer A
-  Gave : List ℕ → HostedAnswer A
 
 -- All that one guest can see with what is in flight, and the bytes of its output that wait.
 pub record HostedSeat : Type 0 where
@@ -64,38 +51,21 @@ pub record IsSeatCalled {A : Type 0} (limit : ℕ) (old : HostedSeat) (event : E
       (record { state = new.state; reply = reply; output = output })
   pub behind : new.waiting ≡ old.waiting ++ output
 
-abbrev pub IsNextAsking : {A : Type 0} → ℕ → HostedSeat → HostedAsking A → HostedAnswer A
-    → HostedSeat → Type 0
-IsNextAsking limit old (Does event) (Replied reply) new = IsSeatCalled limit old event reply new
+abbrev pub IsNextAsking : {A : Type 0} → ℕ → HostedSeat → Asking (EventKind A) → Answer (Reply A) → HostedSeat
+    → Type 0
+IsNextAsking limit old (Does event) (Told reply) new = IsSeatCalled limit old event reply new
 IsNextAsking limit old (Takes room) (Gave bytes) new =
     (bytes ≡ take room old.waiting) × (new ≡ record old { waiting = drop room old.waiting })
 IsNextAsking limit old asking answer new = ⊥
 
--- one after another
-abbrev pub IsHostedSeatCourse : {A : Type 0} → ℕ → HostedSeat → List (HostedAsking A) → List (HostedAnswer A)
-    → HostedSeat → Type 0
-IsHostedSeatCourse limit old [] [] last = last ≡ old
-IsHostedSeatCourse limit old (asking ∷ askings) (answer ∷ answers) last =
-    (next : HostedSeat) × IsNextAsking limit old asking answer next
-    × IsHostedSeatCourse limit next askings answers last
-IsHostedSeatCourse limit old askings answers last = ⊥
-
 -- ---- each guest of a session
 
 -- what was asked for guest g, in order, and what was answered
-abbrev pub own_askings : {A : Type 0} → ℕ → List (HostedStep A) → List (HostedAsking A)
-own_askings g [] = []
-own_askings g (Called slot event reply after ∷ steps) =
-    if slot == g then Does event ∷ own_askings g steps else own_askings g steps
-own_askings g (Took slot room bytes after ∷ steps) =
-    if slot == g then Takes room ∷ own_askings g steps else own_askings g steps
+abbrev pub own_hosted_askings : {A : Type 0} → ℕ → List (HostedStep A) → List (Asking (EventKind A))
+own_hosted_askings g steps = map (asking_of (λ event. event.what)) (own_steps (λ event. event.slot) g steps)
 
-abbrev pub own_hosted_answers : {A : Type 0} → ℕ → List (HostedStep A) → List (HostedAnswer A)
-own_hosted_answers g [] = []
-own_hosted_answers g (Called slot event reply after ∷ steps) =
-    if slot == g then Replied reply ∷ own_hosted_answers g steps else own_hosted_answers g steps
-own_hosted_answers g (Took slot room bytes after ∷ steps) =
-    if slot == g then Gave bytes ∷ own_hosted_answers g steps else own_hosted_answers g steps
+abbrev pub own_hosted_answers : {A : Type 0} → ℕ → List (HostedStep A) → List (Answer (Reply A))
+own_hosted_answers g steps = map answer_of (own_steps (λ event. event.slot) g steps)
 
 -- guest g in a session: what it sees, and what waits of its output
 abbrev pub hosted_seat : ℕ → HostedState → HostedSessionState → HostedSeat
@@ -107,6 +77,6 @@ pub record IsHostedAlone {A : Type 0} (g : ℕ) (state : HostedState) (old : Hos
     (new : HostedSessionState) : Type 0 where
   pub last : HostedState
   pub own :
-      IsHostedSeatCourse (waiting_at g old.outputs).limit (hosted_seat g state old) (own_askings g steps)
-      (own_hosted_answers g steps) (hosted_seat g last new)
+      IsAnsweredBy (IsNextAsking (waiting_at g old.outputs).limit) (hosted_seat g state old)
+      (own_hosted_askings g steps) (own_hosted_answers g steps) (hosted_seat g last new)
   pub state_after : slice_get new.slots g ≡ Some last

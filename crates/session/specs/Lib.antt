@@ -6,6 +6,7 @@ pub mod Session
 pub mod Pausing
 pub mod Answering
 pub mod Refusing
+pub mod Steps
 pub mod Course
 pub mod Alone
 pub mod Hosted

@@ -4,6 +4,7 @@ use Rattle.std.specs.List.{slice_get}
 use Rattle.std.specs.Option.{option_and_then}
 use Rattle.chain.specs.declared.budget.Progress.{Progress}
 use Rattle.board.specs.declared.event.Event.{Event}
+use Rattle.board.specs.declared.event.EventKind.{EventKind}
 use Rattle.board.specs.declared.pause.Pause.{Pause}
 use Rattle.board.specs.declared.pause.Turn.{Turn}
 use Rattle.board.specs.declared.reply.Reply.TheVariants.{BadSlot}
@@ -78,6 +79,14 @@ IsWhole old event response new = ⊤
 abbrev pub IsWholeCall : {A : Type 0} → SessionState → Call A → Response A → SessionState → Type 0
 IsWholeCall old (Handle event) response new = IsWhole old event response new
 IsWholeCall old (GoOn slot) response new = ⊤
+
+-- An event of a slot is called: by what is paused of the slot, and as a whole one where it is answered at
+-- once.
+pub record IsEventCall {A : Type 0} (old : SessionState) (slot : ℕ) (what : EventKind A)
+    (response : Response A)
+    (new : SessionState) : Type 0 where
+  pub turn : IsCall old (Handle (record { slot = slot; what = what })) response new
+  pub whole : IsWhole old (record { slot = slot; what = what }) response new
 
 -- The service of a slot goes on, and this is told of it.
 pub record WentOn (A : Type 0) (old : SessionState) (slot : ℕ) (result : Result Progress Refusal)

@@ -113,7 +113,11 @@ impl<A: Allocator + Copy> HostedSession<A> {
         guests: &[GuestSpec],
         board: HostedBoard<A>,
     ) -> Result<HostedSession<A>, SessionFault>
-        requires { length board ≡ length guests.now }
+        requires many { length board ≡ length guests.now }
+        requires accepted { AreGoodHosted (slots_of guests.now) }
+        requires outlets { AreOutlets guests.now }
+        ensures accepted { OnOk result (AreGoodHosted (slots_of guests.now)) }
+        ensures outlets { OnOk result (AreOutlets guests.now) }
         ensures made { IfOk result (λ session. session ≡ record {
           slots = board;
           outputs = map (λ guest. none_waiting guest.outlet) guests.now;

@@ -14,10 +14,11 @@ ghost use Rattle.session.specs.Line.{IsIdle};
 ghost use Rattle.session.specs.Pacing.{Handle};
 ghost use Rattle.session.specs.declared.response.Response.{Response};
 ghost use Rattle.session.specs.declared.guest.GuestSpec.{GuestSpec};
-ghost use Rattle.session.specs.Alone.{Answer, Asking, IsSeatCourse, IsSeatedAlone, SeeAlike, at_front, new_session_alone, own_askings, part_of_image};
+ghost use Rattle.session.specs.Alone.{IsSeatCourse, IsSeatedAlone, OwnCall, SeeAlike, at_front, new_session_alone, own_askings, part_of_image};
 ghost use Rattle.session.specs.Course.{SessionStep, HadRoom, IsCourse, NeverPauses, RunsAlone, paced_world_of};
 ghost use Rattle.session.specs.Pausing.{IsCall};
 ghost use Rattle.session.specs.Refusing.{AreOutlets};
+ghost use Rattle.session.specs.Steps.{Answer, Asking};
 ghost use Rattle.session.specs.Session.{IsStep, SessionState, limit_of, new_session, output_of, slots_of, with_memory, with_slot_bytes, world_of};
 
 use std::alloc::Allocator;
@@ -63,7 +64,8 @@ pub fn the_outlet_decides<A: Allocator>()
     ensures runs { (g : ℕ) (old new : SessionState) (steps : List (SessionStep A)) (state : SlotState) →
         IsCourse old steps new → NeverPauses g steps → IsIdle g (paced_world_of old) →
         slice_get (world_of old).slots g ≡ Some state → IsSeatedAlone g state old steps new }
-    ensures once { (limit : ℕ) (old one other : Seat) (askings : List (Asking A)) (answers answers' : List (Answer A)) →
+    ensures once { (limit : ℕ) (old one other : Seat) (askings : List (Asking (OwnCall A)))
+        (answers answers' : List (Answer (Response A))) →
         IsSeatCourse limit old askings answers one → IsSeatCourse limit old askings answers' other →
         (answers ≡ answers') × (one ≡ other) }
 {}

@@ -1,6 +1,7 @@
 //! Why a call was refused.
 
-ghost use Rattle.std.specs.Prelude.{◌≡◌};
+ghost use Rattle.std.specs.Prelude.{◌≡◌, nat_lt, if◌then◌else◌};
+ghost use Rattle.session.specs.declared.refusal.Refusal.{Refusal};
 ghost use Rattle.session.specs.Answering.{IsRefusing, refusing_response};
 ghost use Rattle.session.specs.HostedAnswering.{IsHostedRefusing, hosted_refusing};
 
@@ -30,6 +31,17 @@ pub enum Refusal {
 }
 
 impl Refusal {
+    /// Why a range isn't inside a slot's memory, where there are so many slots.
+    pub(crate) fn of_range(slot: u8, slots: usize) -> Refusal
+        ensures { result ≡ (if nat_lt slot slots then Refusal.BadRange else Refusal.BadSlot) }
+    {
+        if usize::from(slot) < slots {
+            Refusal::BadRange
+        } else {
+            Refusal::BadSlot
+        }
+    }
+
     /// The refusal that a response of the board says.
     pub(crate) fn of<A: Allocator>(response: &Response<A>) -> Refusal
         requires { IsRefusing response.now }

@@ -12,9 +12,9 @@ ghost use Rattle.board.specs.Lent.{AreBytesOf, made_over, opened_over};
 ghost use Rattle.board.specs.Slot.{opened};
 ghost use Rattle.session.specs.declared.fault.SessionFault.{SessionFault};
 ghost use Rattle.board.specs.declared.event.EventKind.{EventKind};
-ghost use Rattle.session.specs.Pacing.{Handle, call_of};
+ghost use Rattle.session.specs.Pacing.{call_of};
 ghost use Rattle.session.specs.Answering.{SuitsCall, SuitsTurn};
-ghost use Rattle.session.specs.Pausing.{IsCall, IsWhole, IsWholeCall};
+ghost use Rattle.session.specs.Pausing.{IsCall, IsEventCall, IsWholeCall};
 ghost use Rattle.session.specs.Session.{BeginsNoRead, IsIdle, new_session, new_session_over, none_waiting, slots_of};
 ghost use Rattle.session.specs.Refusing.{AreOutlets, IsBoardFault, IsJudged, IsLentRefusedFor, IsRefusedFor};
 
@@ -166,8 +166,7 @@ impl<A: Allocator + Copy> Session<A> {
 
     // Types to a slot's console.
     fn put_in(&mut self, slot: u8, bytes: &[u8]) -> Response<A>
-        ensures call { IsCall self.old (Handle (record { slot = slot; what = EventKind.Input bytes.now })) result self.new }
-        ensures whole { IsWhole self.old (record { slot = slot; what = EventKind.Input bytes.now }) result self.new }
+        ensures call { IsEventCall self.old slot (EventKind.Input bytes.now) result self.new }
         ensures suits { SuitsCall (EventKind.Input bytes.now) result }
     {
         self.paced.input(slot, bytes)
@@ -177,9 +176,7 @@ impl<A: Allocator + Copy> Session<A> {
 impl<A: Allocator> Session<A> {
     // Stores bytes into a slot's memory.
     fn store(&mut self, slot: u8, addr: u64, from: &[u8]) -> Response<A>
-        ensures call { IsCall self.old (Handle (record { slot = slot; what = EventKind.MemWrite addr from.now })) result
-            self.new }
-        ensures whole { IsWhole self.old (record { slot = slot; what = EventKind.MemWrite addr from.now }) result self.new }
+        ensures call { IsEventCall self.old slot (EventKind.MemWrite addr from.now) result self.new }
         ensures suits { SuitsCall (EventKind.MemWrite addr from.now) result }
     {
         self.paced.write_memory(slot, addr, from)

@@ -1,6 +1,6 @@
 //! A guest's memory between its accesses. Nothing here takes memory.
 
-ghost use Rattle.std.specs.Prelude.{◌≡◌, ◌<◌, ◌↔◌, ◌≤◌, length, nat_lt, if◌then◌else◌, OnErr, IfOk, IfErr, IsErrOf, IsSomeAnd};
+ghost use Rattle.std.specs.Prelude.{◌≡◌, ◌<◌, ◌↔◌, ◌≤◌, length, OnErr, IfOk, IfErr, IsErrOf, IsSomeAnd};
 ghost use Rattle.std.specs.Borrow.{sem, u8, Array, Lends};
 ghost use Rattle.std.specs.List.{slice_get};
 ghost use Rattle.guest_memory.specs.Memory.{Inside, IsRest};
@@ -28,7 +28,7 @@ impl<A: Allocator> HostedSession<A> {
         if self.board.read_memory(slot, addr, into) {
             return Ok(());
         }
-        Err(self.out_of_range(slot))
+        Err(Refusal::of_range(slot, self.slots()))
     }
 
     /// Copies bytes into the slot's memory, from address `addr` on: the event of that write.
@@ -41,7 +41,7 @@ impl<A: Allocator> HostedSession<A> {
         if self.board.write_memory(slot, addr, from) {
             return Ok(());
         }
-        Err(self.out_of_range(slot))
+        Err(Refusal::of_range(slot, self.slots()))
     }
 
     /// The slot's memory, as it stands. It is refused for a bad slot.
@@ -68,17 +68,5 @@ impl<A: Allocator> HostedSession<A> {
         ensures rest { IsSomeAnd (slice_get self.old.slots slot) (λ found. IsRest found.slot.memory addr result.now) }
     {
         self.board.memory_mut(slot, addr)
-    }
-
-    // Why a range isn't inside the slot's memory.
-    fn out_of_range(&self, slot: u8) -> Refusal
-        ensures { result ≡ (if nat_lt slot (length self.now.slots) then Refusal.BadRange
-            else Refusal.BadSlot) }
-    {
-        if usize::from(slot) < self.board.slots() {
-            Refusal::BadRange
-        } else {
-            Refusal::BadSlot
-        }
     }
 }

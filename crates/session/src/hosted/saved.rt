@@ -1,6 +1,6 @@
 //! A guest's devices, saved to a snapshot and brought back from one. Nothing here takes memory.
 
-ghost use Rattle.std.specs.Prelude.{◌≡◌, ◌↔◌, ◌<◌, ◌≤◌, None, Some, IfOk, IsErrOf, IsOk, IsSome, IsSomeAnd, OnErr, length};
+ghost use Rattle.std.specs.Prelude.{◌≡◌, ◌↔◌, ◌<◌, ◌≤◌, None, Some, IfOk, IsErrOf, IsOk, IsSomeAnd, OnErr, length};
 ghost use Rattle.std.specs.List.{slice_get};
 ghost use Rattle.board.specs.declared.event.EventKind.{EventKind};
 ghost use Rattle.board.specs.declared.saved.RestoreFault.{RestoreFault};
@@ -10,7 +10,7 @@ ghost use Rattle.board.specs.Hosting.{HostedState};
 ghost use Rattle.board.specs.Restoring.{hosted_restore_reply, slot_in};
 ghost use Rattle.board.specs.Saved.{IsAs, IsCauseOf, IsLike, IsSavedTo, IsSnapshotOf, snapshot_of};
 ghost use Rattle.board.specs.Slot.{BoardSlot};
-ghost use Rattle.session.specs.Hosted.{IsHostedCall};
+ghost use Rattle.session.specs.Hosted.{IsHostedCall, IsInFlight};
 
 use crate::hosted::HostedSession;
 use board::{RestoreRefusal, SaveRefusal};
@@ -23,8 +23,7 @@ impl<A: Allocator> HostedSession<A> {
         ensures value { IfOk result (λ len. IsSomeAnd (slice_get self.now.slots slot)
             (λ found. len ≡ length (snapshot_of (slot_in found.slot)))) }
         ensures missing { IsErrOf result SaveRefusal.BadSlot ↔ (length self.now.slots ≤ slot) }
-        ensures busy { IsErrOf result SaveRefusal.Busy ↔
-            IsSomeAnd (slice_get self.now.slots slot) (λ found. IsSome found.flight) }
+        ensures busy { IsErrOf result SaveRefusal.Busy ↔ IsInFlight self.now.slots slot }
         ensures not_short { ¬ IsErrOf result SaveRefusal.ShortBuffer }
     {
         self.board.saved_len(slot)
@@ -37,8 +36,7 @@ impl<A: Allocator> HostedSession<A> {
         ensures saved { IfOk result (λ len. IsSomeAnd (slice_get self.now.slots slot)
             (λ found. IsSavedTo (slot_in found.slot) into.old into.new len)) }
         ensures missing { IsErrOf result SaveRefusal.BadSlot ↔ (length self.now.slots ≤ slot) }
-        ensures busy { IsErrOf result SaveRefusal.Busy ↔
-            IsSomeAnd (slice_get self.now.slots slot) (λ found. IsSome found.flight) }
+        ensures busy { IsErrOf result SaveRefusal.Busy ↔ IsInFlight self.now.slots slot }
         ensures short { IsErrOf result SaveRefusal.ShortBuffer → IsSomeAnd (slice_get self.now.slots slot)
             (λ found. length into.old < length (snapshot_of (slot_in found.slot))) }
         ensures kept { OnErr result (into.new ≡ into.old) }
@@ -53,8 +51,7 @@ impl<A: Allocator> HostedSession<A> {
         ensures call { IsHostedCall {A = A} self.old slot (EventKind.Restore from.now)
             (hosted_restore_reply result) self.new }
         ensures missing { IsErrOf result RestoreRefusal.BadSlot ↔ (length self.old.slots ≤ slot) }
-        ensures busy { IsErrOf result RestoreRefusal.Busy ↔
-            IsSomeAnd (slice_get self.old.slots slot) (λ found. IsSome found.flight) }
+        ensures busy { IsErrOf result RestoreRefusal.Busy ↔ IsInFlight self.old.slots slot }
         ensures fault { (why : RestoreFault) → IsErrOf result (RestoreRefusal.Fault why) →
             IsSomeAnd (slice_get self.old.slots slot) (λ old. IsCauseOf (slot_in old.slot) from.now why) }
 

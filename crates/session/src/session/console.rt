@@ -3,11 +3,10 @@
 ghost use Rattle.std.specs.Prelude.{◌≡◌, ◌⊎◌, ◌<◌, ◌↔◌, length, min, take, drop, ◌++◌, Some, IsSome, IfSome, IfNone, IfOk, IfErr};
 ghost use Rattle.chain.specs.declared.budget.Progress.{Progress};
 ghost use Rattle.board.specs.declared.event.EventKind.{EventKind};
-ghost use Rattle.session.specs.Pacing.{Handle};
 ghost use Rattle.session.specs.declared.refusal.Refusal.{Refusal};
 ghost use Rattle.session.specs.Answering.{done_response, typed_response};
 ghost use Rattle.session.specs.Course.{IsTaken};
-ghost use Rattle.session.specs.Pausing.{IsCall, IsWhole, taken_at};
+ghost use Rattle.session.specs.Pausing.{IsEventCall, taken_at};
 ghost use Rattle.session.specs.Session.{output_of};
 
 use crate::paced::TurnKind;
@@ -24,11 +23,7 @@ impl<A: Allocator + Copy> Session<A> {
     /// 4096 until its guest reads them. Where more is to come, `go_on` goes on with the service of its receive queue. It
     /// is refused for a bad slot, and while a service of the slot is paused.
     pub fn input(&mut self, slot: u8, bytes: &[u8]) -> Result<Typed, Refusal>
-        ensures call { IsCall {A = A} self.old
-            (Handle (record { slot = slot; what = EventKind.Input bytes.now }))
-            (typed_response result) self.new }
-        ensures whole { IsWhole {A = A} self.old
-            (record { slot = slot; what = EventKind.Input bytes.now })
+        ensures call { IsEventCall {A = A} self.old slot (EventKind.Input bytes.now)
             (typed_response result) self.new }
         ensures taken { IfOk result (λ typed. typed.progress ≡ Progress.More →
             taken_at slot self.new ≡ Some typed.taken) }
@@ -61,11 +56,7 @@ impl<A: Allocator + Copy> Session<A> {
     /// Gives the guest's console another size, of which its driver is told. It is refused for a bad slot, and while a
     /// service of the slot is paused.
     pub fn resize(&mut self, slot: u8, cols: u16, rows: u16) -> Result<(), Refusal>
-        ensures call { IsCall {A = A} self.old
-            (Handle (record { slot = slot; what = EventKind.Resize cols rows }))
-            (done_response result) self.new }
-        ensures whole { IsWhole {A = A} self.old
-            (record { slot = slot; what = EventKind.Resize cols rows })
+        ensures call { IsEventCall {A = A} self.old slot (EventKind.Resize cols rows)
             (done_response result) self.new }
     {
         let what = EventKind::Resize { cols, rows };

@@ -1,14 +1,13 @@
 //! A guest's memory between its accesses. Nothing here takes memory.
 
-ghost use Rattle.std.specs.Prelude.{◌≡◌, ◌⊎◌, ◌<◌, ◌↔◌, ◌≤◌, length, nat_lt, if◌then◌else◌, OnErr, IfOk, IfErr, IsErrOf, IsSomeAnd};
+ghost use Rattle.std.specs.Prelude.{◌≡◌, ◌⊎◌, ◌<◌, ◌↔◌, ◌≤◌, length, OnErr, IfOk, IfErr, IsErrOf, IsSomeAnd};
 ghost use Rattle.std.specs.Borrow.{sem, u8, Array, Lends};
 ghost use Rattle.std.specs.List.{slice_get};
 ghost use Rattle.guest_memory.specs.Memory.{Inside, IsRest};
 ghost use Rattle.board.specs.declared.event.EventKind.{EventKind};
 ghost use Rattle.session.specs.declared.refusal.Refusal.{Refusal};
-ghost use Rattle.session.specs.Pacing.{Handle};
 ghost use Rattle.session.specs.Answering.{bytes_response, done_response};
-ghost use Rattle.session.specs.Pausing.{IsCall, IsWhole};
+ghost use Rattle.session.specs.Pausing.{IsEventCall};
 ghost use Rattle.session.specs.Session.{IsIdle, with_slot_bytes};
 ghost use Rattle.session.specs.contracts.session.Session.{the_row};
 
@@ -22,11 +21,7 @@ impl<A: Allocator> Session<A> {
     /// Copies bytes out of the slot's memory, from address `addr` on: the step of that read. After a
     /// refusal `into` is as it was.
     pub fn read_memory(&self, slot: u8, addr: u64, into: &mut [u8]) -> Result<(), Refusal>
-        ensures call { IsCall {A = A} self.now
-            (Handle (record { slot = slot; what = EventKind.MemRead addr (length into.old) }))
-            (bytes_response result into.new) self.now }
-        ensures whole { IsWhole {A = A} self.now
-            (record { slot = slot; what = EventKind.MemRead addr (length into.old) })
+        ensures call { IsEventCall {A = A} self.now slot (EventKind.MemRead addr (length into.old))
             (bytes_response result into.new) self.now }
         ensures kept { OnErr result (into.new ≡ into.old) }
     {
@@ -36,16 +31,12 @@ impl<A: Allocator> Session<A> {
         if self.paced.board().read_memory(slot, addr, into) {
             return Ok(());
         }
-        Err(self.out_of_range(slot))
+        Err(Refusal::of_range(slot, self.slots()))
     }
 
     /// Copies bytes into the slot's memory, from address `addr` on: the step of that write.
     pub fn write_memory(&mut self, slot: u8, addr: u64, from: &[u8]) -> Result<(), Refusal>
-        ensures call { IsCall {A = A} self.old
-            (Handle (record { slot = slot; what = EventKind.MemWrite addr from.now }))
-            (done_response result) self.new }
-        ensures whole { IsWhole {A = A} self.old
-            (record { slot = slot; what = EventKind.MemWrite addr from.now })
+        ensures call { IsEventCall {A = A} self.old slot (EventKind.MemWrite addr from.now)
             (done_response result) self.new }
     {
         match self.store(slot, addr, from) {
@@ -84,17 +75,5 @@ impl<A: Allocator> Session<A> {
         ensures rest { IsSomeAnd (slice_get self.old.slots slot) (λ found. IsRest found.memory addr result.now) }
     {
         self.paced.memory_mut(slot, addr)
-    }
-
-    // Why a range isn't inside the slot's memory.
-    fn out_of_range(&self, slot: u8) -> Refusal
-        ensures { result ≡ (if nat_lt slot (length self.now.slots) then Refusal.BadRange
-            else Refusal.BadSlot) }
-    {
-        if usize::from(slot) < self.paced.board().slots() {
-            Refusal::BadRange
-        } else {
-            Refusal::BadSlot
-        }
     }
 }

@@ -5,9 +5,8 @@ ghost use Rattle.std.specs.List.{slice_get};
 ghost use Rattle.std.specs.Option.{option_map};
 ghost use Rattle.board.specs.declared.event.EventKind.{EventKind};
 ghost use Rattle.board.specs.Slot.{interrupt_words};
-ghost use Rattle.session.specs.Pacing.{Handle};
 ghost use Rattle.session.specs.Answering.{served_response, value_response};
-ghost use Rattle.session.specs.Pausing.{IsCall, IsWhole, WentOn};
+ghost use Rattle.session.specs.Pausing.{IsEventCall, WentOn};
 
 use crate::paced::TurnKind;
 use crate::refusal::Refusal;
@@ -27,11 +26,7 @@ impl<A: Allocator + Copy> Session<A> {
         offset: u16,
         width: u8,
     ) -> Result<u32, Refusal>
-        ensures call { IsCall {A = A} self.old
-            (Handle (record { slot = slot; what = EventKind.Read window offset width }))
-            (value_response result) self.new }
-        ensures whole { IsWhole {A = A} self.old
-            (record { slot = slot; what = EventKind.Read window offset width })
+        ensures call { IsEventCall {A = A} self.old slot (EventKind.Read window offset width)
             (value_response result) self.new }
     {
         if self.is_paused(slot) {
@@ -54,11 +49,7 @@ impl<A: Allocator + Copy> Session<A> {
         width: u8,
         value: u32,
     ) -> Result<Progress, Refusal>
-        ensures call { IsCall {A = A} self.old
-            (Handle (record { slot = slot; what = EventKind.Write window offset width value }))
-            (served_response result) self.new }
-        ensures whole { IsWhole {A = A} self.old
-            (record { slot = slot; what = EventKind.Write window offset width value })
+        ensures call { IsEventCall {A = A} self.old slot (EventKind.Write window offset width value)
             (served_response result) self.new }
     {
         let what = EventKind::Write {

@@ -8,9 +8,8 @@ ghost use Rattle.board.specs.declared.saved.RestoreRefusal.{RestoreRefusal};
 ghost use Rattle.board.specs.declared.saved.SaveRefusal.{SaveRefusal};
 ghost use Rattle.board.specs.Saved.{IsAs, IsCauseOf, IsLike, IsSavedTo, IsSnapshotOf, snapshot_of};
 ghost use Rattle.board.specs.Slot.{BoardSlot};
-ghost use Rattle.session.specs.Pacing.{Handle};
 ghost use Rattle.session.specs.Restoring.{restore_response};
-ghost use Rattle.session.specs.Pausing.{IsCall, IsWhole};
+ghost use Rattle.session.specs.Pausing.{IsEventCall};
 ghost use Rattle.session.specs.Session.{IsIdle};
 
 use crate::session::Session;
@@ -49,11 +48,7 @@ impl<A: Allocator> Session<A> {
     /// puts them back. It is refused for a bad slot, while a service of the slot is paused, and for bytes that the slot
     /// doesn't take up, with their fault; what is refused changes nothing.
     pub fn restore(&mut self, slot: u8, from: &[u8]) -> Result<(), RestoreRefusal>
-        ensures call { IsCall {A = A} self.old
-            (Handle (record { slot = slot; what = EventKind.Restore from.now }))
-            (restore_response result) self.new }
-        ensures whole { IsWhole {A = A} self.old
-            (record { slot = slot; what = EventKind.Restore from.now })
+        ensures call { IsEventCall {A = A} self.old slot (EventKind.Restore from.now)
             (restore_response result) self.new }
 
         // what was saved of a slot is taken by every idle slot of its description, and brings it to its state

@@ -8,8 +8,8 @@ returns-in-OfImage-clause-restores c =
     (record {
       result = c.restore.result;
       code_is = numbered.number;
-      call = restored.call;
-      whole = restored.whole;
+      call = restored.call.turn;
+      whole = restored.call.whole;
       fault = restored.fault;
       taken = λ saved before after is here there like idle.
           let found = restored.taken saved before after is here there like idle in

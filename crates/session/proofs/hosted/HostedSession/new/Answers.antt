@@ -1,29 +1,21 @@
 -- A session that is there was not to be refused.
-use Rattle.std.proofs.Common.{◌≡◌, List, length, map, refl, ◌∙◌, ap, subst}
-use Rattle.std.specs.Prelude.{IfOk}
+use Rattle.std.proofs.Common.{length, refl, ◌∙◌, ap}
 use Rattle.std.proofs.lemmas.List.{length-map}
-use Rattle.board.specs.Hosting.{HostedState, hosted_opened}
-use Rattle.session.specs.Session.{none_waiting, slots_of}
-use Rattle.session.proofs.Refusals.{never_outlet, on_ok, wanting}
+use Rattle.board.specs.Hosting.{hosted_opened}
+use Rattle.session.specs.Session.{slots_of}
+use Rattle.session.proofs.Refusals.{never_outlet, wanting}
 use Rattle.session.proofs.hosted.HostedSession.new.Goals as goal
 
-pub of_board-requires : goal.of_board-requires
-of_board-requires g c =
+pub of_board-requires-clause-many : goal.of_board-requires-clause-many
+of_board-requires-clause-many g c =
     ap length c.in_ok-board.ensures.made ∙ length-map (slots_of c.args.guests.now) hosted_opened
     ∙ length-map c.args.guests.now (λ guest. guest.slot)
 
+pub of_board-requires-clause-outlets : goal.of_board-requires-clause-outlets
+of_board-requires-clause-outlets g c = c.if-not-are_outlets.ensures.0 refl
+
 pub returns-clause-made : goal.returns-clause-made
-returns-clause-made g c =
-    subst (λ (slots : List HostedState). IfOk c.of_board.result (λ session. session ≡ record {
-      slots = slots;
-      outputs = map (λ guest. none_waiting guest.outlet) c.args.guests.now;
-    })) c.in_ok-board.ensures.made c.of_board.ensures.made
-
-pub returns-clause-accepted : goal.returns-clause-accepted
-returns-clause-accepted g c = on_ok c.of_board.result _ c.in_ok-board.ensures.accepted
-
-pub returns-clause-outlets : goal.returns-clause-outlets
-returns-clause-outlets g c = on_ok c.of_board.result _ (c.if-not-are_outlets.ensures.0 refl)
+returns-clause-made g c = rw (← c.in_ok-board.ensures.made) c.of_board.ensures.made
 
 pub returns-clause-fault : goal.returns-clause-fault
 returns-clause-fault g c =

@@ -6,4 +6,4 @@ use Rattle.session.proofs.hosted.HostedSession.of_board.Goals as goal
 
 pub invariant_of-result : goal.invariant_of-result
 invariant_of-result g c = ap length c.in-Ok.ensures
-    ∙ length-map c.args.guests.now (λ guest. none_waiting guest.outlet) ∙ sym c.requires
+    ∙ length-map c.args.guests.now (λ guest. none_waiting guest.outlet) ∙ sym c.requires.many

@@ -1,10 +1,8 @@
 -- A session is refused by the first fault, the lent bytes' before all others.
-use Rattle.std.proofs.Common.{inl, length, map, refl, ◌∙◌, ap}
+use Rattle.std.proofs.Common.{inl, map, refl}
 use Rattle.std.specs.Vec.{vec_items}
-use Rattle.std.proofs.lemmas.List.{length-map}
 use Rattle.board.specs.Lent.{opened_over}
-use Rattle.session.specs.Session.{slots_of}
-use Rattle.session.proofs.Refusals.{handed_on, if_err, is_err, judged_first, lent, length-made_over, lent_refused, on_ok, then_board, wanting}
+use Rattle.session.proofs.Refusals.{handed_on, if_err, is_err, judged_first, lent, lent_refused, many_made_over, on_ok, then_board, wanting}
 use Rattle.session.proofs.session.Session.over_lent.Goals as goal
 
 pub returns-in_err-judge-clause-fault : goal.returns-in_err-judge-clause-fault
@@ -13,8 +11,8 @@ returns-in_err-judge-clause-fault g c =
     if_err c.from_residual.result why _
     (handed_on c.from_residual.result c.in_err-judge.field-0.0 c.from_residual.ensures.1)
     (lent_refused c.args.guests.now c.args.image.now c.args.cache c.args.budget
-    (map vec_items c.args.bytes.items) (lent c.args.guests.now c.deref.result.now c.args.bytes.items
-    c.deref.ensures.value (c.if-not-are_bytes_of.ensures.0 refl)) why
+    (map vec_items c.args.bytes.items)
+    (lent c.args.guests.now c.deref.ensures.value (c.if-not-are_bytes_of.ensures.0 refl)) why
     (c.in_err-judge.ensures.fault c.args.cache))
 
 pub returns-in_err-judge-clause-exact : goal.returns-in_err-judge-clause-exact
@@ -23,15 +21,14 @@ returns-in_err-judge-clause-exact g c = λ why other refused.
     is_err c.from_residual.result told _
     (handed_on c.from_residual.result c.in_err-judge.field-0.0 c.from_residual.ensures.1)
     (inl (judged_first c.args.guests.now c.args.image.now c.args.cache c.args.budget
-    (map vec_items c.args.bytes.items) (lent c.args.guests.now c.deref.result.now c.args.bytes.items
-    c.deref.ensures.value (c.if-not-are_bytes_of.ensures.0 refl)) told why
+    (map vec_items c.args.bytes.items)
+    (lent c.args.guests.now c.deref.ensures.value (c.if-not-are_bytes_of.ensures.0 refl)) told why
     c.in_err-judge.ensures.bad (c.in_err-judge.ensures.fault c.args.cache) refused))
 
 pub of_board-requires : goal.of_board-requires
 of_board-requires g c =
-    ap length c.in_ok-board.ensures.lent_slots
-    ∙ length-made_over opened_over (slots_of c.args.guests.now) (map vec_items c.args.bytes.items)
-    ∙ length-map c.args.guests.now (λ guest. guest.slot)
+    many_made_over opened_over c.args.guests.now (map vec_items c.args.bytes.items) c.in_ok-board.board.slots
+    c.in_ok-board.ensures.lent_slots
 
 pub returns-clause-lasts : goal.returns-clause-lasts
 returns-clause-lasts g c = on_ok c.of_board.result _ c.in_ok-judge.ensures.good.2
@@ -39,7 +36,7 @@ returns-clause-lasts g c = on_ok c.of_board.result _ c.in_ok-judge.ensures.good.
 pub returns-clause-fault : goal.returns-clause-fault
 returns-clause-fault g c =
     wanting c.of_board.result _ c.of_board.ensures.fault (
-      lent c.args.guests.now c.deref.result.now c.args.bytes.items c.deref.ensures.value
+      lent c.args.guests.now c.deref.ensures.value
           (c.if-not-are_bytes_of.ensures.0 refl),
       c.in_ok-judge.ensures.good,
     )
@@ -48,6 +45,6 @@ pub returns-clause-exact : goal.returns-clause-exact
 returns-clause-exact g c =
     then_board c.args.guests.now c.args.image.now c.args.cache c.args.budget
     (map vec_items c.args.bytes.items)
-    (lent c.args.guests.now c.deref.result.now c.args.bytes.items c.deref.ensures.value
+    (lent c.args.guests.now c.deref.ensures.value
     (c.if-not-are_bytes_of.ensures.0 refl)) c.of_board.result c.in_ok-judge.ensures.good
     (λ fault other refused. absurd (c.in_ok-board.ensures.bad_board fault other refused))

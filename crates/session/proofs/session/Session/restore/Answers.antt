@@ -1,58 +1,33 @@
 -- A restore is what the session does.
-use Rattle.std.proofs.Common.{length, refl, sym, ◌∙◌, ap}
-use Rattle.sector_cache.specs.MemoryImage.{disk_of as memory_disk_of}
+use Rattle.std.proofs.Common.{length, refl, ap}
 use Rattle.board.specs.declared.event.EventKind.TheVariants.{Restore}
 use Rattle.session.specs.Restoring.{restore_response}
 use Rattle.session.proofs.Restoring.{bad_slot_keeps, busy_keeps, never_idle, never_more, told_missing}
-use Rattle.session.proofs.Quiet.{handled_quietly, quiet_restore}
-use Rattle.session.proofs.Steps.{as_many, shown}
+use Rattle.session.proofs.Quiet.{as_many_still, handled_quietly, quiet_restore}
 use Rattle.session.proofs.session.Session.restore.Goals as goal
 
 pub invariant_of-self : goal.invariant_of-self
 invariant_of-self g c =
-    let many = sym (as_many c.self.inside.paced.board.slots c.restore.new.self.board.slots
-    c.restore.ensures.extents) in (
-      c.self.invariant.0 ∙ many,
-      ap length c.restore.ensures.paused ∙ (c.self.invariant.1 ∙ many),
-    )
+    as_many_still c.self.inside.paced c.restore.new.self c.self.inside.outputs.items c.restore.ensures.extents
+    (ap length c.restore.ensures.paused) c.self.invariant
 
 pub returns-clause-call : goal.returns-clause-call
 returns-clause-call g c =
-    let budget = c.self.inside.paced.budget in
-    let handled =
-    handled_quietly _ c.self.inside.paced.board.slots c.restore.new.self.board.slots _ _ _ _
-    c.self.inside.outputs.items c.self.inside.paced.paused c.restore.new.self.paused budget c.args.slot
-    (Restore c.args.from.now) (restore_response c.restore.result)
-    (c.self.invariant.1 ∙ sym c.self.invariant.0) c.self.invariant.0 c.restore.ensures.others
-    c.restore.ensures.extents tt (λ limit found after waiting left t. quiet_restore limit c.args.from.now
-    budget found after waiting left t)
-    (λ is. absurd (never_more _ c.restore.result is)) (λ is. never_idle _ c.restore.result is)
-    (told_missing _ _ c.restore.result c.restore.ensures.missing)
-    (λ is. ap (λ p. shown p.board.slots (memory_disk_of p.board.image) c.self.inside.outputs.items p.paused
-    budget) (busy_keeps _ _ c.restore.result c.restore.ensures.kept is))
-    (λ is. ap (λ p. shown p.board.slots (memory_disk_of p.board.image) c.self.inside.outputs.items p.paused
-    budget) (bad_slot_keeps _ _ c.restore.result c.restore.ensures.kept is))
-    (λ never is. absurd never) (λ never. never) (c.restore.ensures.responds refl) in
-    rw (← c.self.view_is, c.restore.ensures.budget) handled.call
-
-pub returns-clause-whole : goal.returns-clause-whole
-returns-clause-whole g c =
-    let budget = c.self.inside.paced.budget in
-    let handled =
-    handled_quietly _ c.self.inside.paced.board.slots c.restore.new.self.board.slots _ _ _ _
-    c.self.inside.outputs.items c.self.inside.paced.paused c.restore.new.self.paused budget c.args.slot
-    (Restore c.args.from.now) (restore_response c.restore.result)
-    (c.self.invariant.1 ∙ sym c.self.invariant.0) c.self.invariant.0 c.restore.ensures.others
-    c.restore.ensures.extents tt (λ limit found after waiting left t. quiet_restore limit c.args.from.now
-    budget found after waiting left t)
-    (λ is. absurd (never_more _ c.restore.result is)) (λ is. never_idle _ c.restore.result is)
-    (told_missing _ _ c.restore.result c.restore.ensures.missing)
-    (λ is. ap (λ p. shown p.board.slots (memory_disk_of p.board.image) c.self.inside.outputs.items p.paused
-    budget) (busy_keeps _ _ c.restore.result c.restore.ensures.kept is))
-    (λ is. ap (λ p. shown p.board.slots (memory_disk_of p.board.image) c.self.inside.outputs.items p.paused
-    budget) (bad_slot_keeps _ _ c.restore.result c.restore.ensures.kept is))
-    (λ never is. absurd never) (λ never. never) (c.restore.ensures.responds refl) in
-    rw (← c.self.view_is, c.restore.ensures.budget) handled.whole
+    let r = c.restore.result in
+    let said = c.restore.ensures in
+    let handled = handled_quietly c.self.inside.paced c.restore.new.self
+    c.self.inside.outputs.items c.args.slot
+    (Restore c.args.from.now) (restore_response r) c.self.invariant (quiet_restore c.args.from.now) (record {
+      responds = said.responds refl;
+      budget = said.budget;
+      extents = said.extents;
+      others = said.others;
+      not_idle = never_idle _ r;
+      bad_slot = told_missing _ _ r said.missing;
+      busy = busy_keeps _ _ r said.kept;
+      bad_slot_keeps = bad_slot_keeps _ _ r said.kept;
+    }) (λ is. absurd (never_more _ r is)) (λ never is. absurd never) in
+    rw (← c.self.view_is) handled.call
 
 pub returns-clause-taken : goal.returns-clause-taken
 returns-clause-taken g c saved old new is here there like idle =

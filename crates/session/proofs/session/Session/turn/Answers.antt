@@ -7,22 +7,16 @@ use Rattle.session.proofs.SessionTurns.{Turned, as_many_paused, now, suits_past,
 use Rattle.session.proofs.Steps.{as_many}
 use Rattle.session.proofs.session.Session.turn.Goals as goal
 
-pub returns-in_default-clause-call : goal.returns-in_default-clause-call
-returns-in_default-clause-call g c =
+pub returns-in_default : goal.returns-in_default
+returns-in_default g c =
     let past : length c.self.inside.paced.board.slots ≤ c.args.slot =
     grind (arith, c.self.invariant.0, c.in_default.is, c.in_default.ensures.variant) in
     let far : length c.self.inside.paced.paused ≤ c.args.slot = omega (arith, c.self.invariant.1, past) in
-    rw (← c.self.view_is) (turn_past _ c.args.slot c.args.kind far past).call
-
-pub returns-in_default-clause-whole : goal.returns-in_default-clause-whole
-returns-in_default-clause-whole g c =
-    let past : length c.self.inside.paced.board.slots ≤ c.args.slot =
-    grind (arith, c.self.invariant.0, c.in_default.is, c.in_default.ensures.variant) in
-    let far : length c.self.inside.paced.paused ≤ c.args.slot = omega (arith, c.self.invariant.1, past) in
-    rw (← c.self.view_is) (turn_past _ c.args.slot c.args.kind far past).whole
-
-pub returns-in_default-clause-suits : goal.returns-in_default-clause-suits
-returns-in_default-clause-suits g c = suits_past c.args.kind
+    record {
+      call = rw (← c.self.view_is) (turn_past _ c.args.slot c.args.kind far past).call;
+      whole = rw (← c.self.view_is) (turn_past _ c.args.slot c.args.kind far past).whole;
+      suits = suits_past c.args.kind;
+    }
 
 -- the output of that number
 there : (g : _) (c : goal.After-self-2-1 g)
