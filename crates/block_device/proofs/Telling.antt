@@ -1,6 +1,5 @@
 -- What the host is told of a request: that it fits, that the runs of a WRITE_ZEROES are those of its
--- segments, and that
--- nothing of it lies outside.
+-- segments, and that nothing of it lies outside.
 use Rattle.std.proofs.Common.{◌≡◌, ℕ, ◌+◌, ◌*◌, ◌/◌, ◌<◌, ◌≤◌, ◌&&◌, ◌==◌, Bool, true, false, not, cond, List, [], ◌∷◌, ◌++◌, length, map, refl, sym, ap, subst, ◌∙◌, arith, append-nil, length-drop}
 use Rattle.std.specs.Prelude.{All, nat_lt}
 use Rattle.std.specs.List.{filter, list_all}

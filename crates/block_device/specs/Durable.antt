@@ -61,8 +61,7 @@ abbrev pub writes_at : Completion → ℕ → Bool
 writes_at done place = writes_by done.operation.kind done.operation done.runs place
 
 -- Whether the host says by this completion that a byte is on the medium: by a FLUSH that was done of each, by
--- a stable
--- write that was done of each that it writes.
+-- a stable write that was done of each that it writes.
 abbrev pub lasts_by : Verdict → OperationKind → Bool → Bool → Bool
 lasts_by verdict.Failed what stable writes = false
 lasts_by verdict.Done kind.Flush stable writes = true
@@ -74,8 +73,7 @@ abbrev pub must_last : Completion → ℕ → Bool
 must_last done place = lasts_by done.verdict done.operation.kind done.operation.stable (writes_at done place)
 
 -- The host keeps its word: what it says is on the medium is there. A byte that isn't written is read as
--- before, and a
--- stop leaves what it would have left, or what is read.
+-- before, and a stop leaves what it would have left, or what is read.
 pub record KeepsWord (done : Completion) (old new : Medium) : Type 0 where
   pub held : (place : ℕ) → writes_at done place ≡ false → slice_get new.held place ≡ slice_get old.held place
   pub left :

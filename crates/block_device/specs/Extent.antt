@@ -42,8 +42,7 @@ pub record KeepsOutside (extent : Extent) (old new : Disk) : Type 0 where
   pub contents : SameContentsOutside extent old.contents new.contents
 
 -- Calls of the image are made for one extent: the failures never fall, while they stay a clean disk stays
--- clean, and the
--- image stays outside of it.
+-- clean, and the image stays outside of it.
 pub record StaysInExtent (extent : Extent) (old new : Disk) : Type 0 where
   pub rises : old.failures ≤ new.failures
   pub clean : KeepsClean old new

@@ -1,6 +1,5 @@
 -- A service of a disk that the host serves itself: it stops at each chain that asks for the disk, which is in
--- flight until
--- the host has completed its operation.
+-- flight until the host has completed its operation.
 use Rattle.std.specs.Prelude.{◌≡◌, ◌↔◌, ℕ, ◌-◌, ◌<◌, Bool, true, not, IsTrue, List, length, Option, Some, None}
 use Rattle.guest_memory.specs.Memory.{Memory, SameRange}
 use Rattle.chain.specs.declared.budget.Budget.{Budget}
@@ -93,8 +92,7 @@ pub record AsksIn (device : BlockDevice) (stage : Stage) (found : Option Queue) 
   pub runs_are : runs ≡ runs_for request new buffers
 
 -- A piece of a service of a disk that the host serves, whatever that has: it asks, or it is a piece of the
--- device's
--- service whose chains all ask for nothing.
+-- device's service whose chains all ask for nothing.
 abbrev pub HostsTo : BlockDevice → Stage → Budget → Option Queue → Hosted → Memory → Memory → WindowState
     → WindowState → List Buffer → List Segment → Disk → Type 0
 HostsTo device stage budget found (hosted.Asks flight) old new before after buffers runs disk =
@@ -129,8 +127,7 @@ pub record SameLook (one other : Hosted) (m n : Memory) (v w : WindowState) (b c
 -- ---- a chain in flight
 
 -- The chain of these buffers is in flight: its token is of the queue that the device may serve, its buffers
--- lie in the
--- memory, and it has a place for its status.
+-- lie in the memory, and it has a place for its status.
 pub record IsInFlight (m : Memory) (w : WindowState) (buffers : List Buffer) (flight : Flight) : Type 0 where
   pub queue : Queue
   pub ready : queue_at 0 w ≡ Some queue
@@ -155,8 +152,7 @@ pub record IsGivenBack (flight : Flight) (answer : Verdict) (buffers : List Buff
   pub past : after ≡ queue_kind.past before (entry_of flight.token)
 
 -- The same in its window, as an event of its own: the service ends behind it, and its driver is notified
--- where it wants
--- to be.
+-- where it wants to be.
 pub record CompletesIn (flight : Flight) (answer : Verdict) (old new : Memory) (before after : WindowState)
     (buffers : List Buffer) : Type 0 where
   pub queue : Queue

@@ -1,6 +1,5 @@
 -- What a stop within a request, as a loss of power, may leave of the disk: any bytes in the sectors that the
--- request
--- writes, be they old, new or torn. It touches no others.
+-- request writes, be they old, new or torn. It touches no others.
 use Rattle.std.specs.Prelude.{ℕ, zero, suc, ◌+◌, true, List, [], ◌∷◌, ◌++◌, length, map}
 use Rattle.std.specs.List.{range_with_len}
 use Rattle.chain.specs.Bytes.{readable_of, writable_of}
@@ -38,8 +37,7 @@ sectors_of_chain device readable (suc room) =
 module _ {I : Type 0} (disk : I → Disk) (moment : I → ℕ) (may_leave : I → List ℕ → Type 0) (left_since : I → ℕ
     → List ℕ → Type 0) where
   -- A chain is served over an image: as over its extent as a disk, whether or not the image fails, and at
-  -- each moment
-  -- only the sectors of its request are touched.
+  -- each moment only the sectors of its request are touched.
   pub record GivesOver (device : BlockDevice) (image : I) (readable : List ℕ) (w : ℕ)
       (given : Given I) : Type 0 where
     pub gives : GivesBy (Ends device.identity) device (extent_disk device.extent (disk image)) readable w

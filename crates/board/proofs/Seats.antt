@@ -218,8 +218,7 @@ stays_same disk board = record {
 }
 
 -- A slot of the board took a turn, and left the image's bytes outside its own extent as they were: so the
--- board
--- took it.
+-- board took it.
 pub takes : {A : Type 0} (Comes : SlotState → Health → Health → SlotState → List ℕ → Turn A
     → Type 0) (slots : List BoardSlot) (old new : Disk) (h : ℕ) (slot after : BoardSlot) (turn : Turn A)
     (block console : ℕ) (out_before out_after : List ℕ) →

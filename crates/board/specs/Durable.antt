@@ -9,16 +9,14 @@ use Rattle.board.specs.Slot.{BoardSlot}
 use Rattle.board.specs.World.{BoardState, World, extents_of}
 
 -- What is left of the image is what can be seen of it: in each slot's extent the bytes of that guest's disk,
--- and those
--- outside all extents.
+-- and those outside all extents.
 pub record IsLeftAsSeen (slots : List BoardSlot) (world : World) (left : List ℕ) : Type 0 where
   pub extents : map (λ slot. extent_of left slot.extent.start slot.extent.count) slots
       ≡ map (λ state. state.extent) world.slots
   pub outside : outside_of (extents_of slots) left ≡ world.outside
 
 -- An event of this slot touches nothing but its extent, or nothing where there is no such slot: whatever
--- fails, and wherever
--- a stop cuts the event.
+-- fails, and wherever a stop cuts the event.
 abbrev pub TouchesSlot : {I : Type 0} → (moment : I → ℕ) → (may_leave : I → List ℕ → Type 0)
     → (left_since : I → ℕ → List ℕ → Type 0) → (slot : ℕ) → (old new : BoardState I) → Type 0
 TouchesSlot moment may_leave left_since slot old new =

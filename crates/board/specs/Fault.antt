@@ -119,8 +119,7 @@ pub record HasHostedFaultAt (slots : List SlotSpec) (number : ℕ) (fault : Slot
   pub fault_is : IsFaultOf most_sectors [] (with_own_disk spec) fault
 
 -- Why such a board is refused, in the same order as one over an image: there is no image that an extent could
--- pass the
--- end of, but a disk may be too large; extents share nothing, and there is no cache.
+-- pass the end of, but a disk may be too large; extents share nothing, and there is no cache.
 abbrev pub RefusesHosted : List SlotSpec → BoardFault → Type 0
 RefusesHosted slots NoSlots = slots ≡ []
 RefusesHosted slots TooManySlots = 64 < length slots

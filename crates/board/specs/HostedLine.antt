@@ -1,6 +1,5 @@
 -- A board whose disks the host serves: calls of any slots in any order, and what each guest sees of them.
--- Slots share
--- nothing, so its world is the list of their states.
+-- Slots share nothing, so its world is the list of their states.
 use Rattle.std.specs.Prelude.{◌≡◌, ◌≢◌, ℕ, ◌==◌, ⊤, Bool, true, false, nat_lt, if◌then◌else◌, Option, Some, None, List, [], ◌∷◌, ◌++◌, map, filter, slice_set, MatchOption}
 use Rattle.std.specs.List.{slice_get}
 use Rattle.guest_memory.specs.Memory.{Memory, put}
@@ -13,8 +12,7 @@ use Rattle.board.specs.Machine.{block_irq, console_irq}
 use Rattle.board.specs.Within.{TakesWithin}
 
 -- One call for a guest: what is done, and the outlet of its console, with its limit where that alone decides
--- what it
--- refuses, and what waits there.
+-- what it refuses, and what waits there.
 pub record HostedCall (A : Type 0) : Type 0 where
   pub event : EventKind A
   pub limit : Option ℕ
@@ -181,9 +179,8 @@ abbrev pub own_told : {A : Type 0} → ℕ → List (HostedMove A) → List (Tol
 own_told g moves = map (λ move. move.told) (own_moves g moves)
 
 -- Guest g, which was in this state, is told what it would be told alone, and its state afterwards is what it
--- would be
--- alone: its own calls decide both, the outcomes of its completions among them, whatever was called for
--- others.
+-- would be alone: its own calls decide both, the outcomes of its completions among them, whatever was called
+-- for others.
 pub record RunsHostedAlone {A : Type 0} (g : ℕ) (state : HostedState) (moves : List (HostedMove A))
     (new : List HostedState) : Type 0 where
   pub last : HostedState

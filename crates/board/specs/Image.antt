@@ -4,8 +4,7 @@ use Rattle.sector_cache.specs.Disk.{Disk}
 use Rattle.block_device.specs.Extent.{sector_len}
 
 -- How the image fares: how many of its calls failed so far, and whether it is dirty: a write was tried since
--- the
--- last flush that succeeded.
+-- the last flush that succeeded.
 pub record Health : Type 0 where
   pub failures : ℕ
   pub dirty : Bool

@@ -1,6 +1,5 @@
 -- Boards whose memories' bytes a host lends: one run of bytes for each region of all slots, in the slots'
--- order and in each
--- slot in the regions' order.
+-- order and in each slot in the regions' order.
 use Rattle.std.specs.Prelude.{◌≡◌, ℕ, ⊤, List, [], ◌∷◌, length, drop, map, None}
 use Rattle.std.specs.List.{flat_map}
 use Rattle.guest_memory.specs.declared.spec.RegionSpec.{RegionSpec}

@@ -68,8 +68,7 @@ pub record SeesTheSame {A : Type 0} (g : ℕ) (moves : List (Move A)) (new : Wor
   pub state_after : slice_get new.slots g ≡ slice_get new'.slots g
 
 -- Guest g was on one board through these moves, and then on another through those: together that is one run
--- of it on
--- its own, from the state that it was first in.
+-- of it on its own, from the state that it was first in.
 pub record RanOnBoth {A : Type 0} (g : ℕ) (state : SlotState) (moves moves' : List (Move A))
     (new' : World) : Type 0 where
   pub last : SlotState

@@ -201,8 +201,7 @@ abbrev pub met_in : {A : Type 0} → Turn A → ℕ → ℕ → Bool
 met_in turn old_failures new_failures = lacks_memory_in turn || nat_lt old_failures new_failures
 
 -- A slot's guest is served so: its event comes to a turn that it may come to, and the output was appended to
--- what
--- was put out before.
+-- what was put out before.
 pub record ServesTurn {A : Type 0} (Comes : SlotState → Health → Health → SlotState
     → List ℕ → Turn A → Type 0)
     (state : SlotState) (old new : Health) (after : SlotState) (turn : Turn A)
@@ -220,8 +219,7 @@ ServesOver Comes old new before after turn out_before out_after =
     (state_of (bytes_of after) new) turn out_before out_after
 
 -- A turn of slot h on the whole board, which shows these interrupt words after it: a refusal is noted, and
--- every
--- other slot and each byte outside all extents stay as they are.
+-- every other slot and each byte outside all extents stay as they are.
 pub record SlotTurn {A : Type 0} (Comes : SlotState → Health → Health → SlotState → List ℕ → Turn A → Type 0)
     (old : World) (h : ℕ) (turn : Turn A) (output : List ℕ) (block console : ℕ) (new : World) : Type 0 where
   pub state : SlotState

@@ -43,8 +43,7 @@ pub record OffersFeatures (slot : BoardSlot) : Type 0 where
   pub console : slot.console.negotiation.offered ≡ console_features
 
 -- The bytes are the snapshot of a slot that stands so on a board: they are spelled so and read back, its
--- windows are
--- those of its two devices, and they are restored over each memory of its memory's range.
+-- windows are those of its two devices, and they are restored over each memory of its memory's range.
 pub record IsSnapshotOf (bytes : List ℕ) (slot : BoardSlot) : Type 0 where
   pub spelled : bytes ≡ snapshot (saved_slot slot) slot.pending
   pub read : snapshot_at bytes ≡ Ok (saved_slot slot, slot.pending)
@@ -62,8 +61,7 @@ pub record IsSavedTo (slot : BoardSlot) (old new : List ℕ) (len : ℕ) : Type 
 -- ---- what takes it up
 
 -- The slot is of the description that was saved: its memory begins and ends at the same addresses, its disk
--- has as many
--- sectors, the same mode and the same identity, and its devices offer the same features.
+-- has as many sectors, the same mode and the same identity, and its devices offer the same features.
 pub record Suits (saved : SavedSlot) (slot : BoardSlot) : Type 0 where
   pub base : saved.base ≡ slot.memory.base
   pub len : saved.len ≡ length slot.memory.bytes
@@ -74,8 +72,7 @@ pub record Suits (saved : SavedSlot) (slot : BoardSlot) : Type 0 where
   pub console : saved.console.offered ≡ slot.console.negotiation.offered
 
 -- The slot has taken up what was saved: both windows, the pending input and the size. The memory stays, and
--- the disk
--- with its mode and identity, and whether an event of the slot has met a refusal.
+-- the disk with its mode and identity, and whether an event of the slot has met a refusal.
 pub record TakesUp (old : BoardSlot) (saved : SavedSlot) (pending : List ℕ) (new : BoardSlot) : Type 0 where
   pub suits : Suits saved old
   pub block : window_restored Block old.memory saved.block ≡ Some new.block
@@ -119,8 +116,7 @@ pub record IsLike (slot other : BoardSlot) : Type 0 where
   pub identity : other.identity ≡ slot.identity
 
 -- the slot is as that one was, but for the memory's bytes, where its disk lies, and whether an event of it
--- has met a
--- refusal: those are its own
+-- has met a refusal: those are its own
 abbrev pub IsAs : BoardSlot → BoardSlot → BoardSlot → Type 0
 IsAs slot old new = new ≡ record slot { memory = old.memory; extent = old.extent; disturbed = old.disturbed }
 

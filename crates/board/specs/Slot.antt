@@ -94,8 +94,7 @@ abbrev pub console_features : ℕ
 console_features = console_size + console_emerg_write + device_features
 
 -- Each window is that of its device, of its kind and offering what it offers. Both are sound for the memory:
--- their ready
--- queues lie in it. And no more input is pending than may be.
+-- their ready queues lie in it. And no more input is pending than may be.
 pub record IsSoundSlot (memory : Memory) (read_only : Bool) (block console : WindowState)
     (pending : List ℕ) : Type 0 where
   pub block_kind : block.kind ≡ Block
@@ -123,8 +122,7 @@ opened spec = record {
 }
 
 -- Both interrupt words have no bits but the two that a device may set: a used buffer, and a change of
--- configuration
--- (4.2.2).
+-- configuration (4.2.2).
 pub record AreInterruptWords (block_irq console_irq : ℕ) : Type 0 where
   pub block : block_irq ≤ 3
   pub console : console_irq ≤ 3

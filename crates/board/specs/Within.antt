@@ -71,8 +71,7 @@ TakesWithin limit state (Write window offset width value) after waiting left rep
 TakesWithin limit state what after waiting left reply = ⊤
 
 -- How an outlet decides what a slot of a board puts out: by its limit, where it has one, of the slot as its
--- guest sees it
--- before and after.
+-- guest sees it before and after.
 abbrev pub DecidesSlot : {I : Type 0} → (I → Disk) → Option ℕ → ℕ → BoardState I → BoardState I
     → (ℕ → SlotState → SlotState → Type 0) → Type 0
 DecidesSlot disk outlet slot old new Within =
@@ -106,8 +105,7 @@ MayPutOut state (Write window offset width value) = IsPuttingOut (task_at window
 MayPutOut state what = ⊥
 
 -- What comes of one event of a guest that is alone with its outlet: what it gives where room is found, and
--- where
--- it puts something out the room of the outlet decides.
+-- where it puts something out the room of the outlet decides.
 pub record IsNextWithin {A : Type 0} (limit : ℕ) (old : Seat) (what : EventKind A) (reply : Reply A)
     (new : Seat) : Type 0 where
   pub output : List ℕ

@@ -64,10 +64,8 @@ abbrev pub world_of : {I : Type 0} → (I → Disk) → BoardState I → World
 world_of disk board = seen board.slots (disk board.image)
 
 -- What events do to a board stays in its slots' extents: an image that tells its bytes goes on telling them,
--- and those
--- outside all extents stay; the extents lie where they did, in an image of the same size; its failures never
--- fall, and
--- while they stay a clean image stays clean.
+-- and those outside all extents stay; the extents lie where they did, in an image of the same size; its
+-- failures never fall, and while they stay a clean image stays clean.
 pub record StaysInExtents {I : Type 0} (disk : I → Disk) (old new : BoardState I) : Type 0 where
   pub tells : Tells (disk old.image) → Tells (disk new.image)
   pub outside : Tells (disk old.image) → (world_of disk new).outside ≡ (world_of disk old).outside

@@ -36,8 +36,7 @@ RanBy (Cached capacity) slots events before after Output = RanOver slots events 
 RanBy Hosted slots events before after Output = RecordedHosted slots events before after Output
 
 -- A replay that came to its end: the trace that was read, and the run of its events on its board, whose
--- records' text
--- went out.
+-- records' text went out.
 pub record HasRun (A : Type 0) (input old new : Option (List ℕ)) (before after : Disk) : Type 0 where
   pub trace : Content A
   pub read : IfSome input (λ bytes. IsTraceOf bytes trace)

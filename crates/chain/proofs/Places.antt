@@ -210,7 +210,8 @@ module _ (w : Bool) (xs : List Buffer) (i : ℕ) (d : Buffer) (h : i < length xs
           ∙ ap (λ l. segments_of w (take i xs) ++ l) (segments_of-hit w b (drop (i + 1) xs) hit) in (
             near,
             sym (ap (λ ss. rest_at ss place) cut
-                ∙ rest_past (segments_of w (take i xs)) (b.segment ∷ segments_of w (drop (i + 1) xs)) place from
+                ∙ rest_past (segments_of w (take i xs))
+                (b.segment ∷ segments_of w (drop (i + 1) xs)) place from
                 ∙ rest_here b.segment (segments_of w (drop (i + 1) xs)) (place - start) near),
           )
 

@@ -13,8 +13,7 @@ start_at buffers i = record {
 }
 
 -- the two lengths and the start of each buffer are kept, the sum of the lengths fits, and no buffer passes
--- the
--- last address
+-- the last address
 pub record IsHeld (buffers : List Buffer) (starts : List Start) (readable writable : ℕ) : Type 0 where
   pub readable_is : readable ≡ len_of false buffers
   pub writable_is : writable ≡ len_of true buffers

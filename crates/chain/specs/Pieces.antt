@@ -1,7 +1,6 @@
 -- A service in pieces (2.7.13, 2.8.14 and 2.8.21), for every kind of ring and every device: some of its
--- chains are
--- served, then it pauses, and its ring stands open until it goes on. What its driver finds at the end is one
--- service.
+-- chains are served, then it pauses, and its ring stands open until it goes on. What its driver finds at the
+-- end is one service.
 use Rattle.std.specs.Prelude.{◌≡◌, ◌↔◌, Bool, IsTrue, None, List, [], ◌∷◌}
 use Rattle.chain.specs.declared.budget.Budget.{Budget}
 use Rattle.chain.specs.declared.segment.Buffer.{Buffer}
@@ -29,8 +28,7 @@ module _ {Ring State : Type 0} (kind : Kind Ring) (device : Device State) where
   -- ---- within a budget
 
   -- A piece that pauses: the chains that it served have spent the budget, and one more is on offer, which
-  -- isn't
-  -- touched.
+  -- isn't touched.
   pub record Pauses (budget : Budget) (start now : Site Ring State) : Type 0 where
     pub course : Course kind device start now
     pub within : AreWithin budget (chains_of course.chains)
@@ -67,8 +65,7 @@ module _ {Ring State : Type 0} (kind : Kind Ring) (device : Device State) where
   -- ---- with pauses
 
   -- From here on it goes to its end with pauses. In a pause memory and ring stay, and the device's state may
-  -- become
-  -- another one that its driver can't tell from it.
+  -- become another one that its driver can't tell from it.
   abbrev pub GoesInPieces : (State → State → Type 0) → Site Ring State → List (Pause Ring State)
       → Site Ring State → Ending → Bool → Type 0
   GoesInPieces Alike now [] new ending wanted = GoesToEnd now new ending wanted

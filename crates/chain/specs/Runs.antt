@@ -1,6 +1,5 @@
 -- Runs: where places of one of a chain's two lists lie in guest memory (2.7.4), for somebody who moves their
--- bytes in
--- place. Each run is a part of one buffer. Neighbours aren't joined, and none is empty.
+-- bytes in place. Each run is a part of one buffer. Neighbours aren't joined, and none is empty.
 use Rattle.std.specs.Prelude.{ℕ, ◌+◌, ◌-◌, nat_lt, min, Bool, List, [], ◌∷◌}
 use Rattle.std.specs.List.{filter}
 use Rattle.chain.specs.declared.segment.Segment.{Segment}

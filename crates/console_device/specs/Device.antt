@@ -54,8 +54,7 @@ MayRefuse None n = ⊤
 MayRefuse (Some limit) n = limit < n
 
 -- The transmit queue, over what waits in an output with this limit: a chain is served where its readable
--- bytes
--- fit behind what waits, and one with readable bytes may be refused where they don't.
+-- bytes fit behind what waits, and one with readable bytes may be refused where they don't.
 abbrev pub transmit_within : Option ℕ → Device (List ℕ)
 transmit_within limit = record {
   takes = λ out. true;

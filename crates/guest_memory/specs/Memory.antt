@@ -1,6 +1,5 @@
 -- Guest memory as a driver and a device see it: bytes from a base address on, with gaps between regions, and
--- the
--- little-endian numbers that virtqueues keep in it (2.7, 2.8; numbers are little-endian by 1.4).
+-- the little-endian numbers that virtqueues keep in it (2.7, 2.8; numbers are little-endian by 1.4).
 use Rattle.std.specs.Prelude.{◌≡◌, ℕ, ◌+◌, ◌-◌, ◌≤◌, ◌⊎◌, nat_le, Bool, true, ◌&&◌, ◌||◌, List, [], ◌∷◌, ◌++◌, length, take, drop, replicate, if◌then◌else◌}
 use Rattle.std.specs.List.{All}
 use Rattle.byteorder.specs.Endian.{little_number, little_bytes}
@@ -11,8 +10,7 @@ pub record Gap : Type 0 where
   pub end : ℕ
 
 -- the first address, the byte at each address from there on, and the gaps in order. In a gap a byte stands as
--- 0, and nobody
--- reads it. A memory of one region has no gaps
+-- 0, and nobody reads it. A memory of one region has no gaps
 pub record Memory : Type 0 where
   pub base : ℕ
   pub bytes : List ℕ

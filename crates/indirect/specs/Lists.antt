@@ -80,8 +80,7 @@ module _ (kind : TableKind) (negotiated : Bool) (m : Memory) where
       pub ends : EndsBy (t last).indirect before count (t last) buffers
 
     -- the list from h has these buffers, and is given back by this entry: the one of how many members come
-    -- before
-    -- its last one, and of that one's index
+    -- before its last one, and of that one's index
     pub record ListOffers (entry_of : ℕ → ℕ → Entry) (buffers : List Buffer) (entry : Entry) : Type 0 where
       pub count : ℕ
       pub last : ℕ
@@ -90,8 +89,7 @@ module _ (kind : TableKind) (negotiated : Bool) (m : Memory) where
 
     -- The fault of the list from h. A front of count plain members with good buffers leads to an index, and
     -- there it can't go on: it has n members; or the index isn't below n; or the buffer of the descriptor
-    -- that
-    -- comes next, which is plain, is refused; or that descriptor refers to a table, which is refused.
+    -- that comes next, which is plain, is refused; or that descriptor refers to a table, which is refused.
     pub record ListFails (fault : Fault) : Type 0 where
       pub count : ℕ
       pub at : ℕ

@@ -1,6 +1,5 @@
 -- A window stays that of its device: whatever is written to it and however its queues are served, its kind
--- and the
--- features that it offers stay.
+-- and the features that it offers stay.
 use Rattle.std.proofs.Common.{◌≡◌, ◌==◌, ◌∙◌, ℕ, Bool, true, false, Option, Some, None, refl, subst, sym}
 use Rattle.std.specs.Prelude.{◌&&◌, if◌then◌else◌, nat_lt}
 use Rattle.std.specs.Option.{option_map_or}

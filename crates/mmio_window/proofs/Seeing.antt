@@ -1,6 +1,5 @@
 -- A device whose state is seen through a function as that of another device, as an image is seen as a disk:
--- each piece
--- of a service of the one is one of the other.
+-- each piece of a service of the one is one of the other.
 use Rattle.std.proofs.Common.{◌≡◌, ℕ, Bool, Option, Some, None, List, refl, sym, ap, subst, ◌∙◌}
 use Rattle.std.specs.Prelude.{◌&&◌}
 use Rattle.guest_memory.specs.Memory.{Memory}

@@ -10,8 +10,7 @@ use Rattle.mmio_window.specs.Window.{WindowState}
 use Rattle.mmio_window.specs.Writing.{register_written, status_written, with_queue_written}
 
 -- What holds of a window after a write to a register of a queue, to Status and to DriverFeatures, and with
--- other
--- selectors and interrupts, holds after every write to a register of which this is true.
+-- other selectors and interrupts, holds after every write to a register of which this is true.
 pub written_by_cases : (P : WindowState → Type 0) (Is : Register → Type 0) (value : ℕ) (m : Memory)
     (w : WindowState)
     → ((register : Register) → Is register → P (with_queue_written register value m w))

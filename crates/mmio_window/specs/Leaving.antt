@@ -1,6 +1,5 @@
 -- How a piece of a service leaves its queue, for any device: closed, open in a pause, or open at a chain that
--- the device
--- leaves on offer.
+-- the device leaves on offer.
 use Rattle.std.specs.Prelude.{◌≡◌, None, List, [], ◌∷◌}
 use Rattle.guest_memory.specs.Memory.{Memory, SameRange}
 use Rattle.chain.specs.declared.budget.Budget.{Budget}
@@ -44,8 +43,7 @@ LeavesQueue device stage budget old new (Closed fault wanted) =
     EndsAt stage device budget old new (ending_of fault) wanted
 
 -- Chains were served within the budget, and the one on offer has these buffers; the device leaves it, for a
--- reason that
--- it has then.
+-- reason that it has then.
 pub record IsLeftAt {State E : Type 0} (device : Device State) (Refuses : State → Memory → List Buffer → E
     → Type 0) (budget : Budget) (start now : Site Queue State) (buffers : List Buffer)
     (refused : Refused E) : Type 0 where

@@ -1,6 +1,5 @@
 -- A service of a queue in pieces as its driver sees it, for any device. In a pause the queue stands open in
--- the window,
--- which shows nothing of the service yet.
+-- the window, which shows nothing of the service yet.
 use Rattle.std.specs.Prelude.{◌≡◌, ℕ, Bool, Option, None, Some}
 use Rattle.guest_memory.specs.Memory.{Memory}
 use Rattle.chain.specs.declared.budget.Budget.{Budget}

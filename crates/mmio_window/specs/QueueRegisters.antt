@@ -41,8 +41,7 @@ abbrev pub packed_ring_of : Memory → Setup → Option Queue
 packed_ring_of m setup = if packed.can_set_up m setup then Some (Packed (new_ring setup)) else None
 
 -- the ring that a queue gets as it is made ready, at its first place: a packed one exactly where RING_PACKED
--- was
--- negotiated (6)
+-- was negotiated (6)
 abbrev pub ring_of : Memory → ℕ → QueueRegisters → Option Queue
 ring_of m features queue =
     if has features ring_packed then packed_ring_of m (setup_of features queue)

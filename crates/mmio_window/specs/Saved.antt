@@ -68,8 +68,7 @@ queue_at_reached m n saved (Some reached) =
     option_map (λ ring. registers_with saved (Some ring)) (ring_reached m n saved reached)
 
 -- The registers as they were saved, with their ring where the queue was ready: there are none where no such
--- ring
--- can be.
+-- ring can be.
 abbrev pub queue_restored : Memory → NegotiationState → SavedQueue → Option QueueRegisters
 queue_restored m n saved = queue_at_reached m n saved saved.reached
 
@@ -117,8 +116,7 @@ window_with kind saved n queue_0 queue_1 = record {
 }
 
 -- The window of a device of this kind as it was saved, over this memory. There is none where status and
--- features can't
--- stand so, or a queue was ready that can't be.
+-- features can't stand so, or a queue was ready that can't be.
 abbrev pub window_restored : DeviceKind → Memory → SavedWindow → Option WindowState
 window_restored kind m saved =
     option_and_then (λ n.

@@ -1,6 +1,5 @@
 -- A window is sound for a memory: each of its ready queues is the ring that its registers and features make,
--- and
--- lies in that memory.
+-- and lies in that memory.
 use Rattle.std.specs.Prelude.{◌≡◌, ℕ, Some, IfSome}
 use Rattle.guest_memory.specs.Memory.{Memory, SameRange}
 use Rattle.negotiation.specs.Negotiation.{NegotiationState, negotiated_of}
@@ -13,8 +12,7 @@ use Rattle.mmio_window.specs.QueueRegisters.{ring_of}
 use Rattle.mmio_window.specs.Window.{WindowState, queue_at, registers_of, with_ring}
 
 -- a ring is that of a queue: FEATURES_OK stands, and but for how far it is served the ring is the one that
--- the
--- queue's number and addresses and the negotiated features make; its areas lie in the memory
+-- the queue's number and addresses and the negotiated features make; its areas lie in the memory
 pub record IsRingOf (m : Memory) (n : NegotiationState) (registers : QueueRegisters)
     (ring : Queue) : Type 0 where
   pub settled : Has n.status features_ok
@@ -31,8 +29,7 @@ pub record IsSound (m : Memory) (w : WindowState) : Type 0 where
   pub queue_1 : HasItsRing m w.negotiation w.queue_1
 
 -- A sound window stays so while its device serves a queue: with another ring there of the same setup, and for
--- a
--- memory of the same range.
+-- a memory of the same range.
 abbrev pub ServingKeepsSound : Type 0
 ServingKeepsSound =
     (old new : Memory) (w : WindowState) (q : ℕ) (ring served : Queue) → IsSound old w → SameRange old new

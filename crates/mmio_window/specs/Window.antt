@@ -101,8 +101,7 @@ abbrev pub with_generation_counted : WindowState → WindowState
 with_generation_counted w = record w { config_generation = (w.config_generation + 1) % 2 ^ 32 }
 
 -- The configuration changed, if it is of a kind that does: it has another generation, and a driver that is
--- ready
--- is told (4.2.2).
+-- ready is told (4.2.2).
 abbrev pub with_config_changed : WindowState → WindowState
 with_config_changed w =
     if configuration_changes w.kind && has w.negotiation.status driver_ok then with_config_interrupt

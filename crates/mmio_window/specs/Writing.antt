@@ -1,6 +1,5 @@
 -- Writing a window's registers (4.2.2), by cases in the order of their table, and what is left for the device
--- to
--- do.
+-- to do.
 use Rattle.std.specs.Prelude.{ℕ, ◌==◌, ◌&&◌, nat_lt, if◌then◌else◌, is_some}
 use Rattle.std.specs.Option.{option_map_or}
 use Rattle.guest_memory.specs.Memory.{Memory}

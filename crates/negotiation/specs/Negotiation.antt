@@ -62,8 +62,7 @@ is_live s =
     && lacks s.status device_needs_reset
 
 -- FEATURES_OK is set only for features that are all offered and have VERSION_1 (2.2.2, 6.2), and each bit of
--- the
--- status that is set has a name (2.1)
+-- the status that is set has a name (2.1)
 pub record IsSettled (s : NegotiationState) : Type 0 where
   pub offered : Has s.status features_ok → Has s.offered s.accepted
   pub version_1 : Has s.status features_ok → Has s.accepted version_1

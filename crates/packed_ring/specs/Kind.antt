@@ -47,8 +47,7 @@ packed_kind = record {
   -- whether a list is on offer: the service goes on, and the descriptor at the ring's place is available
   offers = λ m ring. nat_lt 0 ring.pending && is_available m ring;
   -- The chain on offer is the list of descriptors from the ring's place on, or that list has a fault. Its id
-  -- is that
-  -- of the last one, and only the first has to be available.
+  -- is that of the last one, and only the first has to be available.
   Offers = λ m ring. ListOffers packed_tables ring.setup.indirect m (table_of m ring) ring.setup.size
       (head_of ring) (λ count last. entry_of (id_of m (descriptor_addr ring.setup.desc last)) (count + 1));
   HasFault = λ m ring. ListFails packed_tables ring.setup.indirect m (table_of m ring) ring.setup.size
@@ -57,8 +56,7 @@ packed_kind = record {
   past = λ ring entry. past ring entry.places;
   stopped = stopped;
   -- the closing write: the driver is to notify of every list, so the four bytes of the device event
-  -- suppression
-  -- structure are 0 (2.8.10, 2.8.14)
+  -- suppression structure are 0 (2.8.10, 2.8.14)
   closed = λ m ring. put_num m ring.setup.device 4 0;
   -- the driver wants a notification of the places that the service has passed
   Wants = λ m ring. PackedWants m ring.setup.driver ring.setup.size ring.setup.event_idx

@@ -11,8 +11,7 @@ use Rattle.indirect.specs.Descriptors.{packed_buffer, next_flag, write_flag, ind
 use Rattle.suppression.specs.Places.{place_ahead, position_of, wrap_counter_of}
 
 -- what the layout asks of the areas of a ring of n descriptors: 16 bytes for each descriptor, and 4 for each
--- event suppression
--- structure, aligned to 4 bytes (2.8)
+-- event suppression structure, aligned to 4 bytes (2.8)
 abbrev pub areas_of : ℕ → Areas
 areas_of n = record { desc = 16 * n; driver = 4; device = 4; driver_alignment = 4 }
 
@@ -53,8 +52,7 @@ abbrev pub flags_of : Memory → ℕ → ℕ
 flags_of m addr = num m (addr + 14) 2
 
 -- the descriptor at a position of the ring of n descriptors at an address; where it has NEXT, its list goes
--- on
--- at the next position, and behind the last at the first (2.8.6)
+-- on at the next position, and behind the last at the first (2.8.6)
 abbrev pub ring_descriptor : Memory → ℕ → ℕ → ℕ → Descriptor
 ring_descriptor m desc n position =
     let addr = descriptor_addr desc position in
@@ -95,8 +93,7 @@ abbrev pub place_behind : RingState → ℕ → ℕ
 place_behind ring length = place_ahead (2 * ring.setup.size) ring.place length
 
 -- the flags of a used descriptor: AVAIL and USED both equal the wrap counter, WRITE tells whether anything
--- was
--- written, and the other bits are 0 (2.8.1, 2.8.3)
+-- was written, and the other bits are 0 (2.8.1, 2.8.3)
 abbrev pub used_flags : ℕ → Bool → ℕ
 used_flags wrap wrote = wrap * avail_flag + wrap * used_flag + (if wrote then write_flag else 0)
 

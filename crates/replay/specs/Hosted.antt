@@ -1,6 +1,5 @@
 -- A trace whose disks the host serves: its events are calls of a board, and the text says of each what it was
--- told and
--- what the host is then asked to do.
+-- told and what the host is then asked to do.
 use Rattle.std.specs.Prelude.{◌≡◌, ℕ, Bool, true, is_none, if◌then◌else◌, Option, None, Some, List, [], ◌∷◌, map}
 use Rattle.std.specs.List.{slice_get}
 use Rattle.std.specs.Option.{option_and_then}
@@ -84,8 +83,7 @@ pub record SendsHosted {A : Type 0} (old new : List HostedState) (events : List 
   pub sent : Sends before after waiting (moves_text old moves) waiting'
 
 -- A new board of these slots takes the calls of these events, and this holds of the text of what they are
--- told. The
--- image has no part in it.
+-- told. The image has no part in it.
 pub record RecordedHosted {A I : Type 0} (slots : List SlotSpec) (events : List (Event A)) (before after : I)
     (Output : List ℕ → Type 0) : Type 0 where
   pub moves : List (HostedMove A)

@@ -87,15 +87,13 @@ pub record HasTooMany {A : Type 0} (trace : Content A) : Type 0 where
   pub many : 16 < length trace.slots
 
 -- a trace that a later version takes as its own does: it hasn't too many slots, and where the later version
--- admits larger
--- memories, none is too large for its own
+-- admits larger memories, none is too large for its own
 pub record IsAdmittedUntil {A : Type 0} (version : ℕ) (trace : Content A) : Type 0 where
   pub few : ¬ HasTooMany trace
   pub small : trace.version < 3 → 3 ≤ version → All (IsSmallMemory trace.version) trace.slots
 
 -- which slots there may be on the board of a trace, and why it is refused, by where its disks are: over an
--- image of so
--- many sectors, or each on a disk of its own
+-- image of so many sectors, or each on a disk of its own
 abbrev pub AcceptsBy : Disks → ℕ → List SlotSpec → Type 0
 AcceptsBy (Cached capacity) sectors slots = IsAccepted sectors slots capacity
 AcceptsBy Hosted sectors slots = AreGoodHosted slots
@@ -105,8 +103,7 @@ RefusesBy (Cached capacity) sectors slots fault = Refuses sectors slots capacity
 RefusesBy Hosted sectors slots fault = RefusesHosted slots fault
 
 -- Why there is no board for a trace: it has too many slots for its version, before any of them is looked at;
--- else it
--- is the fault of the board that is asked for.
+-- else it is the fault of the board that is asked for.
 abbrev pub RefusesBoardOf : {A : Type 0} → ℕ → Content A → BoardFault → Type 0
 RefusesBoardOf sectors trace fault =
     (HasTooMany trace × (fault ≡ TooManySlots))

@@ -42,7 +42,8 @@ module _ (sector : ℕ) (old new : LruCache ℕ (List ℕ)) where
   kept_by_put (Ok _) bytes ok err none =
       record {
         either = inl (ok
-            ∙ ap (λ found. lru_cache (option_map_or (λ e. (e.0, bytes) ∷ remove_entry (nat_eq sector) old.entries)
+            ∙ ap (λ found. lru_cache (option_map_or (λ e. (e.0, bytes)
+            ∷ remove_entry (nat_eq sector) old.entries)
             found ((sector, bytes) ∷ take (old.cap - 1) old.entries)) old.cap)
             (entry_of_none sector old.entries none));
       }

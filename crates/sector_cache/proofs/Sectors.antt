@@ -1,6 +1,6 @@
--- Sectors and extents of a list of bytes: how long they are, and what each is after one sector was
--- put in place of another. Callers of an image cite these of the bytes that it tells. Throughout,
--- a sector lies inside of the bytes where 512 * (sector + 1) is at most their length.
+-- Sectors and extents of a list of bytes: how long they are, and what each is after one sector was put in
+-- place of another. Callers of an image cite these of the bytes that it tells. Throughout, a sector lies
+-- inside of the bytes where 512 * (sector + 1) is at most their length.
 use Rattle.std.proofs.Common.{◌≡◌, ℕ, ◌+◌, ◌-◌, ◌*◌, ◌<◌, ◌≤◌, ◌⊎◌, ◌≢◌, inl, inr, List, ◌++◌, length, take, drop, get_or, sym, ◌∙◌, ap, arith}
 use Rattle.std.proofs.Math.Seq.{take-add}
 use Rattle.std.proofs.lemmas.Bool.{cases_lt}

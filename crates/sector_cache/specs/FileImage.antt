@@ -27,8 +27,7 @@ abbrev pub IsSpent : {F : Type 0} → FileImage F → Type 0
 IsSpent image = image.failures ≡ 2 ^ 64 - 1
 
 -- What it keeps of calls of the file: whether a sync has failed, the sector of the last write that was tried,
--- and the
--- first call that failed.
+-- and the first call that failed.
 pub record Trouble : Type 0 where
   pub is_lost : Bool
   pub last : Option ℕ

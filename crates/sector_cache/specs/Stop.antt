@@ -41,8 +41,7 @@ Touches start end moment moment' may_leave may_leave' left_since left_since' =
     TouchesBy (DiffersWithin start end) moment moment' may_leave may_leave' left_since left_since'
 
 -- the same of two states of an image or a file: from the old one to the new one, whatever calls were made and
--- whatever
--- failed, and at each moment within a call
+-- whatever failed, and at each moment within a call
 abbrev pub TouchesOnly : {I : Type 0} → (moment : I → ℕ) → (may_leave : I → List ℕ → Type 0)
     → (left_since : I → ℕ → List ℕ → Type 0) → (start end : ℕ) → (old new : I) → Type 0
 TouchesOnly moment may_leave left_since start end old new =

@@ -221,8 +221,7 @@ seat_course_once {A} limit old (asking ∷ askings) (p ∷ one) (q ∷ other) s 
     )
 
 -- A guest of one session and one of another, as the same slot with the same output: where the same is asked
--- of both,
--- both see the same.
+-- of both, both see the same.
 pub see_alike : {A : Type 0} (g h : ℕ) (old new other last : SessionState) (steps more : List (SessionStep A))
     (state : SlotState) → IsCourse old steps new → IsCourse other more last → NeverPauses g steps
     → NeverPauses h more

@@ -59,7 +59,8 @@ register_in A s slot window offset width value None here is = absurd is
 register_in A s slot window offset width value (Some found) here is =
     unchanged s (record { slot = slot; what = Read window offset width }) (Value value) found here refl
     (λ is. absurd (cc)) (λ is. absurd (cc))
-    (read_given (state_of s.image found) window offset width value _ is) (λ limit found after waiting left reply. tt)
+    (read_given (state_of s.image found) window offset width value _ is)
+    (λ limit found after waiting left reply. tt)
 
 -- a register that was read is the answer to that read
 pub register_read : (A : Type 0) (s : SessionState) (slot : ℕ) (window : DeviceKind)

@@ -63,8 +63,7 @@ pub record IsSeatedAlone {A : Type 0} (g : ℕ) (state : SlotState) (old : Sessi
 -- ---- two sessions
 
 -- Guest g of one session and guest h of another have seen the same: they were answered the same, the same
--- bytes of
--- their output were taken, the same wait, and both are in the same state.
+-- bytes of their output were taken, the same wait, and both are in the same state.
 pub record SeeAlike {A : Type 0} (g : ℕ) (steps : List (SessionStep A)) (new : SessionState) (h : ℕ)
     (more : List (SessionStep A))
     (last : SessionState) : Type 0 where

@@ -1,6 +1,5 @@
 -- What happens to a session, one thing after another, and what one guest has of it: its own events, as if it
--- were alone and
--- none paused.
+-- were alone and none paused.
 use Rattle.std.specs.Prelude.{◌≡◌, ◌≢◌, ℕ, ◌==◌, if◌then◌else◌, List, [], ◌∷◌, ◌++◌, map, take, drop, Some}
 use Rattle.std.specs.List.{slice_get}
 use Rattle.board.specs.declared.event.EventKind.{EventKind}
@@ -91,8 +90,7 @@ abbrev pub NeverPauses : {A : Type 0} → ℕ → List (SessionStep A) → Type 
 NeverPauses {A} g steps = AreAnswered slot_in (λ (response : Response A). response ≢ More) g steps
 
 -- Guest g, which was in this state, is answered what it would be answered alone where nothing pauses, its
--- console puts
--- out what it would put out then, and its state afterwards is what it would be.
+-- console puts out what it would put out then, and its state afterwards is what it would be.
 pub record RunsAlone {A : Type 0} (g : ℕ) (state : SlotState) (old : SessionState)
     (steps : List (SessionStep A))
     (new : SessionState) : Type 0 where

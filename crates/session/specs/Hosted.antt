@@ -38,8 +38,7 @@ new_hosted_session_over guests bytes = record (new_hosted_session guests) {
 }
 
 -- A call for a slot: a call of the board by the slot's outlet, whose output stands behind what waits there.
--- Nothing else
--- of the session changes.
+-- Nothing else of the session changes.
 pub record IsHostedCall {A : Type 0} (old : HostedSessionState) (slot : ℕ)
     (event : EventKind A) (reply : Reply A)
     (new : HostedSessionState) : Type 0 where
@@ -103,8 +102,7 @@ pub record IsHostedBoardFault (guests : List GuestSpec) (fault : BoardFault) : T
   pub other : fault ≢ BoardFault.NoMemory
 
 -- Why a session is refused: an outlet, then what a board is refused for. Want of memory may come before the
--- latter, and
--- comes only where no outlet is too large.
+-- latter, and comes only where no outlet is too large.
 abbrev pub IsHostedRefusedFor : List GuestSpec → SessionFault → Type 0
 IsHostedRefusedFor guests BadLoan = ⊥
 IsHostedRefusedFor guests BadImage = ⊥

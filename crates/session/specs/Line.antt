@@ -48,8 +48,7 @@ record_at g out move reply = record {
 }
 
 -- What guest g is told, in order, where the event that it waits for has put out so much: a record stands
--- where its
--- event ends, and has the output of all its pieces.
+-- where its event ends, and has the output of all its pieces.
 abbrev pub told_by : {A : Type 0} → ℕ → List ℕ → Move A → Response A
     → (List ℕ → List (Record A)) → List (Record A)
 told_by g out move (Answered reply) rest = record_at g out move reply ∷ rest []
@@ -81,8 +80,7 @@ IsNoted g old moves new =
     ↔ ((slice_get old.world.disturbed g ≡ Some false) × IsQuiet g old moves)
 
 -- Guest g, which was in this state, is told what it would be told alone by a board that never pauses, and is
--- left as
--- it would be.
+-- left as it would be.
 pub record RunsAlone {A : Type 0} (g : ℕ) (state : SlotState) (moves : List (Move A))
     (new : PacedWorld) : Type 0 where
   pub last : SlotState

@@ -78,8 +78,7 @@ pub record IsTurn {A : Type 0} (Comes : SlotState → Health → Health → Slot
   pub paused : new.paused ≡ slice_set old.paused h (paused_by turn)
 
 -- What a call comes to, by what is paused of its slot. A slot that waits for its service is busy for every
--- event,
--- and one that waits for none has nothing to go on with.
+-- event, and one that waits for none has nothing to go on with.
 abbrev pub ComesTo : {A : Type 0} → Budget → Call A → Option (Option Pause) → PacedWorld → Response A → List ℕ
     → ℕ → ℕ → PacedWorld → Type 0
 ComesTo budget call None old response output block console new = (response ≡ Answered BadSlot)

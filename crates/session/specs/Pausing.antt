@@ -21,9 +21,8 @@ use Rattle.session.specs.Answering.{went_on_to}
 use Rattle.session.specs.Session.{IsStep, KeepsOtherOutputs, SessionState, limit_of, output_of, world_of}
 
 -- The slot takes a turn: its event begins, or its service goes on. What it puts out stands behind what waits,
--- what waits
--- and the limit decide it, and the turn leaves its service paused or not. Nothing else of the session
--- changes.
+-- what waits and the limit decide it, and the turn leaves its service paused or not. Nothing else of the
+-- session changes.
 pub record IsTurn {A : Type 0} (Comes : SlotState → Health → Health → SlotState → List ℕ → Turn A → Type 0)
     (Within : ℕ → SlotState → SlotState → List ℕ → List ℕ → Turn A → Type 0) (old : SessionState) (slot : ℕ)
     (response : Response A) (new : SessionState) : Type 0 where
@@ -56,8 +55,7 @@ pub record IsBegun {A : Type 0} (event : Event A) (old : SessionState) (response
   pub limited : response ≡ More → HasLimit old.budget
 
 -- What a call comes to, by what is paused of its slot, if there is such a slot: one that waits for its
--- service is busy,
--- and one that waits for none has nothing to go on with.
+-- service is busy, and one that waits for none has nothing to go on with.
 abbrev pub ComesTo : {A : Type 0} → Call A → Option (Option Pause) → SessionState → Response A
     → SessionState → Type 0
 ComesTo call None old response new = (response ≡ Answered BadSlot) × (new ≡ old)

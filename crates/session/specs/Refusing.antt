@@ -29,8 +29,7 @@ pub record IsBoardFault (guests : List GuestSpec) (image : List ℕ) (cache : �
   pub other : fault ≢ BoardFault.NoMemory
 
 -- Why a session is refused: the image's size, then an outlet, then the budget, then what a board is refused
--- for. Want
--- of memory may come before the latter, and comes only where none of the others holds.
+-- for. Want of memory may come before the latter, and comes only where none of the others holds.
 abbrev pub IsRefusedFor : List GuestSpec → List ℕ → ℕ → Budget → SessionFault → Type 0
 IsRefusedFor guests image cache budget BadLoan = ⊥
 IsRefusedFor guests image cache budget BadImage = length image % 512 ≢ 0

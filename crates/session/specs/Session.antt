@@ -31,9 +31,8 @@ abbrev pub none_waiting : ℕ → Waiting
 none_waiting limit = record { bytes = []; limit = limit }
 
 -- A session: the slots of its board, the image's bytes and whether a write waits for a flush, for each slot
--- what its
--- console put out and nobody has taken yet and the service that is paused, if any, and how much one call may
--- serve.
+-- what its console put out and nobody has taken yet and the service that is paused, if any, and how much one
+-- call may serve.
 pub record SessionState : Type 0 where
   pub slots : List BoardSlot
   pub image : List ℕ
@@ -83,8 +82,7 @@ pub record IsStep {A : Type 0} (old : SessionState) (event : Event A) (reply : R
   pub extents : extents_of new.slots ≡ extents_of old.slots
   pub size : length new.image ≡ length old.image
   -- what waits of the slot's output, and how much may, decide what is put out; nothing else is refused for
-  -- want
-  -- of room, and each limit stays
+  -- want of room, and each limit stays
   pub within :
       (found after : SlotState) → slice_get (world_of old).slots event.slot ≡ Some found →
       slice_get (world_of new).slots event.slot ≡ Some after →

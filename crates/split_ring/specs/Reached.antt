@@ -4,8 +4,7 @@ use Rattle.chain.specs.Setup.{served_so_far}
 use Rattle.chain.specs.declared.state.RingState.{RingState}
 
 -- the ring, served so far: at this place, with so many chains that its service may still take, and so many
--- that it has
--- used; a service uses no more chains than the queue has descriptors
+-- that it has used; a service uses no more chains than the queue has descriptors
 abbrev pub served_to : ℕ → ℕ → ℕ → RingState → Option RingState
 served_to place pending used_count ring =
     if nat_le (used_count + pending) ring.setup.size then Some

@@ -12,9 +12,8 @@ use Rattle.indirect.specs.Descriptors.{split_table}
 use Rattle.suppression.specs.Places.{idx_modulus, place_ahead}
 
 -- what the layout asks of the areas of a ring of n descriptors: 16 bytes for each descriptor; flags, idx, an
--- entry of 2 bytes for
--- each and used_event; flags, idx, an entry of 8 bytes for each and avail_event; the driver area's address is
--- even (2.7)
+-- entry of 2 bytes for each and used_event; flags, idx, an entry of 8 bytes for each and avail_event; the
+-- driver area's address is even (2.7)
 abbrev pub areas_of : ℕ → Areas
 areas_of n = record { desc = 16 * n; driver = 6 + 2 * n; device = 6 + 8 * n; driver_alignment = 2 }
 

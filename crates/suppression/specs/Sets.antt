@@ -1,6 +1,5 @@
 -- What a driver wants, said of the set of places that a service passed: it turns on that set and on nothing
--- else
--- of how the service went (2.7.7, 2.8.10).
+-- else of how the service went (2.7.7, 2.8.10).
 use Rattle.std.specs.Prelude.{◌≡◌, ◌≢◌, ℕ, ◌%◌, Bool}
 use Rattle.std.specs.Bool.{OnTrue, OnFalse}
 use Rattle.guest_memory.specs.Memory.{Memory}

@@ -1,6 +1,5 @@
 -- `refuses_next` at a call: what it is handed, a `&` to the cell and a token of its lifetime, and what a
--- caller has of it, the
--- token and an answer that nothing is known of. Assumes `Logic`.
+-- caller has of it, the token and an answer that nothing is known of. Assumes `Logic`.
 use Rattle.std.proofs.Common.{◌≡◌, ℕ, Bool, List, [], ◌∷◌, refl, ap}
 use seplogic.Ra.Ura.{Ura}
 use mir.Val.{Val, vbool, vptr}

@@ -42,8 +42,7 @@ pub record IsPrintableSlot (version : ℕ) (s : SlotSpec) : Type 0 where
   pub identity : version ≡ 1 → s.identity ≡ identity_in_version_1
 
 -- a trace that has a text: there is such a version, each of its slots and events has a line, and each line's
--- word is of
--- that version
+-- word is of that version
 pub record IsPrintable {A : Type 0} (t : Content A) : Type 0 where
   pub version : IsVersion t.version
   pub disks : IsWordOf t.version (disks_word t.disks)

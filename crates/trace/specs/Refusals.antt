@@ -39,8 +39,7 @@ RefusesFields version word fields kind.Bytes =
 RefusesFields version word fields _ = ⊥
 
 -- a line after the second is refused, where events may have begun before it: it has no word of the version,
--- or is a slot
--- after an event, or its fields are refused
+-- or is a slot after an event, or its fields are refused
 pub record RefusesAfterWord (version : ℕ) (begun : Bool) (line : List ℕ) (fault : FaultKind) : Type 0 where
   pub word : Word
   pub may : MayStand 3 word

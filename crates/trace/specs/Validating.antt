@@ -74,8 +74,7 @@ pub record IsValidated (A : Type 0) (text : List ℕ) (j : Validation) : Type 0 
   pub numbered : 1 ≤ j.longest_line
 
 -- a line was validated: it is that of a slot, before all events, which is kept, or that of an event, whose
--- bytes are
--- counted
+-- bytes are counted
 pub record ValidatesSlot (begun : Bool) (line after : List ℕ) (old new : Validation) : Type 0 where
   pub slot : SlotSpec
   pub parsed : SaysSlot old.version begun line slot

@@ -85,8 +85,7 @@ spelled Restore = codes "st"
 spelled Complete = codes "io"
 
 -- the words of a version: hosted disks, restores and completions have theirs from version 3 on, and the
--- others are in
--- each
+-- others are in each
 abbrev pub IsWordOf : ℕ → Word → Type 0
 IsWordOf version Hosted = 3 ≤ version
 IsWordOf version Restore = 3 ≤ version

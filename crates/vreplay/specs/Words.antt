@@ -42,8 +42,7 @@ abbrev pub AsksInPlace : List Text → Type 0
 AsksInPlace words = value_of (codes "in-place") words ≡ Some (codes "true")
 
 -- the words are taken, and name this trace, this image, and what is to become of the image: perhaps a file to
--- save
--- it to, or else whether it is served in place
+-- save it to, or else whether it is served in place
 pub record Names (words : List Text) (trace image : Text) (save : Option Text)
     (in_place : Bool) : Type 0 where
   pub taken : fault_of vreplay words ≡ []
