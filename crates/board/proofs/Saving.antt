@@ -1,6 +1,7 @@
 -- A slot takes up the snapshot of every slot of its description.
-use Rattle.std.proofs.Common.{◌≡◌, ◌∙◌, ℕ, List, Option, Some, None, Result, Ok, Err, refl, sym, ap, subst}
-use Rattle.std.specs.Prelude.{◌++◌, IfErr, IfOk, IsOk, OnOk}
+use Rattle.std.proofs.Common.{◌≡◌, ◌∙◌, ◌↔◌, ◌<◌, ℕ, List, Option, Some, None, Result, Ok, Err, refl, sym, ap, subst, arith, drop, inl, inr, length}
+use Rattle.std.proofs.lemmas.Bool.{cases_lt}
+use Rattle.std.specs.Prelude.{◌++◌, IfErr, IfOk, IsErr, IsOk, OnOk}
 use Rattle.guest_memory.specs.Memory.{Memory}
 use Rattle.mmio_window.specs.declared.device_kind.DeviceKind.{DeviceKind}
 use Rattle.mmio_window.specs.declared.device_kind.DeviceKind.TheVariants.{Block, Console}
@@ -14,7 +15,7 @@ use Rattle.snapshot.specs.Reading.{snapshot_at}
 use Rattle.snapshot.specs.Spelling.{snapshot}
 use Rattle.board.specs.declared.saved.RestoreFault.{RestoreFault}
 use Rattle.board.specs.declared.saved.RestoreFault.TheVariants.{Snapshot, OtherSlot, BadBlock, BadConsole}
-use Rattle.board.specs.Saved.{IsAs, IsCauseOf, IsLike, IsRestored, IsSnapshotOf, OffersFeatures, Prevents, RestoresIt, Suits, TakesUp, saved_slot}
+use Rattle.board.specs.Saved.{IsAs, IsCauseOf, IsLike, IsRestored, IsSavedTo, IsSnapshotOf, OffersFeatures, Prevents, RestoresIt, Suits, TakesUp, saved_slot, snapshot_of}
 use Rattle.board.specs.Slot.{BoardSlot, IsSoundSlot, block_features}
 
 -- ---- what is saved
@@ -59,6 +60,33 @@ saved_as items (Ok v) slot saved front back sound is pending block console text 
     is_snapshot slot (items v) sound (rw is at block) (rw is at console)
     (text ∙ rw (is, pending) refl) (again ∙ rw (is, pending) refl)
 saved_as items (Err why) slot saved front back sound is pending block console text again = tt
+
+-- the same in a buffer
+pub saved_to_as : {E : Type 0} (result : Result ℕ E) (slot : BoardSlot) (saved : SavedSlot)
+    (front back old new : List ℕ)
+    → IsSoundSlot slot.memory slot.read_only slot.block slot.console slot.pending → saved ≡ saved_slot slot
+    → front ++ back ≡ slot.pending
+    → ((m : Memory) → IsSound m slot.block → window_restored slot.block.kind m saved.block ≡ Some slot.block)
+    → ((m : Memory) → IsSound m slot.console → window_restored slot.console.kind m saved.console
+    ≡ Some slot.console)
+    → IfOk result (λ len. len ≡ length (snapshot saved (front ++ back)))
+    → IfOk result (λ len. new ≡ snapshot saved (front ++ back) ++ drop len old)
+    → (IsErr result ↔ (length old < length (snapshot saved (front ++ back))))
+    → snapshot_at (snapshot saved (front ++ back)) ≡ Ok (saved, front ++ back)
+    → IfOk result (IsSavedTo slot old new)
+saved_to_as (Ok len) slot saved front back old new sound is pending block console counted text short again =
+    record {
+      snapshot = is_snapshot slot (snapshot_of slot) sound (rw is at block) (rw is at console) refl
+          (rw (is, pending) at again);
+      len_is = rw (is, pending) at counted;
+      room = elim (cases_lt (length old) (length (snapshot saved (front ++ back)))) [
+        | inl less ↦ (let never = short.1 less in absurd cc)
+        | inr enough ↦ omega (arith, counted, enough)
+      ];
+      text = rw (is, pending) at text;
+    }
+saved_to_as (Err why) slot saved front back old new sound is pending block console counted text short again =
+    tt
 
 -- ---- what takes it up
 

@@ -68,8 +68,8 @@ pub record Suits (saved : SavedSlot) (slot : BoardSlot) : Type 0 where
   pub sectors : saved.sectors ≡ slot.extent.count
   pub read_only : saved.read_only ≡ slot.read_only
   pub identity : saved.identity ≡ slot.identity
-  pub block : saved.block.offered ≡ slot.block.negotiation.offered
-  pub console : saved.console.offered ≡ slot.console.negotiation.offered
+  pub block : saved.block.negotiation.offered ≡ slot.block.negotiation.offered
+  pub console : saved.console.negotiation.offered ≡ slot.console.negotiation.offered
 
 -- The slot has taken up what was saved: both windows, the pending input and the size. The memory stays, and
 -- the disk with its mode and identity, and whether an event of the slot has met a refusal.

@@ -146,7 +146,7 @@ impl<A: Allocator> Slot<A> {
             && saved.sectors == self.block_device.extent.count
             && saved.read_only == self.block_device.read_only
             && saved.identity == self.block_device.identity
-            && saved.block.offered == self.block.negotiation().offered().bits()
-            && saved.console.offered == self.console.negotiation().offered().bits()
+            && saved.block.negotiation.offered == self.block.negotiation().offered().bits()
+            && saved.console.negotiation.offered == self.console.negotiation().offered().bits()
     }
 }
