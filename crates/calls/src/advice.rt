@@ -13,7 +13,7 @@ use std::alloc::Allocator;
 use std::fmt::{Display, Formatter};
 use std::{fmt, io};
 use trace::{
-    FaultKind, TraceFault, VERSION_1, VERSION_2, VERSION_3, field_at_fault, fields_after,
+    FaultKind, Field, TraceFault, VERSION_1, VERSION_2, VERSION_3, field_at_fault, fields_after,
     first_word, line_of, version_of,
 };
 
@@ -251,7 +251,12 @@ fn write_line<W: fmt::Write>(
         FaultKind::Word => "a line begins with slot, r, w, mr, mw, in, sz, st or io",
         FaultKind::Order => "slots stand before all events",
         FaultKind::Fields => return write_fields(f, line, version),
-        kind => return write_field(f, kind, line, version),
+        kind => {
+            return match field_at_fault(version, line, kind) {
+                Some((field, bytes)) => write_field(f, field, bytes),
+                None => write!(f, "{kind}"),
+            };
+        }
     };
     let shown = Shown(line);
     write!(f, "{wanted}; found {shown}")
@@ -275,15 +280,7 @@ fn write_fields<W: fmt::Write>(f: &mut Formatter<W>, line: &[u8], version: u8) -
 }
 
 // How the field is spelled that is at fault, and how it was found.
-fn write_field<W: fmt::Write>(
-    f: &mut Formatter<W>,
-    kind: FaultKind,
-    line: &[u8],
-    version: u8,
-) -> fmt::Result {
-    let Some((field, bytes)) = field_at_fault(version, line, kind) else {
-        return write!(f, "{kind}");
-    };
+fn write_field<W: fmt::Write>(f: &mut Formatter<W>, field: Field, bytes: &[u8]) -> fmt::Result {
     let spelling = spelling_of(field);
     let shown = Shown(bytes);
     write!(f, "{spelling}; found {shown}")

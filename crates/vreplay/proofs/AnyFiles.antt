@@ -1,5 +1,5 @@
 -- Words after `--`, and what follows `--save=`, are taken whatever they are.
-use Rattle.std.proofs.Common.{◌≡◌, ◌≢◌, List, [], ◌∷◌, ◌↔◌, Option, None, Some, IsSome, IsTrue, true, false, codes, refl, inl, inr, arith, rules}
+use Rattle.std.proofs.Common.{◌≡◌, ◌≢◌, Bool, List, [], ◌∷◌, ◌↔◌, Option, None, Some, IsSome, IsTrue, true, false, codes, refl, inl, inr, arith, rules}
 use Rattle.clap.specs.Walk.{Text}
 use Rattle.clap.specs.Faults.{fault_of}
 use Rattle.clap.proofs.OnLiterals.{clap_on_literals}
@@ -12,41 +12,33 @@ not_asked o is = grind (arith, is)
 asked : (o : Option Text) → o ≡ Some (codes "true") → IsTrue true ↔ (o ≡ Some (codes "true"))
 asked o is = ((λ _. is), (λ _. refl))
 
+-- words that are taken, and what they give the arguments
+names : {in_place : Bool} (words : List Text) (trace image : Text) (save : Option Text)
+    → fault_of vreplay words ≡ [] → value_of (codes "trace") words ≡ Some trace
+    → value_of (codes "image") words ≡ Some image → value_of (codes "save") words ≡ save
+    → (IsTrue in_place ↔ AsksInPlace words) → (IsTrue in_place → save ≡ None)
+    → Names words trace image save in_place
+names words trace image save taken trace_is image_is save_is in_place_is apart = record {
+  taken = taken;
+  trace_is = trace_is;
+  image_is = image_is;
+  save_is = save_is;
+  in_place_is = in_place_is;
+  apart = apart;
+}
+
 pub two_files : (trace image : Text) → Names (files_alone trace image) trace image None false
 unfolding clap_on_literals
-two_files trace image = record {
-  taken = refl;
-  trace_is = refl;
-  image_is = refl;
-  save_is = refl;
-  in_place_is = not_asked _ refl;
-  apart = λ _. refl;
-}
+two_files trace image = names _ _ _ _ refl refl refl refl (not_asked _ refl) (λ _. refl)
 
 pub saved_files : (save trace image : Text)
     → Names (files_saved save trace image) trace image (Some save) false
 unfolding clap_on_literals
-saved_files save trace image =
-    record {
-      taken = refl;
-      trace_is = refl;
-      image_is = refl;
-      save_is = refl;
-      in_place_is = not_asked _ refl;
-      apart = λ is. cc;
-    }
+saved_files save trace image = names _ _ _ _ refl refl refl refl (not_asked _ refl) (λ is. cc)
 
 pub in_place_files : (trace image : Text) → Names (files_in_place trace image) trace image None true
 unfolding clap_on_literals
-in_place_files trace image =
-    record {
-      taken = refl;
-      trace_is = refl;
-      image_is = refl;
-      save_is = refl;
-      in_place_is = asked _ refl;
-      apart = λ _. refl;
-    }
+in_place_files trace image = names _ _ _ _ refl refl refl refl (asked _ refl) (λ _. refl)
 
 both_asked : (save trace image : Text) → AsksInPlace (files_both save trace image)
 unfolding clap_on_literals

@@ -1,5 +1,5 @@
 -- What the parser's matches tell of the words.
-use Rattle.std.proofs.Common.{◌≡◌, List, Option, Some, None, ◌↔◌, Bool, IsTrue, codes, Result, option_map, true, ap, refl, sym, ◌∙◌, subst, Bor}
+use Rattle.std.proofs.Common.{◌≡◌, List, Option, Some, None, ◌↔◌, Bool, IsTrue, codes, Result, Err, IfErr, option_map, true, ap, refl, sym, ◌∙◌, subst, Bor}
 use Rattle.clap.specs.Words.{FailsBy, HasMatchesOf, fault_of, first_value, found_of, is_simple, is_simple_and_free}
 use Rattle.clap.specs.Simple.{App}
 use Rattle.clap.specs.Walk.{Text, first_of}
@@ -7,7 +7,9 @@ use Rattle.clap.specs.declared.error.Error.{Error}
 use Rattle.clap.specs.declared.parser.matches.ArgMatches.{ArgMatches}
 use Rattle.clap.proofs.OnLiterals.{clap_on_literals}
 use Rattle.clap.proofs.WalkLemmas.{first_value-rows}
-use Rattle.vreplay.specs.Words.{is_in_place, saved_to, value_of, vreplay}
+use Rattle.calls.specs.declared.fault.Fault.{Fault}
+use Rattle.calls.specs.declared.fault.Fault.TheVariants.{Usage}
+use Rattle.vreplay.specs.Words.{NamesNoCall, RefusesBy, is_in_place, saved_to, value_of, vreplay}
 use Rattle.vreplay.specs.declared.words.Keeping.{Keeping}
 use Rattle.vreplay.specs.declared.words.Keeping.TheVariants.{Unchanged, Saved, InPlace}
 
@@ -35,6 +37,11 @@ pub told : (m : ArgMatches) (words : List Text) (id : Text) (r : Option (Bor Tex
     → HasMatchesOf vreplay words m → option_map (λ s. s.now) r ≡ first_value (found_of m) id
     → value_of id words ≡ option_map (λ s. s.now) r
 told m words id r has got = given m words id has ∙ sym got
+
+-- words that name no call are refused
+pub refused : {T : Type 0} (words : List Text) (r : Result T Fault) → r ≡ Err Usage → NamesNoCall words
+    → IfErr r (RefusesBy words)
+refused words r is why = rw is why
 
 -- an image that is served in place isn't saved
 pub in_place_apart : (keeping : Keeping) → IsTrue (is_in_place keeping) → saved_to keeping ≡ None

@@ -34,7 +34,8 @@ where
         }
         Keeping::Saved(path) => Ok(Some(replay_and_save(rt, alloc, call, path, out)?)),
         Keeping::InPlace => {
-            replay_in_place(rt, alloc, call, out)?;
+            let image = image_at(rt, call.image)?;
+            replay_in_place(rt, alloc, call, image, out)?;
             Ok(None)
         }
     }
@@ -65,16 +66,13 @@ fn replay_whole<A: Allocator + Copy, R: Eprint + Files, W: Write>(
 }
 
 // Replays the trace over the image's own file. A person is told where calls of that failed.
-fn replay_in_place<A: Allocator + Copy, R: Eprint + Files, W: Write>(
+fn replay_in_place<A: Allocator + Copy, R: Eprint + Files, F: BackingFile, W: Write>(
     rt: &R,
     alloc: A,
     call: &Call<'_>,
+    image: FileImage<F>,
     out: &mut W,
-) -> Result<FileImage<R::File>, ReplayFault>
-where
-    R::File: BackingFile,
-{
-    let image = image_at(rt, call.image)?;
+) -> Result<FileImage<F>, ReplayFault> {
     let text = text_in(rt, alloc, call.trace)?;
     let (image, outcome) = replay_text(alloc, &text, out, image);
     tell_failures(rt, alloc, &text, call.image, &image);

@@ -1,26 +1,19 @@
-use Rattle.std.proofs.Common.{◌≡◌, ◌∙◌, None, Err, IfErr, inl, inr, codes, rules, subst, sym, IsSome}
-use Rattle.vreplay.specs.Words.{RefusesBy, texts_of, value_of}
-use Rattle.calls.specs.declared.fault.Fault.TheVariants.{Usage}
-use Rattle.vreplay.proofs.Reading.{asked, given, in_place_apart}
+use Rattle.std.proofs.Common.{◌∙◌, inl, inr, codes, rules, subst, sym, IsSome}
+use Rattle.vreplay.specs.Words.{texts_of}
+use Rattle.vreplay.proofs.Reading.{asked, given, in_place_apart, refused}
 use Rattle.vreplay.proofs.words.read_words.Goals as goal
 
 pub returns-in_err-trace-clause-refused : goal.returns-in_err-trace-clause-refused
 returns-in_err-trace-clause-refused c =
-    let words = texts_of c.args.words.now in
-    let missing : value_of (codes "trace") words ≡ None =
-    given c.in-Ok.matches words (codes "trace") c.in-Ok.ensures.matches
-    ∙ c.in_err-trace.ensures.none (search rules) in
-    let is : c.from_residual.result ≡ Err Usage = search rules in
-    subst (λ r. IfErr r (RefusesBy words)) (sym is) (inr (inl missing))
+    refused (texts_of c.args.words.now) c.from_residual.result (search rules) (inr (inl
+    (given c.in-Ok.matches (texts_of c.args.words.now) (codes "trace") c.in-Ok.ensures.matches
+    ∙ c.in_err-trace.ensures.none (search rules))))
 
 pub returns-in_err-image-clause-refused : goal.returns-in_err-image-clause-refused
 returns-in_err-image-clause-refused c =
-    let words = texts_of c.args.words.now in
-    let missing : value_of (codes "image") words ≡ None =
-    given c.in-Ok.matches words (codes "image") c.in-Ok.ensures.matches
-    ∙ c.in_err-image.ensures.none (search rules) in
-    let is : c.from_residual-in_err-image.result ≡ Err Usage = search rules in
-    subst (λ r. IfErr r (RefusesBy words)) (sym is) (inr (inr (inl missing)))
+    refused (texts_of c.args.words.now) c.from_residual-in_err-image.result (search rules) (inr (inr (inl
+    (given c.in-Ok.matches (texts_of c.args.words.now) (codes "image") c.in-Ok.ensures.matches
+    ∙ c.in_err-image.ensures.none (search rules)))))
 
 pub returns-in_default-clause-refused : goal.returns-in_default-clause-refused
 returns-in_default-clause-refused c =
