@@ -43,7 +43,7 @@ use Rattle.board.specs.Pausing.{IsBlockPiece, IsPiece, ComesTo, TurnsTo, Begins,
 use Rattle.board.specs.Slot.{SlotState, BoardSlot, state_of}
 use Rattle.board.specs.Machine.{task_at, with_write}
 use Rattle.board.specs.Outcome.{Outcome as Came, replies, does}
-use Rattle.board.specs.Task.{Task, Nothing, Serve, PutOut, Finishes, device_of, puts_out}
+use Rattle.board.specs.Task.{Task, Nothing, PutOut, Finishes, device_of, puts_out}
 use Rattle.board.specs.Within.{BeginsWithin, IsSentPiece, PieceBy, PieceWithin, PutsOutWithin, PutsWithin, SendsWithin, TurnWithin}
 use Rattle.board.specs.World.{HasBytesToPutOut, IsCutShort, MayGive, Serves}
 use Rattle.board.proofs.Alike.{PieceAs, RefusedAs, piece_as, refused_as}
