@@ -22,8 +22,8 @@ pub use Rattle.board.specs.declared.event.EventKind.{EventKind}
 pub use Rattle.board.specs.declared.reply.Reply.{Reply}
 pub use Rattle.board_ffi.specs.Kept.{HasCounters, HasSavedLen, HasWords, IsMissing, IsUndisturbed, Saves}
 
--- A call on a handle: where it holds no board it answers 1 and goes on holding none; a board does this, and is
--- still there.
+-- A call on a handle: where it holds no board it answers 1 and goes on holding none; a board does this, and
+-- is still there.
 abbrev pub Calls : Held → Held → ℕ → (AnySession → AnySession → Type 0) → Type 0
 Calls before after code step =
     MatchOption before ((code ≡ 1) × (after ≡ None)) (λ old. IsSomeAnd after (step old))
@@ -48,7 +48,7 @@ Served served = ByKind (λ old new. ⊥) served
 abbrev pub window_of : ℕ → Option DeviceKind
 window_of number = if number == 0 then Some Block else (if number == 1 then Some Console else None)
 
--- A call for a window of this number does this: of a number of none it answers 6, and leaves the handle as it was.
+-- A call for a window of this number: of a number of none it answers 6, and leaves the handle as it was.
 abbrev pub AtWindow : ℕ → Handle → Handle → ℕ → (DeviceKind → AnySession → AnySession → Type 0) → Type 0
 AtWindow number before after code step =
     MatchOption (window_of number) ((code ≡ 6) × (after ≡ before))

@@ -63,7 +63,8 @@ pub record HasSavedLen (slot code len : ℕ) (old new : AnySession) : Type 0 whe
   pub code_is : IsTrue (is_saving code)
   pub kept : new ≡ old
 
--- The snapshot of a slot stands at the front of the buffer, which held these bytes, or the number says why it doesn't.
+-- The snapshot of a slot stands at the front of the buffer, which held these bytes, or the number says why it
+-- doesn't.
 pub record Saves (slot code : ℕ) (room into : List ℕ) (len : ℕ) (old new : AnySession) : Type 0 where
   pub saved : code ≡ 0 → SlotIs slot old (λ found. IsSavedTo found room into len)
   pub missing : (code ≡ 3) ↔ (slot_count old ≤ slot)

@@ -24,8 +24,8 @@ pub record TakesFront (old new : List Loan) : Type 0 where
   pub others : drop taken new ≡ drop taken old
   pub same : length new ≡ length old
 
--- What a call that makes a board leaves of the loans: with a board all are empty, after a refusal of the handle or of a
--- size all are as they were, and after another the first of them are taken.
+-- What a call that makes a board leaves of the loans: with a board all are empty, after a refusal of the
+-- handle or of a size all are as they were, and after another the first of them are taken.
 abbrev pub TakesLoans : List Loan → List Loan → Held → ℕ → Type 0
 TakesLoans old new before code =
     (before ≡ None → code ≡ 0 → All (λ loan. loan.items ≡ []) new)
