@@ -2,7 +2,7 @@
 --     handle_out       a handle by value: [what lies behind the pointer; the allocator]
 --     empty_in         an empty handle, of the allocator
 --     tested           the pointer of a session may be compared with null
---     handle_opens     one behind a `&mut`: [the session; the allocator; the word; the open borrow; obs; auth]
+--     handle_opens     one behind a `&mut`: [the session; allocator; word; the open borrow; obs; auth]
 --     held_cases       what lies behind the pointer: nothing, or [the session; the right to free it]
 use mathlib.Core.Path.{◌≡◌, refl, subst}
 use mathlib.Core.List.{List, [], ◌∷◌, ◌++◌}

@@ -125,7 +125,8 @@ module _ {M : Type 1} {𝓤 : Ura M} (𝓛 : Logic 𝓤) (at_mem : Memory → SP
       let fine = subst Good (sym (ap only one)) good in
       rewrite ! 0 (λ w. ‵ (Lent.own_val r (w ∷ []))) (sym (ap only one)) refl $ lands_as ! refl refl fine $
       returns_within ! Post refl (look_at ! 0 refl) $ free_all ! refl $
-      suffices ! _ (ends_at 𝓛 F.ended stayed (F.clauses 𝓛 at_mem run) z v r (tt, tt) (tt, tt)) $ hands_over ! (same ∙ sym is)))))))
+      suffices ! _ (ends_at 𝓛 F.ended stayed (F.clauses 𝓛 at_mem run) z v r (tt, tt) (tt, tt)) $ hands_over !
+      (same ∙ sym is)))))))
       (λ t. absurd t))
 
   -- from one of some bytes
@@ -159,7 +160,8 @@ module _ {M : Type 1} {𝓤 : Ura M} (𝓛 : Logic 𝓤) (at_mem : Memory → SP
       rewrite ! 0 (λ w. ‵ (Lent.own_val r (w ∷ []))) (sym (ap only one)) refl $ lands_last ! refl fine $
       exec ! 𝓣.C 𝓣.Λ (env code.function.locals l) code.Mir.t-6 (at_ret (env code.function.locals l) Post) $
       sets ! (of_opd ! (get ! refl)) refl fine $ returns ! (look_at ! 0 refl) $ free_all ! refl $
-      suffices ! _ (ends_at 𝓛 F.ended stayed (F.clauses 𝓛 at_mem run) z v r (tt, tt) (tt, tt)) $ hands_over ! same)))))))
+      suffices ! _ (ends_at 𝓛 F.ended stayed (F.clauses 𝓛 at_mem run) z v r (tt, tt) (tt, tt)) $
+      hands_over ! same)))))))
 
   at : (p : Ptr) (n : ℕ) → length d.items ≡ n → n < 2 ^ 64 → n < 2 ^ 63
       → ent 𝓤 (sem 𝓛 (loaned p n d.items)) (WpFn 𝓤 H 𝓣.C 𝓣.Λ code.function (word (ptr_val p) n ∷ []) Post)
