@@ -48,12 +48,7 @@ Served served = ByKind (λ old new. ⊥) served
 abbrev pub window_of : ℕ → Option DeviceKind
 window_of number = if number == 0 then Some Block else (if number == 1 then Some Console else None)
 
-<<<<<<< HEAD
--- A call for a window of this number does this: of a number of none it answers 6, and leaves the handle as it
--- was.
-=======
 -- A call for a window of this number: of a number of none it answers 6, and leaves the handle as it was.
->>>>>>> ffi/ffi
 abbrev pub AtWindow : ℕ → Handle → Handle → ℕ → (DeviceKind → AnySession → AnySession → Type 0) → Type 0
 AtWindow number before after code step =
     MatchOption (window_of number) ((code ≡ 6) × (after ≡ before))

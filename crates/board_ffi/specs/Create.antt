@@ -48,13 +48,8 @@ limit_of limit = if limit == 0 then None else Some limit
 abbrev pub budget_of : ℕ → ℕ → Budget
 budget_of chains bytes = record { chains = limit_of chains; bytes = limit_of bytes }
 
-<<<<<<< HEAD
--- What a call does that makes a board of these slots: over a board it answers 2 and leaves that board. For an
--- empty handle it answers 17 exactly where some slot says another size, whatever else is described, and
-=======
 -- What a call does that makes a board of these slots: over a board it answers 2 and leaves that board. For
 -- an empty handle it answers 17 exactly where some slot says another size, whatever else is described, and
->>>>>>> ffi/ffi
 -- leaves the handle empty. Else there is a board, or none.
 abbrev pub Creates : (Held → Type 0) → (ℕ → Held → Type 0) → List Slot → Held → Held → ℕ → Type 0
 Creates Made NotMade slots before after code =
@@ -65,13 +60,8 @@ Creates Made NotMade slots before after code =
     × (before ≡ None → code ≡ 0 → Made after)
     × (before ≡ None → code ≢ 0 → code ≢ 17 → NotMade code after)
 
-<<<<<<< HEAD
--- For an empty handle each fault of what slots of this size describe is answered by its number, but that want
--- of memory may come before it.
-=======
 -- For an empty handle each fault of what slots of this size describe is answered by its number, but that
 -- want of memory may come before it.
->>>>>>> ffi/ffi
 abbrev pub AnswersEach : (SessionFault → Type 0) → List Slot → Held → ℕ → Type 0
 AnswersEach Refused slots before code =
     before ≡ None → AreSized slots → (why : SessionFault) → why ≢ SessionFault.NoMemory → Refused why
