@@ -29,7 +29,7 @@ use Rattle.trace.specs.Spelling.{window, mode, verdict, width_digit, region_text
 use Rattle.trace.specs.Text.{line, disks_fields, disks_line, disks_word, memory_fields, region_fields, slot_fields, slot_line, event_fields, event_line, what_fields, word_for}
 use Rattle.trace.specs.Version.{since_version_2}
 use Rattle.hexadecimal.specs.Fields.{IsBytesField, IsFixed}
-use Rattle.trace.specs.Words.{RegionInRange, Shape, Num, Offset, Window, Width, Value, Mode, Verdict as ByVerdict, Bytes, Says, behind_memory, fields_in, memory_in, shape_of, shapes, spelled, width_among, IsWidth, IsWordOf}
+use Rattle.trace.specs.Words.{RegionInRange, Shape, Num, Offset, Window, Width, Value, Mode, Verdict as ByVerdict, Bytes, Says, behind_memory, memory_in, shape_of, shapes, spelled, width_among, IsWidth, IsWordOf}
 use Rattle.hexadecimal.proofs.ByteFields.{AreBytes}
 use Rattle.trace.proofs.Signs.{bytes_digits}
 use Rattle.trace.proofs.Signs.{Above, AllAbove, above_append, above_tested, above_num, above_fixed, fields_of-line, above_line}

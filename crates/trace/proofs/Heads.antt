@@ -8,7 +8,6 @@ use Rattle.trace.specs.Faults.{IsCleanBefore, IsEnded, IsFault, IsHeader, IsOfVe
 use Rattle.trace.specs.Refusals.{RefusesDisks, RefusesFields, RefusesHead, RefusesSecond}
 use Rattle.trace.specs.Text.{header, joined}
 use Rattle.trace.specs.Version.{IsVersion}
-use Rattle.trace.specs.Words.{spelled}
 use Rattle.trace.proofs.Clean.{Good, good_passes}
 use Rattle.trace.proofs.Faulty.{cut_fault, fields_fault, header_fault, word_fault}
 use Rattle.trace.proofs.Signs.{above_header, lines_of-joined}

@@ -1,7 +1,6 @@
 -- Fields written one after another, and lines.
-use Rattle.std.proofs.Common.{◌≡◌, ◌↔◌, ℕ, ◌+◌, ◌<◌, Bool, IsTrue, true, false, All, List, [], ◌∷◌, ◌++◌, length, get_or, map, take, refl, sym, ap, ◌∙◌}
-use Rattle.std.proofs.lemmas.List.{append-nil, append_assoc, get_or_default, map_more}
-use Rattle.board.specs.declared.spec.SlotSpec.{SlotSpec}
+use Rattle.std.proofs.Common.{◌≡◌, ◌↔◌, ℕ, ◌+◌, ◌<◌, Bool, IsTrue, true, All, List, [], ◌∷◌, ◌++◌, length, get_or, map, take, refl, sym, ap, ◌∙◌}
+use Rattle.std.proofs.lemmas.List.{append-nil, append_assoc, map_more}
 use Rattle.trace.specs.declared.disks.Disks.{Disks}
 use Rattle.trace.specs.Printable.{IsPrintable, IsPrintableKind, IsPrintableSlot}
 use Rattle.trace.specs.Version.{IsVersion}

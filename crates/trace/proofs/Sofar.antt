@@ -1,8 +1,8 @@
 -- What has been read so far, and one line more.
-use Rattle.std.proofs.Common.{◌≡◌, ◌≢◌, ℕ, suc, ◌+◌, ◌-◌, ◌^◌, ◌<◌, ◌≤◌, Bool, true, false, List, [], ◌∷◌, ◌++◌, All, length, get_or, map, refl, sym, ap, subst, ◌∙◌, arith, inl, inr}
+use Rattle.std.proofs.Common.{◌≡◌, ◌≢◌, ℕ, suc, ◌+◌, ◌-◌, ◌<◌, ◌≤◌, Bool, true, false, List, [], ◌∷◌, ◌++◌, All, length, get_or, map, refl, sym, ap, subst, ◌∙◌, arith, inl, inr}
 use Rattle.std.proofs.lemmas.Bool.{cases_Bool, cases_lt, lt-ltb}
 use Rattle.std.proofs.lemmas.List.{append_assoc, append-nil, length-append, length-map, map_push, get_or-append_right, nil_from_length, length_push}
-use Rattle.std.proofs.lemmas.List.Elements.{All-map, All-weaker, All-nil, All-push}
+use Rattle.std.proofs.lemmas.List.Elements.{All-map, All-nil, All-push}
 use Rattle.std.proofs.lemmas.List.Splits.{length-slice_split}
 use Rattle.board.specs.declared.event.Event.{Event}
 use Rattle.board.specs.declared.spec.SlotSpec.{SlotSpec}
@@ -14,12 +14,11 @@ use Rattle.trace.specs.declared.word.Word.{Word}
 use Rattle.trace.specs.declared.word.Word.TheVariants.{Slot}
 use Rattle.trace.specs.Cuts.{fields_of, lines_of, is_line_feed}
 use Rattle.trace.specs.Faults.{IsCleanBefore, IsEnded, IsFault, IsOfVersion, Passes, line_at}
-use Rattle.trace.specs.Printable.{DisksInRange, InRange, IsPrintable, EventInRange, IsPrintableKind, IsPrintableSlot, SlotInRange}
+use Rattle.trace.specs.Printable.{InRange, IsPrintable, EventInRange, IsPrintableKind, IsPrintableSlot, SlotInRange}
 use Rattle.trace.specs.ParsedEvent.{parsed_fields}
-use Rattle.trace.specs.Version.{IsVersion}
 use Rattle.trace.specs.Words.{IsWordOf}
 use Rattle.trace.specs.Refusals.{AddsLine, AddsParsed, IsFine, IsFineSlot, IsHead, RefusesLine, RefusesAfterWord, SaysEvent, has_begun, with_event, with_slot}
-use Rattle.trace.specs.Text.{Content, ended, header, joined, text, line, disks_fields, disks_line, disks_word, slot_fields, slot_line, event_fields, event_line, trace_lines, word_for}
+use Rattle.trace.specs.Text.{Content, ended, header, joined, text, line, disks_fields, disks_line, slot_fields, slot_line, event_fields, event_line, trace_lines, word_for}
 use Rattle.trace.proofs.Clean.{Good, IsSlotLine, good, good_passes, only_slots, one_event}
 use Rattle.trace.proofs.Entries.{EnteredEvent, entered_disks, entered_event, entered_slot, same_word}
 use Rattle.trace.proofs.Faulty.{cut_fault, fields_fault, order_fault, word_fault}

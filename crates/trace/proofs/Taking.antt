@@ -1,8 +1,6 @@
 -- Fields taken off the front of a line, one after another.
-use Rattle.std.proofs.Common.{◌≡◌, ℕ, ◌*◌, ◌^◌, ◌<◌, List, [], ◌∷◌, length, get_or, refl, sym, ap, subst, ◌∙◌, arith}
+use Rattle.std.proofs.Common.{ℕ, ◌*◌, ◌<◌, List, [], ◌∷◌, length, arith}
 use Rattle.trace.specs.Cuts.{fields_of}
-use Rattle.trace.specs.declared.value.FieldValue.TheVariants as value
-use Rattle.trace.specs.Values.{SaysValue}
 use Rattle.hexadecimal.specs.Fields.{IsFixed}
 use Rattle.trace.specs.Words.{AllRight, IsWidthField, Says, Value}
 use Rattle.trace.proofs.Cutting.{some_fields}

@@ -26,7 +26,7 @@ use Rattle.trace.specs.Faults.{IsCleanBefore, IsEnded, IsFault, Passes, line_at,
 use Rattle.trace.specs.Printable.{IsPrintableKind, IsWriteAccess, KindInRange}
 use Rattle.trace.specs.Refusals.{IsFine, IsFineSlot}
 use Rattle.trace.specs.Version.{IsVersion}
-use Rattle.hexadecimal.specs.Spelling.{bytes, fixed, num}
+use Rattle.hexadecimal.specs.Spelling.{bytes, fixed}
 use Rattle.trace.specs.Spelling.{mode, region_text, verdict, window}
 use Rattle.trace.specs.Text.{Content, disks_fields, disks_line, event_fields, event_line, memory_fields, region_fields, slot_fields, slot_line, text, trace_lines, what_fields, word_for}
 use Rattle.trace.specs.Words.{spelled}

@@ -1,5 +1,5 @@
 -- The values of a line's fields, read one after another.
-use Rattle.std.proofs.Common.{◌≡◌, ◌≢◌, ◌==◌, ℕ, Bool, true, false, nat_lt, if◌then◌else◌, ◌+◌, ◌*◌, ◌^◌, ◌<◌, ◌≤◌, List, [], ◌∷◌, ◌++◌, length, get_or, map, take, drop, slice_index_or, refl, sym, ap, subst, ◌∙◌, arith}
+use Rattle.std.proofs.Common.{◌≡◌, ◌≢◌, ◌==◌, ℕ, Bool, true, false, nat_lt, if◌then◌else◌, ◌+◌, ◌^◌, ◌<◌, ◌≤◌, List, [], ◌∷◌, ◌++◌, length, get_or, map, take, drop, slice_index_or, refl, sym, ap, subst, ◌∙◌, arith}
 use Rattle.std.proofs.lemmas.List.{append-nil, append_assoc, drop_all, drop_more, length-map, map-append, map_more, take_all}
 use Rattle.mmio_window.specs.declared.device_kind.DeviceKind.{DeviceKind}
 use Rattle.trace.specs.declared.table.Field.{Field}
@@ -12,7 +12,7 @@ use Rattle.trace.specs.declared.word.Word.TheVariants.{Slot, Write}
 use Rattle.trace.specs.Printable.{IsWriteAccess}
 use Rattle.trace.specs.Spelling.{value_text}
 use Rattle.trace.specs.Values.{AreOf, IsOf, SaysValue, SayValues}
-use Rattle.trace.specs.Words.{AllRight, AreRight, IsWidth, Mode, Num, Offset, Says, Shape, Value, Width, Window, fields_in, shape_of, shapes, width_among}
+use Rattle.trace.specs.Words.{AllRight, AreRight, Num, Offset, Says, Shape, Value, Width, Window, fields_in, shape_of, shapes, width_among}
 use Rattle.trace.proofs.Widths.{digits_bound, num_width}
 
 -- ---- the values so far

@@ -3,7 +3,7 @@ use Rattle.std.proofs.Common.{◌≡◌, ◌==◌, ◌≤◌, ℕ, Bool, true, f
 use Rattle.board.specs.declared.spec.SlotSpec.{SlotSpec}
 use Rattle.trace.specs.declared.word.Word.{Word}
 use Rattle.trace.specs.declared.word.Word.TheVariants.{Hosted, Restore, Complete}
-use Rattle.trace.specs.Printable.{IsPrintable, IsPrintableMemory, IsPrintableSlot}
+use Rattle.trace.specs.Printable.{IsPrintable, IsPrintableSlot}
 use Rattle.trace.specs.Text.{Content, as_version, disks_word, word_for}
 use Rattle.trace.specs.Version.{IsVersion, since_version_2}
 use Rattle.trace.specs.Words.{IsWordOf}

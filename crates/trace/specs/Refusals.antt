@@ -1,5 +1,5 @@
 -- Why one line is refused, once its word is known: what a function that reads its fields answers.
-use Rattle.std.specs.Prelude.{◌≡◌, ◌⊎◌, ℕ, ◌^◌, ◌<◌, ◌∷◌, ◌++◌, [], nat_lt, Bool, true, List, length}
+use Rattle.std.specs.Prelude.{◌≡◌, ◌⊎◌, ℕ, ◌∷◌, ◌++◌, [], nat_lt, Bool, true, List, length}
 use Rattle.trace.specs.declared.fault.FaultKind.{FaultKind}
 use Rattle.trace.specs.declared.fault.FaultKind.TheVariants as kind
 use Rattle.board.specs.declared.event.Event.{Event}
