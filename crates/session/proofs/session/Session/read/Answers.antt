@@ -12,12 +12,14 @@ use Rattle.session.proofs.Unchanged.{missing}
 use Rattle.session.proofs.session.Session.read.Goals as goal
 use Rattle.session.proofs.session.Session.read.Goals.{in-Some, in-None}
 
-pub returns-then-is_paused-clause-call : goal.returns-then-is_paused-clause-call
-returns-then-is_paused-clause-call g c = record {
-  turn = called_busy c.args.self.now
-      (record { slot = c.args.slot; what = Read c.args.window c.args.offset c.args.width })
-      (λ idle. let is : true ≡ false = c.if-is_paused.ensures.1 idle in absurd (cc (is)));
-  whole = tt;
+pub returns-then-is_paused : goal.returns-then-is_paused
+returns-then-is_paused g c = record {
+  call = record {
+    turn = called_busy c.args.self.now
+        (record { slot = c.args.slot; what = Read c.args.window c.args.offset c.args.width })
+        (λ idle. let is : true ≡ false = c.if-is_paused.ensures.1 idle in absurd (cc (is)));
+    whole = tt;
+  };
 }
 
 was_read : (g : _) (c : goal.Joined-read g) (value : ℕ) → c.read.result ≡ Some value
@@ -50,9 +52,10 @@ as_call g c reply step = record {
   whole = step;
 }
 
-pub returns-clause-call : goal.returns-clause-call
-returns-clause-call g c =
+pub returns : goal.returns
+returns g c =
     elim c.match-read.branch [
-      | in-Some w ↦ rw (w.result-is) (as_call g c _ (was_read g c w.in-Some.value w.in-Some.is))
-      | in-None w ↦ rw (w.result-is) (as_call g c _ (is_missing g c w.in-None.is))
+      | in-Some w ↦ rw (w.result-is)
+          (record { call = as_call g c _ (was_read g c w.in-Some.value w.in-Some.is) })
+      | in-None w ↦ rw (w.result-is) (record { call = as_call g c _ (is_missing g c w.in-None.is) })
     ]
