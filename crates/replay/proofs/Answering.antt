@@ -8,18 +8,20 @@ use Rattle.std.specs.Option.{option_map}
 use Rattle.std.specs.Prelude.{IsSomeAnd, MatchOption, slice_set}
 use Rattle.guest_memory.specs.Memory.{Inside, Memory, is_inside, put}
 use Rattle.guest_memory.proofs.Ranges.{is_inside-tells}
+use Rattle.mmio_window.specs.declared.device_kind.DeviceKind.{DeviceKind}
 use Rattle.sector_cache.specs.Disk.{Disk}
 use Rattle.board.specs.declared.event.Event.{Event}
-use Rattle.board.specs.declared.event.EventKind.TheVariants.{MemRead, MemWrite}
+use Rattle.board.specs.declared.event.EventKind.TheVariants.{MemRead, MemWrite, Read}
 use Rattle.board.specs.declared.reply.Reply.{Reply}
-use Rattle.board.specs.declared.reply.Reply.TheVariants.{BadRange, BadSlot, Bytes, Done}
+use Rattle.board.specs.declared.reply.Reply.TheVariants.{BadRange, BadSlot, Bytes, Done, Value}
 use Rattle.board.specs.declared.reply.Record.{Record}
-use Rattle.board.specs.Image.{Tells, bytes_of}
+use Rattle.board.specs.Image.{Tells, bytes_of, health_of}
 use Rattle.board.specs.Line.{IsRun}
-use Rattle.board.specs.Machine.{block_irq, console_irq, record_of}
+use Rattle.board.specs.Machine.{block_irq, console_irq, record_of, register}
 use Rattle.board.specs.Outcome.{replies}
 use Rattle.board.specs.Slot.{BoardSlot, SlotState, state_of}
-use Rattle.board.specs.World.{Answers, BoardState, Handles, MissingStep, SlotStep, World, disturbed_of, extents_of, seen, world_of}
+use Rattle.board.specs.World.{Answers, BoardState, Handles, MayGive, MissingStep, SlotStep, World, disturbed_of, extents_of, lacks_memory, seen, world_of}
+use Rattle.board.proofs.Blocks.{read_given}
 use Rattle.board.proofs.Runs.{answered, step_run}
 use Rattle.board.proofs.Alone.{get_set}
 use Rattle.board.proofs.Seats.{extents_of-set, handles_missing, noted_none, set_same, step_there}
@@ -49,13 +51,40 @@ pub past_slots : {I : Type 0} (board : BoardState I) (slot : ℕ) → (slot < le
 past_slots board slot past =
     elim (slice_get_cases board.slots slot).1 [ inl there ↦ absurd (past there.1) | inr none ↦ none.1 ]
 
+-- an event that changed nothing
+quiet : {A : Type 0} (slots : List BoardSlot) (disk : Disk) (event : Event A) (reply : Reply A)
+    (found : BoardSlot) → slice_get slots event.slot ≡ Some found → lacks_memory reply ≡ false
+    → MayGive (state_of (bytes_of disk) found) event.what (health_of disk) (health_of disk)
+    (replies (state_of (bytes_of disk) found) reply)
+    → Answers {A = A} (seen slots disk) event reply [] [] (seen slots disk)
+quiet slots disk event reply found here lacks given =
+    let state = state_of (bytes_of disk) found in
+    record {
+      written = record_of event.slot (replies state reply);
+      step =
+          step_there (seen slots disk) (seen slots disk) event _ state
+          (slice_get-map (state_of (bytes_of disk)) slots event.slot
+          ∙ ap (λ (o : Option BoardSlot). option_map (state_of (bytes_of disk)) o) here)
+          (record {
+            outcome = replies state reply;
+            given = given;
+            recorded = refl;
+            slots = sym (sym (map-set (state_of (bytes_of disk)) slots event.slot found)
+                ∙ ap (λ ss. map (state_of (bytes_of disk)) ss)
+                (set_same slots event.slot found found here refl));
+            disturbed = rw lacks (noted_none event.slot disk.failures (disturbed_of slots));
+            outside = refl;
+          });
+      replied = refl;
+      appended = refl;
+    }
+
 -- a write of memory past its end, or before it
 outside_memory : (A : Type 0) (slots : List BoardSlot) (disk : Disk) (h : ℕ) (found : BoardSlot) (addr : ℕ)
     (bytes : List ℕ) → slice_get slots h ≡ Some found → ¬ Inside found.memory addr (length bytes)
     → Answers {A = A} (seen slots disk) (record { slot = h; what = MemWrite addr bytes }) BadRange []
     [] (seen slots disk)
 outside_memory A slots disk h found addr bytes here out =
-    let state = state_of (bytes_of disk) found in
     let test : is_inside found.memory addr (length bytes) ≡ false =
     elim (cases_Bool (is_inside found.memory addr (length bytes))) [
       | inl inside ↦ absurd (out ((is_inside-tells found.memory addr (length bytes)).0 inside))
@@ -63,29 +92,12 @@ outside_memory A slots disk h found addr bytes here out =
           no'
     ]
     in
-    record {
-      written = record_of h (replies state BadRange);
-      step =
-          step_there (seen slots disk) (seen slots disk)
-          (record { slot = h; what = MemWrite addr bytes }) _ state
-          (slice_get-map (state_of (bytes_of disk)) slots h
-          ∙ ap (λ (o : Option BoardSlot). option_map (state_of (bytes_of disk)) o) here)
-          (record {
-            outcome = replies state BadRange;
-            given = inl (record {
-              alike = record { alike = rw test refl; image = refl };
-              answered = λ no'. absurd (cc);
-              failures = refl;
-            });
-            recorded = refl;
-            slots = sym (sym (map-set (state_of (bytes_of disk)) slots h found)
-                ∙ ap (λ ss. map (state_of (bytes_of disk)) ss) (set_same slots h found found here refl));
-            disturbed = noted_none h disk.failures (disturbed_of slots);
-            outside = refl;
-          });
-      replied = refl;
-      appended = refl;
-    }
+    quiet slots disk (record { slot = h; what = MemWrite addr bytes }) BadRange found here refl
+    (inl (record {
+      alike = record { alike = rw test refl; image = refl };
+      answered = λ no'. absurd (cc);
+      failures = refl;
+    }))
 
 pub range_refused : (A : Type 0) {I : Type 0} (disk : I → Disk) (old new : BoardState I) (slot addr : ℕ)
     (bytes : List ℕ) → new ≡ old → slot < length old.slots
@@ -113,38 +125,50 @@ pub part_read : (A : Type 0) {I : Type 0} (disk : I → Disk) (board : BoardStat
     (part : List ℕ) → IsPart board slot addr len part
     → AnswersEvent {A = A} disk board (record { slot = slot; what = MemRead addr len }) (Bytes part) [] board
 part_read A disk board slot addr len part it =
-    let bytes = bytes_of (disk board.image) in
-    let state = state_of bytes it.found in
     let test : is_inside it.found.memory addr len ≡ true =
     (is_inside-tells it.found.memory addr len).1 it.inside in
     let is = it.is in
     record {
-      answers = λ tells. record {
-        written = record_of slot (replies state (Bytes part));
-        step =
-            step_there (seen board.slots (disk board.image)) (seen board.slots (disk board.image))
-            (record { slot = slot; what = MemRead addr len }) _ state
-            (slice_get-map (state_of bytes) board.slots slot
-            ∙ ap (λ (o : Option BoardSlot). option_map (state_of bytes) o) it.here)
-            (record {
-              outcome = replies state (Bytes part);
-              given = inl (record {
-                alike = record { alike = rw (test, is) refl; image = refl };
-                answered = λ no'. absurd (cc);
-                failures = refl;
-              });
-              recorded = refl;
-              slots = sym (sym (map-set (state_of bytes) board.slots slot it.found)
-                  ∙ ap (λ ss. map (state_of bytes) ss)
-                  (set_same board.slots slot it.found it.found it.here refl));
-              disturbed = noted_none slot (disk board.image).failures (disturbed_of board.slots);
-              outside = refl;
-            });
-        replied = refl;
-        appended = refl;
-      };
+      answers = λ tells.
+          quiet board.slots (disk board.image) (record { slot = slot; what = MemRead addr len }) (Bytes part)
+          it.found it.here refl (inl (record {
+            alike = record { alike = rw (test, is) refl; image = refl };
+            answered = λ no'. absurd (cc);
+            failures = refl;
+          }));
       keeps = record { tells = λ tells. tells; extents = refl };
     }
+
+register_in : (A : Type 0) {I : Type 0} (disk : I → Disk) (board : BoardState I) (slot : ℕ)
+    (window : DeviceKind) (offset width value : ℕ) (o : Option BoardSlot) → slice_get board.slots slot ≡ o
+    → (Tells (disk board.image) → IsSomeAnd (option_map (state_of (bytes_of (disk board.image))) o)
+    (λ state. value ≡ register state window offset width))
+    → AnswersEvent {A = A} disk board
+    (record { slot = slot; what = Read window offset width }) (Value value) []
+    board
+register_in A disk board slot window offset width value None here is = record {
+  answers = λ tells. absurd (is tells);
+  keeps = record { tells = λ tells. tells; extents = refl };
+}
+register_in A disk board slot window offset width value (Some found) here is = record {
+  answers = λ tells.
+      quiet board.slots (disk board.image) (record { slot = slot; what = Read window offset width })
+      (Value value) found here refl
+      (read_given (state_of (bytes_of (disk board.image)) found) window offset width value _ (is tells));
+  keeps = record { tells = λ tells. tells; extents = refl };
+}
+
+-- a register that was read
+pub register_read : (A : Type 0) {I : Type 0} (disk : I → Disk) (board : BoardState I) (slot : ℕ)
+    (window : DeviceKind) (offset width value : ℕ)
+    → (Tells (disk board.image) → IsSomeAnd (slice_get (world_of disk board).slots slot)
+    (λ state. value ≡ register state window offset width))
+    → AnswersEvent {A = A} disk board
+    (record { slot = slot; what = Read window offset width }) (Value value) []
+    board
+register_read A disk board slot window offset width value is =
+    register_in A disk board slot window offset width value (slice_get board.slots slot) refl
+    (rw (← slice_get-map (state_of (bytes_of (disk board.image))) board.slots slot) is)
 
 -- bytes that were put leave all extents
 extents_put : (slots new : List BoardSlot) (h : ℕ) (memory : BoardSlot → Memory) (o : Option BoardSlot)

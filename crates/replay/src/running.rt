@@ -13,7 +13,7 @@ ghost use Rattle.hexadecimal.specs.Fields.{IsBytesField};
 ghost use Rattle.trace.specs.Words.{Says, Bytes as ByBytes};
 
 use crate::runs::RunsEvents;
-use board::{Board, EventKind, Handled, Reply};
+use board::{Board, DeviceKind, EventKind, Handled, Reply};
 use sector_cache::Image;
 use std::alloc::Allocator;
 use std::io::Write;
@@ -89,6 +89,14 @@ fn answer<I: Image, A: Allocator + Copy>(
 {
     let slot = parsed.event.slot;
     match parsed.event.what {
+        EventKind::Read {
+            window,
+            offset,
+            width,
+        } => {
+            let reply = read(board, slot, window, offset, width);
+            told(reply, words(board, slot))
+        }
         EventKind::MemWrite { addr, .. } => {
             let reply = write_memory(board, slot, addr, bytes_in(room, parsed.bytes));
             told(reply, words(board, slot))
@@ -126,6 +134,23 @@ pub(crate) fn bytes_in<'a>(room: &'a mut [u8], field: &[u8]) -> &'a [u8]
     let bytes = &mut room[..spelled_len(field)];
     read_bytes(field, bytes);
     bytes
+}
+
+// Reads a register of a slot.
+#[inline]
+fn read<I: Image, A: Allocator + Copy>(
+    board: &Board<I, A>,
+    slot: u8,
+    window: DeviceKind,
+    offset: u16,
+    width: u8,
+) -> Reply<A>
+    ensures { AnswersEvent I.disk board.now (record { slot = slot; what = EventKind.Read window offset width }) result [] board.now }
+{
+    match board.read(slot, window, offset, width) {
+        Some(value) => Reply::Value(value),
+        None => Reply::BadSlot,
+    }
 }
 
 // Writes bytes to a slot's memory.
