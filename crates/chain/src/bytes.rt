@@ -54,6 +54,29 @@ impl Chain {
         mem.part_mut(rest.addr, u64::from(rest.len).min(most))
     }
 
+    /// `lend`, called on the chain. A proof that ties what is lent to a call's first argument cites `lend`.
+    pub fn write_part<'m, A: Allocator>(
+        &self,
+        mem: &'m mut GuestMemory<A>,
+        from: u64,
+        most: u64,
+    ) -> &'m mut [u8]
+        requires inside { All (Within mem.old) self.now }
+        requires in_list { from < length (writable_of self.now) }
+        requires some { 0 < most }
+        ensures* writes_back { sem 𝓛 (LendsPart A.row A.Allocator mem.entry
+            (writable_rest self.now from).addr result) }
+        ensures value { result.now ≡
+            part_of mem.old (writable_rest self.now from).addr (length result.now) }
+        ensures len { length result.now ≡ min most (writable_rest self.now from).len }
+        ensures some { 0 < length result.now }
+        ensures listed { (bytes : List ℕ) → length bytes ≡ length result.now →
+            put mem.old (writable_rest self.now from).addr bytes ≡
+            scatter mem.old (drop from (writable_of self.now)) bytes }
+    {
+        Chain::lend(mem, self, from, most)
+    }
+
     /// Copies the bytes from place `from` of the readable list on into all of `into`.
     pub fn read_at<A: Allocator>(&self, mem: &GuestMemory<A>, from: u64, into: &mut [u8])
         requires inside { All (Within mem.now) self.now }

@@ -103,7 +103,7 @@ impl Chains {
         if from >= chain.writable_len() || most == 0 {
             return Err(Stuck::Conditions);
         }
-        let part = Chain::lend(mem, &chain, from, most);
+        let part = chain.write_part(mem, from, most);
         part.fill(byte);
         put_number(answer, part.len() as u64)
     }
