@@ -127,7 +127,7 @@ impl PackedRing {
         ensures { result ≡ is_available mem.now self.now }
     {
         let offset = 16 * u64::from(self.head());
-        prove!(mem.holds(self.state.setup.desc, 16 * u64::from(self.state.setup.size)));
+        mem.fits(self.state.setup.desc, 16 * u64::from(self.state.setup.size));
         let flags = mem.read_u16(self.state.setup.desc + offset + 14);
         (flags & AVAIL != 0) == self.wrap_counter() && (flags & USED != 0) != self.wrap_counter()
     }
@@ -140,7 +140,7 @@ impl PackedRing {
         ensures { result ≡ id_of mem.now (descriptor_addr self.now.setup.desc position) }
     {
         let offset = 16 * u64::from(position);
-        prove!(mem.holds(self.state.setup.desc, 16 * u64::from(self.state.setup.size)));
+        mem.fits(self.state.setup.desc, 16 * u64::from(self.state.setup.size));
         mem.read_u16(self.state.setup.desc + offset + 12)
     }
 
@@ -152,7 +152,7 @@ impl PackedRing {
         ensures range { SameRange mem.old mem.new }
     {
         let offset = 16 * u64::from(self.head());
-        prove!(mem.holds(self.state.setup.desc, 16 * u64::from(self.state.setup.size)));
+        mem.fits(self.state.setup.desc, 16 * u64::from(self.state.setup.size));
         let descriptor = self.state.setup.desc + offset;
         mem.write_u32(descriptor + 8, len);
         mem.write_u16(descriptor + 12, id);

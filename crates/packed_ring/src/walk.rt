@@ -66,7 +66,7 @@ fn read_descriptor<A: Allocator>(mem: &GuestMemory<A>, table: Table, index: u16)
     ensures { result ≡ ring_descriptor mem.now table.addr table.size index }
 {
     // So no address in the ring passes 2^64.
-    prove!(mem.holds(table.addr, 16 * u64::from(table.size)));
+    mem.fits(table.addr, 16 * u64::from(table.size));
     let addr = table.addr + 16 * u64::from(index);
     let descriptor = PackedDescriptor::read(mem, addr);
     Descriptor {

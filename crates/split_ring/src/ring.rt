@@ -104,10 +104,10 @@ impl SplitRing {
         ensures { result ≡ head_of mem.now self.now }
     {
         let entry = 2 * self.entry_at(self.state.place);
-        prove!(mem.holds(
+        mem.fits(
             self.state.setup.driver,
             6 + 2 * u64::from(self.state.setup.size)
-        ));
+        );
         mem.read_u16(self.state.setup.driver + 4 + entry)
     }
 
@@ -120,10 +120,10 @@ impl SplitRing {
         ensures range { SameRange mem.old mem.new }
     {
         let offset = 8 * self.entry_at(self.state.place);
-        prove!(mem.holds(
+        mem.fits(
             self.state.setup.device,
             6 + 8 * u64::from(self.state.setup.size)
-        ));
+        );
         let entry = self.state.setup.device + 4 + offset;
         mem.write_u32(entry, u32::from(head));
         mem.write_u32(entry + 4, len);
@@ -138,7 +138,7 @@ impl SplitRing {
         ensures range { SameRange mem.old mem.new }
     {
         let entries = 8 * u64::from(self.state.setup.size);
-        prove!(mem.holds(self.state.setup.device, 6 + entries));
+        mem.fits(self.state.setup.device, 6 + entries);
         mem.write_u16(self.state.setup.device, 0);
         if self.state.setup.event_idx {
             mem.write_u16(self.state.setup.device + 4 + entries, self.state.place);
@@ -166,7 +166,7 @@ impl Virtqueue for SplitRing {
     /// queue has descriptors are a `Jump`.
     fn open<A: Allocator>(&mut self, mem: &GuestMemory<A>) -> Result<(), Fault> {
         // So no address in the area passes 2^64.
-        prove!(mem.holds(self.state.setup.driver, 6));
+        mem.fits(self.state.setup.driver, 6);
         let offered = mem
             .read_u16(self.state.setup.driver + 2)
             .wrapping_sub(self.state.place);
