@@ -85,6 +85,7 @@ impl SplitRing {
     fn size(&self) -> u16
         ensures value { result ≡ self.now.setup.size }
         ensures some { 0 < result }
+        ensures queue_size { IsQueueSize result }
     {
         self.state.setup.size as u16
     }
@@ -94,7 +95,8 @@ impl SplitRing {
         ensures value { result ≡ place % self.now.setup.size }
         ensures below { result < self.now.setup.size }
     {
-        u64::from(place % self.size())
+        // The size is a power of two (2.7).
+        u64::from(place & self.size() - 1)
     }
 
     #[tactic(auto, using(guest_memory::proofs::Ranges::inside_part, guest_memory::proofs::Ranges::inside_same))]
