@@ -5,6 +5,7 @@ ghost use Rattle.guest_memory.specs.Memory.{Inside};
 ghost use Rattle.indirect.specs.Lists.{packed_tables, EndsInTable, TableRefused, ListResolves, ListFails};
 ghost use Rattle.packed_ring.specs.Ring.{ring_descriptor};
 
+use crate::modulus::reduced;
 use chain::{Chain, Fault};
 use guest_memory::GuestMemory;
 use indirect::{Descriptor, INDIRECT, NEXT, PackedDescriptor, append_packed};
@@ -73,7 +74,7 @@ fn read_descriptor<A: Allocator>(mem: &GuestMemory<A>, table: Table, index: u16)
         buffer: descriptor.buffer,
         indirect: descriptor.flags & INDIRECT != 0,
         next: if descriptor.flags & NEXT != 0 {
-            Some((index + 1) % table.size)
+            Some(reduced(index + 1, table.size))
         } else {
             None
         },

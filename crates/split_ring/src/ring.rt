@@ -108,7 +108,7 @@ impl SplitRing {
         let entry = 2 * self.entry_at(self.state.place);
         mem.fits(
             self.state.setup.driver,
-            6 + 2 * u64::from(self.state.setup.size)
+            6 + 2 * u64::from(self.state.setup.size),
         );
         mem.read_u16(self.state.setup.driver + 4 + entry)
     }
@@ -124,7 +124,7 @@ impl SplitRing {
         let offset = 8 * self.entry_at(self.state.place);
         mem.fits(
             self.state.setup.device,
-            6 + 8 * u64::from(self.state.setup.size)
+            6 + 8 * u64::from(self.state.setup.size),
         );
         let entry = self.state.setup.device + 4 + offset;
         mem.write_u32(entry, u32::from(head));

@@ -68,7 +68,7 @@ impl SplitRing {
         let offset = 8 * self.entry_at(place);
         mem.fits(
             self.state.setup.device,
-            6 + 8 * u64::from(self.state.setup.size)
+            6 + 8 * u64::from(self.state.setup.size),
         );
         let entry = self.state.setup.device + 4 + offset;
         (mem.read_u32(entry), mem.read_u32(entry + 4))
