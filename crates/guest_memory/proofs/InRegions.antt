@@ -204,6 +204,15 @@ ends r (s ∷ rs) h =
       omega (arith, a.0, b, e.1, length-in_front r (memory_of (s ∷ rs)) (omega (arith, a.0, b))),
     )
 
+-- a range that lies in the memory ends by 2^64
+pub inside_ends : (rs : List Region) (a n : ℕ) {m : Memory} → AreRegions rs → memory_of rs ≡ m → Inside m a n
+    → a + n ≤ 2 ^ 64
+unfolding AreApart
+inside_ends [] a n regions is inside = absurd (regions.apart)
+inside_ends (r ∷ rs) a n regions is inside =
+    let lies = subst (λ (m : Memory). Inside m a n) (sym is) inside in
+    omega (arith, lies.below, first_base r rs, (ends r rs regions.apart).1)
+
 -- a range that ends by the end of the first region ends before each gap
 ends_before : (r : Region) (rs : List Region) (a n : ℕ) → AreApart (r ∷ rs) → a + n ≤ end_of r
     → MissesAll (memory_of (r ∷ rs)).gaps a n

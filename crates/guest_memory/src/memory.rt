@@ -204,6 +204,14 @@ impl<A: Allocator> GuestMemory<A> {
         self.holds_elsewhere(addr, n)
     }
 
+    /// The `n` bytes from `addr` on, which lie in the memory, end at 2^64 at most. It looks at nothing: `slice` says the same.
+    pub fn fits(&self, addr: u64, n: u64)
+        requires { Inside self.now addr n }
+        ensures { addr + n ≤ 2 ^ 64 }
+    {
+        let _ = &self.own;
+    }
+
     // The same where the memory isn't one region of the library's own bytes.
     #[inline(never)]
     fn holds_elsewhere(&self, addr: u64, n: u64) -> bool

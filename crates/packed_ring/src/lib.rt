@@ -7,6 +7,7 @@
 #![tactic(auto)]
 
 mod laws;
+mod modulus;
 mod ring;
 mod walk;
 

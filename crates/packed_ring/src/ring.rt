@@ -10,6 +10,7 @@ ghost use Rattle.packed_ring.specs.Kind.{IsTaken, entry_of, first_passed, packed
 mod reached;
 mod view;
 
+use crate::modulus::reduced;
 use crate::walk::{Table, append_list};
 use chain::{Areas, Chain, Fault, RingState, Setup, Used, Virtqueue};
 use guest_memory::GuestMemory;
@@ -110,7 +111,7 @@ impl PackedRing {
         ensures value { result ≡ head_of self.now }
         ensures below { result < self.now.setup.size }
     {
-        self.state.place % self.size()
+        reduced(self.state.place, self.size())
     }
 
     /// The wrap counter of the ring's place, as whether it is 1 (2.8.1).
@@ -127,7 +128,7 @@ impl PackedRing {
         ensures { result ≡ is_available mem.now self.now }
     {
         let offset = 16 * u64::from(self.head());
-        prove!(mem.holds(self.state.setup.desc, 16 * u64::from(self.state.setup.size)));
+        mem.fits(self.state.setup.desc, 16 * u64::from(self.state.setup.size));
         let flags = mem.read_u16(self.state.setup.desc + offset + 14);
         (flags & AVAIL != 0) == self.wrap_counter() && (flags & USED != 0) != self.wrap_counter()
     }
@@ -140,7 +141,7 @@ impl PackedRing {
         ensures { result ≡ id_of mem.now (descriptor_addr self.now.setup.desc position) }
     {
         let offset = 16 * u64::from(position);
-        prove!(mem.holds(self.state.setup.desc, 16 * u64::from(self.state.setup.size)));
+        mem.fits(self.state.setup.desc, 16 * u64::from(self.state.setup.size));
         mem.read_u16(self.state.setup.desc + offset + 12)
     }
 
@@ -152,7 +153,7 @@ impl PackedRing {
         ensures range { SameRange mem.old mem.new }
     {
         let offset = 16 * u64::from(self.head());
-        prove!(mem.holds(self.state.setup.desc, 16 * u64::from(self.state.setup.size)));
+        mem.fits(self.state.setup.desc, 16 * u64::from(self.state.setup.size));
         let descriptor = self.state.setup.desc + offset;
         mem.write_u32(descriptor + 8, len);
         mem.write_u16(descriptor + 12, id);
@@ -165,7 +166,7 @@ impl PackedRing {
         ensures below { result < 2 * self.now.setup.size }
     {
         let places = 2 * self.size();
-        (self.state.place + (places - self.state.used_count)) % places
+        reduced(self.state.place + (places - self.state.used_count), places)
     }
 }
 
@@ -225,7 +226,7 @@ impl Virtqueue for PackedRing {
     /// The used descriptor tells whether any byte was written, too (2.8.3, 2.8.4).
     fn give<A: Allocator>(&mut self, mem: &mut GuestMemory<A>, token: Token, used: Used) {
         self.put_used(mem, token.id, used.len, used.wrote);
-        self.state.place = (self.state.place + token.length) % (2 * self.size());
+        self.state.place = reduced(self.state.place + token.length, 2 * self.size());
         self.state.pending = self.state.pending.saturating_sub(token.length);
         self.state.used_count += token.length;
     }

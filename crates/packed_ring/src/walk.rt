@@ -5,6 +5,7 @@ ghost use Rattle.guest_memory.specs.Memory.{Inside};
 ghost use Rattle.indirect.specs.Lists.{packed_tables, EndsInTable, TableRefused, ListResolves, ListFails};
 ghost use Rattle.packed_ring.specs.Ring.{ring_descriptor};
 
+use crate::modulus::reduced;
 use chain::{Chain, Fault};
 use guest_memory::GuestMemory;
 use indirect::{Descriptor, INDIRECT, NEXT, PackedDescriptor, append_packed};
@@ -66,14 +67,14 @@ fn read_descriptor<A: Allocator>(mem: &GuestMemory<A>, table: Table, index: u16)
     ensures { result ≡ ring_descriptor mem.now table.addr table.size index }
 {
     // So no address in the ring passes 2^64.
-    prove!(mem.holds(table.addr, 16 * u64::from(table.size)));
+    mem.fits(table.addr, 16 * u64::from(table.size));
     let addr = table.addr + 16 * u64::from(index);
     let descriptor = PackedDescriptor::read(mem, addr);
     Descriptor {
         buffer: descriptor.buffer,
         indirect: descriptor.flags & INDIRECT != 0,
         next: if descriptor.flags & NEXT != 0 {
-            Some((index + 1) % table.size)
+            Some(reduced(index + 1, table.size))
         } else {
             None
         },

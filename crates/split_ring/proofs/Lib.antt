@@ -1,3 +1,4 @@
 pub mod Sizes
 pub mod Outcomes
 pub mod Passing
+mod Masks

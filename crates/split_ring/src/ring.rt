@@ -85,6 +85,7 @@ impl SplitRing {
     fn size(&self) -> u16
         ensures value { result ≡ self.now.setup.size }
         ensures some { 0 < result }
+        ensures queue_size { IsQueueSize result }
     {
         self.state.setup.size as u16
     }
@@ -94,7 +95,8 @@ impl SplitRing {
         ensures value { result ≡ place % self.now.setup.size }
         ensures below { result < self.now.setup.size }
     {
-        u64::from(place % self.size())
+        // The size is a power of two (2.7).
+        u64::from(place & self.size() - 1)
     }
 
     #[tactic(auto, using(guest_memory::proofs::Ranges::inside_part, guest_memory::proofs::Ranges::inside_same))]
@@ -104,10 +106,10 @@ impl SplitRing {
         ensures { result ≡ head_of mem.now self.now }
     {
         let entry = 2 * self.entry_at(self.state.place);
-        prove!(mem.holds(
+        mem.fits(
             self.state.setup.driver,
-            6 + 2 * u64::from(self.state.setup.size)
-        ));
+            6 + 2 * u64::from(self.state.setup.size),
+        );
         mem.read_u16(self.state.setup.driver + 4 + entry)
     }
 
@@ -120,10 +122,10 @@ impl SplitRing {
         ensures range { SameRange mem.old mem.new }
     {
         let offset = 8 * self.entry_at(self.state.place);
-        prove!(mem.holds(
+        mem.fits(
             self.state.setup.device,
-            6 + 8 * u64::from(self.state.setup.size)
-        ));
+            6 + 8 * u64::from(self.state.setup.size),
+        );
         let entry = self.state.setup.device + 4 + offset;
         mem.write_u32(entry, u32::from(head));
         mem.write_u32(entry + 4, len);
@@ -138,7 +140,7 @@ impl SplitRing {
         ensures range { SameRange mem.old mem.new }
     {
         let entries = 8 * u64::from(self.state.setup.size);
-        prove!(mem.holds(self.state.setup.device, 6 + entries));
+        mem.fits(self.state.setup.device, 6 + entries);
         mem.write_u16(self.state.setup.device, 0);
         if self.state.setup.event_idx {
             mem.write_u16(self.state.setup.device + 4 + entries, self.state.place);
@@ -166,7 +168,7 @@ impl Virtqueue for SplitRing {
     /// queue has descriptors are a `Jump`.
     fn open<A: Allocator>(&mut self, mem: &GuestMemory<A>) -> Result<(), Fault> {
         // So no address in the area passes 2^64.
-        prove!(mem.holds(self.state.setup.driver, 6));
+        mem.fits(self.state.setup.driver, 6);
         let offered = mem
             .read_u16(self.state.setup.driver + 2)
             .wrapping_sub(self.state.place);

@@ -34,7 +34,7 @@ pub(crate) fn append_path<A: Allocator>(
     ensures fault { IfErr result (ListFails split_tables table.indirect mem.now (split_table mem.now table.addr) table.size head) }
 {
     // So no address in the table passes 2^64.
-    prove!(mem.holds(table.addr, 16 * u64::from(table.size)));
+    mem.fits(table.addr, 16 * u64::from(table.size));
     let mut index = head;
     for _count in 0..table.size {
         if index >= table.size {

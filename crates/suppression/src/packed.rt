@@ -42,7 +42,7 @@ pub fn packed_wants<A: Allocator>(
     ensures { IsTrue result ↔ PackedWants mem.now driver_area n event_idx from passed }
 {
     // So no address in the area passes 2^64.
-    prove!(mem.holds(driver_area, 4));
+    mem.fits(driver_area, 4);
     match mem.read_u16(driver_area + 2) & RING_EVENT_FLAGS {
         RING_EVENT_FLAGS_DISABLE => false,
         RING_EVENT_FLAGS_DESC if event_idx => match event_place(mem, driver_area, n) {

@@ -33,7 +33,7 @@ pub fn split_wants<A: Allocator>(
 {
     let entries = 2 * u64::from(n);
     // So no address in the area passes 2^64.
-    prove!(mem.holds(driver_area, 6 + entries));
+    mem.fits(driver_area, 6 + entries);
     if event_idx {
         let used_event = mem.read_u16(driver_area + 4 + entries);
         is_passed(IDX_MODULUS, from, count, u32::from(used_event))

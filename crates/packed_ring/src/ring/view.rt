@@ -33,7 +33,7 @@ impl PackedRing {
         ensures place { result.0 ≡ num mem.now self.now.setup.driver 2 }
         ensures flags { result.1 ≡ num mem.now (self.now.setup.driver + 2) 2 }
     {
-        prove!(mem.holds(self.state.setup.driver, 4));
+        mem.fits(self.state.setup.driver, 4);
         (
             mem.read_u16(self.state.setup.driver),
             mem.read_u16(self.state.setup.driver + 2),
@@ -57,7 +57,7 @@ impl PackedRing {
             return None;
         }
         let offset = 16 * u64::from(position);
-        prove!(mem.holds(self.state.setup.desc, 16 * u64::from(self.state.setup.size)));
+        mem.fits(self.state.setup.desc, 16 * u64::from(self.state.setup.size));
         let descriptor = PackedDescriptor::read(mem, self.state.setup.desc + offset);
         Some((descriptor.buffer, descriptor.id, descriptor.flags))
     }

@@ -23,7 +23,7 @@ impl SplitRing {
         requires { LiesIn mem.now self.now.setup }
         ensures { result ≡ avail_idx mem.now self.now }
     {
-        prove!(mem.holds(self.state.setup.driver, 6));
+        mem.fits(self.state.setup.driver, 6);
         mem.read_u16(self.state.setup.driver + 2)
     }
 
@@ -33,7 +33,7 @@ impl SplitRing {
         requires { LiesIn mem.now self.now.setup }
         ensures { result ≡ num mem.now (self.now.setup.device + 2) 2 }
     {
-        prove!(mem.holds(self.state.setup.device, 6));
+        mem.fits(self.state.setup.device, 6);
         mem.read_u16(self.state.setup.device + 2)
     }
 
@@ -43,7 +43,7 @@ impl SplitRing {
         requires { LiesIn mem.now self.now.setup }
         ensures { result ≡ num mem.now self.now.setup.driver 2 }
     {
-        prove!(mem.holds(self.state.setup.driver, 6));
+        mem.fits(self.state.setup.driver, 6);
         mem.read_u16(self.state.setup.driver)
     }
 
@@ -54,7 +54,7 @@ impl SplitRing {
         ensures { result ≡ num mem.now (self.now.setup.driver + 4 + 2 * self.now.setup.size) 2 }
     {
         let entries = 2 * u64::from(self.state.setup.size);
-        prove!(mem.holds(self.state.setup.driver, 6 + entries));
+        mem.fits(self.state.setup.driver, 6 + entries);
         mem.read_u16(self.state.setup.driver + 4 + entries)
     }
 
@@ -66,10 +66,10 @@ impl SplitRing {
         ensures len { result.1 ≡ num mem.now (self.now.setup.device + 4 + 8 * (place % self.now.setup.size) + 4) 4 }
     {
         let offset = 8 * self.entry_at(place);
-        prove!(mem.holds(
+        mem.fits(
             self.state.setup.device,
-            6 + 8 * u64::from(self.state.setup.size)
-        ));
+            6 + 8 * u64::from(self.state.setup.size),
+        );
         let entry = self.state.setup.device + 4 + offset;
         (mem.read_u32(entry), mem.read_u32(entry + 4))
     }
@@ -84,7 +84,7 @@ impl SplitRing {
         if index >= self.size() {
             return None;
         }
-        prove!(mem.holds(self.state.setup.desc, 16 * u64::from(self.state.setup.size)));
+        mem.fits(self.state.setup.desc, 16 * u64::from(self.state.setup.size));
         Some(Descriptor::read_split(mem, self.state.setup.desc + 16 * u64::from(index)))
     }
 }
