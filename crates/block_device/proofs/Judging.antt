@@ -1,8 +1,8 @@
 -- A request that was read, and its segments, one after another, that are judged.
-use Rattle.std.proofs.Common.{◌≡◌, ℕ, ◌+◌, ◌-◌, ◌*◌, ◌/◌, ◌<◌, ◌≤◌, ◌&&◌, Bool, true, false, List, [], ◌∷◌, length, take, drop, get_or, refl, sym, ap, ◌∙◌, arith, nat_lt, length-drop, length-take}
+use Rattle.std.proofs.Common.{◌≡◌, ℕ, ◌+◌, ◌-◌, ◌*◌, ◌/◌, ◌<◌, ◌≤◌, ◌&&◌, Bool, true, false, List, [], ◌∷◌, length, take, drop, get_or, refl, sym, ap, ◌∙◌, arith, nat_lt, length-drop}
 use Rattle.std.specs.List.{list_all}
 use Rattle.std.proofs.lemmas.Bool.Decides.{nat_tests}
-use Rattle.std.proofs.lemmas.List.{drop-drop, take_all}
+use Rattle.std.proofs.lemmas.List.{drop-drop, take-take, take_all}
 use Rattle.std.proofs.lemmas.List.Folds.{list_all-append}
 use Rattle.std.proofs.lemmas.List.FromFn.{get_or-map-range_with_len, length-map-range_with_len, map-range_with_len_more}
 use Rattle.std.proofs.lemmas.List.Sums.{AllPass-from_list_all}
@@ -14,20 +14,35 @@ use Rattle.block_device.specs.Request.{payload_of, request_of, sector_in, type_o
 use Rattle.block_device.specs.Zeroes.{has_known_flags, has_sectors_within, segment_at, segment_of, segments_in}
 use Rattle.block_device.proofs.Zeroing.{first_segments}
 
--- a whole header that was read, and the request of its type
-pub request_by_type : (device : BlockDevice) (header readable : List ℕ) (room kind sector : ℕ)
-    (request : Request) → header ≡ take 16 readable → 16 ≤ length readable
-    → kind ≡ little_number 4 header → sector ≡ little_number 8 (take 8 (drop 8 header))
+-- a header that lies in one part of the readable list
+pub header_in : (part header readable : List ℕ) → part ≡ take (length part) readable → 16 ≤ length part
+    → header ≡ take 16 part → header ≡ take 16 readable
+header_in part header readable listed enough first =
+    first ∙ ap (take 16) listed ∙ take-take 16 (length part) readable enough
+
+-- the fields of a header that was read
+pub kind_read : (header readable : List ℕ) (kind : ℕ) → header ≡ take 16 readable
+    → kind ≡ little_number 4 header → kind ≡ type_of readable
+kind_read header readable kind read is = is ∙ ap (little_number 4) read
+
+pub sector_read : (header readable : List ℕ) (sector : ℕ) → header ≡ take 16 readable
+    → sector ≡ little_number 8 (drop 8 header) → sector ≡ sector_in readable
+sector_read header readable sector read is = is ∙ ap (λ h. little_number 8 (drop 8 h)) read
+
+-- the second field, at the end of a header
+pub last_field : (header : List ℕ) (sector : ℕ) → length header ≡ 16
+    → sector ≡ little_number 8 (take 8 (drop 8 header)) → sector ≡ little_number 8 (drop 8 header)
+last_field header sector long is =
+    is ∙ ap (little_number 8) (take_all 8 (drop 8 header) (omega (arith, long, length-drop 8 header)))
+
+-- the request of a whole header, by its type
+pub request_by_type : (device : BlockDevice) (readable : List ℕ) (room kind sector : ℕ)
+    (request : Request) → 16 ≤ length readable → kind ≡ type_of readable → sector ≡ sector_in readable
     → request ≡ typed_request device kind sector (payload_of readable) room
     → request ≡ request_of device readable room
-request_by_type device header readable room kind sector request read enough kind_is sector_is is =
+request_by_type device readable room kind sector request enough same_kind same_sector is =
     let payload = payload_of readable in
-    let long : length header ≡ 16 = ap length read ∙ simp length-take (omega arith) in
     let short : nat_lt (length readable) 16 ≡ false = grind (arith, nat_tests) in
-    let same_kind : kind ≡ type_of readable = kind_is ∙ ap (little_number 4) read in
-    let same_sector : sector ≡ sector_in readable =
-    sector_is ∙ ap (little_number 8) (take_all 8 (drop 8 header) (omega (arith, length-drop 8 header)))
-    ∙ ap (λ h. little_number 8 (drop 8 h)) read in
     is ∙ ap (λ k. typed_request device k sector payload room) same_kind
     ∙ ap (λ s. typed_request device (type_of readable) s payload room) same_sector
     ∙ rw short refl

@@ -142,12 +142,6 @@ pub first_sector : (part chunk readable : List ℕ) (place : ℕ)
 first_sector part chunk readable place listed enough first =
     first ∙ ap (take 512) listed ∙ take-take 512 (length part) (drop place readable) enough
 
--- a front of a part of the readable list is one of the list too
-pub front_listed : (part readable : List ℕ) (place k : ℕ) → part ≡ take (length part) (drop place readable)
-    → k ≤ length part → take k part ≡ take k (drop place readable)
-front_listed part readable place k listed within =
-    ap (take k) listed ∙ take-take k (length part) (drop place readable) within
-
 -- and so is a shorter part with the bytes behind it
 pub gathered_sector : (part front rest readable : List ℕ) (place size : ℕ)
     → part ≡ take (length part) (drop place readable)
@@ -166,6 +160,11 @@ pub record IsWriting (disk disk' : Disk) (sector : ℕ) (payload : List ℕ) (do
 
 pub writing_start : (disk : Disk) (sector : ℕ) (payload : List ℕ) → IsWriting disk disk sector payload 0
 writing_start disk sector payload = record { is = filled-nil sector disk }
+
+-- there are none
+pub writing_none : (disk : Disk) (sector : ℕ) (payload : List ℕ) (count : ℕ) → count ≡ 0
+    → IsWriting disk disk sector payload count
+writing_none disk sector payload count none = rw none (writing_start disk sector payload)
 
 -- some sectors more are written in place
 pub writing_run : (disk d d' : Disk) (sector count done n : ℕ) (readable : List ℕ) → IsWhole disk
@@ -192,6 +191,21 @@ writing_run disk d d' sector count done n readable is_whole w some within size i
           long whole some inside
           ∙ ap (λ bytes. filled sector bytes disk) (ap (λ c. take (512 * done) payload ++ c) same
           ∙ take-sectors payload done n);
+    }
+
+-- all of them at once
+pub writing_all : (disk d' : Disk) (sector count : ℕ) (readable : List ℕ) → IsWhole disk
+    → 0 < count → length (payload_of readable) ≡ 512 * count → sector + count ≤ disk.sector_count
+    → d' ≡ written_from sector (payload_of readable) disk
+    → IsWriting disk d' sector (payload_of readable) count
+writing_all disk d' sector count readable is_whole some size inside put =
+    let payload = payload_of readable in
+    record {
+      is =
+          put ∙ ap (λ s. written_from s payload disk) (let e : sector ≡ sector + 0 = omega arith in e)
+          ∙ ap (written_from (sector + 0) payload) (filled-nil sector disk)
+          ∙ written_from-filled disk sector 0 count [] payload is_whole refl size some (omega (arith, inside))
+          ∙ ap (λ bytes. filled sector bytes disk) (sym (take_all (512 * count) payload (omega (arith, size))));
     }
 
 -- or one sector

@@ -6,6 +6,7 @@ pub mod Extent
 pub mod Hosting
 pub mod Operation
 pub mod Outcome
+pub mod Payload
 pub mod Progress
 pub mod Request
 pub mod Keeping

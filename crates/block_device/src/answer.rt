@@ -31,6 +31,7 @@ pub(crate) enum Begun {
 
 impl BlockDevice {
     /// Answers a chain as far as that needs no image.
+    #[inline(always)]
     pub(crate) fn begin<M: Allocator>(&self, mem: &mut GuestMemory<M>, chain: &Chain) -> Begun
         requires good { Good mem.old chain.now }
         ensures begun { Begins self.now mem.old mem.new chain.now result }
@@ -58,6 +59,7 @@ impl BlockDevice {
     }
 
     /// Does all of a request but its status.
+    #[inline(always)]
     pub(crate) fn perform<I: Image, M: Allocator, C: Allocator + Copy>(
         &self,
         request: Request,
@@ -93,6 +95,7 @@ impl BlockDevice {
 }
 
 /// Writes the status of a request that is done, behind all other writable bytes.
+#[inline(always)]
 pub(crate) fn finish<M: Allocator>(mem: &mut GuestMemory<M>, chain: &Chain, done: Done) -> Used
     requires good { Good mem.old chain.now }
     requires room { done.len < length (writable_of chain.now) }

@@ -13,6 +13,7 @@ mod extent;
 mod hosting;
 mod laws;
 mod operation;
+mod payload;
 mod request;
 mod serve;
 mod transfer;

@@ -1,11 +1,12 @@
 //! One request as its driver wrote it (5.2.6): the header is read, its type looked up, and everything
 //! that can be refused without the image is refused here.
 
-ghost use Rattle.std.specs.Prelude.{◌≡◌, ℕ, List, length, All};
+ghost use Rattle.std.specs.Prelude.{◌≡◌, ◌≤◌, ℕ, List, length, drop, All};
+ghost use Rattle.byteorder.specs.Endian.{little_number};
 ghost use Rattle.chain.specs.Buffers.{Within};
 ghost use Rattle.chain.specs.Bytes.{readable_of};
 ghost use Rattle.block_device.specs.Progress.{IsServable};
-ghost use Rattle.block_device.specs.Request.{are_sectors, code_of, in_request_of, is_io_error, out_request_of, payload_of, request_of};
+ghost use Rattle.block_device.specs.Request.{are_sectors, code_of, in_request_of, is_io_error, out_request_of, payload_of, request_of, sector_in, type_of};
 
 use crate::device::BlockDevice;
 use byteorder::{ByteOrder, LittleEndian};
@@ -69,6 +70,54 @@ impl RequestStatus {
     }
 }
 
+/// The fields of a request's header.
+#[derive(Clone, Copy)]
+struct Header {
+    kind: u32,
+    sector: u64,
+}
+
+impl Header {
+    /// Those in the first bytes of a chain, where they lie in memory where that is one segment.
+    #[inline(always)]
+    fn read<A: Allocator>(mem: &GuestMemory<A>, chain: &Chain) -> Header
+        requires inside { All (Within mem.now) chain.now }
+        requires there { 16 ≤ length (readable_of mem.now chain.now) }
+        ensures kind { result.kind ≡ type_of (readable_of mem.now chain.now) }
+        ensures sector { result.sector ≡ sector_in (readable_of mem.now chain.now) }
+    {
+        match chain.read_part(mem, 0).first_chunk() {
+            Some(bytes) => Header::of(bytes),
+            None => Header::gathered(mem, chain),
+        }
+    }
+
+    /// The same of a header that lies in more than one segment.
+    #[inline(never)]
+    fn gathered<A: Allocator>(mem: &GuestMemory<A>, chain: &Chain) -> Header
+        requires inside { All (Within mem.now) chain.now }
+        requires there { 16 ≤ length (readable_of mem.now chain.now) }
+        ensures kind { result.kind ≡ type_of (readable_of mem.now chain.now) }
+        ensures sector { result.sector ≡ sector_in (readable_of mem.now chain.now) }
+    {
+        let mut bytes = [0; HEADER_LEN as usize];
+        chain.read_at(mem, 0, &mut bytes);
+        Header::of(&bytes)
+    }
+
+    /// Those of a header with these bytes.
+    #[inline(always)]
+    fn of(bytes: &[u8; HEADER_LEN as usize]) -> Header
+        ensures kind { result.kind ≡ little_number 4 bytes.now }
+        ensures sector { result.sector ≡ little_number 8 (drop 8 bytes.now) }
+    {
+        Header {
+            kind: LittleEndian::read_u32(bytes),
+            sector: LittleEndian::read_u64(&bytes[8..]),
+        }
+    }
+}
+
 /// What a driver asks for, once all is checked that the image isn't needed for.
 #[derive(Clone, Copy, Debug, PartialEq, Eq)]
 pub enum Request {
@@ -125,6 +174,7 @@ impl BlockDevice {
     }
 
     /// The request that a chain holds, with `room` writable bytes before the status.
+    #[inline(always)]
     pub fn request<A: Allocator>(&self, mem: &GuestMemory<A>, chain: &Chain, room: u64) -> Request
         requires { All (Within mem.now) chain.now }
         ensures value { result ≡ request_of self.now (readable_of mem.now chain.now) room }
@@ -135,10 +185,8 @@ impl BlockDevice {
         if readable < HEADER_LEN {
             return Request::Rejected(RequestStatus::IoError);
         }
-        let mut header = [0; 16];
-        chain.read_at(mem, 0, &mut header);
-        let sector = LittleEndian::read_u64(&header[8..]);
-        match LittleEndian::read_u32(&header) {
+        let Header { kind, sector } = Header::read(mem, chain);
+        match kind {
             TYPE_IN => self.in_request(sector, room),
             TYPE_OUT => self.out_request(sector, readable - HEADER_LEN),
             TYPE_FLUSH => Request::Flush,

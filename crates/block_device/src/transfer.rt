@@ -1,15 +1,13 @@
-//! Sectors on their way between an image and a chain: as many at once as lie in one piece, where the image is in
-//! memory, else one at a time. What is read goes from the cache straight into memory, what is written out of memory straight
-//! into the cache, and through one array where a sector lies in more than one segment. The first call of the image that
-//! fails is the last.
+//! Sectors on their way between an image and a chain: all at once where the image is in memory, else one at a time.
+//! What is read goes from the cache straight into memory, what is written out of memory straight into the cache, and
+//! through one array where a sector lies in more than one segment. The first call of the image that fails is the last.
 
-ghost use Rattle.std.specs.Prelude.{◌+◌, ◌*◌, ◌^◌, ◌<◌, ◌≤◌, ◌≡◌, ◌/◌, length, min, take, drop, if◌then◌else◌, All};
+ghost use Rattle.std.specs.Prelude.{◌+◌, ◌*◌, ◌^◌, ◌<◌, ◌≤◌, ◌≡◌, length, take, drop, All};
 ghost use Rattle.std.specs.List.{range_with_len};
 ghost use Rattle.guest_memory.specs.Memory.{SameRange};
 ghost use Rattle.chain.specs.Buffers.{Within};
 ghost use Rattle.chain.specs.Bytes.{readable_of, writable_of};
-ghost use Rattle.sector_cache.specs.Disk.{written_from};
-ghost use Rattle.sector_cache.specs.Stop.{TouchesFrom, TouchesNothing, TouchesSectors};
+ghost use Rattle.sector_cache.specs.Stop.{TouchesNothing, TouchesSectors};
 ghost use Rattle.block_device.specs.declared.request.Request.TheVariants.{Read, Write};
 ghost use Rattle.block_device.specs.Asking.{found_by, status_by};
 ghost use Rattle.block_device.specs.Extent.{CallsWithin, IsWithin, extent_disk, sector_len};
@@ -19,6 +17,7 @@ ghost use Rattle.block_device.specs.Touching.{on_image};
 
 use crate::device::BlockDevice;
 use crate::operation::{OperationKind, Verdict};
+use crate::payload::Payload;
 use crate::request::{HEADER_LEN, RequestStatus, SECTOR_LEN};
 use chain::Chain;
 use guest_memory::GuestMemory;
@@ -140,69 +139,56 @@ impl BlockDevice {
         ensures touches { TouchesSectors I.moment I.may_leave I.left_since
             (on_image self.now.extent (range_with_len sector count)) cache.old cache.new }
     {
+        let first = self.extent.start + sector;
+        if count == 0 || cache.write_in_place(first, &Payload::of(mem, chain)) {
+            return cache.flush();
+        }
+        self.write_each(mem, chain, cache, sector, count)
+    }
+
+    /// The same one sector at a time, through the cache.
+    #[inline(never)]
+    fn write_each<I: Image, M: Allocator, C: Allocator + Copy>(
+        &self,
+        mem: &GuestMemory<M>,
+        chain: &Chain,
+        cache: &mut SectorCache<I, C>,
+        sector: u64,
+        count: u64,
+    ) -> Result<(), ImageError>
+        requires inside { All (Within mem.now) chain.now }
+        requires lies { IsWithin (I.disk cache.old).sector_count self.now.extent }
+        requires sectors { sector + count ≤ self.now.extent.count }
+        requires payload { length (payload_of (readable_of mem.now chain.now)) ≡ sector_len * count }
+        requires fits { sector_len * count + 16 < 2 ^ 64 }
+        ensures written { IsWritten self.now (Write sector count) chain.now mem.now (status_of result)
+            (I.disk cache.old) (I.disk cache.new) }
+        ensures touches { TouchesSectors I.moment I.may_leave I.left_since
+            (on_image self.now.extent (range_with_len sector count)) cache.old cache.new }
+    {
         let mut gathered = [0; SECTOR_LEN as usize];
-        let mut done = 0;
-        while done < count {
+        for done in 0..count {
             let place = HEADER_LEN + SECTOR_LEN * done;
-            let first = self.extent.start + sector + done;
-            let part = chain.read_part(mem, place);
-            let run = write_run(cache, first, part, count - done);
-            if run > 0 {
-                done += run;
-                continue;
-            }
-            let bytes = sector_at(mem, chain, place, part, &mut gathered);
-            cache.write(first, bytes)?;
-            done += 1;
+            let bytes = sector_at(mem, chain, place, &mut gathered);
+            cache.write(self.extent.start + sector + done, bytes)?;
         }
         cache.flush()
     }
 }
 
-// Writes the whole sectors of a part of the readable list from sector `first` on, at most so many, where the image is in
-// memory. Answers how many these are.
-fn write_run<I: Image, C: Allocator + Copy>(
-    cache: &mut SectorCache<I, C>,
-    first: u64,
-    part: &[u8],
-    most: u64,
-) -> u64
-    requires lies { first + most ≤ (I.disk cache.old).sector_count }
-    requires fits { sector_len * most < 2 ^ 64 }
-    ensures few { result ≤ most }
-    ensures within { sector_len * result ≤ length part.now }
-    ensures count { result ≡ (if I.lends cache.old then min most (length part.now / sector_len) else 0) }
-    ensures none { result ≡ 0 → cache.new ≡ cache.old }
-    ensures written { 0 < result → I.disk cache.new ≡
-        written_from first (take (sector_len * result) part.now) (I.disk cache.old) }
-    ensures touches { 0 < result → TouchesFrom I.moment I.may_leave I.left_since
-        first (sector_len * result) cache.old cache.new }
-{
-    let count = most.min(part.len() as u64 / SECTOR_LEN);
-    if count == 0 {
-        return 0;
-    }
-    if !cache.write_in_place(first, &part[..(SECTOR_LEN * count) as usize]) {
-        return 0;
-    }
-    count
-}
-
-// The 512 readable bytes from a place on, of which this is a part: where they lie in memory where that is one segment, and
-// else gathered.
+// The 512 readable bytes from a place on: where they lie in memory where that is one segment, and else gathered.
 fn sector_at<'a, M: Allocator>(
     mem: &'a GuestMemory<M>,
     chain: &Chain,
     place: u64,
-    part: &'a [u8],
     gathered: &'a mut [u8; SECTOR_LEN as usize],
 ) -> &'a [u8; SECTOR_LEN as usize]
     requires inside { All (Within mem.now) chain.now }
     requires range { place + sector_len ≤ length (readable_of mem.now chain.now) }
     requires fits { place + sector_len < 2 ^ 64 }
-    requires listed { part.now ≡ take (length part.now) (drop place (readable_of mem.now chain.now)) }
     ensures { result.now ≡ take sector_len (drop place (readable_of mem.now chain.now)) }
 {
+    let part = chain.read_part(mem, place);
     if let Some(bytes) = part.first_chunk() {
         return bytes;
     }

@@ -14,6 +14,7 @@ ghost use Rattle.sector_cache.specs.Stop.{TouchesFrom, TouchesNothing, TouchesSe
 use crate::fault::{CacheFault, Refused};
 use crate::image::{Image, ImageError};
 use crate::kept::Kept;
+use crate::source::Source;
 use std::alloc::{Allocator, Global};
 use std::marker::Model;
 use std::num::NonZeroUsize;
@@ -134,12 +135,12 @@ impl<I: Image, A: Allocator + Copy> SectorCache<I, A> {
     #[tactic(auto, using(crate::proofs::Coherence::coherent_none))]
     /// Writes sectors from sector `first` on where they lie in the image, and answers whether they do. One that isn't in
     /// memory is left as it is.
-    pub fn write_in_place(&mut self, first: u64, from: &[u8]) -> bool
-        requires { 512 * first + length from.now ≤ 512 * (I.disk self.old).sector_count }
+    pub fn write_in_place<S: Source>(&mut self, first: u64, from: &S) -> bool
+        requires { 512 * first + length (S.bytes from.now) ≤ 512 * (I.disk self.old).sector_count }
         ensures lent { result ≡ I.lends self.old }
-        ensures written { OnTrue result (I.disk self.new ≡ written_from first from.now (I.disk self.old)) }
+        ensures written { OnTrue result (I.disk self.new ≡ written_from first (S.bytes from.now) (I.disk self.old)) }
         ensures left { OnFalse result (self.new ≡ self.old) }
-        ensures touches { TouchesFrom I.moment I.may_leave I.left_since first (length from.now) self.old self.new }
+        ensures touches { TouchesFrom I.moment I.may_leave I.left_since first (length (S.bytes from.now)) self.old self.new }
     {
         if !self.image.write_in_place(first, from) {
             return false;

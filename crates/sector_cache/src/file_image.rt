@@ -10,6 +10,7 @@ use crate::backing::BackingFile;
 use crate::fault::{FileCall, FileFailure, FileImageFault};
 use crate::image::{Image, ImageError};
 use crate::sector::{SECTOR_LEN, are_whole_sectors};
+use crate::source::Source;
 use std::fs::File;
 use std::io;
 use std::io::ErrorKind;
@@ -160,7 +161,7 @@ impl<F: BackingFile> Image for FileImage<F> {
     }
 
     #[tactic(auto, using(crate::proofs::Stops::touches_none))]
-    fn write_in_place(&mut self, _first: u64, _from: &[u8]) -> bool {
+    fn write_in_place<S: Source>(&mut self, _first: u64, _from: &S) -> bool {
         false
     }
 

@@ -5,6 +5,7 @@ ghost use Rattle.std.specs.Bool.{OnTrue, OnFalse};
 ghost use Rattle.sector_cache.specs.Disk.{Disk, IsWhole, IsSectorContents, IsTorn, LeavesContents, Tells, failed, written, written_from, flushed};
 ghost use Rattle.sector_cache.specs.Stop.{TouchesFrom, TouchesNothing, TouchesSector, unnumbered, unrecorded};
 
+use crate::source::Source;
 use thiserror::Error;
 
 /// A call of an image failed. What stands in `into` after a failed read is left open.
@@ -44,12 +45,12 @@ pub trait Image {
 
     /// Writes sectors from sector `first` on where they lie in memory, and answers whether they do. An image that isn't
     /// there is left as it is.
-    fn write_in_place(&mut self, first: u64, from: &[u8]) -> bool
-        requires { 512 * first + length from.now ≤ 512 * (disk self.old).sector_count }
+    fn write_in_place<S: Source>(&mut self, first: u64, from: &S) -> bool
+        requires { 512 * first + length (S.bytes from.now) ≤ 512 * (disk self.old).sector_count }
         ensures lent { result ≡ lends self.old }
-        ensures written { OnTrue result (disk self.new ≡ written_from first from.now (disk self.old)) }
+        ensures written { OnTrue result (disk self.new ≡ written_from first (S.bytes from.now) (disk self.old)) }
         ensures left { OnFalse result (self.new ≡ self.old) }
-        ensures touches { TouchesFrom moment may_leave left_since first (length from.now) self.old self.new };
+        ensures touches { TouchesFrom moment may_leave left_since first (length (S.bytes from.now)) self.old self.new };
 
     /// After an `Err` `into` may hold any bytes.
     fn read_sector(&mut self, sector: u64, into: &mut [u8; 512]) -> Result<(), ImageError>

@@ -56,7 +56,9 @@ impl<A: Allocator + Copy> Kept<A> {
     pub(crate) fn clear(&mut self)
         ensures { self.new.sectors ≡ lru_cache [] self.old.sectors.cap }
     {
-        self.sectors.clear();
+        if self.sectors.len() > 0 {
+            self.sectors.clear();
+        }
     }
 
     #[tactic(auto, using(crate::proofs::Keeping::none_left))]

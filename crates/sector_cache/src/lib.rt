@@ -1,7 +1,7 @@
 //! Disk images by sectors of 512 bytes, and a cache of sectors over one of them.
 //!
-//! `image` says what an image is, `memory` and `scripted` have the two that live in memory,
-//! `file_image` the one over a file, `backing` what that asks of its file, `cache` the cache, `fault` what
+//! `image` says what an image is, `source` what is written to one in place, `memory` and `scripted` have the two that
+//! live in memory, `file_image` the one over a file, `backing` what that asks of its file, `cache` the cache, `fault` what
 //! their constructors answer where they refuse, and `laws` what holds of every value.
 #![tactic(auto)]
 
@@ -15,6 +15,7 @@ mod laws;
 mod memory;
 mod scripted;
 mod sector;
+mod source;
 
 pub use backing::BackingFile;
 pub use cache::SectorCache;
@@ -27,3 +28,4 @@ pub use laws::{
 pub use memory::MemoryImage;
 pub use scripted::ScriptedImage;
 pub use sector::{SECTOR_LEN, are_whole_sectors};
+pub use source::Source;

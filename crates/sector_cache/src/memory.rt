@@ -7,6 +7,7 @@ ghost use Rattle.sector_cache.specs.Stop.{TouchesFrom, TouchesNothing, TouchesSe
 use crate::fault::ImageFault;
 use crate::image::{Image, ImageError};
 use crate::sector;
+use crate::source::Source;
 use std::alloc::{Allocator, Global};
 
 /// An image in memory.
@@ -73,11 +74,11 @@ impl<A: Allocator> Image for MemoryImage<A> {
     }
 
     #[tactic(auto, using(crate::proofs::Stops::touches_plain_sectors))]
-    fn write_in_place(&mut self, first: u64, from: &[u8]) -> bool
-        requires { 512 * first + length from.now ≤ 512 * (disk_of self.old).sector_count }
+    fn write_in_place<S: Source>(&mut self, first: u64, from: &S) -> bool
+        requires { 512 * first + length (S.bytes from.now) ≤ 512 * (disk_of self.old).sector_count }
         ensures succeeds { IsTrue result }
-        ensures after { disk_of self.new ≡ written_from first from.now (disk_of self.old) }
-        ensures touches { TouchesFrom unnumbered may_leave_of unrecorded first (length from.now) self.old self.new }
+        ensures after { disk_of self.new ≡ written_from first (S.bytes from.now) (disk_of self.old) }
+        ensures touches { TouchesFrom unnumbered may_leave_of unrecorded first (length (S.bytes from.now)) self.old self.new }
     {
         self.dirty = true;
         sector::copy_all_into(&mut self.bytes, first, from);

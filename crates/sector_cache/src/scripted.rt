@@ -9,6 +9,7 @@ use crate::fault::ImageFault;
 use crate::image::{Image, ImageError};
 use crate::memory::MemoryImage;
 use crate::sector;
+use crate::source::Source;
 use std::alloc::{Allocator, Global};
 
 /// An image in memory whose listed calls fail. The calls of read, write and flush are numbered
@@ -116,7 +117,7 @@ impl<A: Allocator> Image for ScriptedImage<A> {
     }
 
     #[tactic(auto, using(crate::proofs::Stops::touches_none))]
-    fn write_in_place(&mut self, _first: u64, _from: &[u8]) -> bool {
+    fn write_in_place<S: Source>(&mut self, _first: u64, _from: &S) -> bool {
         false
     }
 

@@ -3,6 +3,8 @@
 ghost use Rattle.std.specs.Prelude.{◌≡◌, ◌↔◌, ◌+◌, ◌*◌, ◌%◌, ◌≤◌, ◌++◌, length, take, drop, IsTrue};
 ghost use Rattle.sector_cache.specs.Sector.{extent_of, sector_of, with_sector, with_sectors};
 
+use crate::source::Source;
+
 /// The length of a sector in bytes (5.2).
 pub const SECTOR_LEN: usize = 512;
 
@@ -41,12 +43,12 @@ pub(crate) fn copy_into(bytes: &mut [u8], sector: u64, from: &[u8; SECTOR_LEN])
 }
 
 /// Copies sectors into `bytes`, from sector `first` on.
-pub(crate) fn copy_all_into(bytes: &mut [u8], first: u64, from: &[u8])
-    requires { 512 * first + length from.now ≤ length bytes.old }
-    ensures { bytes.new ≡ with_sectors bytes.old first from.now }
+pub(crate) fn copy_all_into<S: Source>(bytes: &mut [u8], first: u64, from: &S)
+    requires { 512 * first + length (S.bytes from.now) ≤ length bytes.old }
+    ensures { bytes.new ≡ with_sectors bytes.old first (S.bytes from.now) }
 {
     let start = first as usize * SECTOR_LEN;
-    bytes[start..start + from.len()].copy_from_slice(from);
+    from.copy_to(&mut bytes[start..start + from.len() as usize]);
 }
 
 /// Copies the first half of one sector over that of another.

@@ -3,5 +3,5 @@ use Rattle.sector_cache.proofs.Sectors.{put_mid-sectors}
 use Rattle.sector_cache.proofs.sector.copy_all_into.Goals as goal
 
 pub returns : goal.returns
-returns c = put_mid-sectors _ _ c.args.from.now c.args.first _ _
-    c.copy_from_slice.ensures.after refl (omega arith)
+returns g c = put_mid-sectors _ _ (g.S.Source.bytes c.args.from.now) c.args.first _ _
+    c.copy_to.ensures refl (omega arith)

@@ -11,20 +11,18 @@ write_zeroes_request-requires-clause-payload g c =
 
 pub returns-in-0-clause-value : goal.returns-in-0-clause-value
 returns-in-0-clause-value g c =
-    request_by_type c.args.self.now c.read_at.new.into
-    (readable_of c.args.mem.now c.args.chain.now) c.args.room
-    0 c.read_u64-sector.result c.in_request.result c.read_at.ensures
+    request_by_type c.args.self.now (readable_of c.args.mem.now c.args.chain.now) c.args.room
+    0 _ c.in_request.result
     (omega (arith, c.readable_len-readable.ensures.list c.args.mem.now c.requires))
-    (sym c.in-0.is ∙ c.read_u32.ensures) c.read_u64-sector.ensures c.in_request.ensures.value
+    (sym c.in-0.is ∙ c.read-kind.ensures.kind) c.read-kind.ensures.sector c.in_request.ensures.value
 
 pub returns-in-1-clause-value : goal.returns-in-1-clause-value
 returns-in-1-clause-value g c =
     let size = c.readable_len-readable.ensures.list c.args.mem.now c.requires in
-    request_by_type c.args.self.now c.read_at.new.into
-    (readable_of c.args.mem.now c.args.chain.now) c.args.room
-    1 c.read_u64-sector.result c.out_request.result c.read_at.ensures (omega (arith, size))
-    (sym c.in-1.is ∙ c.read_u32.ensures) c.read_u64-sector.ensures
-    (c.out_request.ensures.value ∙ ap (out_request_of c.args.self.now c.read_u64-sector.result)
+    request_by_type c.args.self.now (readable_of c.args.mem.now c.args.chain.now) c.args.room
+    1 _ c.out_request.result (omega (arith, size))
+    (sym c.in-1.is ∙ c.read-kind.ensures.kind) c.read-kind.ensures.sector
+    (c.out_request.ensures.value ∙ ap (out_request_of c.args.self.now _)
     (sym (payload_size (readable_of c.args.mem.now c.args.chain.now) c.readable_len-readable.result size)))
 
 pub returns-in-1-clause-servable : goal.returns-in-1-clause-servable
