@@ -87,6 +87,7 @@ impl Window {
     }
 
     // A write to a register.
+    #[inline(always)]
     fn write_register<A: Allocator>(&mut self, register: Register, value: u32, mem: &GuestMemory<A>)
         ensures { self.new ≡ register_written register value mem.now self.old }
     {
