@@ -1,6 +1,6 @@
 //! Where a console's output goes.
 
-ghost use Rattle.std.specs.Prelude.{◌≡◌, ◌++◌, ◌+◌, ◌-◌, ◌≤◌, ◌<◌, ℕ, Option, None, Some, List, length, vec_capacity, OnOk, OnErr};
+ghost use Rattle.std.specs.Prelude.{◌≡◌, ◌++◌, ◌+◌, ◌-◌, ◌≤◌, ◌<◌, ℕ, Option, None, Some, List, length, vec_capacity, IsOk, OnOk, OnErr};
 ghost use Rattle.console_device.specs.Device.{Fits, MayRefuse};
 
 use crate::no_memory::NoMemory;
@@ -33,6 +33,20 @@ pub trait Outlet {
         ensures bytes { bytes self.new ≡ bytes self.old ++ part.now }
         ensures limit { limit self.new ≡ limit self.old }
         ensures room { room self.old ≤ room self.new + length part.now };
+
+    /// Takes bytes, or refuses them all.
+    fn put(&mut self, part: &[u8]) -> Result<(), NoMemory>
+        ensures ok { OnOk result (bytes self.new ≡ bytes self.old ++ part.now) }
+        ensures fits { OnOk result (Fits (limit self.old) (length (bytes self.old) + length part.now)) }
+        ensures err { OnErr result (bytes self.new ≡ bytes self.old) }
+        ensures some { OnErr result (0 < length part.now) }
+        ensures refused { OnErr result (MayRefuse (limit self.old) (length (bytes self.old) + length part.now)) }
+        ensures limit { limit self.new ≡ limit self.old }
+    {
+        self.make_room(part.len() as u64)?;
+        self.append(part);
+        Ok(())
+    }
 }
 
 impl<A: Allocator> Outlet for Vec<u8, A> {
@@ -50,10 +64,30 @@ impl<A: Allocator> Outlet for Vec<u8, A> {
     }
 
     fn append(&mut self, part: &[u8]) {
-        let Ok(()) = self.extend_from_slice(part) else {
+        let Ok(()) = extend(self, part) else {
             unreachable!()
         };
     }
+
+    fn put(&mut self, part: &[u8]) -> Result<(), NoMemory> {
+        extend(self, part)
+    }
+}
+
+/// Appends bytes where there is memory for them. One byte is pushed, which costs less.
+#[inline(always)]
+fn extend<A: Allocator>(out: &mut Vec<u8, A>, part: &[u8]) -> Result<(), NoMemory>
+    ensures ok { OnOk result (out.new.items ≡ out.old.items ++ part.now) }
+    ensures err { OnErr result (out.new.items ≡ out.old.items) }
+    ensures capacity { vec_capacity out.old ≤ vec_capacity out.new }
+    ensures succeeds { length out.old.items + length part.now ≤ vec_capacity out.old → IsOk result }
+{
+    let appended = if part.len() == 1 {
+        out.push(part[0]).is_ok()
+    } else {
+        out.extend_from_slice(part).is_ok()
+    };
+    if appended { Ok(()) } else { Err(NoMemory) }
 }
 
 impl<A: Allocator> Outlet for HeapCircularBuffer<u8, A> {

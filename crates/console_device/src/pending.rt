@@ -1,8 +1,8 @@
 //! Pending input: what was typed and no buffer has taken yet.
 
-ghost use Rattle.std.specs.Prelude.{◌≡◌, ◌++◌, ◌≤◌, [], length, take, drop, not, IfOk};
+ghost use Rattle.std.specs.Prelude.{◌≡◌, ◌++◌, ◌+◌, ◌≤◌, [], All, length, take, drop, not, IfOk};
 ghost use Rattle.guest_memory.specs.Memory.{SameRange};
-ghost use Rattle.chain.specs.Buffers.{Good};
+ghost use Rattle.chain.specs.Buffers.{Good, Within};
 ghost use Rattle.chain.specs.Bytes.{scatter, writable_of};
 ghost use Rattle.console_device.specs.Device.{is_any};
 ghost use Rattle.console_device.specs.Input.{fitting};
@@ -99,9 +99,36 @@ impl<A: Allocator> Pending<A> {
         let from_front = front.len().min(room);
         let from_back = back.len().min(room - from_front);
         chain.write_at(mem, 0, &front[..from_front]);
-        chain.write_at(mem, from_front as u64, &back[..from_back]);
+        write_behind(chain, mem, from_front as u64, &back[..from_back]);
         let count = from_front + from_back;
-        self.ring.truncate_front(self.ring.len() - count);
+        self.skip(count);
         count
+    }
+
+    // Takes the first bytes away. Where they are all the ring stays where it is, so that what comes next is one part.
+    #[inline(always)]
+    fn skip(&mut self, count: usize)
+        requires { count ≤ length self.old }
+        ensures { self.new ≡ drop count self.old }
+    {
+        if count == self.ring.len() {
+            self.ring.clear();
+        } else {
+            self.ring.truncate_front(self.ring.len() - count);
+        }
+    }
+}
+
+/// Puts bytes into the writable ones of a chain from a place on: mostly there are none.
+#[tactic(auto, using(crate::proofs::Receiving::scatter_none))]
+#[inline(always)]
+fn write_behind<M: Allocator>(chain: &Chain, mem: &mut GuestMemory<M>, place: u64, bytes: &[u8])
+    requires inside { All (Within mem.old) chain.now }
+    requires in_list { place + length bytes.now ≤ length (writable_of chain.now) }
+    ensures written { mem.new ≡ scatter mem.old (drop place (writable_of chain.now)) bytes.now }
+    ensures range { SameRange mem.old mem.new }
+{
+    if !bytes.is_empty() {
+        chain.write_at(mem, place, bytes);
     }
 }

@@ -51,14 +51,23 @@ impl Virtqueue for Queue {
         }
     }
 
+    #[inline(always)]
     fn take<A: Allocator>(
         &mut self,
         mem: &GuestMemory<A>,
         chain: &mut Chain,
     ) -> Result<Option<Token>, Fault> {
         match self {
-            Queue::Split(ring) => Ok(ring.take(mem, chain)?.map(Token::Split)),
-            Queue::Packed(ring) => Ok(ring.take(mem, chain)?.map(Token::Packed)),
+            Queue::Split(ring) => match ring.take(mem, chain) {
+                Ok(Some(token)) => Ok(Some(Token::Split(token))),
+                Ok(None) => Ok(None),
+                Err(fault) => Err(fault),
+            },
+            Queue::Packed(ring) => match ring.take(mem, chain) {
+                Ok(Some(token)) => Ok(Some(Token::Packed(token))),
+                Ok(None) => Ok(None),
+                Err(fault) => Err(fault),
+            },
         }
     }
 

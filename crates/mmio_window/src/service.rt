@@ -1,7 +1,8 @@
 //! A piece of a service of a queue, of any device: opening, chains one after another, closing, and what the window
 //! shows of it.
 
-ghost use Rattle.std.specs.Prelude.{◌≡◌, IfOk, IfErr};
+ghost use Rattle.std.specs.Prelude.{◌≡◌, ◌↔◌, ◌||◌, IfOk, IfErr, IsTrue, is_some};
+ghost use Rattle.chain.specs.Budget.{IsSpent, less_chain};
 ghost use Rattle.guest_memory.specs.Memory.{Memory, SameRange};
 ghost use Rattle.mmio_window.specs.Leaving.{IsKept, IsLeftAt, LeavesQueue, QueueStays, RefusesAt, Stops, progress_of, shown, site_at};
 ghost use Rattle.mmio_window.specs.Queue.{LiesIn, made_as};
@@ -111,10 +112,10 @@ fn serve_chains<B, D: Device<B>, M: Allocator>(
     while device.takes(backend) {
         match queue.take(mem, chain) {
             Ok(Some(token)) => {
-                if left.is_spent() {
+                if is_spent(&left) {
                     return Ok(Stop::Pause);
                 }
-                left.spend(chain);
+                spend(&mut left, chain);
                 match device.serve(mem, chain, backend) {
                     Ok(used) => {
                         queue.give(mem, token, used);
@@ -128,6 +129,32 @@ fn serve_chains<B, D: Device<B>, M: Allocator>(
         }
     }
     Ok(Stop::End(None))
+}
+
+/// Whether nothing is left of a budget. One without limits is known by one test.
+#[inline(always)]
+fn is_spent(left: &Budget) -> bool
+    ensures { IsTrue result ↔ IsSpent left.now }
+{
+    has_limit(left) && left.is_spent()
+}
+
+/// Takes off what one chain costs.
+#[inline(always)]
+fn spend(left: &mut Budget, chain: &Chain)
+    ensures { left.new ≡ less_chain left.old chain.now }
+{
+    if has_limit(left) {
+        left.spend(chain);
+    }
+}
+
+/// Whether a service may pause at all.
+#[inline(always)]
+fn has_limit(budget: &Budget) -> bool
+    ensures { result ≡ (is_some budget.now.chains || is_some budget.now.bytes) }
+{
+    budget.chains.is_some() | budget.bytes.is_some()
 }
 
 /// What the window shows of a queue that is left so: nothing of one that stands open; else a used buffer where the

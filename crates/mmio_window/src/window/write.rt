@@ -19,6 +19,7 @@ impl Window {
     /// A write of `width` bytes at `offset`, and what it leaves for the device to do. Control registers take
     /// aligned writes of width 4. The device has the aligned writes of width 1, 2 and 4 to its configuration.
     /// Every other write is ignored.
+    #[inline(always)]
     pub fn write<A: Allocator>(
         &mut self,
         offset: u16,
@@ -86,6 +87,7 @@ impl Window {
     }
 
     // A write to a register.
+    #[inline(always)]
     fn write_register<A: Allocator>(&mut self, register: Register, value: u32, mem: &GuestMemory<A>)
         ensures { self.new ≡ register_written register value mem.now self.old }
     {

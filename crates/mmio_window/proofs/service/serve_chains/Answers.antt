@@ -19,7 +19,7 @@ pub loop-left-preserved : goal.loop-left-preserved
 loop-left-preserved g c =
     let same = c.loop-left.invariant.1 in (
       in_course_goes_on (g.D.Device.device (g.D.Device.setup c.args.device.now c.args.backend.now))
-          c.args.budget c.loop-left.left c.spend.new.self
+          c.args.budget c.loop-left.left c.spend.new.left
           c.args.mem.now c.loop-left.mem c.serve.new.mem c.give.new.mem c.args.queue.now c.loop-left.queue
           c.take.new.self c.give.new.self
           (g.D.Device.state c.args.device.now c.args.backend.now)
