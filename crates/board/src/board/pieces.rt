@@ -30,6 +30,7 @@ pub struct Taken<A: Allocator = Global> {
 
 impl<A: Allocator> Taken<A> {
     // Where there is no such slot.
+    #[inline(always)]
     fn missing() -> Taken<A>
         ensures { result ≡ record {
           turn = Turn.Answered Reply.BadSlot;
@@ -45,6 +46,7 @@ impl<A: Allocator> Taken<A> {
     }
 
     // The slot took the turn.
+    #[inline(always)]
     fn after(turn: Turn<A>, slot: &Slot<A>) -> Taken<A>
         ensures turn { result.turn ≡ turn }
         ensures shown { (result.block_irq, result.console_irq) ≡ interrupt_words slot.now }
@@ -62,6 +64,7 @@ impl<A: Allocator> Taken<A> {
 impl<I: Image, A: Allocator + Copy> Board<I, A> {
     /// A slot takes a turn, in which its service may pause where the budget is spent: an event begins, or a service that
     /// paused goes on. What its console puts out is appended to `out`.
+    #[inline(always)]
     pub fn turn<O: Outlet>(
         &mut self,
         slot: u8,
