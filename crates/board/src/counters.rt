@@ -29,6 +29,7 @@ pub struct Counters {
 
 impl Counters {
     /// Counts a write whose action is a notification.
+    #[inline(always)]
     pub(crate) fn wrote(&mut self, action: Action) {
         if matches!(action, Action::Notify(_)) {
             self.notifies = self.notifies.wrapping_add(1);
@@ -36,6 +37,7 @@ impl Counters {
     }
 
     /// Counts a call that met a refusal.
+    #[inline(always)]
     pub(crate) fn refused(&mut self) {
         self.refusals = self.refusals.wrapping_add(1);
     }

@@ -29,6 +29,7 @@ pub struct Pause {
 
 impl Pause {
     // What the event is answered at the end of its service.
+    #[inline(always)]
     pub(crate) fn reply<A: Allocator>(self) -> Reply<A>
         ensures { result ≡ reply_of self }
     {
@@ -39,6 +40,7 @@ impl Pause {
     }
 
     // What a piece of its service comes to.
+    #[inline(always)]
     pub(crate) fn turn<A: Allocator>(self, progress: Progress) -> Turn<A>
         ensures { result ≡ turn_of self progress }
     {

@@ -126,6 +126,7 @@ impl<A: Allocator + Copy> FromSpec<A, GuestMemory<A>> for Slot<A> {
 impl<A: Allocator + Copy> Slot<A> {
     /// Takes a turn, in which a service may pause where the budget is spent, and notes a refusal. What the console puts
     /// out is appended to `out`.
+    #[inline(always)]
     pub(crate) fn turn<I: Image, O: Outlet>(
         &mut self,
         alloc: A,
@@ -166,6 +167,7 @@ impl<A: Allocator + Copy> Slot<A> {
     }
 
     // Notes a refusal, and hands on what the event came to.
+    #[inline(always)]
     fn note(&mut self, answer: Answer<A>) -> Turn<A>
         ensures turn { result ≡ answer.turn }
         ensures noted { self.new ≡ record self.old {
@@ -181,6 +183,7 @@ impl<A: Allocator + Copy> Slot<A> {
     }
 
     // Handles an event, and leaves it to the caller to note a refusal.
+    #[inline(always)]
     fn answer<I: Image, O: Outlet>(
         &mut self,
         alloc: A,
@@ -259,6 +262,7 @@ impl<A: Allocator> Slot<A> {
     }
 
     /// InterruptStatus of the block window and of the console window.
+    #[inline(always)]
     pub(crate) fn interrupts(&self) -> (u8, u8)
         ensures value { result ≡ interrupt_words self.now }
         ensures words { AreInterruptWords result.0 result.1 }

@@ -127,6 +127,7 @@ impl<A: Allocator> Outlet for OutputQueue<A> {
 
 impl<A: Allocator + Copy> OutputQueue<A> {
     /// A slot of the board takes a turn, and what is put out is kept behind what waits.
+    #[inline(always)]
     pub(crate) fn turn(
         &mut self,
         paced: &mut Paced<MemoryImage<A>, A>,

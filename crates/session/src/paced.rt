@@ -94,6 +94,7 @@ impl<I: Image, A: Allocator + Copy> Paced<I, A> {
     }
 
     /// A slot takes a turn of either kind, where what is paused of it lets it.
+    #[inline(always)]
     pub(crate) fn turn<O: Outlet>(
         &mut self,
         slot: u8,
@@ -114,6 +115,7 @@ impl<I: Image, A: Allocator + Copy> Paced<I, A> {
     }
 
     // Keeps what a turn of the slot leaves paused, and tells the caller of it.
+    #[inline(always)]
     fn note(&mut self, slot: u8, turn: Turn<A>) -> Response<A>
         requires { slot < length self.old.paused }
         ensures told { result ≡ response_to turn }
@@ -134,6 +136,7 @@ impl<I: Image, A: Allocator + Copy> Paced<I, A> {
 
 impl<I: Image, A: Allocator> Paced<I, A> {
     /// The service of the slot that is paused, if one is. There is none for a slot that isn't there.
+    #[inline(always)]
     pub fn paused(&self, slot: u8) -> Option<Pause>
         ensures { result ≡ paused_at self.now.paused slot }
     {
@@ -141,6 +144,7 @@ impl<I: Image, A: Allocator> Paced<I, A> {
     }
 
     // What is paused of the slot, where there is one.
+    #[inline(always)]
     fn waiting(&self, slot: u8) -> Option<Option<Pause>>
         ensures { result ≡ slice_get self.now.paused slot }
     {
@@ -148,6 +152,7 @@ impl<I: Image, A: Allocator> Paced<I, A> {
     }
 
     /// The board as it stands. A slot whose service is paused shows what has been served of it.
+    #[inline(always)]
     pub fn board(&self) -> &Board<I, A>
         ensures { result.now ≡ self.now.board }
     {

@@ -43,6 +43,7 @@ impl Refusal {
     }
 
     /// The refusal that a response of the board says.
+    #[inline(always)]
     pub(crate) fn of<A: Allocator>(response: &Response<A>) -> Refusal
         requires { IsRefusing response.now }
         ensures { response.now ≡ refusing_response result }
@@ -56,6 +57,7 @@ impl Refusal {
     }
 
     /// The refusal that a reply of a board says whose disks the host serves.
+    #[inline(always)]
     pub(crate) fn of_hosted<A: Allocator>(reply: &Reply<A>) -> Refusal
         requires { IsHostedRefusing reply.now }
         ensures { reply.now ≡ hosted_refusing result }

@@ -152,6 +152,7 @@ impl<A: Allocator + Copy> Session<A> {
     }
 
     // A slot takes a turn: an event begins, to its end or up to a pause, or its paused service goes on.
+    #[inline(always)]
     fn turn(&mut self, slot: u8, kind: TurnKind<'_, A>) -> Response<A>
         requires { BeginsNoRead kind }
         ensures call { IsCall self.old (call_of slot kind.entry) result self.new }
@@ -184,6 +185,7 @@ impl<A: Allocator> Session<A> {
 
     /// Whether a service of the slot is paused: then each call for the slot is busy, but `go_on`, and those that tell
     /// its interrupts and take its output.
+    #[inline(always)]
     pub fn is_paused(&self, slot: u8) -> bool
         ensures { IsFalse result ↔ IsIdle slot self.now }
     {

@@ -1,13 +1,14 @@
 //! An event of a slot, and the pieces of its service.
 
-ghost use Rattle.std.specs.Prelude.{◌≡◌, ◌↔◌, ◌<◌, ◌≤◌, [], length};
+ghost use Rattle.std.specs.Prelude.{◌≡◌, ◌↔◌, ◌<◌, ◌≤◌, [], Some, length};
+ghost use Rattle.std.specs.List.{slice_get};
 ghost use Rattle.board.specs.Durable.{TouchesSlot};
 ghost use Rattle.board.specs.declared.event.EventKind.{EventKind};
 ghost use Rattle.board.specs.declared.pause.Turn.{Turn};
 ghost use Rattle.board.specs.declared.reply.Reply.{Reply};
 ghost use Rattle.board.specs.Image.{Tells};
 ghost use Rattle.board.specs.Pausing.{Begins, Does, PausesByLimit, MayLackMemoryIn, TakesTurn, met_in};
-ghost use Rattle.board.specs.Slot.{AreInterruptWords, interrupt_words};
+ghost use Rattle.board.specs.Slot.{AreInterruptWords, BoardSlot, interrupt_words};
 ghost use Rattle.board.specs.World.{HoldsAt, IsMissed, KeepsOthers, NotesRefusal, StaysInExtents, disturbed_of, extents_of, world_of};
 ghost use Rattle.board.specs.Within.{DecidesSlot, DoesWithin};
 
@@ -30,6 +31,7 @@ pub struct Taken<A: Allocator = Global> {
 
 impl<A: Allocator> Taken<A> {
     // Where there is no such slot.
+    #[inline(always)]
     fn missing() -> Taken<A>
         ensures { result ≡ record {
           turn = Turn.Answered Reply.BadSlot;
@@ -45,6 +47,7 @@ impl<A: Allocator> Taken<A> {
     }
 
     // The slot took the turn.
+    #[inline(always)]
     fn after(turn: Turn<A>, slot: &Slot<A>) -> Taken<A>
         ensures turn { result.turn ≡ turn }
         ensures shown { (result.block_irq, result.console_irq) ≡ interrupt_words slot.now }
@@ -62,6 +65,7 @@ impl<A: Allocator> Taken<A> {
 impl<I: Image, A: Allocator + Copy> Board<I, A> {
     /// A slot takes a turn, in which its service may pause where the budget is spent: an event begins, or a service that
     /// paused goes on. What its console puts out is appended to `out`.
+    #[inline(always)]
     pub fn turn<O: Outlet>(
         &mut self,
         slot: u8,
@@ -75,6 +79,8 @@ impl<I: Image, A: Allocator + Copy> Board<I, A> {
         ensures within { DecidesSlot I.disk (O.limit out.old) slot self.old self.new (λ limit found after.
             DoesWithin limit work.entry budget found after (O.bytes out.old) (O.bytes out.new) result.turn) }
         ensures limit { O.limit out.new ≡ O.limit out.old }
+        ensures shown { (found : BoardSlot) → slice_get self.new.slots slot ≡ Some found →
+            (result.block_irq, result.console_irq) ≡ interrupt_words found }
         ensures words { AreInterruptWords result.block_irq result.console_irq }
         ensures stays { StaysInExtents I.disk self.old self.new }
         ensures touches { TouchesSlot I.moment I.may_leave I.left_since slot self.old self.new }
@@ -104,6 +110,8 @@ impl<I: Image, A: Allocator + Copy> Board<I, A> {
         ensures image { self.new.image ≡ self.old.image }
         ensures extents { extents_of self.new.slots ≡ extents_of self.old.slots }
         ensures disturbed { disturbed_of self.new.slots ≡ disturbed_of self.old.slots }
+        ensures shown { (found : BoardSlot) → slice_get self.new.slots slot ≡ Some found →
+            (result.block_irq, result.console_irq) ≡ interrupt_words found }
         ensures words { AreInterruptWords result.block_irq result.console_irq }
         ensures limited { PausesByLimit budget result.turn }
         ensures bad_slot { (result.turn ≡ Turn.Answered Reply.BadSlot) ↔ (length self.old.slots ≤ slot) }

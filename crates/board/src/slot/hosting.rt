@@ -35,6 +35,7 @@ use std::alloc::Allocator;
 
 impl<A: Allocator + Copy> Slot<A> {
     /// Handles an event, but for the block device's part in it: there is no answer where that device was notified.
+    #[inline(always)]
     pub(crate) fn answer_beside_disk<O: Outlet>(
         &mut self,
         alloc: A,
@@ -87,6 +88,7 @@ impl<A: Allocator + Copy> Slot<A> {
     }
 
     // Writes a window's registers, and lets its device do its part, but for the block device.
+    #[inline(always)]
     fn write_beside_disk<O: Outlet>(
         &mut self,
         window: DeviceKind,
@@ -136,6 +138,7 @@ impl<A: Allocator + Copy> Slot<A> {
     }
 
     /// Serves a piece of a service of the console. What it puts out is appended to `out`.
+    #[inline(always)]
     pub(super) fn serve_console<O: Outlet>(
         &mut self,
         pause: Pause,

@@ -28,6 +28,7 @@ use std::alloc::Allocator;
 
 impl<A: Allocator + Copy> Slot<A> {
     /// Serves a piece of a service. What the console puts out is appended to `out`.
+    #[inline(always)]
     pub(super) fn serve_piece<I: Image, O: Outlet>(
         &mut self,
         pause: Pause,
@@ -66,6 +67,7 @@ impl<A: Allocator + Copy> Slot<A> {
     }
 
     // Serves requests of the block device (5.2.6).
+    #[inline(always)]
     fn serve_block<I: Image>(
         &mut self,
         stage: Stage,

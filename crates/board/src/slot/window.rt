@@ -39,6 +39,7 @@ impl<A: Allocator + Copy> Slot<A> {
     }
 
     // The window of a kind of device.
+    #[inline(always)]
     fn window(&self, kind: DeviceKind) -> &Window
         ensures { (bytes : List ℕ) → result.now ≡ window_of kind (state_of bytes self.now) }
     {
@@ -49,6 +50,7 @@ impl<A: Allocator + Copy> Slot<A> {
     }
 
     /// Writes a window's registers, and tells what is left for its device to do.
+    #[inline(always)]
     pub(super) fn write_registers(
         &mut self,
         window: DeviceKind,
@@ -78,6 +80,7 @@ impl<A: Allocator + Copy> Slot<A> {
 }
 
 // What a write to the block window leaves to be done (5.2.6).
+#[inline(always)]
 fn block_task(action: Action) -> Task
     ensures { result ≡ task_of DeviceKind.Block action }
 {
@@ -89,6 +92,7 @@ fn block_task(action: Action) -> Task
 
 // What a write to the console window leaves to be done: a notification of either queue (5.3.6), or the byte of an
 // emergency write, of whatever width (5.3.4).
+#[inline(always)]
 fn console_task(action: Action) -> Task
     ensures { result ≡ task_of DeviceKind.Console action }
 {
@@ -105,6 +109,7 @@ fn console_task(action: Action) -> Task
 }
 
 // What the guest is answered where there was memory for what its console put out, and where there was none.
+#[inline(always)]
 pub(super) fn reply_to<A: Allocator>(put_out: Result<(), NoMemory>) -> Reply<A>
     ensures done { OnOk put_out (result ≡ Reply.Done) }
     ensures no_memory { OnErr put_out (result ≡ Reply.NoMemory) }

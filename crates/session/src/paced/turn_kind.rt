@@ -18,6 +18,7 @@ pub(crate) enum TurnKind<'a, A: Allocator = Global> {
 
 impl<'a, A: Allocator> TurnKind<'a, A> {
     /// What the board is to do, by what is paused of the slot, if there is such a slot, or what the caller is told.
+    #[inline(always)]
     pub(crate) fn work(self, waiting: Option<Option<Pause>>) -> Result<Work<'a, A>, Response<A>>
         ensures { result ≡ work_in self.entry waiting }
     {

@@ -1,10 +1,10 @@
-use Rattle.std.proofs.Common.{[], refl, ◌∙◌, ap, rules}
+use Rattle.std.proofs.Common.{◌≡◌, ◌≤◌, None, [], arith, length, refl, sym, ◌∙◌, ap, rules}
 use Rattle.std.specs.List.{slice_get}
-use Rattle.std.proofs.lemmas.Option.{slice_get_read}
+use Rattle.std.proofs.lemmas.Option.{same_Some, slice_get_past, slice_get_read}
 use Rattle.board.specs.Image.{bytes_of, health_of}
 use Rattle.board.specs.World.{disturbed_of, extents_of}
 use Rattle.board.proofs.Access.{disturbed_kept, unmet_turn}
-use Rattle.board.proofs.Lists.{others_kept}
+use Rattle.board.proofs.Lists.{get_set, others_kept}
 use Rattle.board.proofs.Seats.{extents_of-set, sound_set, takes}
 use Rattle.board.proofs.board.Board.begin_input.Goals as goal
 
@@ -47,3 +47,19 @@ returns-clause-disturbed g c =
     (search (rules, slice_get_read))
     c.input-turn.ensures.disturbed
     ∙ ap (λ b. disturbed_of b.slots) c.self.view_is
+
+pub returns-in_default-clause-shown : goal.returns-in_default-clause-shown
+returns-in_default-clause-shown g c found here =
+    let past : length c.self.inside.slots.items ≤ c.args.slot =
+    grind (arith, c.in_default.ensures.variant.1) in
+    let none : slice_get c.self.inside.slots.items c.args.slot ≡ None =
+    slice_get_past c.self.inside.slots.items c.args.slot past in
+    absurd (cc (here, none))
+
+pub returns-clause-shown : goal.returns-clause-shown
+returns-clause-shown g c found here =
+    let set : c.input-turn.new.self ≡ found =
+    same_Some c.input-turn.new.self found
+    (sym (get_set c.self.inside.slots.items c.args.slot c.in-Some.slot.now c.input-turn.new.self
+    (search (rules, slice_get_read))) ∙ here) in
+    rw (← set) c.after.ensures.shown

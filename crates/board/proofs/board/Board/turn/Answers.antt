@@ -120,3 +120,19 @@ returns-clause-touches g c =
     c.self.inside.slots.items (slice_set c.self.inside.slots.items c.args.slot c.turn-turn.new.self)
     c.args.slot c.in-Some.slot.now c.self.inside.cache c.turn-turn.new.cache (there g c)
     c.turn-turn.ensures.touches)
+
+pub returns-in_default-clause-shown : goal.returns-in_default-clause-shown
+returns-in_default-clause-shown g c found here =
+    let past : length c.self.inside.slots.items ≤ c.args.slot =
+    grind (arith, c.in_default.ensures.variant.1) in
+    let none : slice_get c.args.self.now.slots c.args.slot ≡ None =
+    rw (← c.self.view_is) (slice_get_past c.self.inside.slots.items c.args.slot past) in
+    absurd (cc)
+
+pub returns-clause-shown : goal.returns-clause-shown
+returns-clause-shown g c found here =
+    let set : c.turn-turn.new.self ≡ found =
+    same_Some c.turn-turn.new.self found
+    (sym (get_set c.self.inside.slots.items c.args.slot c.in-Some.slot.now c.turn-turn.new.self
+    (there g c)) ∙ here) in
+    rw (← set) c.after.ensures.shown
