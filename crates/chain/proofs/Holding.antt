@@ -87,8 +87,8 @@ pub held_len : {room : List Buffer} {filled : ℕ} {starts : List Start} → IsH
 held_len {room} {filled} held = length-take-le filled room (omega (arith, held.whole, held.few))
 
 -- the start behind all buffers is what they have
-pub all_held : {room : List Buffer} {filled : ℕ} {starts : List Start} → IsHeld room filled starts → (d : Start)
-    → get_or starts filled d
+pub all_held : {room : List Buffer} {filled : ℕ} {starts : List Start} → IsHeld room filled starts
+    → (d : Start) → get_or starts filled d
     ≡ record { readable = len_of false (take filled room); writable = len_of true (take filled room) }
 all_held {room} {filled} held d =
     let old : List Buffer = take filled room in
@@ -97,8 +97,8 @@ all_held {room} {filled} held d =
     held.starts_are filled d (omega arith) ∙ rw all refl
 
 -- so its two numbers fit
-pub all_fits : {room : List Buffer} {filled : ℕ} {starts : List Start} → IsHeld room filled starts → (d : Start)
-    → (get_or starts filled d).readable + (get_or starts filled d).writable < 2 ^ 32
+pub all_fits : {room : List Buffer} {filled : ℕ} {starts : List Start} → IsHeld room filled starts
+    → (d : Start) → (get_or starts filled d).readable + (get_or starts filled d).writable < 2 ^ 32
 all_fits held d =
     let start = all_held held d in
     omega (
@@ -110,11 +110,12 @@ all_fits held d =
     )
 
 -- one more buffer, of either direction
-pub held_more : (room room' : List Buffer) (filled : ℕ) (starts : List Start) (addr len : ℕ) (flag : Bool) (d : Start)
-    (next : Start) → IsHeld room filled starts → filled < 256 → filled + 1 < length starts
+pub held_more : (room room' : List Buffer) (filled : ℕ) (starts : List Start) (addr len : ℕ)
+    (flag : Bool) (d next : Start) → IsHeld room filled starts → filled < 256 → filled + 1 < length starts
     → room' ≡ slice_set room filled (buffer_of addr len flag)
     → next ≡ start_behind (get_or starts filled d) len flag
-    → (get_or starts filled d).readable + (get_or starts filled d).writable + len < 2 ^ 32 → addr + len ≤ 2 ^ 64
+    → (get_or starts filled d).readable + (get_or starts filled d).writable + len < 2 ^ 32
+    → addr + len ≤ 2 ^ 64
     → IsHeld room' (filled + 1) (slice_set starts (filled + 1) next)
 held_more room room' filled starts addr len flag d next held few many same is fits below =
     let b : Buffer = buffer_of addr len flag in
@@ -144,12 +145,16 @@ held_more room room' filled starts addr len flag d next held few many same is fi
     })
 
 -- the buffers, once one more is put into the room
-pub pushed : (room now : List Buffer) (filled : ℕ) (b : Buffer) → length room ≡ 256 → filled < 256 → now ≡ room
+pub pushed : (room now : List Buffer) (filled : ℕ) (b : Buffer) → length room ≡ 256 → filled < 256
+    → now ≡ room
     → take (filled + 1) (refill (length room) room (slice_set now filled b)) ≡ take filled room ++ b ∷ []
 pushed room now filled b whole few same =
-    let size : length (slice_set now filled b) ≡ length room = length-set now filled b ∙ ap (λ (l : List Buffer). length l) same in
-    rw (refill_same room (slice_set now filled b) size, same) (take_more_set room filled b (omega (arith, whole, few)))
+    let size : length (slice_set now filled b) ≡ length room =
+    length-set now filled b ∙ ap (λ (l : List Buffer). length l) same in
+    rw (refill_same room (slice_set now filled b) size, same)
+    (take_more_set room filled b (omega (arith, whole, few)))
 
 -- buffers that a chain may hold, and one more that it admits
-pub good_more : (m : Memory) (old : List Buffer) (b : Buffer) → Good m old → Admits m old b → Good m (old ++ b ∷ [])
+pub good_more : (m : Memory) (old : List Buffer) (b : Buffer) → Good m old → Admits m old b
+    → Good m (old ++ b ∷ [])
 good_more m old b good admits = Good-append m old (b ∷ []) good (admits, tt)

@@ -234,8 +234,8 @@ start_of true xs i s e = ap (λ (s : Start). s.writable) e
 start_of false xs i s e = ap (λ (s : Start). s.readable) e
 
 -- buffers whose bytes a place lies behind aren't all
-pub before_end : (w : Bool) (xs : List Buffer) (i place : ℕ) → len_of w (take i xs) ≤ place → place < len_of w xs
-    → i < length xs
+pub before_end : (w : Bool) (xs : List Buffer) (i place : ℕ) → len_of w (take i xs) ≤ place
+    → place < len_of w xs → i < length xs
 before_end w xs i place from to = elim (cases_lt i (length xs)) [
   | inl before ↦ before
   | inr behind ↦ absurd (omega (arith, rw (take_all i xs behind) at from, to))

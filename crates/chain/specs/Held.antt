@@ -17,12 +17,13 @@ abbrev pub start_behind : Start → ℕ → Bool → Start
 start_behind s len true = record { readable = s.readable; writable = s.writable + len }
 start_behind s len false = record { readable = s.readable + len; writable = s.writable }
 
--- The buffers of a chain are the first so many of its room. The start of each is kept, and that of one behind them;
--- the sum of the lengths fits, and no buffer passes the last address.
+-- The buffers of a chain are the first so many of its room. The start of each is kept, and that of one behind
+-- them; the sum of the lengths fits, and no buffer passes the last address.
 pub record IsHeld (room : List Buffer) (filled : ℕ) (starts : List Start) : Type 0 where
   pub whole : length room ≡ 256
   pub few : filled ≤ 256
   pub starts_are : (i : ℕ) (d : Start) → i ≤ filled → get_or starts i d ≡ start_at (take filled room) i
-  pub total_is : len_of false (take filled room) + len_of true (take filled room) ≡ total_len (take filled room)
+  pub total_is : len_of false (take filled room) + len_of true (take filled room)
+      ≡ total_len (take filled room)
   pub fits : total_len (take filled room) < 2 ^ 32
   pub addressable : All (λ b. b.segment.addr + b.segment.len ≤ 2 ^ 64) (take filled room)

@@ -8,7 +8,8 @@ pub loop-starts-preserved : goal.loop-starts-preserved
 loop-starts-preserved c =
     let xs = take c.self.inside.filled c.self.inside.room.items in
     let i = c.loop-starts.index in
-    let there = before_end c.args.writable c.args.self.now i c.args.place c.loop-starts.invariant c.requires.in_list in
+    let there = before_end c.args.writable c.args.self.now i c.args.place c.loop-starts.invariant
+    c.requires.in_list in
     let less : i < length xs = rw c.self.view_is there in
     let start = c.of.ensures ∙ start_in c.args.writable xs c.self.inside.starts c.self.inside.filled (i + 1) _
     c.self.invariant.starts_are (omega (arith, less, held_len c.self.invariant)) in

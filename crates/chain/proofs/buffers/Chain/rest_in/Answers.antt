@@ -28,10 +28,12 @@ found c =
     let xs = take c.self.inside.filled c.self.inside.room.items in
     let same : c.args.self.now ≡ xs = sym c.self.view_is in
     let there : c.args.index < length xs = rw (← same) c.requires.there in
-    let start = c.of.ensures ∙ start_in c.args.writable xs c.self.inside.starts c.self.inside.filled c.args.index _
+    let start = c.of.ensures ∙ start_in c.args.writable xs c.self.inside.starts
+    c.self.inside.filled c.args.index _
     c.self.invariant.starts_are
     (omega (arith, there, held_len c.self.invariant)) in
-    place_found c.args.writable c.args.self.now xs c.buffers-buffers.result.now c.args.index c.args.place c.of.result _ same
+    place_found c.args.writable c.args.self.now xs c.buffers-buffers.result.now c.args.index c.args.place
+    c.of.result _ same
     (c.buffers-buffers.ensures.value ∙ same)
     c.requires.there c.requires.from c.requires.to start
 

@@ -15,16 +15,19 @@ in_list xs from n range some = omega (arith, length-addresses_of true xs, range,
 
 pub returns-then-is_empty-clause-written : goal.returns-then-is_empty-clause-written
 returns-then-is_empty-clause-written g c =
-    sym (scatter_done c.args.mem.now (writable_of c.args.self.now) c.args.bytes.now c.args.from 0 (grind (arith, nat_tests)))
+    sym (scatter_done c.args.mem.now (writable_of c.args.self.now) c.args.bytes.now c.args.from 0
+    (grind (arith, nat_tests)))
 
 pub segment_at-rest-requires : goal.segment_at-rest-requires
-segment_at-rest-requires g c = in_list c.args.self.now c.args.from _ c.requires.range (grind (arith, nat_tests))
+segment_at-rest-requires g c =
+    in_list c.args.self.now c.args.from _ c.requires.range (grind (arith, nat_tests))
 
 pub part_mut-part-requires : goal.part_mut-part-requires
 part_mut-part-requires g c =
     let xs = c.args.self.now in
     part_inside c.args.mem.now true xs c.args.from (length c.args.bytes.now) c.requires.inside
-    (in_list xs c.args.from _ c.requires.range (grind (arith, nat_tests))) c.segment_at-rest.result c.segment_at-rest.ensures (omega arith)
+    (in_list xs c.args.from _ c.requires.range (grind (arith, nat_tests)))
+    c.segment_at-rest.result c.segment_at-rest.ensures (omega arith)
 
 pub returns-then-bytes-from-clause-written : goal.returns-then-bytes-from-clause-written
 returns-then-bytes-from-clause-written g c =

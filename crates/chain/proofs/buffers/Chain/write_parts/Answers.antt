@@ -51,7 +51,8 @@ loop-done-preserved g c =
     let h : c.args.from + done < len_of true xs = omega (arith, length-addresses_of true xs) in
     let run : new ≡ take n (drop done bytes) =
     c.copy_from_slice.ensures.after
-    ∙ take-take n (length bytes - done) (drop done bytes) (omega (arith, c.part_mut-part.ensures.len, c.min.ensures)) in
+    ∙ take-take n (length bytes - done) (drop done bytes)
+    (omega (arith, c.part_mut-part.ensures.len, c.min.ensures)) in
     let less : n ≤ rest.len = omega (arith, c.part_mut-part.ensures.len, c.min.ensures) in
     let within = within_same c.args.mem.now m xs c.loop-done.invariant.same c.requires.inside in
     record {
@@ -59,7 +60,8 @@ loop-done-preserved g c =
       before = omega (arith, c.buffer_behind-index.ensures.from);
       same = same_trans c.args.mem.now m (put m rest.addr new) c.loop-done.invariant.same
           (put_range m rest.addr new);
-      left = write_run m (put m rest.addr new) xs bytes c.args.from done n within h rest c.rest_in-rest.ensures less
+      left = write_run m (put m rest.addr new) xs bytes c.args.from done n within h rest
+          c.rest_in-rest.ensures less
           (omega (arith, c.part_mut-part.ensures.len, c.min.ensures))
           (ap (put m rest.addr) run) ∙ c.loop-done.invariant.left;
     }

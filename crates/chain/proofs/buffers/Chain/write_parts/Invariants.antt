@@ -3,7 +3,8 @@ use Rattle.guest_memory.specs.Memory.{SameRange}
 use Rattle.chain.specs.Bytes.{len_of, scatter, writable_of}
 use Rattle.chain.proofs.buffers.Chain.write_parts.Given as goal
 
--- the place lies behind the bytes of the buffers before; what is left to put, on the memory now, gives what all bytes give on the memory at entry
+-- the place lies behind the bytes of the buffers before; what is left to put, on the memory now, gives what
+-- all bytes give on the memory at entry
 abbrev pub invariant-loop-done : goal.invariant-loop-done
 invariant-loop-done g l = record {
   within : l.done ≤ length l.bytes;
