@@ -4,7 +4,7 @@ use Rattle.std.specs.Prelude.{All, if◌then◌else◌}
 use Rattle.std.specs.List.{flat_map, range_with_len}
 use mathlib.Core.Bool.{beq}
 use Rattle.std.proofs.lemmas.Bool.{cases_lt, lt-ltb, le-ltb}
-use Rattle.std.proofs.lemmas.List.{take_more, take-append-drop, drop_more, drop_at, drop-drop, drop-take, drop-append-le, take-append-le, take-take, length-drop, length-take, ext_get_or, get_or-drop, get_or-take}
+use Rattle.std.proofs.lemmas.List.{take_all, take_more, take-append-drop, drop_more, drop_at, drop-drop, drop-take, drop-append-le, take-append-le, take-take, length-drop, length-take, ext_get_or, get_or-drop, get_or-take}
 use Rattle.std.proofs.lemmas.List.Elements.{All-head, All-tail}
 use Rattle.std.proofs.lemmas.List.FromFn.{length-range_with_len, get_or-range_with_len}
 use Rattle.std.proofs.lemmas.List.Sums.{sum_by-cons}
@@ -232,3 +232,17 @@ pub start_of : (w : Bool) (xs : List Buffer) (i : ℕ) (s : Start) → s ≡ sta
     → (if w then s.writable else s.readable) ≡ len_of w (take i xs)
 start_of true xs i s e = ap (λ (s : Start). s.writable) e
 start_of false xs i s e = ap (λ (s : Start). s.readable) e
+
+-- buffers whose bytes a place lies behind aren't all
+pub before_end : (w : Bool) (xs : List Buffer) (i place : ℕ) → len_of w (take i xs) ≤ place
+    → place < len_of w xs → i < length xs
+before_end w xs i place from to = elim (cases_lt i (length xs)) [
+  | inl before ↦ before
+  | inr behind ↦ absurd (omega (arith, rw (take_all i xs behind) at from, to))
+]
+
+-- the bytes of one direction before a buffer, and those before the end, are kept
+pub start_in : (w : Bool) (xs : List Buffer) (starts : List Start) (n i : ℕ) (d : Start)
+    → ((i : ℕ) (d : Start) → i ≤ n → get_or starts i d ≡ start_at xs i) → i ≤ n
+    → (if w then (get_or starts i d).writable else (get_or starts i d).readable) ≡ len_of w (take i xs)
+start_in w xs starts n i d are h = start_of w xs i (get_or starts i d) (are i d h)

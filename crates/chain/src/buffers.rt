@@ -1,8 +1,9 @@
 //! The chain itself: its buffers, filled one after another, and its two lengths.
 
-ghost use Rattle.std.specs.Prelude.{◌≡◌, [], ◌∷◌, ◌++◌, ◌+◌, ◌^◌, ◌<◌, ◌≤◌, length, take, false, if◌then◌else◌, All, IfErr, OnOk, OnErr};
+ghost use Rattle.std.specs.Prelude.{◌≡◌, [], ◌∷◌, ◌++◌, ◌+◌, ◌^◌, ◌<◌, ◌≤◌, length, take, false, true, if◌then◌else◌, All, IfErr, OnOk, OnErr};
 ghost use Rattle.guest_memory.specs.Memory.{Memory};
 ghost use Rattle.chain.specs.Buffers.{Admits, Good, Refuses, Within, buffer_of, total_len};
+ghost use Rattle.chain.specs.Held.{start_behind};
 ghost use Rattle.chain.specs.Bytes.{len_of, readable_of, rest_at, segments_of, writable_of};
 
 use crate::counts::Counts;
@@ -19,6 +20,9 @@ pub(crate) const MOST_BUFFERS: usize = 256;
 /// How many bytes the buffers of a chain may have in all (2.7.5.2).
 const MOST_BYTES: u32 = u32::MAX;
 
+/// Among so few buffers a place is looked for one after another.
+const FEW_BUFFERS: usize = 4;
+
 /// How many bytes of each direction come before a buffer.
 #[derive(Clone, Copy, Default)]
 struct Start {
@@ -28,6 +32,7 @@ struct Start {
 
 impl Start {
     /// The bytes of one direction.
+    #[inline(always)]
     fn of(self, writable: bool) -> u64
         ensures { result ≡ (if writable then self.writable else self.readable) }
     {
@@ -37,31 +42,50 @@ impl Start {
             self.readable
         })
     }
+
+    /// What comes before the buffer behind one of `len` bytes.
+    #[inline(always)]
+    fn behind(self, len: u32, writable: bool) -> Start
+        requires { self.readable + self.writable + len < 2 ^ 32 }
+        ensures { result ≡ start_behind self len writable }
+    {
+        if writable {
+            Start {
+                readable: self.readable,
+                writable: self.writable + len,
+            }
+        } else {
+            Start {
+                readable: self.readable + len,
+                writable: self.writable,
+            }
+        }
+    }
 }
 
 /// The buffers of one request, in the order of their descriptors. It holds them in place, some 8 KB, so
 /// one chain serves for a whole service.
 #[derive(Drop)]
 pub struct Chain {
-    buffers: ArrayVec<Buffer, MOST_BUFFERS>,
-    // one for each buffer, by which the buffer of a place is found
-    starts: ArrayVec<Start, MOST_BUFFERS>,
-    readable: u32,
-    writable: u32,
+    // The first `filled` are the chain's. Behind them stand buffers of chains before, which are written over.
+    room: ArrayVec<Buffer, MOST_BUFFERS>,
+    filled: usize,
+    // one for each of the chain's buffers, by which the buffer of a place is found, and one for the end of the last
+    starts: [Start; MOST_BUFFERS + 1],
     // what the services did whose room this is
     counts: Counts,
 }
 
 impl Model for Chain {
-    ghost use Rattle.std.specs.Prelude.{List};
+    ghost use Rattle.std.specs.Prelude.{List, take};
     ghost use Rattle.chain.specs.declared.segment.Buffer.{Buffer};
     ghost use Rattle.chain.specs.Held.{IsHeld};
 
     ghost Value = { List Buffer };
 
-    ghost view = { λ c. c.buffers.items };
+    ghost view = { λ c. take c.filled c.room.items };
 
-    ghost invariant = { λ c. IsHeld c.buffers.items c.starts.items c.readable c.writable };
+    ghost invariant = { λ c. IsHeld c.room.items c.filled c.starts };
 }
 
 impl Chain {
@@ -70,10 +94,9 @@ impl Chain {
         ensures { result ≡ [] }
     {
         Chain {
-            buffers: ArrayVec::new(),
-            starts: ArrayVec::new(),
-            readable: 0,
-            writable: 0,
+            room: ArrayVec::from_array_in((), [Buffer::default(); MOST_BUFFERS]),
+            filled: 0,
+            starts: [Start::default(); MOST_BUFFERS + 1],
             counts: Counts::default(),
         }
     }
@@ -82,10 +105,7 @@ impl Chain {
     pub fn clear(&mut self)
         ensures { self.new ≡ [] }
     {
-        self.buffers.clear();
-        self.starts.clear();
-        self.readable = 0;
-        self.writable = 0;
+        self.filled = 0;
     }
 
     /// Puts the buffer of `len` bytes from `addr` on behind the others: one for the device to write, or one
@@ -107,25 +127,20 @@ impl Chain {
         if !mem.holds(addr, u64::from(len)) {
             return Err(Fault::Range);
         }
-        if self.buffers.is_full() {
+        let filled = self.filled;
+        if filled == MOST_BUFFERS {
             return Err(Fault::TooMany);
         }
-        if len > MOST_BYTES - self.readable - self.writable {
+        let start = self.starts[filled];
+        if len > MOST_BYTES - start.readable - start.writable {
             return Err(Fault::TooLong);
         }
-        self.starts.push(Start {
-            readable: self.readable,
-            writable: self.writable,
-        });
-        if writable {
-            self.writable += len;
-        } else {
-            self.readable += len;
-        }
-        self.buffers.push(Buffer {
+        self.starts[filled + 1] = start.behind(len, writable);
+        self.room.as_mut_slice()[filled] = Buffer {
             segment: Segment { addr, len },
             writable,
-        });
+        };
+        self.filled = filled + 1;
         Ok(())
     }
 
@@ -136,8 +151,7 @@ impl Chain {
         ensures fits { total_len self.now < 2 ^ 32 }
         ensures addressable { All (λ b. b.segment.addr + b.segment.len ≤ 2 ^ 64) self.now }
     {
-        let _ = &self.readable;
-        self.buffers.as_slice()
+        &self.room.as_slice()[..self.filled]
     }
 
     /// What is left of the segment that a place of the writable list (`writable`) or of the readable one
@@ -146,21 +160,33 @@ impl Chain {
         requires { place < len_of writable self.now }
         ensures { result ≡ rest_at (segments_of writable self.now) place }
     {
-        let index = self.buffer_at(writable, place);
+        self.rest_in(self.buffer_at(writable, place), writable, place)
+    }
+
+    /// The same, where the buffer is known.
+    #[inline(always)]
+    pub(crate) fn rest_in(&self, index: usize, writable: bool, place: u64) -> Segment
+        requires there { index < length self.now }
+        requires from { len_of writable (take index self.now) ≤ place }
+        requires to { place < len_of writable (take (index + 1) self.now) }
+        ensures { result ≡ rest_at (segments_of writable self.now) place }
+    {
+        let buffers = self.buffers();
         let left = place - self.starts[index].of(writable);
-        self.buffers[index].segment.rest(left)
+        buffers[index].segment.rest(left)
     }
 
     /// The buffer that such a place lies in.
-    fn buffer_at(&self, writable: bool, place: u64) -> usize
+    #[inline(always)]
+    pub(crate) fn buffer_at(&self, writable: bool, place: u64) -> usize
         requires { place < len_of writable self.now }
         ensures there { result < length self.now }
         ensures from { len_of writable (take result self.now) ≤ place }
         ensures to { place < len_of writable (take (result + 1) self.now) }
     {
         let mut low = 0;
-        let mut high = self.buffers.len();
-        while high - low > 1 {
+        let mut high = self.filled;
+        while high - low > FEW_BUFFERS {
             let middle = low + (high - low) / 2;
             if self.starts[middle].of(writable) <= place {
                 low = middle;
@@ -168,7 +194,35 @@ impl Chain {
                 high = middle;
             }
         }
-        low
+        self.buffer_behind(low, writable, place)
+    }
+
+    /// The same, where so many buffers from the first one on end before the place.
+    #[inline(always)]
+    pub(crate) fn buffer_behind(&self, before: usize, writable: bool, place: u64) -> usize
+        requires in_list { place < len_of writable self.now }
+        requires before { len_of writable (take before self.now) ≤ place }
+        ensures there { result < length self.now }
+        ensures from { len_of writable (take result self.now) ≤ place }
+        ensures to { place < len_of writable (take (result + 1) self.now) }
+    {
+        let starts = &self.starts;
+        let mut index = before;
+        while starts[index + 1].of(writable) <= place {
+            index += 1;
+        }
+        index
+    }
+
+    /// How many bytes of each direction its buffers have.
+    #[inline(always)]
+    fn sizes(&self) -> Start
+        ensures readable { result.readable ≡ len_of false self.now }
+        ensures writable { result.writable ≡ len_of true self.now }
+        ensures both { result.readable + result.writable ≡ total_len self.now }
+        ensures fits { total_len self.now < 2 ^ 32 }
+    {
+        self.starts[self.filled]
     }
 
     /// The number of bytes that the device may read.
@@ -176,28 +230,30 @@ impl Chain {
         ensures value { result ≡ len_of false self.now }
         ensures list { (m : Memory) → All (Within m) self.now → length (readable_of m self.now) ≡ result }
     {
-        u64::from(self.readable)
+        self.sizes().of(false)
     }
 
     /// The number of bytes that the device may write.
     pub fn writable_len(&self) -> u64
         ensures { result ≡ length (writable_of self.now) }
     {
-        u64::from(self.writable)
+        self.sizes().of(true)
     }
 
     /// The number of bytes of both.
     pub fn total_len(&self) -> u64
         ensures { result ≡ total_len self.now }
     {
-        u64::from(self.readable + self.writable)
+        let sizes = self.sizes();
+        u64::from(sizes.readable + sizes.writable)
     }
 
     /// Counts the chain as given back, with this used length.
     pub fn count(&mut self, written: u32)
         ensures { self.new ≡ self.old }
     {
-        self.counts.used(self.readable, written);
+        let readable = self.sizes().readable;
+        self.counts.used(readable, written);
     }
 
     /// Counts a service that ended by a fault.

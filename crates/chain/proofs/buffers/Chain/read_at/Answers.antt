@@ -1,35 +1,40 @@
-use Rattle.std.proofs.Common.{◌≡◌, ◌+◌, ℕ, ◌-◌, List, ◌++◌, false, length, take, arith, sym, ap, ◌∙◌}
-use Rattle.std.proofs.lemmas.List.{length-take-le}
-use Rattle.std.proofs.lemmas.Slice.{take-put_mid}
-use Rattle.chain.specs.Bytes.{readable_of}
-use Rattle.chain.proofs.Contents.{length-put_mid, read_run}
-use Rattle.chain.proofs.Directions.{len_of-le, length-readable_of}
+use Rattle.std.proofs.Common.{◌+◌, ◌<◌, ◌≤◌, ℕ, List, false, length, take, drop, arith, ap, ◌∙◌}
+use Rattle.std.specs.Prelude.{All}
+use Rattle.std.proofs.lemmas.Bool.Decides.{nat_tests}
+use Rattle.guest_memory.specs.Memory.{Memory}
+use Rattle.chain.specs.declared.segment.Buffer.{Buffer}
+use Rattle.chain.specs.Buffers.{Within}
+use Rattle.chain.specs.Bytes.{len_of, readable_of}
+use Rattle.chain.proofs.Contents.{lent_reads, part_inside}
+use Rattle.chain.proofs.Directions.{length-readable_of}
 use Rattle.chain.proofs.buffers.Chain.read_at.Goals as goal
 
-pub overflow_add-from : goal.overflow_add-from
-overflow_add-from g c =
-    let xs = c.args.self.now in
-    omega (arith, len_of-le false xs, length-readable_of c.args.mem.now xs c.requires.inside)
+-- the first place of some of the readable list
+in_list : (m : Memory) (xs : List Buffer) (from n : ℕ) → All (Within m) xs
+    → from + n ≤ length (readable_of m xs)
+    → 0 < n → from < len_of false xs
+in_list m xs from n inside range some = omega (arith, length-readable_of m xs inside, range, some)
 
-pub loop-done-preserved : goal.loop-done-preserved
-loop-done-preserved g c =
-    let done = c.loop-done.done in
-    let n = c.min-n.result in
-    let into = c.loop-done.into in
-    let new = c.copy_from_slice.new.self in
-    let part = c.read_part-part.result.now in
-    let least = c.min-n.ensures in
-    let copied : new ≡ take n part = c.copy_from_slice.ensures.after in
-    let size : length new ≡ n = ap (λ (l : List ℕ). length l) copied
-    ∙ length-take-le n part (omega (arith, least)) in
-    let k : done + n - done ≡ n = omega arith in
-    let e = take-put_mid done (done + n - done) into new (done + n) (omega (arith, size))
-    c.loop-done.invariant.within in
-    let length_is = length-put_mid done (done + n - done) into new (size ∙ sym k) (omega (arith, least)) in
-    record {
-      within = omega (arith, length_is, least);
-      size = length_is ∙ c.loop-done.invariant.size;
-      copied = read_run (readable_of c.args.mem.now c.args.self.now) part into _ c.args.from done n
-          c.read_part-part.ensures.listed (omega (arith, least))
-          c.loop-done.invariant.copied (e ∙ ap (λ (l : List ℕ). take done into ++ l) copied);
-    }
+pub segment_at-rest-requires : goal.segment_at-rest-requires
+segment_at-rest-requires g c =
+    in_list c.args.mem.now c.args.self.now c.args.from _ c.requires.inside c.requires.range
+    (grind (arith, nat_tests))
+
+pub slice-requires : goal.slice-requires
+slice-requires g c =
+    let xs = c.args.self.now in
+    part_inside c.args.mem.now false xs c.args.from (length c.args.into.now) c.requires.inside
+    (in_list c.args.mem.now xs c.args.from _ c.requires.inside c.requires.range (grind (arith, nat_tests)))
+    c.segment_at-rest.result c.segment_at-rest.ensures (omega arith)
+
+pub returns-then-into-from : goal.returns-then-into-from
+returns-then-into-from g c =
+    let xs = c.args.self.now in
+    let part = c.slice.result.now in
+    let h = in_list c.args.mem.now xs c.args.from _ c.requires.inside c.requires.range
+    (grind (arith, nat_tests)) in
+    let listed = lent_reads c.args.mem.now xs c.args.from (length c.args.into.now)
+    c.segment_at-rest.result part c.requires.inside h
+    c.segment_at-rest.ensures (omega arith) c.slice.ensures.value c.slice.ensures.len in
+    c.copy_from_slice.ensures.after ∙ listed
+    ∙ ap (λ (n : ℕ). take n (drop c.args.from (readable_of c.args.mem.now xs))) c.slice.ensures.len

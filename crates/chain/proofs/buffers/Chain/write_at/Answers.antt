@@ -1,44 +1,42 @@
-use Rattle.std.proofs.Common.{◌≡◌, ◌+◌, ◌-◌, ◌<◌, ◌≤◌, true, length, take, drop, refl, arith, sym, ap, ◌∙◌}
-use Rattle.std.proofs.lemmas.List.{take-take}
+use Rattle.std.proofs.Common.{◌+◌, ◌<◌, ◌≤◌, ℕ, List, true, length, refl, arith, sym, ap, ◌∙◌}
+use Rattle.std.proofs.lemmas.Bool.Decides.{nat_tests}
 use Rattle.guest_memory.specs.Memory.{put}
-use Rattle.guest_memory.proofs.Ranges.{put_range, same_trans}
-use Rattle.chain.specs.Bytes.{len_of, writable_of, writable_rest}
-use Rattle.chain.proofs.Contents.{write_run}
-use Rattle.chain.proofs.Directions.{len_of-le, length-addresses_of}
-use Rattle.chain.proofs.Scattering.{within_same, scatter_done}
+use Rattle.chain.specs.declared.segment.Buffer.{Buffer}
+use Rattle.chain.specs.declared.segment.Segment.{Segment}
+use Rattle.chain.specs.Bytes.{len_of, writable_of}
+use Rattle.chain.proofs.Contents.{lent_writes, part_inside}
+use Rattle.chain.proofs.Directions.{length-addresses_of}
+use Rattle.chain.proofs.Scattering.{scatter_done}
 use Rattle.chain.proofs.buffers.Chain.write_at.Goals as goal
 
-pub overflow_add-from : goal.overflow_add-from
-overflow_add-from g c =
-    let xs = c.args.self.now in
-    omega (arith, len_of-le true xs, length-addresses_of true xs)
+-- the first place of some of the writable list
+in_list : (xs : List Buffer) (from n : ℕ) → from + n ≤ length (writable_of xs) → 0 < n → from < len_of true xs
+in_list xs from n range some = omega (arith, length-addresses_of true xs, range, some)
 
-pub loop-done-preserved : goal.loop-done-preserved
-loop-done-preserved g c =
+pub returns-then-is_empty-clause-written : goal.returns-then-is_empty-clause-written
+returns-then-is_empty-clause-written g c =
+    sym (scatter_done c.args.mem.now (writable_of c.args.self.now) c.args.bytes.now c.args.from 0
+    (grind (arith, nat_tests)))
+
+pub segment_at-rest-requires : goal.segment_at-rest-requires
+segment_at-rest-requires g c =
+    in_list c.args.self.now c.args.from _ c.requires.range (grind (arith, nat_tests))
+
+pub part_mut-part-requires : goal.part_mut-part-requires
+part_mut-part-requires g c =
     let xs = c.args.self.now in
-    let m = c.loop-done.mem in
+    part_inside c.args.mem.now true xs c.args.from (length c.args.bytes.now) c.requires.inside
+    (in_list xs c.args.from _ c.requires.range (grind (arith, nat_tests)))
+    c.segment_at-rest.result c.segment_at-rest.ensures (omega arith)
+
+pub returns-then-bytes-from-clause-written : goal.returns-then-bytes-from-clause-written
+returns-then-bytes-from-clause-written g c =
+    let xs = c.args.self.now in
+    let m = c.args.mem.now in
     let bytes = c.args.bytes.now in
-    let done = c.loop-done.done in
-    let n = length c.lend-part.result.now in
-    let rest = writable_rest xs (c.args.from + done) in
-    let new = c.copy_from_slice.new.self in
-    let h : c.args.from + done < len_of true xs = omega (arith, length-addresses_of true xs) in
-    let run : new ≡ take n (drop done bytes) =
-    c.copy_from_slice.ensures.after
-    ∙ take-take n (length bytes - done) (drop done bytes) (omega (arith, c.lend-part.ensures.len)) in
-    let less : n ≤ rest.len = omega (arith, c.lend-part.ensures.len) in
-    let within = within_same c.args.mem.now m xs c.loop-done.invariant.same c.requires.inside in
-    record {
-      within = omega (arith, c.lend-part.ensures.len);
-      same = same_trans c.args.mem.now m (put m rest.addr new) c.loop-done.invariant.same
-          (put_range m rest.addr new);
-      left = write_run m (put m rest.addr new) xs bytes c.args.from done n within h rest refl less
-          (omega (arith, c.lend-part.ensures.len))
-          (ap (put m rest.addr) run) ∙ c.loop-done.invariant.left;
-    }
-
-pub returns-clause-written : goal.returns-clause-written
-returns-clause-written g c =
-    sym (scatter_done c.loop-done.mem (writable_of c.args.self.now) c.args.bytes.now
-    (c.args.from + c.loop-done.done) c.loop-done.done c.loop-done-test.false)
-    ∙ c.loop-done.invariant.left
+    let h = in_list xs c.args.from _ c.requires.range (grind (arith, nat_tests)) in
+    let is = c.segment_at-rest.ensures in
+    ap (put m c.segment_at-rest.result.addr) c.copy_from_slice.ensures.after
+    ∙ ap (λ (s : Segment). put m s.addr bytes) is
+    ∙ lent_writes m xs c.args.from (length bytes) bytes c.requires.inside h
+    (omega (arith, ap (λ (s : Segment). s.len) is)) refl
