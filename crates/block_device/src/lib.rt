@@ -1,9 +1,9 @@
 //! A block device (5.2): one request of a driver after another, served over an extent of a shared image.
 //!
-//! `request` reads a header and judges it, `transfer` moves sectors, `zeroes` zeroes them, and `answer` goes from a chain's
-//! header to its status byte. `cached` serves a chain over the cache of an image, and `serve` a queue of them, and tells the
-//! window. `hosting` does both where the host has the disk, by what `operation` tells it. The caller is the board, which hands
-//! in the guest's memory, the device's window and the cache over the image.
+//! `request` reads a header and judges it, `transfer` moves sectors, those of an OUT out of its `payload`, `zeroes` zeroes
+//! them, and `answer` goes from a chain's header to its status byte. `cached` serves a chain over the cache of an image, and
+//! `serve` a queue of them, and tells the window. `hosting` does both where the host has the disk, by what `operation` tells
+//! it. The caller is the board, which hands in the guest's memory, the device's window and the cache over the image.
 #![tactic(auto)]
 
 mod answer;
