@@ -3,3 +3,4 @@ pub mod HandleSteps
 pub mod Outlets
 pub mod Runs
 pub mod OneByOne
+pub mod Telling

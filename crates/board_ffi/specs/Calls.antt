@@ -9,6 +9,7 @@ use Rattle.board.specs.HostedLine.{words_of}
 use Rattle.board.specs.Slot.{interrupt_words}
 use Rattle.session.specs.Hosted.{HostedSessionState}
 use Rattle.session.specs.Session.{SessionState, output_of, waiting_at}
+use Rattle.session.specs.declared.told.Waits.{Waits}
 use Rattle.board_ffi.specs.declared.any_session.AnySession.{AnySession}
 use Rattle.board_ffi.specs.declared.any_session.AnySession.TheVariants.{Hosted, OfImage}
 use Rattle.board_ffi.specs.declared.handle.Handle.{Handle}
@@ -113,6 +114,10 @@ IsOutside start len code = ByKind (image.IsOutside start len code) (hosted.HasNo
 -- what waits for a slot: both interrupt words, and how many bytes of its console's output
 abbrev pub pending_of : (ℕ × ℕ) → List ℕ → Pending
 pending_of words output = record { block = words.0; console = words.1; output = length output }
+
+-- as a call told it
+abbrev pub pending_by : Waits → Pending
+pending_by waits = record { block = waits.block_irq; console = waits.console_irq; output = waits.output }
 
 -- it is told of the session as the call leaves it; of a slot that isn't there nothing is
 abbrev pub TellsOf : ℕ → AnySession → Pending → Pending → Type 0

@@ -42,10 +42,7 @@ pub extern "C" fn kalyubos_resize(
         (Takes slot (EventKind.Resize cols rows) result Reply.Done) }
     ensures pending { Tells slot board.new.session pending.old pending.new }
 {
-    let session = session_of!(board);
-    let answer = session.resize(slot, cols, rows);
-    pending.tell(session, slot);
-    answer
+    session_of!(board).resize(slot, cols, rows, pending)
 }
 
 /// Moves out the first bytes of what a guest's console put out, as many as find room, and tells how many

@@ -34,8 +34,5 @@ pub extern "C" fn kalyubos_completed(
     ensures step { Calls board.old.session board.new.session result (Completes slot failed result) }
     ensures pending { Tells slot board.new.session pending.old pending.new }
 {
-    let session = session_of!(board);
-    let answer = session.completed(slot, failed);
-    pending.tell(session, slot);
-    answer
+    session_of!(board).completed(slot, failed, pending)
 }

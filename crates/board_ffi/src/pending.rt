@@ -1,9 +1,10 @@
 //! What waits for a guest and for its host once a call is answered.
 
 ghost use Rattle.std.specs.Prelude.{◌≡◌, IfNone, IfSome};
-ghost use Rattle.board_ffi.specs.Calls.{TellsOf};
+ghost use Rattle.board_ffi.specs.Calls.{TellsOf, pending_by};
 
 use crate::any_session::AnySession;
+use session::Waits;
 
 /// Both interrupt words of a slot, and how many bytes of its console's output wait to be taken.
 #[derive(Clone, Copy, Debug, PartialEq, Eq)]
@@ -32,8 +33,24 @@ impl Pending {
         }
     }
 
-    // Tells these words and how many bytes wait, where both are there.
-    fn tell_of(&mut self, words: Option<(u8, u8)>, output: Option<usize>)
+    /// Tells what a call of a slot told.
+    #[inline(always)]
+    pub(crate) fn tell_waits(&mut self, waits: Option<Waits>)
+        ensures told { IfSome waits (λ found. self.new ≡ pending_by found) }
+        ensures missing { IfNone waits (self.new ≡ self.old) }
+    {
+        let Some(waits) = waits else {
+            return;
+        };
+        *self = Pending {
+            block: u32::from(waits.block_irq),
+            console: u32::from(waits.console_irq),
+            output: waits.output as u64,
+        };
+    }
+
+    /// Tells these words and how many bytes wait, where both are there.
+    pub(crate) fn tell_of(&mut self, words: Option<(u8, u8)>, output: Option<usize>)
         ensures told { IfSome words (λ found. IfSome output (λ count.
             self.new ≡ record { block = found.0; console = found.1; output = count })) }
         ensures missing { IfNone words (self.new ≡ self.old) }

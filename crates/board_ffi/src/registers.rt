@@ -47,10 +47,7 @@ pub extern "C" fn kalyubos_write(
     let Some(window) = window_numbered(window) else {
         return BAD_WINDOW;
     };
-    let session = session_of!(board);
-    let answer = session.write(slot, window, offset, width, value);
-    pending.tell(session, slot);
-    answer
+    session_of!(board).write(slot, window, offset, width, value, pending)
 }
 
 /// Goes on with a guest's service that is paused, and tells what then waits.
@@ -59,10 +56,7 @@ pub extern "C" fn kalyubos_go_on(board: &mut Handle, slot: u8, pending: &mut Pen
     ensures step { Calls board.old.session board.new.session result (GoesOn slot result) }
     ensures pending { Tells slot board.new.session pending.old pending.new }
 {
-    let session = session_of!(board);
-    let answer = session.go_on(slot);
-    pending.tell(session, slot);
-    answer
+    session_of!(board).go_on(slot, pending)
 }
 
 // The window of a number.

@@ -22,6 +22,7 @@ pub mod Alone
 pub mod Made
 pub mod InPlace
 pub mod Outputs
+pub mod Telling
 pub mod HostedSteps
 pub mod HostedAlone
 pub mod HostedLaws

@@ -30,6 +30,17 @@ IsRefusing (response.Answered reply.NoMemory) = ⊤
 IsRefusing response.Busy = ⊤
 IsRefusing told = ⊥
 
+-- or one that says that a write is done, or that its service is paused
+abbrev pub IsServing : {A : Type 0} → Response A → Type 0
+IsServing (response.Answered reply.Done) = ⊤
+IsServing response.More = ⊤
+IsServing told = IsRefusing told
+
+-- or one that says that the event is done
+abbrev pub IsDoneOrRefusing : {A : Type 0} → Response A → Type 0
+IsDoneOrRefusing (response.Answered reply.Done) = ⊤
+IsDoneOrRefusing told = IsRefusing told
+
 -- the response to a read of a window
 abbrev pub value_response : {A : Type 0} → Result ℕ Refusal → Response A
 value_response (Ok value) = response.Answered (reply.Value value)

@@ -1,7 +1,7 @@
 -- A session whose disks the host serves, as its embedder sees it, and what one call does to it.
 use Rattle.std.specs.Prelude.{◌≡◌, ◌≢◌, ℕ, ◌&&◌, List, map, Option, Some, None, IsSome, IsSomeAnd, IsTrue, is_some}
 use Rattle.std.specs.List.{slice_get}
-use Rattle.std.specs.Option.{option_and_then}
+use Rattle.std.specs.Option.{option_and_then, option_map}
 use Rattle.guest_memory.specs.Memory.{Inside}
 use Rattle.block_device.specs.declared.operation.Operation.{Operation}
 use Rattle.board.specs.declared.event.EventKind.{EventKind}
@@ -9,15 +9,16 @@ use Rattle.board.specs.declared.fault.BoardFault.{BoardFault}
 use Rattle.board.specs.declared.reply.Reply.{Reply}
 use Rattle.board.specs.Fault.{RefusesHosted}
 use Rattle.board.specs.Hosting.{HostedState, InFlight, hosted_opened, must_wait, operation_in}
-use Rattle.board.specs.HostedLine.{KeepsOtherGuests, TakesCall, with_slot_bytes}
+use Rattle.board.specs.HostedLine.{KeepsOtherGuests, TakesCall, with_slot_bytes, words_of}
 use Rattle.board.specs.Lent.{AreBytesOf, hosted_over, made_over}
 use Rattle.session.specs.declared.fault.SessionFault.{SessionFault}
 use Rattle.session.specs.declared.fault.SessionFault.TheVariants.{BadLoan, BadImage, BadOutlet, SpentBudget, Board, NoMemory}
 use Rattle.session.specs.declared.guest.GuestSpec.{GuestSpec}
 use Rattle.session.specs.declared.hosted.progress.HostedProgress.{HostedProgress}
 use Rattle.session.specs.declared.hosted.progress.HostedProgress.TheVariants.{Done, Asks}
+use Rattle.session.specs.declared.told.Waits.{Waits}
 use Rattle.session.specs.Refusing.{AreOutlets}
-use Rattle.session.specs.Session.{KeepsOtherOutputs, Waiting, none_waiting, slots_of, waiting_at}
+use Rattle.session.specs.Session.{KeepsOtherOutputs, Waiting, none_waiting, slots_of, waiting_at, waits_by}
 
 -- A session: the slots of its board, and for each what its console put out and nobody has taken yet.
 pub record HostedSessionState : Type 0 where
@@ -64,6 +65,12 @@ flight_at slot session = option_and_then (λ found. found.flight) (slice_get ses
 abbrev pub operation_at : ℕ → HostedSessionState → Option Operation
 operation_at slot session =
     option_and_then (λ found. operation_in found.flight) (slice_get session.slots slot)
+
+-- what waits for a slot, if there is such a slot
+abbrev pub hosted_waits_at : ℕ → HostedSessionState → Option Waits
+hosted_waits_at slot session =
+    option_map (λ found. waits_by (words_of found) (waiting_at slot session.outputs).bytes)
+    (slice_get session.slots slot)
 
 -- what a call came to, by what was in flight before it and what is after it
 abbrev pub progress_by : Option Operation → Option Operation → HostedProgress

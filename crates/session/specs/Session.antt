@@ -1,6 +1,7 @@
 -- A session, as its embedder sees it, and what one event does to it.
 use Rattle.std.specs.Prelude.{⊤, ◌≡◌, ◌≢◌, ◌↔◌, ℕ, ◌≤◌, Bool, false, List, [], length, map, Option, Some, None, replicate, slice_set, unwrap_or, IsSomeAnd}
 use Rattle.std.specs.List.{slice_get}
+use Rattle.std.specs.Option.{option_map}
 use Rattle.chain.specs.declared.budget.Budget.{Budget}
 use Rattle.guest_memory.specs.Memory.{Memory}
 use Rattle.sector_cache.specs.Disk.{Disk, new_disk}
@@ -13,11 +14,12 @@ use Rattle.board.specs.declared.reply.Reply.TheVariants.{BadSlot, BadRange, NoMe
 use Rattle.board.specs.declared.spec.SlotSpec.{SlotSpec}
 use Rattle.board.specs.Lending.{put_back}
 use Rattle.board.specs.Lent.{made_over, opened_over}
-use Rattle.board.specs.Slot.{BoardSlot, SlotState, opened, state_of}
+use Rattle.board.specs.Slot.{BoardSlot, SlotState, interrupt_words, opened, state_of}
 use Rattle.board.specs.World.{World, Answers, KeepsOthers, MayLackMemory, extents_of, seen}
 use Rattle.board.specs.Within.{MayPutOut, TakesWithin}
 use Rattle.session.specs.Pacing.{paused_at}
 use Rattle.session.specs.declared.guest.GuestSpec.{GuestSpec}
+use Rattle.session.specs.declared.told.Waits.{Waits}
 use Rattle.session.specs.declared.paced.turn_kind.TurnKind.{TurnKind}
 use Rattle.session.specs.declared.paced.turn_kind.TurnKind.TheVariants.{Begin, Resume}
 
@@ -60,6 +62,15 @@ output_of slot session = (waiting_at slot session.outputs).bytes
 -- and how many bytes of it may wait
 abbrev pub limit_of : ℕ → SessionState → ℕ
 limit_of slot session = (waiting_at slot session.outputs).limit
+
+-- these interrupt words and these bytes of output
+abbrev pub waits_by : (ℕ × ℕ) → List ℕ → Waits
+waits_by words output = record { block_irq = words.0; console_irq = words.1; output = length output }
+
+-- what waits for a slot, if there is such a slot
+abbrev pub waits_at : ℕ → SessionState → Option Waits
+waits_at slot session =
+    option_map (λ found. waits_by (interrupt_words found) (output_of slot session)) (slice_get session.slots slot)
 
 -- no service of the slot is paused
 abbrev pub IsIdle : ℕ → SessionState → Type 0

@@ -4,15 +4,17 @@
 //! A module for each kind of call: `registers`, `disk`, `memory`, `console` and `saved`. `progress` is what a write or a
 //! completion came to, and `laws` has what holds of all calls, whatever their order.
 
-ghost use Rattle.std.specs.Prelude.{◌≡◌, ◌≢◌, ◌⊎◌, ◌↔◌, length, map, IfNone, IfOk, IfSome, OnOk, IfErr, IsErrAnd, IsErrOf};
+ghost use Rattle.std.specs.Prelude.{◌≡◌, ◌≢◌, ◌⊎◌, ◌↔◌, Some, length, map, IfNone, IfOk, IfSome, OnOk, IfErr, IsErrAnd, IsErrOf};
 ghost use Rattle.std.specs.Vec.{vec_items};
 ghost use Rattle.board.specs.declared.event.EventKind.{EventKind};
 ghost use Rattle.board.specs.declared.fault.BoardFault.{BoardFault};
 ghost use Rattle.board.specs.Fault.{AreGoodHosted};
-ghost use Rattle.board.specs.Hosting.{IsOwn, hosted_opened};
+ghost use Rattle.board.specs.Hosting.{HostedState, IsOwn, hosted_opened};
+ghost use Rattle.board.specs.HostedLine.{words_of};
+ghost use Rattle.std.specs.List.{slice_get};
 ghost use Rattle.board.specs.Lent.{AreBytesOf, hosted_over, made_over};
 ghost use Rattle.session.specs.declared.fault.SessionFault.{SessionFault};
-ghost use Rattle.session.specs.Hosted.{IsHostedBoardFault, IsHostedCall, IsHostedLentRefusedFor, IsHostedRefusedFor, new_hosted_session, new_hosted_session_over};
+ghost use Rattle.session.specs.Hosted.{IsHostedBoardFault, IsHostedCall, IsHostedLentRefusedFor, IsHostedRefusedFor, hosted_waits_at, new_hosted_session, new_hosted_session_over};
 ghost use Rattle.session.specs.HostedAnswering.{SuitsCompletion, SuitsHosted};
 ghost use Rattle.session.specs.Refusing.{AreOutlets};
 ghost use Rattle.session.specs.Session.{none_waiting, slots_of};
@@ -33,6 +35,8 @@ pub use crate::hosted::laws::{
 };
 pub use crate::hosted::progress::HostedProgress;
 use crate::output_queue::OutputQueue;
+use crate::response::Replied;
+use crate::told::Waits;
 use block_device::Verdict;
 use board::{EventKind, HostedBoard, Reply};
 use std::alloc::{AllocError, Allocator, Global};
@@ -131,25 +135,58 @@ impl<A: Allocator + Copy> HostedSession<A> {
     }
 
     // Handles an event of a slot's guest.
-    fn step(&mut self, slot: u8, what: &EventKind<A>) -> Reply<A>
+    fn step(&mut self, slot: u8, what: &EventKind<A>) -> Replied<A>
         requires own { IsOwn what.now }
-        ensures call { IsHostedCall self.old slot what.now result self.new }
-        ensures suits { SuitsHosted what.now result }
+        ensures call { IsHostedCall self.old slot what.now result.reply self.new }
+        ensures suits { SuitsHosted what.now result.reply }
+        ensures waits { result.waits ≡ hosted_waits_at slot self.new }
     {
         let Some(output) = self.outputs.get_mut(slot as usize) else {
-            return Reply::BadSlot;
+            return Replied {
+                reply: Reply::BadSlot,
+                waits: None,
+            };
         };
-        output.step_hosted(&mut self.board, slot, what).reply
+        let handled = output.step_hosted(&mut self.board, slot, what);
+        let waits = Waits {
+            block_irq: handled.block_irq,
+            console_irq: handled.console_irq,
+            output: output.len(),
+        };
+        Replied {
+            reply: handled.reply,
+            waits: Some(waits),
+        }
     }
 }
 
 impl<A: Allocator> HostedSession<A> {
     // Completes what is in flight of a slot.
-    fn land(&mut self, slot: u8, verdict: Verdict) -> Reply<A>
-        ensures call { IsHostedCall self.old slot (EventKind.Complete verdict) result self.new }
-        ensures suits { SuitsCompletion result }
+    fn land(&mut self, slot: u8, verdict: Verdict) -> Replied<A>
+        ensures call { IsHostedCall self.old slot (EventKind.Complete verdict) result.reply self.new }
+        ensures suits { SuitsCompletion result.reply }
+        ensures waits { result.waits ≡ hosted_waits_at slot self.new }
     {
-        self.board.complete(slot, verdict).reply
+        let handled = self.board.complete(slot, verdict);
+        let waits = self.waits(slot, handled.block_irq, handled.console_irq);
+        Replied {
+            reply: handled.reply,
+            waits,
+        }
+    }
+
+    // What waits for a slot that shows these interrupt words.
+    fn waits(&self, slot: u8, block_irq: u8, console_irq: u8) -> Option<Waits>
+        requires shown { (found : HostedState) → slice_get self.now.slots slot ≡ Some found →
+            (block_irq, console_irq) ≡ words_of found }
+        ensures { result ≡ hosted_waits_at slot self.now }
+    {
+        let output = self.outputs.get(slot as usize)?;
+        Some(Waits {
+            block_irq,
+            console_irq,
+            output: output.len(),
+        })
     }
 }
 

@@ -20,6 +20,7 @@ mod paced;
 mod refusal;
 mod response;
 mod session;
+mod told;
 mod typed;
 
 pub use block_device::{Operation, OperationKind, Verdict};
@@ -43,4 +44,5 @@ pub use paced::{Paced, PacedFault, each_paced_guest_is_alone, refusals_are_noted
 pub use refusal::Refusal;
 pub use response::Response;
 pub use session::Session;
+pub use told::{Told, Waits};
 pub use typed::Typed;

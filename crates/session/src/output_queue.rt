@@ -3,11 +3,13 @@
 ghost use Rattle.std.specs.Prelude.{◌≡◌, ◌++◌, ◌-◌, ◌≤◌, Some, length, vec_capacity, min, take, drop, IfOk};
 ghost use Rattle.sector_cache.specs.MemoryImage.{disk_of};
 ghost use Rattle.board.specs.HostedLine.{KeepsOtherGuests, TakesCall};
+ghost use Rattle.board.specs.Slot.{BoardSlot, interrupt_words};
+ghost use Rattle.std.specs.List.{slice_get};
 ghost use Rattle.session.specs.Pacing.{IsPacedCall, call_of};
 ghost use Rattle.session.specs.Session.{none_waiting};
 
 use crate::paced::{Paced, TurnKind};
-use crate::response::Response;
+use crate::response::Shown;
 use board::{EventKind, Handled, HostedBoard, MemoryImage};
 use console_device::{NoMemory, Outlet};
 use std::alloc::{AllocError, Allocator, Global};
@@ -133,9 +135,11 @@ impl<A: Allocator + Copy> OutputQueue<A> {
         paced: &mut Paced<MemoryImage<A>, A>,
         slot: u8,
         kind: TurnKind<'_, A>,
-    ) -> Response<A>
-        ensures call { IsPacedCall disk_of (Some self.old.limit) paced.old (call_of slot kind.entry) result
+    ) -> Shown<A>
+        ensures call { IsPacedCall disk_of (Some self.old.limit) paced.old (call_of slot kind.entry) result.response
             self.old.bytes self.new.bytes paced.new }
+        ensures shown { (found : BoardSlot) → slice_get paced.new.board.slots slot ≡ Some found →
+            (result.block_irq, result.console_irq) ≡ interrupt_words found }
         ensures limit { self.new.limit ≡ self.old.limit }
     {
         paced.turn(slot, kind, self)

@@ -1,7 +1,8 @@
 //! The board with what is paused of each slot.
 
-ghost use Rattle.std.specs.Prelude.{◌≡◌, ◌↔◌, ◌<◌, length, replicate, slice_set, None, IfOk, IfErr, IsErrAnd};
+ghost use Rattle.std.specs.Prelude.{◌≡◌, ◌↔◌, ◌<◌, length, replicate, slice_set, None, Some, IfOk, IfErr, IsErrAnd};
 ghost use Rattle.std.specs.List.{slice_get};
+ghost use Rattle.board.specs.Slot.{BoardSlot, interrupt_words};
 ghost use Rattle.chain.specs.Budget.{IsSpent};
 ghost use Rattle.session.specs.declared.paced.fault.PacedFault.{PacedFault};
 ghost use Rattle.session.specs.Pacing.{Handle, GoOn, IsPacedCall, call_of, paused_at, paused_by, response_to};
@@ -14,7 +15,7 @@ mod turn_kind;
 pub use crate::paced::fault::PacedFault;
 pub use crate::paced::laws::{each_paced_guest_is_alone, refusals_are_noted};
 pub(crate) use crate::paced::turn_kind::TurnKind;
-use crate::response::Response;
+use crate::response::{Response, Shown};
 use board::{Board, Budget, Event, Image, Outlet, Pause, Refused, Turn};
 use std::alloc::{AllocError, Allocator, Global};
 use std::marker::Model;
@@ -81,6 +82,7 @@ impl<I: Image, A: Allocator + Copy> Paced<I, A> {
         ensures limit { O.limit out.new ≡ O.limit out.old }
     {
         self.turn(event.slot, TurnKind::Begin(&event.what), out)
+            .response
     }
 
     /// Goes on with the service of a slot that is paused.
@@ -90,27 +92,34 @@ impl<I: Image, A: Allocator + Copy> Paced<I, A> {
         ensures limit { O.limit out.new ≡ O.limit out.old }
     {
         let kind: TurnKind<'s, A> = TurnKind::Resume;
-        self.turn(slot, kind, out)
+        self.turn(slot, kind, out).response
     }
 
-    /// A slot takes a turn of either kind, where what is paused of it lets it.
+    /// A slot takes a turn of either kind, where what is paused of it lets it, and its interrupt words after it are told.
     #[inline(always)]
     pub(crate) fn turn<O: Outlet>(
         &mut self,
         slot: u8,
         kind: TurnKind<'_, A>,
         out: &mut O,
-    ) -> Response<A>
-        ensures call { IsPacedCall I.disk (O.limit out.old) self.old (call_of slot kind.entry) result
+    ) -> Shown<A>
+        ensures call { IsPacedCall I.disk (O.limit out.old) self.old (call_of slot kind.entry) result.response
             (O.bytes out.old) (O.bytes out.new) self.new }
+        ensures shown { (found : BoardSlot) → slice_get self.new.board.slots slot ≡ Some found →
+            (result.block_irq, result.console_irq) ≡ interrupt_words found }
         ensures limit { O.limit out.new ≡ O.limit out.old }
     {
         match kind.work(self.waiting(slot)) {
             Ok(work) => {
                 let taken = self.board.turn(slot, work, self.budget, out);
-                self.note(slot, taken.turn)
+                let response = self.note(slot, taken.turn);
+                Shown {
+                    response,
+                    block_irq: taken.block_irq,
+                    console_irq: taken.console_irq,
+                }
             }
-            Err(response) => response,
+            Err(response) => self.shown(slot, response),
         }
     }
 
@@ -149,6 +158,27 @@ impl<I: Image, A: Allocator> Paced<I, A> {
         ensures { result ≡ slice_get self.now.paused slot }
     {
         self.paused.get(slot as usize).copied()
+    }
+
+    // A call that comes to this, and the interrupt words as they stand.
+    #[inline(always)]
+    fn shown(&self, slot: u8, response: Response<A>) -> Shown<A>
+        ensures response { result.response ≡ response }
+        ensures shown { (found : BoardSlot) → slice_get self.now.board.slots slot ≡ Some found →
+            (result.block_irq, result.console_irq) ≡ interrupt_words found }
+    {
+        match self.board.interrupts(slot) {
+            Some((block_irq, console_irq)) => Shown {
+                response,
+                block_irq,
+                console_irq,
+            },
+            None => Shown {
+                response,
+                block_irq: 0,
+                console_irq: 0,
+            },
+        }
     }
 
     /// The board as it stands. A slot whose service is paused shows what has been served of it.

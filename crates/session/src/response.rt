@@ -1,5 +1,6 @@
 //! What a call comes to.
 
+use crate::told::Waits;
 use board::Reply;
 use std::alloc::{Allocator, Global};
 
@@ -15,4 +16,27 @@ pub enum Response<A: Allocator = Global> {
     Busy,
     /// No service of the slot is paused, so none goes on. Nothing has changed.
     Idle,
+}
+
+/// What a call comes to, and InterruptStatus of both windows of its slot after it (4.2.2), where there is such a slot.
+#[derive(Drop)]
+pub(crate) struct Shown<A: Allocator = Global> {
+    pub response: Response<A>,
+    pub block_irq: u8,
+    pub console_irq: u8,
+}
+
+/// What a turn comes to, and what then waits for its slot, where there is such a slot.
+#[derive(Drop)]
+pub(crate) struct Turned<A: Allocator = Global> {
+    pub response: Response<A>,
+    pub waits: Option<Waits>,
+}
+
+/// What a call of a board whose disks the host serves is answered, and what then waits for its slot, where there is such
+/// a slot.
+#[derive(Drop)]
+pub(crate) struct Replied<A: Allocator = Global> {
+    pub reply: Reply<A>,
+    pub waits: Option<Waits>,
 }

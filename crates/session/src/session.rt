@@ -15,7 +15,7 @@ ghost use Rattle.board.specs.declared.event.EventKind.{EventKind};
 ghost use Rattle.session.specs.Pacing.{call_of};
 ghost use Rattle.session.specs.Answering.{SuitsCall, SuitsTurn};
 ghost use Rattle.session.specs.Pausing.{IsCall, IsEventCall, IsWholeCall};
-ghost use Rattle.session.specs.Session.{BeginsNoRead, IsIdle, new_session, new_session_over, none_waiting, slots_of};
+ghost use Rattle.session.specs.Session.{BeginsNoRead, IsIdle, new_session, new_session_over, none_waiting, slots_of, waits_at};
 ghost use Rattle.session.specs.Refusing.{AreOutlets, IsBoardFault, IsJudged, IsLentRefusedFor, IsRefusedFor};
 
 mod console;
@@ -28,7 +28,8 @@ use crate::fault::{SessionFault, why_not};
 use crate::guest::{GuestSpec, are_bytes_of, are_outlets, outputs, slots};
 use crate::output_queue::OutputQueue;
 use crate::paced::{Paced, TurnKind};
-use crate::response::Response;
+use crate::response::{Response, Turned};
+use crate::told::Waits;
 use board::{Board, Budget, MemoryImage, Refused, Reply};
 use sector_cache::are_whole_sectors;
 use std::alloc::{AllocError, Allocator, Global};
@@ -153,16 +154,29 @@ impl<A: Allocator + Copy> Session<A> {
 
     // A slot takes a turn: an event begins, to its end or up to a pause, or its paused service goes on.
     #[inline(always)]
-    fn turn(&mut self, slot: u8, kind: TurnKind<'_, A>) -> Response<A>
+    fn turn(&mut self, slot: u8, kind: TurnKind<'_, A>) -> Turned<A>
         requires { BeginsNoRead kind }
-        ensures call { IsCall self.old (call_of slot kind.entry) result self.new }
-        ensures whole { IsWholeCall self.old (call_of slot kind.entry) result self.new }
-        ensures suits { SuitsTurn kind.entry result }
+        ensures call { IsCall self.old (call_of slot kind.entry) result.response self.new }
+        ensures whole { IsWholeCall self.old (call_of slot kind.entry) result.response self.new }
+        ensures suits { SuitsTurn kind.entry result.response }
+        ensures waits { result.waits ≡ waits_at slot self.new }
     {
         let Some(output) = self.outputs.get_mut(slot as usize) else {
-            return Response::Answered(Reply::BadSlot);
+            return Turned {
+                response: Response::Answered(Reply::BadSlot),
+                waits: None,
+            };
         };
-        output.turn(&mut self.paced, slot, kind)
+        let shown = output.turn(&mut self.paced, slot, kind);
+        let waits = Waits {
+            block_irq: shown.block_irq,
+            console_irq: shown.console_irq,
+            output: output.len(),
+        };
+        Turned {
+            response: shown.response,
+            waits: Some(waits),
+        }
     }
 
     // Types to a slot's console.

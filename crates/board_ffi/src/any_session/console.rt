@@ -1,11 +1,12 @@
 //! A guest's console from the outside.
 
 ghost use Rattle.std.specs.Prelude.{◌≡◌, ◌≢◌, ◌⊎◌, None, Some};
-ghost use Rattle.board_ffi.specs.Calls.{EventKind, IsMissing, MovesOutput, PausesBehind, Reply, Takes};
+ghost use Rattle.board_ffi.specs.Calls.{EventKind, IsMissing, MovesOutput, PausesBehind, Reply, Takes, TellsOf};
 
 use crate::any_session::AnySession;
 use crate::codes::{BAD_SLOT, DONE, of_done, of_progress, of_refusal};
-use session::Typed;
+use crate::pending::Pending;
+use session::{Told, Typed};
 
 impl AnySession {
     /// Types bytes to a guest's console, and tells how many were taken, the first ones.
@@ -33,13 +34,23 @@ impl AnySession {
         }
     }
 
-    /// Gives a guest's console another size.
-    pub(crate) fn resize(&mut self, slot: u8, cols: u16, rows: u16) -> u32
-        ensures { Takes slot (EventKind.Resize cols rows) result Reply.Done self.old self.new }
+    /// Gives a guest's console another size. What then waits is told.
+    #[tactic(auto, using(crate::proofs::Telling::tells))]
+    pub(crate) fn resize(&mut self, slot: u8, cols: u16, rows: u16, pending: &mut Pending) -> u32
+        ensures takes { Takes slot (EventKind.Resize cols rows) result Reply.Done self.old self.new }
+        ensures pending { TellsOf slot self.new pending.old pending.new }
     {
         match self {
-            AnySession::OfImage(session) => of_done(session.resize(slot, cols, rows)),
-            AnySession::Hosted(session) => of_done(session.resize(slot, cols, rows)),
+            AnySession::OfImage(session) => {
+                let Told { answer, waits } = session.resize(slot, cols, rows);
+                pending.tell_waits(waits);
+                of_done(answer)
+            }
+            AnySession::Hosted(session) => {
+                let Told { answer, waits } = session.resize(slot, cols, rows);
+                pending.tell_waits(waits);
+                of_done(answer)
+            }
         }
     }
 

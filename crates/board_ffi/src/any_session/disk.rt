@@ -1,13 +1,14 @@
 //! What a guest's disk is asked for, and what came of it.
 
 ghost use Rattle.std.specs.Prelude.{◌≡◌, ◌≢◌};
-ghost use Rattle.board_ffi.specs.Calls.{Completes, IsAskedFor, IsAtRest};
+ghost use Rattle.board_ffi.specs.Calls.{Completes, IsAskedFor, IsAtRest, TellsOf};
 ghost use Rattle.board_ffi.specs.Hosted.{verdict_of};
 
 use crate::any_session::{AnySession, answer_at};
 use crate::codes::{DONE, IDLE, of_hosted_progress};
 use crate::operation::{Operation, Run, tell_runs};
-use session::Verdict;
+use crate::pending::Pending;
+use session::{Told, Verdict};
 
 impl AnySession {
     /// Tells what is in flight of a slot: the operation, and the first of its runs, as many as find room.
@@ -29,13 +30,20 @@ impl AnySession {
     }
 
     /// Completes what is in flight of a slot, which was done or failed.
-    pub(crate) fn completed(&mut self, slot: u8, failed: bool) -> u32
-        ensures { Completes slot failed result self.old self.new }
+    #[tactic(auto, using(crate::proofs::Telling::tells))]
+    pub(crate) fn completed(&mut self, slot: u8, failed: bool, pending: &mut Pending) -> u32
+        ensures completes { Completes slot failed result self.old self.new }
+        ensures pending { TellsOf slot self.new pending.old pending.new }
     {
         match self {
-            AnySession::OfImage(session) => answer_at(slot, session.slots(), IDLE),
+            AnySession::OfImage(session) => {
+                pending.tell_of(session.interrupts(slot), session.output_len(slot));
+                answer_at(slot, session.slots(), IDLE)
+            }
             AnySession::Hosted(session) => {
-                of_hosted_progress(session.completed(slot, verdict(failed)))
+                let Told { answer, waits } = session.completed(slot, verdict(failed));
+                pending.tell_waits(waits);
+                of_hosted_progress(answer)
             }
         }
     }

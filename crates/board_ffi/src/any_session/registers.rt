@@ -3,11 +3,12 @@
 ghost use Rattle.std.specs.Prelude.{◌≡◌, ◌≢◌, ◌<◌, ◌≤◌, IsSome, None, Some, false};
 ghost use Rattle.board.specs.declared.event.EventKind.{EventKind};
 ghost use Rattle.board.specs.declared.reply.Reply.{Reply};
-ghost use Rattle.board_ffi.specs.Calls.{GoesOn, HasCounters, HasWords, IsMissing, IsUndisturbed, Takes, Writes};
+ghost use Rattle.board_ffi.specs.Calls.{GoesOn, HasCounters, HasWords, IsMissing, IsUndisturbed, Takes, TellsOf, Writes};
 
 use crate::any_session::{AnySession, answer_at};
 use crate::codes::{BAD_SLOT, DONE, of_hosted_progress, of_served, told};
-use session::{Counters, DeviceKind};
+use crate::pending::Pending;
+use session::{Counters, DeviceKind, Told};
 
 impl AnySession {
     /// A guest's read of a register: what it gets.
@@ -28,7 +29,8 @@ impl AnySession {
         }
     }
 
-    /// A guest's write of a register.
+    /// A guest's write of a register. What then waits is told.
+    #[tactic(auto, using(crate::proofs::Telling::tells))]
     pub(crate) fn write(
         &mut self,
         slot: u8,
@@ -36,26 +38,41 @@ impl AnySession {
         offset: u16,
         width: u8,
         value: u32,
+        pending: &mut Pending,
     ) -> u32
-        ensures { Writes slot (EventKind.Write window offset width value) result self.old self.new }
+        ensures writes { Writes slot (EventKind.Write window offset width value) result self.old self.new }
+        ensures pending { TellsOf slot self.new pending.old pending.new }
     {
         match self {
             AnySession::OfImage(session) => {
-                of_served(session.write(slot, window, offset, width, value))
+                let Told { answer, waits } = session.write(slot, window, offset, width, value);
+                pending.tell_waits(waits);
+                of_served(answer)
             }
             AnySession::Hosted(session) => {
-                of_hosted_progress(session.write(slot, window, offset, width, value))
+                let Told { answer, waits } = session.write(slot, window, offset, width, value);
+                pending.tell_waits(waits);
+                of_hosted_progress(answer)
             }
         }
     }
 
     /// Goes on with a guest's service that is paused. Where the host serves the disks none ever is.
-    pub(crate) fn go_on(&mut self, slot: u8) -> u32
-        ensures { GoesOn slot result self.old self.new }
+    #[tactic(auto, using(crate::proofs::Telling::tells))]
+    pub(crate) fn go_on(&mut self, slot: u8, pending: &mut Pending) -> u32
+        ensures goes_on { GoesOn slot result self.old self.new }
+        ensures pending { TellsOf slot self.new pending.old pending.new }
     {
         match self {
-            AnySession::OfImage(session) => of_served(session.go_on(slot)),
-            AnySession::Hosted(session) => answer_at(slot, session.slots(), DONE),
+            AnySession::OfImage(session) => {
+                let Told { answer, waits } = session.go_on(slot);
+                pending.tell_waits(waits);
+                of_served(answer)
+            }
+            AnySession::Hosted(session) => {
+                pending.tell_of(session.interrupts(slot), session.output_len(slot));
+                answer_at(slot, session.slots(), DONE)
+            }
         }
     }
 

@@ -3,13 +3,15 @@
 ghost use Rattle.std.specs.Prelude.{◌≡◌, ◌<◌, ◌≤◌, ◌↔◌, length, min, take, drop, ◌++◌, IsSome, IfSome, IfNone, IsErrOf};
 ghost use Rattle.board.specs.declared.event.EventKind.{EventKind};
 ghost use Rattle.session.specs.declared.refusal.Refusal.{Refusal};
-ghost use Rattle.session.specs.Hosted.{IsHostedCall};
-ghost use Rattle.session.specs.HostedAnswering.{hosted_done, hosted_typed};
+ghost use Rattle.session.specs.Hosted.{IsHostedCall, hosted_waits_at};
+ghost use Rattle.session.specs.HostedAnswering.{IsHostedServing, hosted_done, hosted_typed};
 ghost use Rattle.session.specs.HostedCourse.{IsHostedTaken};
 ghost use Rattle.session.specs.Session.{waiting_at};
 
 use crate::hosted::HostedSession;
 use crate::refusal::Refusal;
+use crate::response::Replied;
+use crate::told::Told;
 use board::{EventKind, Reply};
 use std::alloc::Allocator;
 
@@ -28,16 +30,29 @@ impl<A: Allocator + Copy> HostedSession<A> {
     }
 
     /// Gives the guest's console another size, of which its driver is told. It is refused for a bad slot.
-    pub fn resize(&mut self, slot: u8, cols: u16, rows: u16) -> Result<(), Refusal>
+    pub fn resize(&mut self, slot: u8, cols: u16, rows: u16) -> Told<()>
         ensures call { IsHostedCall {A = A} self.old slot (EventKind.Resize cols rows)
-            (hosted_done result) self.new }
-        ensures bad_slot { IsErrOf result Refusal.BadSlot ↔ (length self.old.slots ≤ slot) }
+            (hosted_done result.answer) self.new }
+        ensures bad_slot { IsErrOf result.answer Refusal.BadSlot ↔ (length self.old.slots ≤ slot) }
+        ensures waits { result.waits ≡ hosted_waits_at slot self.new }
     {
         let what = EventKind::Resize { cols, rows };
-        match self.step(slot, &what) {
-            Reply::Done => Ok(()),
-            reply => Err(Refusal::of_hosted(&reply)),
+        let Replied { reply, waits } = self.step(slot, &what);
+        Told {
+            answer: done(reply),
+            waits,
         }
+    }
+}
+
+// What an event is answered that has nothing to tell.
+fn done<A: Allocator>(reply: Reply<A>) -> Result<(), Refusal>
+    requires { IsHostedServing reply }
+    ensures { reply ≡ hosted_done result }
+{
+    match reply {
+        Reply::Done => Ok(()),
+        reply => Err(Refusal::of_hosted(&reply)),
     }
 }
 

@@ -6,11 +6,13 @@ ghost use Rattle.block_device.specs.Operation.{LiesInside};
 ghost use Rattle.board.specs.declared.event.EventKind.{EventKind};
 ghost use Rattle.board.specs.Image.{sectors_of};
 ghost use Rattle.session.specs.declared.refusal.Refusal.{Refusal};
-ghost use Rattle.session.specs.Hosted.{IsAtRest, IsHostedCall, operation_at, progress_by};
+ghost use Rattle.session.specs.Hosted.{IsAtRest, IsHostedCall, hosted_waits_at, operation_at, progress_by};
 ghost use Rattle.session.specs.HostedAnswering.{IsHostedServing, hosted_served};
 
 use crate::hosted::{HostedProgress, HostedSession};
 use crate::refusal::Refusal;
+use crate::response::Replied;
+use crate::told::Told;
 use block_device::{Operation, Verdict};
 use board::Reply;
 use chain::Segment;
@@ -19,14 +21,19 @@ use std::alloc::Allocator;
 impl<A: Allocator> HostedSession<A> {
     /// Completes what is in flight of a slot by what came of it. The next request may ask for something, too. It is
     /// refused for a bad slot, and where nothing of the slot is in flight.
-    pub fn completed(&mut self, slot: u8, verdict: Verdict) -> Result<HostedProgress, Refusal>
-        ensures call { IsHostedCall {A = A} self.old slot (EventKind.Complete verdict) (hosted_served result) self.new }
-        ensures asks { IfOk result (λ progress. progress ≡ progress_by None (operation_at slot self.new)) }
-        ensures bad_slot { IsErrOf result Refusal.BadSlot ↔ (length self.old.slots ≤ slot) }
-        ensures idle { IsErrOf result Refusal.Idle ↔ IsAtRest self.old.slots slot }
+    pub fn completed(&mut self, slot: u8, verdict: Verdict) -> Told<HostedProgress>
+        ensures call { IsHostedCall {A = A} self.old slot (EventKind.Complete verdict) (hosted_served result.answer)
+            self.new }
+        ensures asks { IfOk result.answer (λ progress. progress ≡ progress_by None (operation_at slot self.new)) }
+        ensures bad_slot { IsErrOf result.answer Refusal.BadSlot ↔ (length self.old.slots ≤ slot) }
+        ensures idle { IsErrOf result.answer Refusal.Idle ↔ IsAtRest self.old.slots slot }
+        ensures waits { result.waits ≡ hosted_waits_at slot self.new }
     {
-        let reply = self.land(slot, verdict);
-        self.progress(slot, None, &reply)
+        let Replied { reply, waits } = self.land(slot, verdict);
+        Told {
+            answer: self.progress(slot, None, &reply),
+            waits,
+        }
     }
 
     // What a write or a completion is answered, by what was in flight before it.

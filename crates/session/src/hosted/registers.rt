@@ -7,11 +7,13 @@ ghost use Rattle.board.specs.declared.event.EventKind.{EventKind};
 ghost use Rattle.board.specs.HostedLine.{words_of};
 ghost use Rattle.board.specs.Within.{MayPutOut};
 ghost use Rattle.session.specs.declared.refusal.Refusal.{Refusal};
-ghost use Rattle.session.specs.Hosted.{HoldsUp, IsHostedCall, operation_at, progress_by};
+ghost use Rattle.session.specs.Hosted.{HoldsUp, IsHostedCall, hosted_waits_at, operation_at, progress_by};
 ghost use Rattle.session.specs.HostedAnswering.{hosted_served, hosted_value};
 
 use crate::hosted::{HostedProgress, HostedSession};
 use crate::refusal::Refusal;
+use crate::response::Replied;
+use crate::told::Told;
 use board::{Counters, DeviceKind, EventKind, Reply};
 use std::alloc::Allocator;
 
@@ -34,7 +36,7 @@ impl<A: Allocator + Copy> HostedSession<A> {
             offset,
             width,
         };
-        match self.step(slot, &what) {
+        match self.step(slot, &what).reply {
             Reply::Value(value) => Ok(value),
             reply => Err(Refusal::of_hosted(&reply)),
         }
@@ -51,16 +53,17 @@ impl<A: Allocator + Copy> HostedSession<A> {
         offset: u16,
         width: u8,
         value: u32,
-    ) -> Result<HostedProgress, Refusal>
+    ) -> Told<HostedProgress>
         ensures call { IsHostedCall {A = A} self.old slot
-            (EventKind.Write window offset width value) (hosted_served result) self.new }
-        ensures asks { IfOk result (λ progress.
+            (EventKind.Write window offset width value) (hosted_served result.answer) self.new }
+        ensures asks { IfOk result.answer (λ progress.
             progress ≡ progress_by (operation_at slot self.old) (operation_at slot self.new)) }
-        ensures bad_slot { IsErrOf result Refusal.BadSlot ↔ (length self.old.slots ≤ slot) }
-        ensures busy { IsErrOf result Refusal.Busy ↔
+        ensures bad_slot { IsErrOf result.answer Refusal.BadSlot ↔ (length self.old.slots ≤ slot) }
+        ensures busy { IsErrOf result.answer Refusal.Busy ↔
             HoldsUp {A = A} self.old.slots slot (EventKind.Write window offset width value) }
-        ensures no_room { IsErrOf result Refusal.NoRoom → IsSomeAnd (slice_get self.old.slots slot) (λ found.
+        ensures no_room { IsErrOf result.answer Refusal.NoRoom → IsSomeAnd (slice_get self.old.slots slot) (λ found.
             MayPutOut {A = A} found.slot (EventKind.Write window offset width value)) }
+        ensures waits { result.waits ≡ hosted_waits_at slot self.new }
     {
         let what = EventKind::Write {
             window,
@@ -69,8 +72,11 @@ impl<A: Allocator + Copy> HostedSession<A> {
             value,
         };
         let before = self.operation(slot);
-        let reply = self.step(slot, &what);
-        self.progress(slot, before, &reply)
+        let Replied { reply, waits } = self.step(slot, &what);
+        Told {
+            answer: self.progress(slot, before, &reply),
+            waits,
+        }
     }
 }
 

@@ -4,15 +4,16 @@ ghost use Rattle.std.specs.Prelude.{◌≡◌, ◌⊎◌, ◌<◌, ◌↔◌, le
 ghost use Rattle.chain.specs.declared.budget.Progress.{Progress};
 ghost use Rattle.board.specs.declared.event.EventKind.{EventKind};
 ghost use Rattle.session.specs.declared.refusal.Refusal.{Refusal};
-ghost use Rattle.session.specs.Answering.{done_response, typed_response};
+ghost use Rattle.session.specs.Answering.{IsDoneOrRefusing, done_response, typed_response};
 ghost use Rattle.session.specs.Course.{IsTaken};
 ghost use Rattle.session.specs.Pausing.{IsEventCall, taken_at};
-ghost use Rattle.session.specs.Session.{output_of};
+ghost use Rattle.session.specs.Session.{output_of, waits_at};
 
 use crate::paced::TurnKind;
 use crate::refusal::Refusal;
-use crate::response::Response;
+use crate::response::{Response, Turned};
 use crate::session::Session;
+use crate::told::Told;
 use crate::typed::Typed;
 use board::{EventKind, Pause, Reply};
 use chain::Progress;
@@ -55,15 +56,29 @@ impl<A: Allocator + Copy> Session<A> {
 
     /// Gives the guest's console another size, of which its driver is told. It is refused for a bad slot, and while a
     /// service of the slot is paused.
-    pub fn resize(&mut self, slot: u8, cols: u16, rows: u16) -> Result<(), Refusal>
+    pub fn resize(&mut self, slot: u8, cols: u16, rows: u16) -> Told<()>
         ensures call { IsEventCall {A = A} self.old slot (EventKind.Resize cols rows)
-            (done_response result) self.new }
+            (done_response result.answer) self.new }
+        ensures waits { result.waits ≡ waits_at slot self.new }
     {
         let what = EventKind::Resize { cols, rows };
-        match self.turn(slot, TurnKind::Begin(&what)) {
-            Response::Answered(Reply::Done) => Ok(()),
-            response => Err(Refusal::of(&response)),
+        let Turned { response, waits } = self.turn(slot, TurnKind::Begin(&what));
+        Told {
+            answer: done(response),
+            waits,
         }
+    }
+}
+
+// What an event is answered that has nothing to tell.
+#[inline(always)]
+fn done<A: Allocator>(response: Response<A>) -> Result<(), Refusal>
+    requires { IsDoneOrRefusing response }
+    ensures { response ≡ done_response result }
+{
+    match response {
+        Response::Answered(Reply::Done) => Ok(()),
+        response => Err(Refusal::of(&response)),
     }
 }
 

@@ -5,13 +5,15 @@ ghost use Rattle.std.specs.List.{slice_get};
 ghost use Rattle.std.specs.Option.{option_map};
 ghost use Rattle.board.specs.declared.event.EventKind.{EventKind};
 ghost use Rattle.board.specs.Slot.{interrupt_words};
-ghost use Rattle.session.specs.Answering.{served_response, value_response};
+ghost use Rattle.session.specs.Answering.{IsServing, served_response, value_response, went_on_to};
 ghost use Rattle.session.specs.Pausing.{IsEventCall, WentOn};
+ghost use Rattle.session.specs.Session.{waits_at};
 
 use crate::paced::TurnKind;
 use crate::refusal::Refusal;
-use crate::response::Response;
+use crate::response::{Response, Turned};
 use crate::session::Session;
+use crate::told::Told;
 use board::{Counters, DeviceKind, EventKind, Reply};
 use chain::Progress;
 use std::alloc::Allocator;
@@ -48,9 +50,10 @@ impl<A: Allocator + Copy> Session<A> {
         offset: u16,
         width: u8,
         value: u32,
-    ) -> Result<Progress, Refusal>
+    ) -> Told<Progress>
         ensures call { IsEventCall {A = A} self.old slot (EventKind.Write window offset width value)
-            (served_response result) self.new }
+            (served_response result.answer) self.new }
+        ensures waits { result.waits ≡ waits_at slot self.new }
     {
         let what = EventKind::Write {
             window,
@@ -58,26 +61,52 @@ impl<A: Allocator + Copy> Session<A> {
             width,
             value,
         };
-        match self.turn(slot, TurnKind::Begin(&what)) {
-            Response::Answered(Reply::Done) => Ok(Progress::Done),
-            Response::More => Ok(Progress::More),
-            response => Err(Refusal::of(&response)),
+        let Turned { response, waits } = self.turn(slot, TurnKind::Begin(&what));
+        Told {
+            answer: served(response),
+            waits,
         }
     }
 
     /// Goes on with the service of a slot that is paused, within the budget of one call, and answers as the write did
     /// that it serves. Where none is paused there is nothing left to do.
-    pub fn go_on<'s>(&'s mut self, slot: u8) -> Result<Progress, Refusal>
-        ensures call { WentOn A self.old slot result self.new }
+    pub fn go_on<'s>(&'s mut self, slot: u8) -> Told<Progress>
+        ensures call { WentOn A self.old slot result.answer self.new }
+        ensures waits { result.waits ≡ waits_at slot self.new }
     {
         let kind: TurnKind<'s, A> = TurnKind::Resume;
-        match self.turn(slot, kind) {
-            Response::Answered(Reply::BadSlot) => Err(Refusal::BadSlot),
-            Response::Answered(Reply::NoMemory) => Err(Refusal::NoRoom),
-            Response::Answered(_) | Response::Idle => Ok(Progress::Done),
-            Response::More => Ok(Progress::More),
-            Response::Busy => Err(Refusal::Busy),
+        let Turned { response, waits } = self.turn(slot, kind);
+        Told {
+            answer: went_on(response),
+            waits,
         }
+    }
+}
+
+// What a write is answered.
+#[inline(always)]
+fn served<A: Allocator>(response: Response<A>) -> Result<Progress, Refusal>
+    requires { IsServing response }
+    ensures { response ≡ served_response result }
+{
+    match response {
+        Response::Answered(Reply::Done) => Ok(Progress::Done),
+        Response::More => Ok(Progress::More),
+        response => Err(Refusal::of(&response)),
+    }
+}
+
+// What is told of a service that went on.
+#[inline(always)]
+fn went_on<A: Allocator>(response: Response<A>) -> Result<Progress, Refusal>
+    ensures { result ≡ went_on_to response }
+{
+    match response {
+        Response::Answered(Reply::BadSlot) => Err(Refusal::BadSlot),
+        Response::Answered(Reply::NoMemory) => Err(Refusal::NoRoom),
+        Response::Answered(_) | Response::Idle => Ok(Progress::Done),
+        Response::More => Ok(Progress::More),
+        Response::Busy => Err(Refusal::Busy),
     }
 }
 

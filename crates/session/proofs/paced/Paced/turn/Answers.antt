@@ -6,7 +6,7 @@ use Rattle.session.proofs.paced.Paced.turn.Goals as goal
 pub returns-in-Ok-clause-call : goal.returns-in-Ok-clause-call
 returns-in-Ok-clause-call g c =
     let t = c.turn-taken in
-    rw (c.note.ensures.told, c.note.ensures.paused)
+    rw (c.note-response.ensures.told, c.note-response.ensures.paused)
     (turn_taken g.I.Image.disk (g.O.Outlet.limit c.args.out.now) c.self.view_is c.self.invariant c.args.slot
     c.args.kind c.waiting.ensures t.result.turn t.new.self t.result.block_irq t.result.console_irq
     (g.O.Outlet.bytes c.args.out.now) (g.O.Outlet.bytes t.new.out) c.in-Ok.work
@@ -23,6 +23,7 @@ returns-in-Ok-clause-call g c =
 
 pub returns-in-Err-clause-call : goal.returns-in-Err-clause-call
 returns-in-Err-clause-call g c =
-    turn_refused g.I.Image.disk (g.O.Outlet.limit c.args.out.now) c.self.view_is c.self.invariant c.args.slot
+    rw (c.shown.ensures.response)
+    (turn_refused g.I.Image.disk (g.O.Outlet.limit c.args.out.now) c.self.view_is c.self.invariant c.args.slot
     c.args.kind c.waiting.ensures c.in-Err.response (g.O.Outlet.bytes c.args.out.now)
-    (sym c.work.ensures ∙ c.in-Err.is)
+    (sym c.work.ensures ∙ c.in-Err.is))

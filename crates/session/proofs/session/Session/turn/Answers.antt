@@ -1,10 +1,12 @@
 -- What the board comes to is what the session does.
 use Rattle.std.proofs.Common.{◌≡◌, ◌≤◌, length, refl, sym, ◌∙◌, arith, Some}
 use Rattle.std.specs.List.{slice_get}
-use Rattle.std.proofs.lemmas.Option.{slice_get_read}
+use Rattle.board.specs.Slot.{interrupt_words}
+use Rattle.std.proofs.lemmas.Option.{slice_get_past, slice_get_read}
 use Rattle.std.proofs.lemmas.List.{length-set}
 use Rattle.session.proofs.SessionTurns.{Turned, as_many_paused, now, suits_past, turn_past, turned, was}
 use Rattle.session.proofs.Steps.{as_many}
+use Rattle.session.proofs.Telling.{turned_waits}
 use Rattle.session.proofs.session.Session.turn.Goals as goal
 
 pub returns-in_default : goal.returns-in_default
@@ -16,6 +18,7 @@ returns-in_default g c =
       call = rw (← c.self.view_is) (turn_past _ c.args.slot c.args.kind far past).call;
       whole = rw (← c.self.view_is) (turn_past _ c.args.slot c.args.kind far past).whole;
       suits = suits_past c.args.kind;
+      waits = rw (slice_get_past c.self.inside.paced.board.slots c.args.slot past) refl;
     }
 
 -- the output of that number
@@ -29,29 +32,29 @@ there g c =
 -- the turn of the board is one of the session
 taken : (g : _) (c : goal.After-self-2-1 g)
     → Turned
-    (was c.self.inside.paced c.turn.new.paced c.self.inside.outputs.items c.args.slot c.in-Some.output.now
-    c.turn.new.self c.turn.result (there g c) (c.self.invariant.1 ∙ sym c.self.invariant.0) c.self.invariant.0
-    c.turn.ensures.limit) c.args.slot c.args.kind c.turn.result
-    (now c.self.inside.paced c.turn.new.paced c.self.inside.outputs.items c.args.slot c.in-Some.output.now
-    c.turn.new.self c.turn.result (there g c) (c.self.invariant.1 ∙ sym c.self.invariant.0) c.self.invariant.0
-    c.turn.ensures.limit c.turn.new.paced.budget)
+    (was c.self.inside.paced c.turn-shown.new.paced c.self.inside.outputs.items c.args.slot c.in-Some.output.now
+    c.turn-shown.new.self c.turn-shown.result.response (there g c) (c.self.invariant.1 ∙ sym c.self.invariant.0) c.self.invariant.0
+    c.turn-shown.ensures.limit) c.args.slot c.args.kind c.turn-shown.result.response
+    (now c.self.inside.paced c.turn-shown.new.paced c.self.inside.outputs.items c.args.slot c.in-Some.output.now
+    c.turn-shown.new.self c.turn-shown.result.response (there g c) (c.self.invariant.1 ∙ sym c.self.invariant.0) c.self.invariant.0
+    c.turn-shown.ensures.limit c.turn-shown.new.paced.budget)
 taken g c =
-    turned c.self.inside.paced c.turn.new.paced c.self.inside.outputs.items c.args.slot c.in-Some.output.now
-    c.turn.new.self
-    c.turn.result (there g c) (c.self.invariant.1 ∙ sym c.self.invariant.0) c.self.invariant.0
-    c.turn.ensures.limit
-    c.args.kind c.requires c.turn.ensures.call
+    turned c.self.inside.paced c.turn-shown.new.paced c.self.inside.outputs.items c.args.slot c.in-Some.output.now
+    c.turn-shown.new.self
+    c.turn-shown.result.response (there g c) (c.self.invariant.1 ∙ sym c.self.invariant.0) c.self.invariant.0
+    c.turn-shown.ensures.limit
+    c.args.kind c.requires c.turn-shown.ensures.call
 
 pub invariant_of-self-2 : goal.invariant_of-self-2
 invariant_of-self-2 g c =
-    let many = sym (as_many c.self.inside.paced.board.slots c.turn.new.paced.board.slots
-    c.turn.ensures.call.extents) in (
-      length-set c.self.inside.outputs.items c.args.slot c.turn.new.self ∙ (c.self.invariant.0 ∙ many),
-      (as_many_paused c.self.inside.paced c.turn.new.paced c.self.inside.outputs.items c.args.slot
-          c.in-Some.output.now c.turn.new.self
-          c.turn.result (there g c) (c.self.invariant.1 ∙ sym c.self.invariant.0) c.self.invariant.0
-          c.turn.ensures.limit
-          c.args.kind c.turn.ensures.call ∙ c.self.invariant.1) ∙ many,
+    let many = sym (as_many c.self.inside.paced.board.slots c.turn-shown.new.paced.board.slots
+    c.turn-shown.ensures.call.extents) in (
+      length-set c.self.inside.outputs.items c.args.slot c.turn-shown.new.self ∙ (c.self.invariant.0 ∙ many),
+      (as_many_paused c.self.inside.paced c.turn-shown.new.paced c.self.inside.outputs.items c.args.slot
+          c.in-Some.output.now c.turn-shown.new.self
+          c.turn-shown.result.response (there g c) (c.self.invariant.1 ∙ sym c.self.invariant.0) c.self.invariant.0
+          c.turn-shown.ensures.limit
+          c.args.kind c.turn-shown.ensures.call ∙ c.self.invariant.1) ∙ many,
     )
 
 pub returns-clause-call : goal.returns-clause-call
@@ -62,3 +65,15 @@ returns-clause-whole g c = rw (← c.self.view_is) (taken g c).whole
 
 pub returns-clause-suits : goal.returns-clause-suits
 returns-clause-suits g c = (taken g c).suits
+
+pub returns-clause-waits : goal.returns-clause-waits
+returns-clause-waits g c =
+    turned_waits interrupt_words c.turn-shown.new.paced.board.slots c.self.inside.outputs.items c.args.slot c.in-Some.output.now
+    c.turn-shown.new.self c.turn-shown.result.block_irq c.turn-shown.result.console_irq c.len.result
+    (omega (
+      arith,
+      c.in-Some.ensures.variant.0 refl,
+      c.self.invariant.0,
+      as_many c.self.inside.paced.board.slots c.turn-shown.new.paced.board.slots
+          c.turn-shown.ensures.call.extents,
+    )) (there g c) c.turn-shown.ensures.shown c.len.ensures
