@@ -1,7 +1,7 @@
 -- Numbers spelled by digits: what their spelling looks like, and how it grows by one digit.
-use Rattle.std.proofs.Common.{◌≡◌, ℕ, zero, suc, ◌+◌, ◌-◌, ◌*◌, ◌/◌, ◌%◌, ◌^◌, ◌<◌, ◌≤◌, List, [], ◌∷◌, ◌++◌, length, get_or, take, map, refl, sym, ap, ◌∙◌, arith, inl, inr, add-one}
+use Rattle.std.proofs.Common.{◌≡◌, ℕ, zero, suc, ◌+◌, ◌-◌, ◌*◌, ◌/◌, ◌%◌, ◌^◌, ◌<◌, ◌≤◌, List, [], ◌∷◌, ◌++◌, length, get_or, take, map, refl, sym, ap, subst, ◌∙◌, arith, inl, inr, add-one}
 use Rattle.std.proofs.lemmas.Bool.{cases_eq, cases_lt}
-use Rattle.std.proofs.lemmas.List.{map-append, length-map, take_more, get_or-map, length-append, get_or-take, same_from_push}
+use Rattle.std.proofs.lemmas.List.{map-append, length-map, take_more, get_or-map, length-append, get_or-take, same_from_push, take_all}
 use Rattle.std.proofs.lemmas.Int.Digits.{digits_of_step, length-digits_of-le, all_below_base_digits_of, first_digits_of, same_from_digits_of, length-digits_of_step}
 use Rattle.std.specs.Int.Digits.{digits_of, AllBelowBase}
 use Rattle.std.specs.List.{AllByRecursion}
@@ -9,7 +9,7 @@ use Rattle.std.specs.Prelude.{Option, Result, Ok, Err, IfNone}
 use Rattle.std.specs.Result.{OkIff, result_ok}
 use Rattle.std.proofs.Math.Nat.{pow-le-pow_right}
 use Rattle.hexadecimal.specs.Spelling.{digit, num, fixed}
-use Rattle.hexadecimal.specs.Fields.{IsNum, IsDigit}
+use Rattle.hexadecimal.specs.Fields.{IsDigit, IsFixed, IsNum}
 use Rattle.hexadecimal.proofs.Digits.{same_digit}
 
 abbrev pub AreDigits : List ℕ → Type 0
@@ -227,6 +227,20 @@ reads_fixed_more field i n d c r lt is small e =
           ∙ ap (λ (xs : List ℕ). xs ++ digit d ∷ []) r.spelled ∙ sym (fixed_push i n d small);
       below = let b = r.below in rw add-one (omega arith);
     }
+
+-- each byte of a field of so many digits is one
+pub digit_in_fixed : (field : List ℕ) (k n i : ℕ) → field ≡ fixed k n → i < length field
+    → IsDigit (get_or field i 0)
+digit_in_fixed field k n i e lt = digit_at field i (subst AreDigits (sym e) (are_digits_fixed k n)) lt
+
+-- what all bytes of a field say is the number that it spells
+pub one_fixed : (field : List ℕ) (i m k n : ℕ) → ReadsFixed field i m → length field ≤ i → IsFixed k field n
+    → m ≡ n
+one_fixed field i m k n r whole h =
+    let all : fixed i m ≡ fixed k n = sym r.spelled ∙ take_all i field whole ∙ h.spelled in
+    let long : i ≡ k = sym (length_fixed i m) ∙ ap length all ∙ length_fixed k n in
+    same_fixed k m n (subst (λ (j : ℕ). m < 16 ^ j) long r.below) h.fits
+    (ap (λ (j : ℕ). fixed j m) (sym long) ∙ all)
 
 -- ---- what no number spells
 

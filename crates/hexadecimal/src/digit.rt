@@ -1,6 +1,7 @@
 //! One hexadecimal digit, from its value and back.
 
 ghost use Rattle.std.specs.Prelude.{◌≡◌, ◌≢◌, ◌<◌, ℕ, IfSome, IfNone};
+ghost use Rattle.hexadecimal.specs.Fields.{IsDigit, IsValue};
 ghost use Rattle.hexadecimal.specs.Spelling.{digit};
 
 /// What stands in the table for a byte that is no digit.
@@ -29,6 +30,15 @@ pub fn value_of(c: u8) -> Option<u8>
 {
     let value = VALUES[c as usize];
     if value < NO { Some(value) } else { None }
+}
+
+/// The value of a byte that is known to be a lower case digit. It is not tested.
+#[inline(always)]
+pub fn value_at(c: u8) -> u8
+    requires { IsDigit c }
+    ensures { IsValue c result }
+{
+    VALUES[c as usize]
 }
 
 /// The lower case digit of each value.

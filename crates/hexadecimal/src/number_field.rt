@@ -1,9 +1,9 @@
 //! Fields that spell numbers.
 
-ghost use Rattle.std.specs.Prelude.{◌≤◌, ℕ, IfSome, IfNone, OnSome};
-ghost use Rattle.hexadecimal.specs.Fields.{IsNum, IsFixed, SpellsNumber};
+ghost use Rattle.std.specs.Prelude.{◌≡◌, ◌≤◌, ℕ, IfSome, IfNone, OnSome};
+ghost use Rattle.hexadecimal.specs.Fields.{IsNum, IsFixed, SpellsFixed, SpellsNumber};
 
-use crate::digit::value_of;
+use crate::digit::{value_at, value_of};
 
 /// The digits of the largest number.
 const MOST_DIGITS: usize = 16;
@@ -69,4 +69,17 @@ pub fn fixed_number(field: &[u8], digits: usize) -> Option<u32>
         n = n * 16 + u32::from(value_of(*c)?);
     }
     Some(n)
+}
+
+/// The number that a field of at most eight digits is known to spell. They are not tested.
+#[inline(always)]
+pub fn fixed_value(field: &[u8]) -> u32
+    requires { SpellsFixed field.now }
+    ensures { (digits n : ℕ) → IsFixed digits field.now n → result ≡ n }
+{
+    let mut n: u32 = 0;
+    for c in field {
+        n = n * 16 + u32::from(value_at(*c));
+    }
+    n
 }

@@ -22,3 +22,5 @@ pub mod Printed
 pub mod RecordLines
 pub mod Sending
 pub mod Passing
+pub mod EventLines
+pub mod Trusting

@@ -30,7 +30,8 @@ pub use print::{
 };
 pub use read::{
     ParsedEvent, Validated, event_of_line, field_at_fault, first_word, line_of, read_bytes,
-    read_trace, spelled_len, take_event, validate,
+    read_trace, spelled_len, take_event, take_input, take_mem_write, take_read, take_write,
+    validate,
 };
 pub use round_trip::read_back;
 pub use table::{Field, fields_after};

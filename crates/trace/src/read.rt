@@ -26,6 +26,7 @@ mod number;
 mod offset;
 mod parsed_event;
 mod regions;
+mod trusting;
 mod validating;
 mod values;
 
@@ -40,6 +41,7 @@ pub use crate::read::event_line::event_of_line;
 pub use crate::read::events::take_event;
 use crate::read::fields::disks_of;
 pub use crate::read::parsed_event::ParsedEvent;
+pub use crate::read::trusting::{take_input, take_mem_write, take_read, take_write};
 pub use crate::read::validating::{Validated, validate};
 use crate::trace::Trace;
 use crate::version::version_of;

@@ -109,7 +109,8 @@ pub fn put_fields<W: Write, A: Allocator, B: Allocator>(
     put_words(buffer, out, words, end);
 }
 
-// Puts the line of a value without output, all of it at once.
+// Puts the line of a value without output, all of it at once. It is read into its caller, as reads of registers are many.
+#[inline(always)]
 fn put_value<W: Write, B: Allocator>(
     buffer: &mut Buffer<B>,
     out: &mut W,

@@ -17,7 +17,7 @@ use std::alloc::Allocator;
 /// The event of the first line, and what follows that.
 #[inline(always)]
 pub fn take_event<A: Allocator + Copy>(alloc: A, rest: &[u8]) -> (ParsedEvent<'_, A>, &[u8])
-    requires { BeginsWithEvent rest.now }
+    requires { BeginsWithEvent A rest.now }
     ensures { TakesEvent rest.now result.0 result.1.now }
 {
     if let Some(taken) = take_fast(alloc, rest) {

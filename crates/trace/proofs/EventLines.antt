@@ -1,0 +1,98 @@
+-- The line of an event: it is refused in no way, and what is taken off a text that begins with it.
+use Rattle.std.proofs.Common.{◌≡◌, ◌≢◌, ℕ, List, [], ◌∷◌, All, get_or, true, refl, sym, ap, subst, ◌∙◌, arith, inr}
+use Rattle.std.proofs.lemmas.List.Elements.{All-cons, All-nil}
+use Rattle.board.specs.declared.event.Event.{Event}
+use Rattle.trace.specs.declared.disks.Disks.TheVariants.{Cached}
+use Rattle.trace.specs.declared.fault.FaultKind.{FaultKind}
+use Rattle.trace.specs.declared.fault.FaultKind.TheVariants as kind
+use Rattle.trace.specs.declared.read.parsed_event.ParsedEvent.{ParsedEvent}
+use Rattle.trace.specs.Cuts.{lines_of}
+use Rattle.trace.specs.Events.{BeginsWithEvent, IsLineOf, TakesEvent}
+use Rattle.trace.specs.ParsedEvent.{IsFineParsed, parsed_fields}
+use Rattle.trace.specs.Printable.{IsPrintableSlot, SlotInRange}
+use Rattle.trace.specs.Refusals.{IsFine, RefusesLine}
+use Rattle.trace.specs.Text.{Content, event_fields, event_line, joined, text, trace_lines, word_for}
+use Rattle.trace.proofs.Entries.{cut_event, entered_event}
+use Rattle.trace.proofs.Printed.{joined_append}
+use Rattle.trace.proofs.Signs.{Above, lines_of-joined, lines_of-line}
+use Rattle.trace.proofs.Sofar.{Fits, Sofar, is_refused, push_event}
+use Rattle.trace.proofs.Unique.{no_fault}
+use Rattle.trace.proofs.Versions.{word_of_3}
+
+-- ---- a trace of these events alone
+
+abbrev pub alone : {A : Type 0} → List (Event A) → Content A
+alone events = record { version = 3; disks = Cached 0; slots = []; events = events }
+
+pub alone_fits : {A : Type 0} (events : List (Event A)) → All IsFine events → Fits (alone events)
+alone_fits events fine = record {
+  range = record { disks = omega arith; slots = All-nil SlotInRange; events = λ k d lt. (fine k d lt).fits };
+  printable = record {
+    version = inr (inr refl);
+    disks = tt;
+    slots = All-nil (IsPrintableSlot 3);
+    events = λ k d lt. (fine k d lt).printable;
+    words =
+        λ k d lt. word_of_3 (word_for (get_or events k d).what);
+  };
+}
+
+-- ---- the line of an event
+
+pub unbroken : {A : Type 0} (e : Event A) → IsFine e → Above 10 (event_line e)
+unbroken e fine = (entered_event 3 e fine (word_of_3 (word_for e.what))).entry.unbroken
+
+-- lines cut after the first
+pub first_cut : (l : List ℕ) (ls : List (List ℕ)) → Above 10 l
+    → lines_of (joined (l ∷ ls)) ≡ l ∷ lines_of (joined ls)
+first_cut l ls h = ap lines_of (joined_append (l ∷ []) ls) ∙ lines_of-joined (l ∷ []) (joined ls) (h, tt)
+
+-- it is refused in no way: it would be a fault of a text of two such lines
+refused_not : {A : Type 0} (e : Event A) (fault : FaultKind) → IsFine e → fault ≢ kind.NoMemory
+    → RefusesLine 3 true (event_line e) fault → ⊥
+refused_not {A} e fault fine known h =
+    let one : Content A = alone (e ∷ []) in
+    let two : Content A = alone (e ∷ e ∷ []) in
+    let all : All IsFine (e ∷ e ∷ []) =
+    All-cons IsFine e (e ∷ []) fine (All-cons IsFine e [] fine (All-nil IsFine)) in
+    let rest : List ℕ = joined (event_line e ∷ []) in
+    let so : Sofar (text two) one 4 rest = record {
+      spelled = ap joined (push_event one e) ∙ joined_append (trace_lines one) (event_line e ∷ []);
+      fits = alone_fits (e ∷ []) (All-cons IsFine e [] fine (All-nil IsFine));
+      count = refl;
+    } in
+    no_fault (text two) two 4 fault (alone_fits (e ∷ e ∷ []) all) refl
+    (is_refused (text two) one 4 rest so true (event_line e) (joined []) fault
+    (first_cut (event_line e) [] (unbroken e fine)) (λ _. omega arith) (λ no'. absurd cc) h known)
+
+pub never_refused : {A : Type 0} (e : Event A) → IsFine e → (fault : FaultKind)
+    → RefusesLine 3 true (event_line e) fault → ⊥
+never_refused e fine kind.NoMemory h = h.refused
+never_refused e fine fault h = refused_not e fault fine (λ is. cc) h
+
+-- ---- a text that begins with it
+
+-- it is cut behind that line
+pub cut_behind : {A : Type 0} (text : List ℕ) (e : Event A) (after : List ℕ) → IsLineOf text e after
+    → lines_of text ≡ event_line e ∷ lines_of after
+cut_behind text e after h = ap lines_of h.is ∙ lines_of-line (event_line e) after (unbroken e h.fine)
+
+-- the line that was cut off is refused in no way
+pub cut_never_refused : (A : Type 0) (text line rest : List ℕ) → BeginsWithEvent A text
+    → lines_of text ≡ line ∷ lines_of rest → (fault : FaultKind) → ¬ RefusesLine 3 true line fault
+cut_never_refused A text line rest h cut fault refused =
+    let same : event_line h.event ≡ line =
+    ap (λ (ls : List (List ℕ)). get_or ls 0 []) (sym (cut_behind text h.event h.after h.begins) ∙ cut) in
+    never_refused h.event h.begins.fine fault
+    (subst (λ (l : List ℕ). RefusesLine 3 true l fault) (sym same) refused)
+
+-- what says the same fields was taken off
+pub line_taken : {A : Type 0} (s : ParsedEvent A) (e : Event A) (text after : List ℕ) → IsLineOf text e after
+    → event_fields e ≡ parsed_fields s → IsFineParsed s → TakesEvent text s after
+line_taken s e text after h same fine = record {
+  line = event_line e;
+  ended = h.is;
+  lines = cut_behind text e after h;
+  fields = cut_event e h.fine ∙ same;
+  fine = fine;
+}

@@ -1,0 +1,100 @@
+use Rattle.std.proofs.Common.{◌∷◌, arith, length-drop}
+use Rattle.std.proofs.lemmas.List.{take_rest}
+use Rattle.trace.proofs.Trusting.{access_long, behind_value, slot_long, value_behind, value_long, write_behind, write_parts, write_taken}
+use Rattle.trace.proofs.read.trusting.take_write.Goals as goal
+
+pub slot_in-slot-requires-clause-begins : goal.slot_in-slot-requires-clause-begins
+slot_in-slot-requires-clause-begins g c = let p = write_parts _ c.args.rest.now c.requires in
+    record { slot = p.slot; after = p.behind; has = p.has_slot }
+
+pub slot_in-slot-requires-clause-long : goal.slot_in-slot-requires-clause-long
+slot_in-slot-requires-clause-long g c = let p = write_parts _ c.args.rest.now c.requires in
+    slot_long c.args.rest.now p.slot p.behind p.has_slot
+
+pub access_in-window-requires-clause-begins : goal.access_in-window-requires-clause-begins
+access_in-window-requires-clause-begins g c =
+    let p = write_parts _ c.args.rest.now c.requires in
+    let at = write_behind _ c.args.rest.now p c.slot_in-slot.result.0 c.slot_in-slot.result.1.now
+    c.slot_in-slot.ensures in
+    record { kind = p.kind; offset = p.offset; width = p.width; after = 32 ∷ p.field; has = at.1 }
+
+pub access_in-window-requires-clause-long : goal.access_in-window-requires-clause-long
+access_in-window-requires-clause-long g c =
+    let p = write_parts _ c.args.rest.now c.requires in
+    let at = write_behind _ c.args.rest.now p c.slot_in-slot.result.0 c.slot_in-slot.result.1.now
+    c.slot_in-slot.ensures in
+    omega (arith, access_long c.slot_in-slot.result.1.now p.kind p.offset p.width (32 ∷ p.field) at.1)
+
+pub slice_bounds-value_in-count : goal.slice_bounds-value_in-count
+slice_bounds-value_in-count g c =
+    let p = write_parts _ c.args.rest.now c.requires in
+    let at = write_behind _ c.args.rest.now p c.slot_in-slot.result.0 c.slot_in-slot.result.1.now
+    c.slot_in-slot.ensures in
+    omega (arith, access_long c.slot_in-slot.result.1.now p.kind p.offset p.width (32 ∷ p.field) at.1)
+
+pub slice_bounds-value_in-start : goal.slice_bounds-value_in-start
+slice_bounds-value_in-start g c =
+    let p = write_parts _ c.args.rest.now c.requires in
+    let at = write_behind _ c.args.rest.now p c.slot_in-slot.result.0 c.slot_in-slot.result.1.now
+    c.slot_in-slot.ensures in
+    omega (arith, access_long c.slot_in-slot.result.1.now p.kind p.offset p.width (32 ∷ p.field) at.1)
+
+pub value_in-value-requires-clause-begins : goal.value_in-value-requires-clause-begins
+value_in-value-requires-clause-begins g c =
+    let p = write_parts _ c.args.rest.now c.requires in
+    let at = write_behind _ c.args.rest.now p c.slot_in-slot.result.0 c.slot_in-slot.result.1.now
+    c.slot_in-slot.ensures in
+    let same = c.access_in-window.ensures p.kind p.offset p.width (32 ∷ p.field) at.1 in
+    record {
+      value = p.value;
+      after = p.after;
+      has = rw take_rest (value_behind _ c.args.rest.now p c.slot_in-slot.result.1.now
+          c.access_in-window.result.2 at.1 same.2);
+    }
+
+pub value_in-value-requires-clause-long : goal.value_in-value-requires-clause-long
+value_in-value-requires-clause-long g c =
+    let p = write_parts _ c.args.rest.now c.requires in
+    let at = write_behind _ c.args.rest.now p c.slot_in-slot.result.0 c.slot_in-slot.result.1.now
+    c.slot_in-slot.ensures in
+    let same = c.access_in-window.ensures p.kind p.offset p.width (32 ∷ p.field) at.1 in
+    let has = value_behind _ c.args.rest.now p c.slot_in-slot.result.1.now
+    c.access_in-window.result.2 at.1 same.2 in
+    rw take_rest (omega (arith, value_long _ _ _ _ has))
+
+pub slice_bounds-after-count : goal.slice_bounds-after-count
+slice_bounds-after-count g c =
+    let p = write_parts _ c.args.rest.now c.requires in
+    let at = write_behind _ c.args.rest.now p c.slot_in-slot.result.0 c.slot_in-slot.result.1.now
+    c.slot_in-slot.ensures in
+    let same = c.access_in-window.ensures p.kind p.offset p.width (32 ∷ p.field) at.1 in
+    let has = value_behind _ c.args.rest.now p c.slot_in-slot.result.1.now
+    c.access_in-window.result.2 at.1 same.2 in
+    omega (arith, value_long _ _ _ _ has, length-drop 8 c.slot_in-slot.result.1.now)
+
+pub slice_bounds-after-start : goal.slice_bounds-after-start
+slice_bounds-after-start g c =
+    let p = write_parts _ c.args.rest.now c.requires in
+    let at = write_behind _ c.args.rest.now p c.slot_in-slot.result.0 c.slot_in-slot.result.1.now
+    c.slot_in-slot.ensures in
+    let same = c.access_in-window.ensures p.kind p.offset p.width (32 ∷ p.field) at.1 in
+    let has = value_behind _ c.args.rest.now p c.slot_in-slot.result.1.now
+    c.access_in-window.result.2 at.1 same.2 in
+    omega (arith, value_long _ _ _ _ has, length-drop 8 c.slot_in-slot.result.1.now)
+
+pub returns : goal.returns
+returns g c =
+    let p = write_parts _ c.args.rest.now c.requires in
+    let at = write_behind _ c.args.rest.now p c.slot_in-slot.result.0 c.slot_in-slot.result.1.now
+    c.slot_in-slot.ensures in
+    let same = c.access_in-window.ensures p.kind p.offset p.width (32 ∷ p.field) at.1 in
+    let has = value_behind _ c.args.rest.now p c.slot_in-slot.result.1.now
+    c.access_in-window.result.2 at.1 same.2 in
+    let value = c.value_in-value.ensures p.value p.after (rw take_rest has) in
+    rw take_rest (
+    write_taken _ c.args.rest.now p c.plain.result c.slot_in-slot.result.0 c.access_in-window.result.1
+    c.access_in-window.result.2 c.value_in-value.result c.access_in-window.result.0 _ at.0 same.0 same.1
+    same.2 value
+    (behind_value c.slot_in-slot.result.1.now c.access_in-window.result.2 p.value p.after has)
+    c.plain.ensures.event c.plain.ensures.bytes
+    )
