@@ -49,8 +49,8 @@ latched : (failed : Bool) (a b c : ℕ) → a ≤ b → b ≤ c
 latched true a b c h k = refl
 latched false a b c h k = both_less (nat_lt a b) (nat_lt b c) a b c refl refl h k
 
-module _ {I : Type 0} (disk : I → Disk) (moment : I → ℕ) (may_leave : I → List ℕ → Type 0) (left_since : I → ℕ
-    → List ℕ → Type 0) where
+module _ {I : Type 0} (disk : I → Disk) (moment : I → ℕ) (may_leave : I → List ℕ → Type 0)
+    (left_since : I → ℕ → List ℕ → Type 0) where
   abbrev Keeps : BlockDevice → BlockDevice → Bool → Bool → I → I → Type 0
   Keeps device device' failed failed' old new =
       KeepsImage disk moment may_leave left_since device device' failed failed' old new

@@ -285,38 +285,38 @@ segment_stops extent old d d' payload n segment z is below stops =
 
 -- these segments were zeroed so far
 module _ (device : BlockDevice) (buffers : List Buffer) (m : Memory) (disk d disk' : Disk) (segments n : ℕ)
-    (z : IsZeroed device.extent
-    (all_sectors (first_segments (payload_of (readable_of m buffers)) n)) disk d) where
-  abbrev payload : List ℕ
-  payload = payload_of (readable_of m buffers)
+    (z : IsZeroed device.extent (all_sectors (first_segments (payload_of (readable_of m buffers)) n)) disk d)
+  where
+    abbrev payload : List ℕ
+    payload = payload_of (readable_of m buffers)
 
-  abbrev shown : Disk → Disk
-  shown disk = extent_disk device.extent disk
+    abbrev shown : Disk → Disk
+    shown disk = extent_disk device.extent disk
 
-  -- the image fails in the next one
-  pub zeroes_stopped : (segment : WriteZeroesSegment) → segment ≡ segment_at payload n
-      → n < length payload / 16 → StopsZeroing device.extent (sectors_of segment) d disk'
-      → IsWritten device (WriteZeroes segments) buffers m IoError disk disk'
-  zeroes_stopped segment is below stops =
-      let s = segment_stops device.extent disk d disk' payload n segment z is below stops in
-      record {
-        done = nothing_found (WriteZeroes segments) buffers m (shown disk) (shown disk') IoError
-            (inr (inl (record { left = shown disk'; stopped = s.stopped; is = refl })));
-        calls = record {
-          counted = stopped-failures (all_sectors (segments_in payload)) (shown disk) (shown disk') s.stopped;
-          outside = s.outside;
-        };
-      }
+    -- the image fails in the next one
+    pub zeroes_stopped : (segment : WriteZeroesSegment) → segment ≡ segment_at payload n
+        → n < length payload / 16 → StopsZeroing device.extent (sectors_of segment) d disk'
+        → IsWritten device (WriteZeroes segments) buffers m IoError disk disk'
+    zeroes_stopped segment is below stops =
+        let s = segment_stops device.extent disk d disk' payload n segment z is below stops in
+        record {
+          done = nothing_found (WriteZeroes segments) buffers m (shown disk) (shown disk') IoError
+              (inr (inl (record { left = shown disk'; stopped = s.stopped; is = refl })));
+          calls = record {
+            counted = stopped-failures (all_sectors (segments_in payload)) (shown disk) (shown disk') s.stopped;
+            outside = s.outside;
+          };
+        }
 
-  -- all of them are zeroed, and the flush has come out
-  pub zeroes_end : {E : Type 0} (result : Result (Unit {0}) E) → length payload ≡ 16 * segments → n ≡ segments
-      → OnOk result (disk' ≡ flushed d) → OnErr result (disk' ≡ failed d)
-      → IsWritten device (WriteZeroes segments) buffers m (status_of result) disk disk'
-  zeroes_end result size all ok err =
-      let sectors : List ℕ = all_sectors (segments_in payload) in
-      let whole : n ≡ length payload / 16 = omega (arith, size, all) in
-      let seen : shown d ≡ zeroed_sectors sectors (shown disk) =
-      z.seen ∙ ap (λ k. zeroed_sectors (all_sectors (first_segments payload k)) (shown disk)) whole in
-      flush_ends device (WriteZeroes segments) buffers m disk d (zeroed_sectors sectors (shown disk)) seen
-      (ap (λ (d : Disk). d.failures) seen ∙ zeroed-failures sectors (shown disk)) z.outside
-      disk' result ok err (inl (record { found = []; finds = refl; is = refl })) (inr (inr refl))
+    -- all of them are zeroed, and the flush has come out
+    pub zeroes_end : {E : Type 0} (result : Result (Unit {0}) E) → length payload ≡ 16 * segments → n ≡ segments
+        → OnOk result (disk' ≡ flushed d) → OnErr result (disk' ≡ failed d)
+        → IsWritten device (WriteZeroes segments) buffers m (status_of result) disk disk'
+    zeroes_end result size all ok err =
+        let sectors : List ℕ = all_sectors (segments_in payload) in
+        let whole : n ≡ length payload / 16 = omega (arith, size, all) in
+        let seen : shown d ≡ zeroed_sectors sectors (shown disk) =
+        z.seen ∙ ap (λ k. zeroed_sectors (all_sectors (first_segments payload k)) (shown disk)) whole in
+        flush_ends device (WriteZeroes segments) buffers m disk d (zeroed_sectors sectors (shown disk)) seen
+        (ap (λ (d : Disk). d.failures) seen ∙ zeroed-failures sectors (shown disk)) z.outside
+        disk' result ok err (inl (record { found = []; finds = refl; is = refl })) (inr (inr refl))

@@ -34,8 +34,8 @@ sectors_of_chain device readable zero = []
 sectors_of_chain device readable (suc room) =
     on_image device.extent (written_sectors (request_of device readable room) (payload_of readable))
 
-module _ {I : Type 0} (disk : I → Disk) (moment : I → ℕ) (may_leave : I → List ℕ → Type 0) (left_since : I → ℕ
-    → List ℕ → Type 0) where
+module _ {I : Type 0} (disk : I → Disk) (moment : I → ℕ) (may_leave : I → List ℕ → Type 0)
+    (left_since : I → ℕ → List ℕ → Type 0) where
   -- A chain is served over an image: as over its extent as a disk, whether or not the image fails, and at
   -- each moment only the sectors of its request are touched.
   pub record GivesOver (device : BlockDevice) (image : I) (readable : List ℕ) (w : ℕ)

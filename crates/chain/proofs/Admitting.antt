@@ -81,8 +81,8 @@ module _ (m : Memory) where
   cause b buffers (inl inside) (inr full) = TooMany
   cause b buffers (inl inside) (inl room) = TooLong
 
-  is_cause : (buffers : List Buffer) (b : Buffer) (f : Fault) (inside : Within m b
-      ⊎ (¬ Within m b)) (room : (length buffers < 256) ⊎ (256 ≤ length buffers))
+  is_cause : (buffers : List Buffer) (b : Buffer) (f : Fault) (inside : Within m b ⊎ (¬ Within m b))
+      (room : (length buffers < 256) ⊎ (256 ≤ length buffers))
       → Refuses m buffers b f → f ≡ cause b buffers inside room
   is_cause buffers b Range (inr outside) room r = refl
   is_cause buffers b Range (inl inside) room r = absurd (r inside)

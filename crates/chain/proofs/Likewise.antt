@@ -6,8 +6,8 @@ use Rattle.chain.specs.Pieces.{BeginsWithin, EndsWithin, GoesToEnd, IsServiceWit
 use Rattle.chain.specs.Service.{Kind, Device, Ending, Refused, Site, Course, open_site, IsExactUnless}
 use Rattle.chain.proofs.Servicing.{ServesAll-exact, IsEnding-exact, exact_service, ready_exact, stop_exact, stop_state}
 
-module _ {Ring State : Type 0} (kind : Kind Ring) (device exact : Device State) (count : State
-    → ℕ) (is_exact : IsExactUnless device exact count) where
+module _ {Ring State : Type 0} (kind : Kind Ring) (device exact : Device State) (count : State → ℕ)
+    (is_exact : IsExactUnless device exact count) where
   course_exact : (start at : Site Ring State) → count at.state ≡ count start.state
       → Course kind device start at → Course kind exact start at
   course_exact start at e c =

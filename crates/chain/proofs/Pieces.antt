@@ -72,29 +72,29 @@ module _ {Ring State : Type 0} (kind : Kind Ring) (device : Device State) where
       (course_to_end (open_site kind device old) mid new ending wanted p.course q)
 
 -- Another device goes on in the same way, with the same chains, and is left in a like state.
-pub record CourseAlike {Ring S T : Type 0} (kind : Kind Ring) (other : Device T) (Alike : S → T
-    → Type 0) (start : Site Ring T) (at : Site Ring S) (chains : List (List Buffer)) : Type 0 where
+pub record CourseAlike {Ring S T : Type 0} (kind : Kind Ring) (other : Device T) (Alike : S → T → Type 0)
+    (start : Site Ring T) (at : Site Ring S) (chains : List (List Buffer)) : Type 0 where
   pub state : T
   pub alike : Alike at.state state
   pub course : Course kind other start (moved at state)
   pub same : chains_of course.chains ≡ chains
 
 -- It goes to the end in the same way.
-pub record EndsAlike {Ring S T : Type 0} (kind : Kind Ring) (other : Device T) (Alike : S → T
-    → Type 0) (start : Site Ring T) (new : Site Ring S) (ending : Ending) (wanted : Bool) : Type 0 where
+pub record EndsAlike {Ring S T : Type 0} (kind : Kind Ring) (other : Device T) (Alike : S → T → Type 0)
+    (start : Site Ring T) (new : Site Ring S) (ending : Ending) (wanted : Bool) : Type 0 where
   pub state : T
   pub alike : Alike new.state state
   pub ends : GoesToEnd kind other start (moved new state) ending wanted
 
 -- And with the same chains.
-pub record EndsAlikeBy {Ring S T : Type 0} (kind : Kind Ring) (other : Device T) (Alike : S → T
-    → Type 0) (start : Site Ring T) (new : Site Ring S) (ending : Ending) (wanted : Bool)
+pub record EndsAlikeBy {Ring S T : Type 0} (kind : Kind Ring) (other : Device T) (Alike : S → T → Type 0)
+    (start : Site Ring T) (new : Site Ring S) (ending : Ending) (wanted : Bool)
     (chains : List (List Buffer)) : Type 0 where
   pub way : EndsAlike kind other Alike start new ending wanted
   pub same : chains_of way.ends.runs.chains ≡ chains
 
-module _ {Ring S T : Type 0} (kind : Kind Ring) (device : Device S) (other : Device T) (Alike : S → T
-    → Type 0) (likewise : DoesAs device other Alike) where
+module _ {Ring S T : Type 0} (kind : Kind Ring) (device : Device S) (other : Device T)
+    (Alike : S → T → Type 0) (likewise : DoesAs device other Alike) where
   -- a course from a like state
   pub course_alike : (start at : Site Ring S) (t : T) → Alike start.state t
       → (c : Course kind device start at)
@@ -141,8 +141,8 @@ module _ {Ring S T : Type 0} (kind : Kind Ring) (device : Device S) (other : Dev
         same = p.same;
       }
 
-module _ {Ring State : Type 0} (kind : Kind Ring) (device : Device State) (Alike : State → State
-    → Type 0) (likewise : DoesAs device device Alike) where
+module _ {Ring State : Type 0} (kind : Kind Ring) (device : Device State) (Alike : State → State → Type 0)
+    (likewise : DoesAs device device Alike) where
   -- the pieces, joined, go to the end without a pause, from every like state
   pieces_to_end : ((r s t : State) → Alike r s → Alike s t → Alike r t)
       → (now new : Site Ring State) (pauses : List (Pause Ring State)) (t : State)

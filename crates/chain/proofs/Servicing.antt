@@ -176,8 +176,8 @@ module _ {Ring State : Type 0} (kind : Kind Ring) (device : Device State) (one_c
       → record { site : a ≡ b; ending : e ≡ f; wanted : v ≡ w }
   one_decided_service decides old a b e f v w = one_service old a b e f v w (λ _. decides) (λ _. decides)
 
-module _ {Ring State : Type 0} (kind : Kind Ring) (device exact : Device State) (count : State
-    → ℕ) (is_exact : IsExactUnless device exact count) where
+module _ {Ring State : Type 0} (kind : Kind Ring) (device exact : Device State) (count : State → ℕ)
+    (is_exact : IsExactUnless device exact count) where
   pub ready_exact : (site : Site Ring State) → IsReady kind device site → IsReady kind exact site
   ready_exact site h = rw (is_exact.takes site.state) at h
 

@@ -16,8 +16,8 @@ pub record Matches {S T : Type 0} (other : Device T) (Alike : S → T → Type 0
   pub gives : other.Gives t readable w (record { state = state; written = given.written })
 
 -- the other device does as this one, in like states
-pub record DoesAs {S T : Type 0} (device : Device S) (other : Device T) (Alike : S → T
-    → Type 0) : Type 0 where
+pub record DoesAs {S T : Type 0} (device : Device S) (other : Device T)
+    (Alike : S → T → Type 0) : Type 0 where
   pub takes : (s : S) (t : T) → Alike s t → other.takes t ≡ device.takes s
   pub gives : (s : S) (t : T) (readable : List ℕ) (w : ℕ) (given : Given S) → Alike s t
       → device.Gives s readable w given → Matches other Alike t readable w given
@@ -28,8 +28,8 @@ pub record DoesAs {S T : Type 0} (device : Device S) (other : Device T) (Alike :
 abbrev pub moved : {Ring S T : Type 0} → Site Ring S → T → Site Ring T
 moved site t = record { memory = site.memory; ring = site.ring; state = t }
 
-module _ {Ring S T : Type 0} (kind : Kind Ring) (device : Device S) (other : Device T) (Alike : S → T
-    → Type 0) (likewise : DoesAs device other Alike) where
+module _ {Ring S T : Type 0} (kind : Kind Ring) (device : Device S) (other : Device T)
+    (Alike : S → T → Type 0) (likewise : DoesAs device other Alike) where
   pub record ServedAlike (start : Site Ring T) (at : Site Ring S)
       (buffers : List (List Buffer)) : Type 0 where
     pub chains : List (Served T)

@@ -23,8 +23,8 @@ pub record FitsIn (m : Memory) (setup : Setup) (areas : Areas) : Type 0 where
   pub lies : LiesIn m setup areas
 
 -- a ring may be set up so: its size is one of its layout, its areas are aligned and lie in the memory
-pub record IsUsable (IsQueueSize : ℕ → Type 0) (areas_of : ℕ
-    → Areas) (m : Memory) (setup : Setup) : Type 0 where
+pub record IsUsable (IsQueueSize : ℕ → Type 0) (areas_of : ℕ → Areas) (m : Memory)
+    (setup : Setup) : Type 0 where
   pub number : IsQueueSize setup.size
   pub fits : FitsIn m setup (areas_of setup.size)
 

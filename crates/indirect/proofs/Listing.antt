@@ -130,8 +130,8 @@ module _ (kind : TableKind) (negotiated : Bool) (m : Memory) (t : ℕ → Descri
         faulty = λ _ _. record { left = left; table = fails };
       }
 
-module _ (kind : TableKind) (one : HasOneTable kind) (negotiated : Bool) (m : Memory) (t : ℕ
-    → Descriptor) (n h : ℕ) where
+module _ (kind : TableKind) (one : HasOneTable kind) (negotiated : Bool) (m : Memory) (t : ℕ → Descriptor)
+    (n h : ℕ) where
   -- no front passes the index at which a list fails
   fails_there : (fault : Fault) (x : ListFails kind negotiated m t n h fault) (ys : List ℕ) (j : ℕ)
       → AdmitsAll m [] (buffers_of t ys) → length ys ≤ n

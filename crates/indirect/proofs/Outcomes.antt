@@ -112,8 +112,8 @@ stops_index m buffers t n count i e Range s = absurd (omega (arith, e.1, s.comes
 stops_index m buffers t n count i e TooLong s = absurd (omega (arith, e.1, s.comes.below))
 stops_index m buffers t n count i e _ s = absurd s
 
-stops_nested : (m : Memory) (buffers : List Buffer) (t : ℕ
-    → Descriptor) (n count i : ℕ) (e : NextIndirect t n count i) (g : Fault)
+stops_nested : (m : Memory) (buffers : List Buffer) (t : ℕ → Descriptor) (n count i : ℕ)
+    (e : NextIndirect t n count i) (g : Fault)
     → StopsAt m buffers t n count i g → Nested ≡ g
 stops_nested m buffers t n count i e Index s = absurd (omega (arith, e.comes.below, s.1))
 stops_nested m buffers t n count i e Loop s = absurd (omega (arith, e.comes.room, s))

@@ -265,8 +265,8 @@ pub packed_has_one_list : HasOneList packed_tables
 packed_has_one_list = has_one_list packed_tables packed_has_one_table
 
 -- a list is offered with one list of buffers and one entry, or has one fault, never both, and one of the two
-module _ (kind : TableKind) (one : HasOneList kind) (negotiated : Bool) (m : Memory) (t : ℕ
-    → Descriptor) (n h : ℕ) (entry_of : ℕ → ℕ → Entry) where
+module _ (kind : TableKind) (one : HasOneList kind) (negotiated : Bool) (m : Memory) (t : ℕ → Descriptor)
+    (n h : ℕ) (entry_of : ℕ → ℕ → Entry) where
   pub one_offer : (a b : List Buffer) (e f : Entry) → ListOffers kind negotiated m t n h entry_of a e
       → ListOffers kind negotiated m t n h entry_of b f → (a ≡ b) × (e ≡ f)
   one_offer a b e f x y =

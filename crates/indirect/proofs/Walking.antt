@@ -47,8 +47,8 @@ named_step before buffers t front i d e named =
     rw (buffers_of-push t front i, e, named) (append_assoc before (buffers_of t front) ((t i).buffer ∷ []))
 
 -- one step further: the descriptor at the index is plain, has NEXT, and its buffer is admitted
-pub reached_step : (m : Memory) (before buffers after : List Buffer) (t : ℕ
-    → Descriptor) (n h count i j : ℕ) (d : Descriptor)
+pub reached_step : (m : Memory) (before buffers after : List Buffer) (t : ℕ → Descriptor) (n h count i j : ℕ)
+    (d : Descriptor)
     → d ≡ t i → i < n → d.indirect ≡ false → d.next ≡ Some j → Admits m buffers d.buffer
     → after ≡ buffers ++ d.buffer ∷ []
     → Reached m before t n h count i buffers → Reached m before t n h (count + 1) j after
@@ -68,8 +68,8 @@ reached_step m before buffers after t n h count i j d e below plain next a pushe
     }
 
 -- the last step: the descriptor at the index is plain, lacks NEXT, and its buffer is admitted
-pub resolves_step : (m : Memory) (before buffers after : List Buffer) (t : ℕ
-    → Descriptor) (n h count i : ℕ) (d : Descriptor)
+pub resolves_step : (m : Memory) (before buffers after : List Buffer) (t : ℕ → Descriptor) (n h count i : ℕ)
+    (d : Descriptor)
     → d ≡ t i → count < n → i < n → d.indirect ≡ false → d.next ≡ None → Admits m buffers d.buffer
     → after ≡ buffers ++ d.buffer ∷ []
     → Reached m before t n h count i buffers → Resolves m before t n h after
@@ -86,8 +86,8 @@ resolves_step m before buffers after t n h count i d e room below plain ends a p
     }
 
 -- the buffer of the descriptor that comes next is refused
-pub refused_stops : (m : Memory) (buffers : List Buffer) (t : ℕ
-    → Descriptor) (n count i : ℕ) (d : Descriptor) (fault : Fault)
+pub refused_stops : (m : Memory) (buffers : List Buffer) (t : ℕ → Descriptor) (n count i : ℕ) (d : Descriptor)
+    (fault : Fault)
     → d ≡ t i → count < n → i < n → d.indirect ≡ false → Refuses m buffers d.buffer fault
     → StopsAt m buffers t n count i fault
 refused_stops m buffers t n count i d fault e room below plain r = go fault (rw e at r)

@@ -47,8 +47,8 @@ pub record ComesNext (n count i : ℕ) : Type 0 where
 
 -- a path of 1 to n members from h: each but the last is plain and has NEXT, the last is plain and hasn't;
 -- its buffers may stand behind those before, and with them they are the buffers after
-pub record Resolves (m : Memory) (before : List Buffer) (t : ℕ
-    → Descriptor) (n h : ℕ) (after : List Buffer) : Type 0 where
+pub record Resolves (m : Memory) (before : List Buffer) (t : ℕ → Descriptor) (n h : ℕ)
+    (after : List Buffer) : Type 0 where
   pub front : List ℕ
   pub last : ℕ
   pub leads : Leads t n h front last
@@ -59,8 +59,8 @@ pub record Resolves (m : Memory) (before : List Buffer) (t : ℕ
   pub named : after ≡ before ++ buffers_of t (front ++ last ∷ [])
 
 -- a plain descriptor comes next, and its buffer is refused behind these
-pub record NextRefused (m : Memory) (buffers : List Buffer) (t : ℕ
-    → Descriptor) (n count i : ℕ) (fault : Fault) : Type 0 where
+pub record NextRefused (m : Memory) (buffers : List Buffer) (t : ℕ → Descriptor) (n count i : ℕ)
+    (fault : Fault) : Type 0 where
   pub comes : ComesNext n count i
   pub plain : (t i).indirect ≡ false
   pub refused : Refuses m buffers (t i).buffer fault

@@ -13,8 +13,8 @@ use Rattle.mmio_window.specs.Pieces.{CompletesAt, GoesOnIn, PausesIn, ServesTo}
 use Rattle.mmio_window.specs.Window.{WindowState}
 use Rattle.mmio_window.proofs.Stages.{completes_as, ends_exactly, pauses_as, pauses_exactly}
 
-module _ {State : Type 0} (device exact : Device State) (count : State
-    → ℕ) (is_exact : IsExactUnless device exact count) (budget : Budget) (q : ℕ) where
+module _ {State : Type 0} (device exact : Device State) (count : State → ℕ)
+    (is_exact : IsExactUnless device exact count) (budget : Budget) (q : ℕ) where
   module _ (queue : Queue) (old new : Memory) (before after : WindowState) (s s' : State)
       (stood : count s' ≡ count s) where
     pauses_as_exact : (stage : Stage)

@@ -20,8 +20,8 @@ use Rattle.mmio_window.specs.Queue.{queue_kind}
 use Rattle.mmio_window.specs.Window.{WindowState}
 use Rattle.mmio_window.proofs.Stages.{completes_as, pauses_as}
 
-module _ {S T : Type 0} (device : Device S) (other : Device T) (seen : S
-    → T) (likewise : DoesAs device other (λ s t. t ≡ seen s)) where
+module _ {S T : Type 0} (device : Device S) (other : Device T) (seen : S → T)
+    (likewise : DoesAs device other (λ s t. t ≡ seen s)) where
   -- where it stands, with the other device's state
   abbrev at : Site Queue S → Site Queue T
   at site = moved site (seen site.state)

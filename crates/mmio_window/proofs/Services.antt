@@ -10,15 +10,15 @@ use Rattle.mmio_window.specs.Serving.{Notified}
 use Rattle.mmio_window.specs.Window.{WindowState}
 
 -- the other device is notified in the same way, and left in a like state
-pub record NotifiedAs {S T : Type 0} (other : Device T) (Alike : S → T
-    → Type 0) (q : ℕ) (queue : Option Queue) (ending : Ending) (old new : Memory) (before after : WindowState)
+pub record NotifiedAs {S T : Type 0} (other : Device T) (Alike : S → T → Type 0) (q : ℕ)
+    (queue : Option Queue) (ending : Ending) (old new : Memory) (before after : WindowState)
     (s' : S) (t : T) : Type 0 where
   pub state : T
   pub alike : Alike s' state
   pub notified : Notified other q queue ending old new before after t state
 
-module _ {S T : Type 0} (device : Device S) (other : Device T) (Alike : S → T
-    → Type 0) (likewise : DoesAs device other Alike) where
+module _ {S T : Type 0} (device : Device S) (other : Device T) (Alike : S → T → Type 0)
+    (likewise : DoesAs device other Alike) where
   -- a notification of a device is one of each that does as it does
   pub notified_as : (q : ℕ) (queue : Option Queue) (ending : Ending) (old new : Memory)
       (before after : WindowState) (s s' : S) (t : T) → Alike s t
@@ -52,8 +52,8 @@ module _ {State : Type 0} (device : Device State) where
       never_refused queue_kind device (record { memory = old; ring = queue; state = s })
       (record { memory = new; ring = h.last; state = s' }) ending h.wanted never h.service e
 
-module _ {State : Type 0} (device exact : Device State) (count : State
-    → ℕ) (is_exact : IsExactUnless device exact count) where
+module _ {State : Type 0} (device exact : Device State) (count : State → ℕ)
+    (is_exact : IsExactUnless device exact count) where
   -- where the number of failures stayed, and nothing was refused, a notification is one of the exact device
   pub notified_exact : (q : ℕ) (queue : Option Queue) (ending : Ending) (old new : Memory)
       (before after : WindowState) (s s' : State) → ending ≢ Refused → count s' ≡ count s

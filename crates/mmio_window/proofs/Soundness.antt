@@ -129,8 +129,8 @@ IsSound-negotiation m w n keeps sound = record {
   queue_1 = HasItsRing-kept m w.negotiation n w.queue_1 keeps sound.queue_1;
 }
 
-registers_by_cases : (m : Memory) (w : WindowState) (change : QueueRegisters
-    → QueueRegisters) (queue : Option QueueIndex)
+registers_by_cases : (m : Memory) (w : WindowState) (change : QueueRegisters → QueueRegisters)
+    (queue : Option QueueIndex)
     → ((registers : QueueRegisters) → HasItsRing m w.negotiation registers
     → HasItsRing m w.negotiation (change registers)) → IsSound m w
     → IsSound m (with_registers_in queue change w)

@@ -96,8 +96,8 @@ module _ {State : Type 0} (device : Device State) (budget : Budget) (q : ℕ) (q
 
 -- ---- where the count of failures stayed
 
-module _ {State : Type 0} (device exact : Device State) (count : State
-    → ℕ) (is_exact : IsExactUnless device exact count) (budget : Budget) (old new : Site Queue State)
+module _ {State : Type 0} (device exact : Device State) (count : State → ℕ)
+    (is_exact : IsExactUnless device exact count) (budget : Budget) (old new : Site Queue State)
     (stood : count new.state ≡ count old.state) where
   pub pauses_exactly : (stage : Stage) → PausesAt stage device budget old new
       → PausesAt stage exact budget old new

@@ -44,8 +44,9 @@ LeavesQueue device stage budget old new (Closed fault wanted) =
 
 -- Chains were served within the budget, and the one on offer has these buffers; the device leaves it, for a
 -- reason that it has then.
-pub record IsLeftAt {State E : Type 0} (device : Device State) (Refuses : State → Memory → List Buffer → E
-    → Type 0) (budget : Budget) (start now : Site Queue State) (buffers : List Buffer)
+pub record IsLeftAt {State E : Type 0} (device : Device State)
+    (Refuses : State → Memory → List Buffer → E → Type 0) (budget : Budget) (start now : Site Queue State)
+    (buffers : List Buffer)
     (refused : Refused E) : Type 0 where
   pub course : Course queue_kind device start now
   pub within : AreWithin budget (chains_of course.chains)
@@ -56,8 +57,9 @@ pub record IsLeftAt {State E : Type 0} (device : Device State) (Refuses : State 
   pub refuses : Refuses now.state now.memory buffers refused.why
 
 -- the same of a piece, from its opening on
-pub record RefusesAt {State E : Type 0} (device : Device State) (Refuses : State → Memory → List Buffer → E
-    → Type 0) (stage : Stage) (budget : Budget) (old new : Site Queue State) (buffers : List Buffer)
+pub record RefusesAt {State E : Type 0} (device : Device State)
+    (Refuses : State → Memory → List Buffer → E → Type 0) (stage : Stage) (budget : Budget)
+    (old new : Site Queue State) (buffers : List Buffer)
     (refused : Refused E) : Type 0 where
   pub opens : fault_at stage old.memory old.ring ≡ None
   pub left : IsLeftAt device Refuses budget (record old { ring = opened_at stage old.memory old.ring })

@@ -169,8 +169,8 @@ contents_first disk sector lent first whole within contents is =
     subst (Tells disk sector 1) (sym (is ∙ take_all 512 lent (omega (arith, long)))) contents
 
 -- as a slice's first chunk
-pub contents_chunk : {X : Type 0} (chunk : Option X) (now : X → List ℕ) (Short : Type 0) (Is : X
-    → Type 0) (disk : Disk) (sector : ℕ) (lent : List ℕ)
+pub contents_chunk : {X : Type 0} (chunk : Option X) (now : X → List ℕ) (Short : Type 0) (Is : X → Type 0)
+    (disk : Disk) (sector : ℕ) (lent : List ℕ)
     → MatchOption chunk Short Is → ((x : X) → Is x → now x ≡ take 512 lent) → IsWhole disk
     → sector + 1 ≤ disk.sector_count
     → Tells disk sector 1 lent → IfSome chunk (λ x. Tells disk sector 1 (now x))

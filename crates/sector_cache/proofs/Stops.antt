@@ -230,8 +230,8 @@ module _ (Differs : List ℕ → List ℕ → Type 0) (same : (bytes : List ℕ)
       ⊎_elim (λ sooner. cut_none_by a left (begins left sooner)) (λ cut. cut) (h.between since left past)
 
   -- Where a stop could leave these bytes alone it leaves them but for what may differ.
-  pub known_by : {t u : ℕ} {a b : List ℕ → Type 0} {p q : ℕ → List ℕ
-      → Type 0} (since : ℕ) (bytes left : List ℕ)
+  pub known_by : {t u : ℕ} {a b : List ℕ → Type 0} {p q : ℕ → List ℕ → Type 0} (since : ℕ)
+      (bytes left : List ℕ)
       → TouchesBy Differs t u a b p q → BeginsAt a p since → Only bytes a → q since left → Differs bytes left
   known_by {t} {u} {a} {b} {p} {q} since bytes left h begins only past =
       let cut : IsCutBy Differs a left = begun since left h begins past in
@@ -325,14 +325,14 @@ module _ (start end : ℕ) where
   }
 
   -- where a stop could leave these bytes alone, and where the disk is clean
-  pub known_beside : {t u : ℕ} {a b : List ℕ → Type 0} {p q : ℕ → List ℕ
-      → Type 0} (since : ℕ) (bytes left : List ℕ) → Touches start end t u a b p q → BeginsAt a p since
+  pub known_beside : {t u : ℕ} {a b : List ℕ → Type 0} {p q : ℕ → List ℕ → Type 0} (since : ℕ)
+      (bytes left : List ℕ) → Touches start end t u a b p q → BeginsAt a p since
       → Only bytes a → q since left → DiffersWithin start end bytes left
   known_beside since bytes left h begins only past = known_by (DiffersWithin start end)
       (differs_none start end) since bytes left h begins only past
 
-  pub contents_beside : {t u : ℕ} {a b : List ℕ → Type 0} {p q : ℕ → List ℕ
-      → Type 0} (disk : Disk) (since : ℕ) (left : List ℕ) → Touches start end t u a b p q → BeginsAt a p since
+  pub contents_beside : {t u : ℕ} {a b : List ℕ → Type 0} {p q : ℕ → List ℕ → Type 0} (disk : Disk)
+      (since : ℕ) (left : List ℕ) → Touches start end t u a b p q → BeginsAt a p since
       → ((whole : List ℕ) → a whole → LeavesContents disk whole) → disk.dirty ≡ false → q since left
       → IfSome disk.contents (λ bytes. DiffersWithin start end bytes left)
   contents_beside disk since left h begins durable clean past = contents_by (DiffersWithin start end)

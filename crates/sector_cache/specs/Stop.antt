@@ -12,16 +12,16 @@ pub record DiffersInSectors (sectors : List ℕ) (old new : List ℕ) : Type 0 w
   pub others : (sector : ℕ) → ¬ Contains sectors sector → sector_of new sector ≡ sector_of old sector
 
 -- these are bytes that a stop may leave, but for what may differ: there a write was cut, and any bytes stand
-pub record IsCutBy (Differs : List ℕ → List ℕ → Type 0) (may_leave : List ℕ
-    → Type 0) (left : List ℕ) : Type 0 where
+pub record IsCutBy (Differs : List ℕ → List ℕ → Type 0) (may_leave : List ℕ → Type 0)
+    (left : List ℕ) : Type 0 where
   pub whole : List ℕ
   pub may : may_leave whole
   pub within : Differs whole left
 
 -- Time goes from one moment to a later one, and nothing is touched but what may differ. `may_leave` is what
 -- a stop may leave then, and `left_since` what one at any moment since a number of them might have left.
-pub record TouchesBy (Differs : List ℕ → List ℕ → Type 0) (moment moment' : ℕ) (may_leave may_leave' : List ℕ
-    → Type 0) (left_since left_since' : ℕ → List ℕ → Type 0) : Type 0 where
+pub record TouchesBy (Differs : List ℕ → List ℕ → Type 0) (moment moment' : ℕ)
+    (may_leave may_leave' : List ℕ → Type 0) (left_since left_since' : ℕ → List ℕ → Type 0) : Type 0 where
   pub later : moment ≤ moment'
   -- what might have been left is not taken back
   pub keeps : (since : ℕ) (left : List ℕ) → since ≤ moment → left_since since left → left_since' since left

@@ -56,23 +56,22 @@ Takes-then a x b y c p q =
     }
 
 -- A field: what is read is spelled so, and what is spelled so is read, whatever follows it.
-pub record IsField {A : Type 0} (read : Reader A) (text : A → List ℕ) (Fits : A
-    → Type 0) : Type 0 where
+pub record IsField {A : Type 0} (read : Reader A) (text : A → List ℕ) (Fits : A → Type 0) : Type 0 where
   pub takes : (bytes : List ℕ) (x : A) (rest : List ℕ) → IsBytes bytes → read bytes ≡ Ok (x, rest)
       → Takes bytes (text x) rest × Fits x
   pub again : (x : A) (rest : List ℕ) → Fits x → read (text x ++ rest) ≡ Ok (x, rest)
 
 -- a step that did not fail: what it read, and that the rest of the steps goes on from there
-pub record Steps {A B : Type 0} (text : A → List ℕ) (Fits : A → Type 0) (bytes : List ℕ) (f : A × List ℕ
-    → Result B Stop) (y : B) : Type 0 where
+pub record Steps {A B : Type 0} (text : A → List ℕ) (Fits : A → Type 0) (bytes : List ℕ)
+    (f : A × List ℕ → Result B Stop) (y : B) : Type 0 where
   pub value : A
   pub rest : List ℕ
   pub takes : Takes bytes (text value) rest
   pub fits : Fits value
   pub goes_on : f (value, rest) ≡ Ok y
 
-step_by : {A B : Type 0} (read : Reader A) (text : A → List ℕ) (Fits : A
-    → Type 0) (bytes : List ℕ) (f : A × List ℕ → Result B Stop) (y : B)
+step_by : {A B : Type 0} (read : Reader A) (text : A → List ℕ) (Fits : A → Type 0) (bytes : List ℕ)
+    (f : A × List ℕ → Result B Stop) (y : B)
     (r : Result (A × List ℕ) Stop) → IsField read text Fits → IsBytes bytes → read bytes ≡ r
     → (r >>= f) ≡ Ok y → Steps text Fits bytes f y
 step_by read text Fits bytes f y (Ok x) field fits is e =
@@ -80,16 +79,15 @@ step_by read text Fits bytes f y (Ok x) field fits is e =
     record { value = x.0; rest = x.1; takes = t.0; fits = t.1; goes_on = e }
 step_by read text Fits bytes f y (Err d) field fits is e = absurd cc
 
-pub step : {A B : Type 0} (read : Reader A) (text : A → List ℕ) (Fits : A
-    → Type 0) (bytes : List ℕ) (f : A × List ℕ → Result B Stop) (y : B)
+pub step : {A B : Type 0} (read : Reader A) (text : A → List ℕ) (Fits : A → Type 0) (bytes : List ℕ)
+    (f : A × List ℕ → Result B Stop) (y : B)
     → IsField read text Fits → IsBytes bytes → (read bytes >>= f) ≡ Ok y → Steps text Fits bytes f y
 step read text Fits bytes f y field fits e = step_by read text Fits bytes f y (read bytes) field fits refl e
 
 -- ---- fields one behind another
 
-module _ {A B : Type 0} {first : Reader A} {second : Reader B} {text : A → List ℕ} {behind : B
-    → List ℕ} {Fits : A
-    → Type 0} {FitsBehind : B → Type 0}
+module _ {A B : Type 0} {first : Reader A} {second : Reader B} {text : A → List ℕ} {behind : B → List ℕ}
+    {Fits : A → Type 0} {FitsBehind : B → Type 0}
     (of_first : IsField first text Fits) (of_second : IsField second behind FitsBehind) where
   both_takes : (bytes : List ℕ) (x : A × B) (rest : List ℕ) → IsBytes bytes
       → (first & second) bytes ≡ Ok (x, rest)

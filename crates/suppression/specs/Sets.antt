@@ -12,8 +12,8 @@ pub record HasPlace (Passes : ℕ → Type 0) : Type 0 where
   pub among : Passes place
 
 -- the driver of a split queue wants a notification of the places of this set
-pub record SplitWantsOf (m : Memory) (driver_area n : ℕ) (event_idx : Bool) (Passes : ℕ
-    → Type 0) : Type 0 where
+pub record SplitWantsOf (m : Memory) (driver_area n : ℕ) (event_idx : Bool)
+    (Passes : ℕ → Type 0) : Type 0 where
   -- some place was passed
   pub some : HasPlace Passes
   -- without VIRTIO_F_EVENT_IDX bit 0 of the flags is clear; with it used_event is in the set
@@ -21,8 +21,8 @@ pub record SplitWantsOf (m : Memory) (driver_area n : ℕ) (event_idx : Bool) (P
   pub event : OnTrue event_idx (Passes (used_event m driver_area n))
 
 -- the driver of a packed queue wants a notification of the places of this set
-pub record PackedWantsOf (m : Memory) (driver_area n : ℕ) (event_idx : Bool) (Passes : ℕ
-    → Type 0) : Type 0 where
+pub record PackedWantsOf (m : Memory) (driver_area n : ℕ) (event_idx : Bool)
+    (Passes : ℕ → Type 0) : Type 0 where
   -- some place was passed
   pub some : HasPlace Passes
   -- notifications aren't disabled; and where one place is named, it is in the set

@@ -36,8 +36,8 @@ made = record { bytes = null_ptr; len = 0; items = []; sized = refl; small = lit
 abbrev word : Val
 word = vstruct (of_list (vnull ∷ vint w64 0 ∷ []))
 
-module _ {M : Type 1} {𝓤 : Ura M} (𝓛 : Logic 𝓤) (at_mem : Memory → SProp 𝓤) (run : Routine
-    → Fun 𝓤) (𝓣 : Tables 𝓤 𝓛.H) where
+module _ {M : Type 1} {𝓤 : Ura M} (𝓛 : Logic 𝓤) (at_mem : Memory → SProp 𝓤) (run : Routine → Fun 𝓤)
+    (𝓣 : Tables 𝓤 𝓛.H) where
   walk : (z : (walk_of 𝓛 F.ended tt (F.clauses 𝓛 at_mem run)).Ghost)
       → ent 𝓤 ((walk_of 𝓛 F.ended tt (F.clauses 𝓛 at_mem run)).pre z)
       (WpFn 𝓤 𝓛.H 𝓣.C 𝓣.Λ code.function [] ((walk_of 𝓛 F.ended tt (F.clauses 𝓛 at_mem run)).post z))
