@@ -164,7 +164,7 @@ fn session_of<A: Allocator + Copy>(
 }
 
 fn go_on<A: Allocator + Copy>(session: &mut Session<A>, slot: u8) -> Result<Progress, Refusal> {
-    session.go_on(slot)
+    session.go_on(slot).answer
 }
 
 fn take_output<A: Allocator>(session: &mut Session<A>, slot: u8, room: &mut [u8]) -> Option<usize> {
@@ -191,7 +191,7 @@ fn answer_event<A: Allocator + Copy>(
             value,
         } => put_progress(
             answer,
-            session.write(slot, *window, *offset, *width, *value),
+            session.write(slot, *window, *offset, *width, *value).answer,
         ),
         EventKind::MemRead { addr, len } => read_memory(
             alloc,
@@ -204,7 +204,10 @@ fn answer_event<A: Allocator + Copy>(
             put_result(answer, session.write_memory(slot, *addr, bytes.as_slice()))
         }
         EventKind::Input { bytes } => put_typed(answer, session.input(slot, bytes.as_slice())),
-        EventKind::Resize { cols, rows } => put_result(answer, session.resize(slot, *cols, *rows)),
+        EventKind::Resize { cols, rows } => put_result(
+            answer,
+            session.resize(slot, *cols, *rows).answer,
+        ),
         EventKind::Restore { bytes } => put_result(answer, session.restore(slot, bytes.as_slice())),
         EventKind::Complete { .. } => Err(Stuck::Words),
     }
