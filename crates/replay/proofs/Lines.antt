@@ -1,45 +1,23 @@
 -- The lines of events, taken one after another.
-use Rattle.std.proofs.Common.{◌≡◌, ◌≢◌, ℕ, suc, ◌≤◌, true, List, [], ◌∷◌, ◌++◌, All, length, get_or, drop, map, refl, sym, ap, subst, ◌∙◌, append_assoc, append-nil, arith, inr}
+use Rattle.std.proofs.Common.{◌≡◌, ◌≢◌, ℕ, suc, ◌≤◌, List, [], ◌∷◌, ◌++◌, length, get_or, drop, map, sym, ap, subst, ◌∙◌, append_assoc, append-nil, arith}
 use Rattle.std.proofs.lemmas.List.{append_cancel_left, length-append}
-use Rattle.std.proofs.lemmas.List.Elements.{All-cons, All-nil}
 use Rattle.board.specs.declared.event.Event.{Event}
 use Rattle.trace.specs.declared.disks.Disks.TheVariants.{Cached}
-use Rattle.trace.specs.declared.fault.FaultKind.{FaultKind}
-use Rattle.trace.specs.declared.fault.FaultKind.TheVariants as kind
 use Rattle.trace.specs.declared.read.parsed_event.ParsedEvent.{ParsedEvent}
 use Rattle.trace.specs.Cuts.{fields_of, lines_of}
 use Rattle.trace.specs.Validating.{AreEventLines, AreLinesOf, HaveRoom, bytes_len, parsed_len}
-use Rattle.trace.specs.Printable.{IsPrintableSlot, SlotInRange}
-use Rattle.trace.specs.Refusals.{IsFine, RefusesLine}
+use Rattle.trace.specs.Refusals.{IsFine}
 use Rattle.trace.specs.Events.{BeginsWithEvent, TakesEvent}
 use Rattle.replay.specs.Running.{HasRoomFor, RunsLine, RunsParsed}
 use Rattle.trace.specs.ParsedEvent.{parsed_fields}
-use Rattle.trace.specs.Text.{Content, ended, event_fields, event_line, front_text, joined, text, trace_lines, word_for}
-use Rattle.trace.proofs.Entries.{cut_event, entered_event}
-use Rattle.trace.proofs.Printed.{joined_append, text_is}
+use Rattle.trace.specs.Text.{ended, event_fields, event_line, front_text, joined}
+use Rattle.trace.proofs.Entries.{cut_event}
+use Rattle.trace.proofs.EventLines.{alone, alone_fits, first_cut, unbroken}
+use Rattle.trace.proofs.Printed.{text_is}
 use Rattle.trace.proofs.Saying.{meant}
-use Rattle.trace.proofs.Signs.{Above, lines_of-joined}
-use Rattle.trace.proofs.Sofar.{Fits, Sofar, is_refused, push_event}
-use Rattle.trace.proofs.Unique.{no_fault, one_trace, same_event_fields}
-use Rattle.trace.proofs.Versions.{word_of_3}
+use Rattle.trace.proofs.Unique.{one_trace, same_event_fields}
 
--- ---- a trace of these events alone
-
-abbrev alone : {A : Type 0} → List (Event A) → Content A
-alone events = record { version = 3; disks = Cached 0; slots = []; events = events }
-
-alone_fits : {A : Type 0} (events : List (Event A)) → All IsFine events → Fits (alone events)
-alone_fits events fine = record {
-  range = record { disks = omega arith; slots = All-nil SlotInRange; events = λ k d lt. (fine k d lt).fits };
-  printable = record {
-    version = inr (inr refl);
-    disks = tt;
-    slots = All-nil (IsPrintableSlot 3);
-    events = λ k d lt. (fine k d lt).printable;
-    words =
-        λ k d lt. word_of_3 (word_for (get_or events k d).what);
-  };
-}
+-- ---- the events of lines
 
 -- lines are those of one list of events
 pub one_text : {A : Type 0} (ds es : List (Event A)) (lines : List ℕ) → AreLinesOf ds lines
@@ -50,52 +28,20 @@ one_text ds es lines hd he =
     ap (λ c. c.events) (one_trace (alone ds) (alone es) (alone_fits ds hd.fine) (alone_fits es he.fine)
     (sym (text_is (alone ds)) ∙ same ∙ text_is (alone es)))
 
--- ---- the line of an event
-
-above : {A : Type 0} (e : Event A) → IsFine e → Above 10 (event_line e)
-above e fine = (entered_event 3 e fine (word_of_3 (word_for e.what))).entry.unbroken
-
--- lines cut after the first
-first_cut : (l : List ℕ) (ls : List (List ℕ)) → Above 10 l
-    → lines_of (joined (l ∷ ls)) ≡ l ∷ lines_of (joined ls)
-first_cut l ls h = ap lines_of (joined_append (l ∷ []) ls) ∙ lines_of-joined (l ∷ []) (joined ls) (h, tt)
-
--- it is refused in no way: it would be a fault of a text of two such lines
-refused_not : {A : Type 0} (e : Event A) (fault : FaultKind) → IsFine e → fault ≢ kind.NoMemory
-    → RefusesLine 3 true (event_line e) fault → ⊥
-refused_not {A} e fault fine known h =
-    let one : Content A = alone (e ∷ []) in
-    let two : Content A = alone (e ∷ e ∷ []) in
-    let all : All IsFine (e ∷ e ∷ []) =
-    All-cons IsFine e (e ∷ []) fine (All-cons IsFine e [] fine (All-nil IsFine)) in
-    let rest : List ℕ = joined (event_line e ∷ []) in
-    let so : Sofar (text two) one 4 rest = record {
-      spelled = ap joined (push_event one e) ∙ joined_append (trace_lines one) (event_line e ∷ []);
-      fits = alone_fits (e ∷ []) (All-cons IsFine e [] fine (All-nil IsFine));
-      count = refl;
-    } in
-    no_fault (text two) two 4 fault (alone_fits (e ∷ e ∷ []) all) refl
-    (is_refused (text two) one 4 rest so true (event_line e) (joined []) fault
-    (first_cut (event_line e) [] (above e fine)) (λ _. omega arith) (λ no'. absurd cc) h known)
-
-never_refused : {A : Type 0} (e : Event A) → IsFine e → (fault : FaultKind)
-    → RefusesLine 3 true (event_line e) fault → ⊥
-never_refused e fine kind.NoMemory h = h.refused
-never_refused e fine fault h = refused_not e fault fine (λ is. cc) h
-
 -- ---- the next line
 
 begins_at : {A : Type 0} (left : List (Event A)) (rest : List ℕ) → AreLinesOf left rest → length rest ≢ 0
-    → BeginsWithEvent rest
+    → BeginsWithEvent A rest
 unfolding joined
 begins_at [] rest more some = absurd (some (ap length more.spelled))
 begins_at (e ∷ left) rest more some =
-    let fine = more.fine 0 e (omega arith) in
     record {
-      line = event_line e;
+      event = e;
       after = joined (map event_line left);
-      cut = ap lines_of more.spelled ∙ first_cut (event_line e) (map event_line left) (above e fine);
-      never = never_refused e fine;
+      begins = record {
+        fine = more.fine 0 e (omega arith);
+        is = more.spelled ∙ append_assoc (event_line e) (10 ∷ []) (joined (map event_line left));
+      };
     }
 
 -- what was taken off is the first of the events, and the others are left
@@ -110,7 +56,7 @@ next_is : {A : Type 0} (e : Event A) (left : List (Event A)) (rest : List ℕ) (
 unfolding joined
 next_is e left rest parsed after more takes =
     let fine = more.fine 0 e (omega arith) in
-    let cut = ap lines_of more.spelled ∙ first_cut (event_line e) (map event_line left) (above e fine) in
+    let cut = ap lines_of more.spelled ∙ first_cut (event_line e) (map event_line left) (unbroken e fine) in
     let same : takes.line ≡ event_line e =
     ap (λ (ls : List (List ℕ)). get_or ls 0 []) (sym takes.lines ∙ cut) in
     let whole : event_line e ++ 10 ∷ after ≡ event_line e ++ 10 ∷ joined (map event_line left) =
@@ -164,7 +110,7 @@ run_none A lines room Run h none =
 
 module _ (A : Type 0) (lines : List ℕ) (room : ℕ) (rest : List ℕ) (Run : List (Event A)
     → Type 0) (so : RunSofar A lines room rest Run) where
-  pub begins : length rest ≢ 0 → BeginsWithEvent rest
+  pub begins : length rest ≢ 0 → BeginsWithEvent A rest
   begins some = begins_at so.left rest so.more some
 
   pub fits : HasRoomFor A rest room

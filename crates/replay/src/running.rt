@@ -22,6 +22,7 @@ use trace::{Buffer, ParsedEvent, put_line, put_read, read_bytes, spelled_len};
 impl<I: Image, A: Allocator + Copy> RunsEvents<A> for Board<I, A> {
     ghost sends = { λ old new events before after waits left. SendsRun I.disk old new events before after waits left };
 
+    #[inline(always)]
     fn run_event<W: Write>(
         &mut self,
         parsed: &ParsedEvent<'_, A>,
@@ -73,6 +74,7 @@ fn words<I: Image, A: Allocator>(board: &Board<I, A>, slot: u8) -> (u8, u8)
 }
 
 // Handles an event, and tells both interrupt words after it.
+#[inline(always)]
 fn answer<I: Image, A: Allocator + Copy>(
     board: &mut Board<I, A>,
     parsed: &ParsedEvent<'_, A>,
@@ -137,7 +139,7 @@ pub(crate) fn bytes_in<'a>(room: &'a mut [u8], field: &[u8]) -> &'a [u8]
 }
 
 // Reads a register of a slot.
-#[inline]
+#[inline(always)]
 fn read<I: Image, A: Allocator + Copy>(
     board: &Board<I, A>,
     slot: u8,
@@ -154,6 +156,7 @@ fn read<I: Image, A: Allocator + Copy>(
 }
 
 // Writes bytes to a slot's memory.
+#[inline(always)]
 fn write_memory<I: Image, A: Allocator>(
     board: &mut Board<I, A>,
     slot: u8,
@@ -172,6 +175,7 @@ fn write_memory<I: Image, A: Allocator>(
 }
 
 // Types bytes to a slot's console.
+#[inline(always)]
 fn input<I: Image, A: Allocator + Copy>(board: &mut Board<I, A>, slot: u8, bytes: &[u8]) -> Reply<A>
     ensures { AnswersEvent I.disk board.old (record { slot = slot; what = EventKind.Input bytes.now }) result [] board.new }
 {

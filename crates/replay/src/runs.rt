@@ -15,7 +15,7 @@ ghost use Rattle.trace.specs.Validating.{AreEventLines, AreLinesOf, parsed_len};
 use crate::fault::ReplayFault;
 use std::alloc::Allocator;
 use std::io::Write;
-use trace::{Buffer, ParsedEvent, take_event};
+use trace::{Buffer, ParsedEvent, take_event, take_input, take_mem_write, take_read, take_write};
 
 /// How many bytes of text wait for the writer at most.
 const TEXT_ROOM: usize = 65536;
@@ -88,7 +88,8 @@ fn run_lines<W: Write, B: RunsEvents<A>, A: Allocator + Copy>(
     }
 }
 
-// Runs the event that the first line says, sends the text of its record, and answers what follows that line.
+// Runs the event that the first line says, sends the text of its record, and answers what follows that line. Each kind of
+// line that comes often has a call of its own, which knows the kind of its event.
 fn run_line<'a, W: Write, B: RunsEvents<A>, A: Allocator + Copy>(
     alloc: A,
     board: &mut B,
@@ -98,12 +99,36 @@ fn run_line<'a, W: Write, B: RunsEvents<A>, A: Allocator + Copy>(
     text: &mut Buffer<A>,
     writer: &mut W,
 ) -> &'a [u8]
-    requires begins { BeginsWithEvent lines.now }
+    requires begins { BeginsWithEvent A lines.now }
     requires room { HasRoomFor A lines.now (length room.old) }
     ensures { RunsLine A lines.now result.now (λ event. B.sends board.old board.new (event ∷ [])
         (W.contents writer.old) (W.contents writer.new) (waiting text.old) (waiting text.new)) }
 {
-    let (parsed, after) = take_event(alloc, lines);
-    board.run_event(&parsed, room, output, text, writer);
-    after
+    match lines {
+        [b'r', b' ', rest @ ..] => {
+            let (parsed, after) = take_read(rest);
+            board.run_event(&parsed, room, output, text, writer);
+            after
+        }
+        [b'w', b' ', rest @ ..] => {
+            let (parsed, after) = take_write(rest);
+            board.run_event(&parsed, room, output, text, writer);
+            after
+        }
+        [b'm', b'w', b' ', rest @ ..] => {
+            let (parsed, after) = take_mem_write(alloc, rest);
+            board.run_event(&parsed, room, output, text, writer);
+            after
+        }
+        [b'i', b'n', b' ', rest @ ..] => {
+            let (parsed, after) = take_input(alloc, rest);
+            board.run_event(&parsed, room, output, text, writer);
+            after
+        }
+        _ => {
+            let (parsed, after) = take_event(alloc, lines);
+            board.run_event(&parsed, room, output, text, writer);
+            after
+        }
+    }
 }
