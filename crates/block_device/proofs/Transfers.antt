@@ -205,7 +205,8 @@ writing_all disk d' sector count readable is_whole some size inside put =
           put ∙ ap (λ s. written_from s payload disk) (let e : sector ≡ sector + 0 = omega arith in e)
           ∙ ap (written_from (sector + 0) payload) (filled-nil sector disk)
           ∙ written_from-filled disk sector 0 count [] payload is_whole refl size some (omega (arith, inside))
-          ∙ ap (λ bytes. filled sector bytes disk) (sym (take_all (512 * count) payload (omega (arith, size))));
+          ∙ ap (λ bytes. filled sector bytes disk)
+          (sym (take_all (512 * count) payload (omega (arith, size))));
     }
 
 -- or one sector

@@ -303,13 +303,15 @@ module _ (device : BlockDevice) (buffers : List Buffer) (m : Memory) (disk d dis
           done = nothing_found (WriteZeroes segments) buffers m (shown disk) (shown disk') IoError
               (inr (inl (record { left = shown disk'; stopped = s.stopped; is = refl })));
           calls = record {
-            counted = stopped-failures (all_sectors (segments_in payload)) (shown disk) (shown disk') s.stopped;
+            counted = stopped-failures (all_sectors (segments_in payload)) (shown disk) (shown disk')
+                s.stopped;
             outside = s.outside;
           };
         }
 
     -- all of them are zeroed, and the flush has come out
-    pub zeroes_end : {E : Type 0} (result : Result (Unit {0}) E) → length payload ≡ 16 * segments → n ≡ segments
+    pub zeroes_end : {E : Type 0} (result : Result (Unit {0}) E) → length payload ≡ 16 * segments → n ≡
+        segments
         → OnOk result (disk' ≡ flushed d) → OnErr result (disk' ≡ failed d)
         → IsWritten device (WriteZeroes segments) buffers m (status_of result) disk disk'
     zeroes_end result size all ok err =

@@ -31,8 +31,8 @@ along : {S T : Type 0} {Alike : S → T → Type 0} {s : S} {P Q : T → Type 0}
     → ((t : T) → P t → Q t) → AlikeTo Alike s Q
 along a f = record { state = a.state; alike = a.alike; served = f a.state a.served }
 
-module _ {S T : Type 0} (device : Device S) (other : Device T) (Alike : S → T
-    → Type 0) (likewise : DoesAs device other Alike) (budget : Budget) where
+module _ {S T : Type 0} (device : Device S) (other : Device T) (Alike : S → T → Type 0)
+    (likewise : DoesAs device other Alike) (budget : Budget) where
   -- the other device pauses in the same way
   abbrev PausedAs : Site Queue T → Site Queue S → Type 0
   PausedAs start now = AlikeTo Alike now.state (λ u. Pauses queue_kind other budget start (moved now u))

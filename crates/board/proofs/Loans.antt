@@ -111,8 +111,8 @@ pub record Opened {X : Type 0} (made : SlotSpec → Memory → X) (slots : List 
   pub bytes : AreBytesOf (drop count slots) rest
 
 -- none did yet
-pub opened_none : {X : Type 0} (made : SlotSpec → Memory
-    → X) (slots : List SlotSpec) (all rest : List (List ℕ)) → rest ≡ all → AreBytesOf slots all
+pub opened_none : {X : Type 0} (made : SlotSpec → Memory → X) (slots : List SlotSpec)
+    (all rest : List (List ℕ)) → rest ≡ all → AreBytesOf slots all
     → Opened made slots all 0 [] rest
 opened_none made slots all rest same bytes =
     record { are = ap (made_over made slots) (sym same); bytes = subst (AreBytesOf slots) (sym same) bytes }
@@ -162,8 +162,8 @@ opened_all made slots all count opened rest over took =
     ∙ sym took.are
 
 -- a board that was made is one of the slots that were opened
-pub made_of : {S X B E F : Type 0} (items : S → X) (board : X
-    → B) (made : Result B E) (opened : Result S F) (all : X)
+pub made_of : {S X B E F : Type 0} (items : S → X) (board : X → B) (made : Result B E) (opened : Result S F)
+    (all : X)
     → IfOk made (λ b. IsOkAnd opened (λ s. b ≡ board (items s))) → IfOk opened (λ s. items s ≡ all)
     → IfOk made (λ b. b ≡ board all)
 made_of items board (Ok b) (Ok s) all is are = is ∙ ap board are

@@ -169,8 +169,8 @@ restored_of old new bytes saved pending (Ok done) read takes =
     record { saved = saved; pending = pending; read = read; takes_up = takes }
 restored_of old new bytes saved pending (Err why) read takes = tt
 
-pub fault_not_read : (r : Result (SavedSlot × List ℕ) SnapshotFault) (x : SavedSlot
-    × List ℕ) (fault : SnapshotFault) → r ≡ Err fault → r ≡ read_as x → ⊥
+pub fault_not_read : (r : Result (SavedSlot × List ℕ) SnapshotFault) (x : SavedSlot × List ℕ)
+    (fault : SnapshotFault) → r ≡ Err fault → r ≡ read_as x → ⊥
 fault_not_read r x fault a b = cc
 
 -- and no snapshot of a slot is refused as none

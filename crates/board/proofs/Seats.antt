@@ -219,8 +219,8 @@ stays_same disk board = record {
 
 -- A slot of the board took a turn, and left the image's bytes outside its own extent as they were: so the
 -- board took it.
-pub takes : {A : Type 0} (Comes : SlotState → Health → Health → SlotState → List ℕ → Turn A
-    → Type 0) (slots : List BoardSlot) (old new : Disk) (h : ℕ) (slot after : BoardSlot) (turn : Turn A)
+pub takes : {A : Type 0} (Comes : SlotState → Health → Health → SlotState → List ℕ → Turn A → Type 0)
+    (slots : List BoardSlot) (old new : Disk) (h : ℕ) (slot after : BoardSlot) (turn : Turn A)
     (block console : ℕ) (out_before out_after : List ℕ) →
     AllPairs IsApart (extents_of slots) → slice_get slots h ≡ Some slot → after.extent ≡ slot.extent →
     after.disturbed ≡ (slot.disturbed || met_in turn old.failures new.failures) →

@@ -64,8 +64,8 @@ apart_same one other bytes left apart d =
           ]
     ]
 
-module _ {I : Type 0} (moment : I → ℕ) (may_leave : I → List ℕ → Type 0) (left_since : I → ℕ
-    → List ℕ → Type 0) where
+module _ {I : Type 0} (moment : I → ℕ) (may_leave : I → List ℕ → Type 0)
+    (left_since : I → ℕ → List ℕ → Type 0) where
   pub untouched : (extent : Extent) (image : I) → TouchesExtent moment may_leave left_since extent image image
   untouched extent image = stops.touches_none (512 * extent.start) (512 * (extent.start + extent.count))
 

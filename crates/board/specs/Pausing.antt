@@ -202,8 +202,8 @@ met_in turn old_failures new_failures = lacks_memory_in turn || nat_lt old_failu
 
 -- A slot's guest is served so: its event comes to a turn that it may come to, and the output was appended to
 -- what was put out before.
-pub record ServesTurn {A : Type 0} (Comes : SlotState → Health → Health → SlotState
-    → List ℕ → Turn A → Type 0)
+pub record ServesTurn {A : Type 0}
+    (Comes : SlotState → Health → Health → SlotState → List ℕ → Turn A → Type 0)
     (state : SlotState) (old new : Health) (after : SlotState) (turn : Turn A)
     (out_before out_after : List ℕ) : Type 0 where
   pub output : List ℕ

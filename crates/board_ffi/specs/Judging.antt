@@ -33,8 +33,8 @@ region_told _ before = before
 
 -- The number is that of a fault by which the slots are refused, and the slot and the region are told that it
 -- is about.
-pub record IsJudged (Refused : BoardFault
-    → Type 0) (code slot_old slot_new region_old region_new : ℕ) : Type 0 where
+pub record IsJudged (Refused : BoardFault → Type 0)
+    (code slot_old slot_new region_old region_new : ℕ) : Type 0 where
   pub fault : BoardFault
   pub refused : Refused fault
   pub code_is : code ≡ board_code fault

@@ -23,7 +23,8 @@ scatter_on m (a ∷ addrs) (x ∷ xs) ys = scatter_on (put m a (x ∷ [])) addrs
 pub scatter_none : (m : Memory) (addrs bytes : List ℕ) → length bytes ≡ 0 → m ≡ scatter m addrs bytes
 scatter_none m [] bytes none = refl
 scatter_none m (a ∷ addrs) [] none = refl
-scatter_none m (a ∷ addrs) (x ∷ bytes) none = let e : length (x ∷ bytes) ≡ 0 = none in absurd (omega (arith, e))
+scatter_none m (a ∷ addrs) (x ∷ bytes) none = let e : length (x ∷ bytes) ≡ 0 = none in absurd
+    (omega (arith, e))
 
 -- the first n of two lists
 take-append : (n : ℕ) (xs ys : List ℕ) → take n (xs ++ ys) ≡ take n xs ++ take (n - length xs) ys

@@ -71,8 +71,8 @@ module _ (version : ℕ) where
       ) refl
 
 -- Slots that are asked for as a trace is, of which what was asked for is taken.
-module _ (version : ℕ) (Taken : List SlotSpec
-    → Type 0) (good : (slots : List SlotSpec) (i : ℕ) (spec : SlotSpec) → Taken slots
+module _ (version : ℕ) (Taken : List SlotSpec → Type 0)
+    (good : (slots : List SlotSpec) (i : ℕ) (spec : SlotSpec) → Taken slots
     → slice_get slots i ≡ Some spec → AreGood spec.regions) (slots asked : List SlotSpec)
     (same : asked ≡ map (asked_of_board version) slots) where
   taken_small : Taken asked → All (IsSmallMemory version) slots

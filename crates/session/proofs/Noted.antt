@@ -94,8 +94,8 @@ notes_unchanged g old move had u =
       λ is. same ∙ is.0,
     )
 
-module _ {A : Type 0} (Does : SlotState → Health → Health → SlotState → List ℕ → Turn A
-    → Type 0) (rises : (s : SlotState) (f k : Health) (s' : SlotState) (output : List ℕ) (t : Turn A)
+module _ {A : Type 0} (Does : SlotState → Health → Health → SlotState → List ℕ → Turn A → Type 0)
+    (rises : (s : SlotState) (f k : Health) (s' : SlotState) (output : List ℕ) (t : Turn A)
     → Does s f k s' output t → f.failures ≤ k.failures) where
   notes_other : (g h : ℕ) (old : PacedWorld) (move : Move A) → slot_in move.call ≡ h → h ≢ g
       → IsTurn Does old h move.response move.output move.block_irq move.console_irq move.after

@@ -62,8 +62,8 @@ unchanged g old new output u = record {
   paused = ap (λ (w : PacedWorld). slice_get w.paused g) u.same;
 }
 
-of_others : {A : Type 0} (Does : SlotState → Health → Health → SlotState → List ℕ → Turn A
-    → Type 0) (g h : ℕ) (old : PacedWorld) (response : Response A) (output : List ℕ) (block console : ℕ)
+of_others : {A : Type 0} (Does : SlotState → Health → Health → SlotState → List ℕ → Turn A → Type 0) (g h : ℕ)
+    (old : PacedWorld) (response : Response A) (output : List ℕ) (block console : ℕ)
     (new : PacedWorld) → h ≢ g
     → IsTurn Does old h response output block console new → Stays g old new
 of_others Does g h old response output block console new other t = record {
@@ -99,8 +99,8 @@ events_of_others g (GoOn slot) response rest other = refl
 -- ---- a guest's own moves
 
 -- a turn of the guest's slot, seen from its state
-record Turned {A : Type 0} (Does : SlotState → Health → Health → SlotState → List ℕ → Turn A
-    → Type 0) (g : ℕ) (old : PacedWorld) (move : Move A) (state : SlotState) : Type 0 where
+record Turned {A : Type 0} (Does : SlotState → Health → Health → SlotState → List ℕ → Turn A → Type 0) (g : ℕ)
+    (old : PacedWorld) (move : Move A) (state : SlotState) : Type 0 where
   turn : Turn A
   after : SlotState
   does : Does state old.world.health move.after.world.health after move.output turn
@@ -110,8 +110,8 @@ record Turned {A : Type 0} (Does : SlotState → Health → Health → SlotState
   recorded : (reply : Reply A) (out : List ℕ)
       → record_at g out move reply ≡ record_of g (came after reply (out ++ move.output))
 
-turned : {A : Type 0} (Does : SlotState → Health → Health → SlotState → List ℕ → Turn A
-    → Type 0) (g : ℕ) (old : PacedWorld) (move : Move A) (state : SlotState) (was : Option Pause)
+turned : {A : Type 0} (Does : SlotState → Health → Health → SlotState → List ℕ → Turn A → Type 0) (g : ℕ)
+    (old : PacedWorld) (move : Move A) (state : SlotState) (was : Option Pause)
     → slice_get old.world.slots g ≡ Some state → slice_get old.paused g ≡ Some was
     → IsTurn Does old g move.response move.output move.block_irq move.console_irq move.after
     → Turned Does g old move state

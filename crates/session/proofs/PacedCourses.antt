@@ -57,8 +57,8 @@ unchanged p old call response after same comes = record {
 }
 
 -- what a turn of its slot comes to is the move of the board
-turned : {A : Type 0} {Comes : SlotState → Health → Health → SlotState → List ℕ → Turn A → Type 0} {Within : ℕ
-    → SlotState → SlotState → List ℕ → List ℕ → Turn A → Type 0}
+turned : {A : Type 0} {Comes : SlotState → Health → Health → SlotState → List ℕ → Turn A → Type 0}
+    {Within : ℕ → SlotState → SlotState → List ℕ → List ℕ → Turn A → Type 0}
     (p : Option (Option Pause)) (old : SessionState) (call : Call A) (response : Response A)
     (after : SessionState) (t : IsTurn Comes Within old (slot_in call) response after)
     → (pacing.IsTurn Comes (paced_world_of old) (slot_in call) response t.output t.block t.console

@@ -58,8 +58,8 @@ never_outlet (Ok x) want is = cc
 never_outlet (Err e) want is = cc
 
 -- as many slots are made as there are described
-length-made_over : {X : Type 0} (made : SlotSpec → Memory
-    → X) (slots : List SlotSpec) (bytes : List (List ℕ)) → length (made_over made slots bytes) ≡ length slots
+length-made_over : {X : Type 0} (made : SlotSpec → Memory → X) (slots : List SlotSpec)
+    (bytes : List (List ℕ)) → length (made_over made slots bytes) ≡ length slots
 length-made_over made [] bytes = refl
 length-made_over made (spec ∷ slots) bytes =
     ap suc (length-made_over made slots (drop (length spec.regions) bytes))

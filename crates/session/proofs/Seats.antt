@@ -17,8 +17,8 @@ all_answered slot_in IsFair fair g (Took slot room bytes after ∷ steps) =
 -- Guests that sit so in a session, by what a call is for its guest, and what comes of an asking where so much
 -- output may wait.
 module _ {C R S Q T : Type 0} (slot_in : C → ℕ) (own_of : C → Q)
-    (IsNext : ℕ → T → Asking Q → Answer R → T → Type 0) (limit_of : ℕ → S → ℕ) (Sits : ℕ → T
-    → S → Type 0) where
+    (IsNext : ℕ → T → Asking Q → Answer R → T → Type 0) (limit_of : ℕ → S → ℕ)
+    (Sits : ℕ → T → S → Type 0) where
   -- what a step comes to for its guest
   pub record OwnStep (seat : T) (old : S) (step : CourseStep C R S) : Type 0 where
     pub last : T

@@ -139,8 +139,8 @@ within_at what reply s s' t t' limit limit' before before' after after' p q l b 
 abbrev pub paced_of : SessionState → PacedWorld
 paced_of s = record { world = world_of s; paused = s.paused }
 
-within_for : {A : Type 0} (Within : ℕ → SlotState → SlotState → List ℕ → List ℕ → Turn A
-    → Type 0) (s s' t t' : SlotState) (limit limit' : ℕ)
+within_for : {A : Type 0} (Within : ℕ → SlotState → SlotState → List ℕ → List ℕ → Turn A → Type 0)
+    (s s' t t' : SlotState) (limit limit' : ℕ)
     (before before' after after' : List ℕ) (turn : Turn A)
     → s ≡ s' → t ≡ t' → limit' ≡ limit → before' ≡ before → after' ≡ after
     → Within limit s t before after turn → Within limit' s' t' before' after' turn
@@ -183,8 +183,9 @@ module _ (A : Type 0) (slots slots' : List BoardSlot) (image image' : List ℕ) 
       → Within before.limit (state_of image found) (state_of image' later) before.bytes after.bytes t
 
   -- a turn of the board is one of the session
-  pub turned : (Comes : SlotState → Health → Health → SlotState → List ℕ → Turn A → Type 0) (Within : ℕ
-      → SlotState → SlotState → List ℕ → List ℕ → Turn A → Type 0) (response : Response A) (output : List ℕ)
+  pub turned : (Comes : SlotState → Health → Health → SlotState → List ℕ → Turn A → Type 0)
+      (Within : ℕ → SlotState → SlotState → List ℕ → List ℕ → Turn A → Type 0) (response : Response A)
+      (output : List ℕ)
       (block console : ℕ)
       → paced.IsTurn Comes (paced_of was) slot response output block console (paced_of now)
       → after.bytes ≡ before.bytes ++ output → Decides Within response

@@ -152,8 +152,8 @@ CallWithin limit (GoOn slot) paused budget old new before after turn = ⊤
 
 -- A call is answered so, by an outlet with this limit, if it has one. Its output is appended to what was put
 -- out before.
-pub record IsPacedCall {I A : Type 0} (disk : I
-    → Disk) (limit : Option ℕ) (old : PacedState I) (call : Call A)
+pub record IsPacedCall {I A : Type 0} (disk : I → Disk) (limit : Option ℕ) (old : PacedState I)
+    (call : Call A)
     (response : Response A) (before after : List ℕ) (new : PacedState I) : Type 0 where
   pub responds :
       Tells (disk old.board.image) →

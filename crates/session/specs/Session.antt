@@ -70,7 +70,8 @@ waits_by words output = record { block_irq = words.0; console_irq = words.1; out
 -- what waits for a slot, if there is such a slot
 abbrev pub waits_at : ℕ → SessionState → Option Waits
 waits_at slot session =
-    option_map (λ found. waits_by (interrupt_words found) (output_of slot session)) (slice_get session.slots slot)
+    option_map (λ found. waits_by (interrupt_words found) (output_of slot session))
+    (slice_get session.slots slot)
 
 -- no service of the slot is paused
 abbrev pub IsIdle : ℕ → SessionState → Type 0

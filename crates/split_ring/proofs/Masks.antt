@@ -31,7 +31,12 @@ one_below i (suc n) all below = grind (arith, nat_tests, all, below, one_below i
 -- a size is such a power
 power_of : (size : ℕ) → IsQueueSize size → size ≡ size_at size
 unfolding is_known
-power_of size is = grind (arith, nat_tests, one_below size 257 first_known (omega (arith, is.most)), is.power_of_two)
+power_of size is = grind (
+  arith,
+  nat_tests,
+  one_below size 257 first_known (omega (arith, is.most)),
+  is.power_of_two,
+)
 
 -- a place modulo a queue size
 pub masked : (place size : ℕ) → IsQueueSize size → bit_and place (size - 1) ≡ place % size

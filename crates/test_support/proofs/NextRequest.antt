@@ -41,8 +41,8 @@ module _ {M : Type 1} {𝓤 : Ura M} (𝓛 : Logic 𝓤) (at_mem : Memory → SP
     tt,
   )
 
-module _ {M : Type 1} {𝓤 : Ura M} (𝓛 : Logic 𝓤) (at_mem : Memory → SProp 𝓤) (run : Routine
-    → Fun 𝓤) (κ : Lft) (q : Share) (c : ℕ × ℕ) where
+module _ {M : Type 1} {𝓤 : Ura M} (𝓛 : Logic 𝓤) (at_mem : Memory → SProp 𝓤) (run : Routine → Fun 𝓤) (κ : Lft)
+    (q : Share) (c : ℕ × ℕ) where
   open 𝓛 use {H, A}
 
   pub Asks-goes : ent 𝓤 (sep 𝓤 (sem 𝓛 (hidden_shr RefusalCell κ (record { value = tt }) c.0 c.1)) (A.lft κ q))

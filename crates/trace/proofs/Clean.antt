@@ -84,8 +84,9 @@ abbrev pub IsSlotLine : ℕ → List ℕ → Type 0
 IsSlotLine version l = Entered version l Slot
 
 -- a text whose first lines are a header, where its disks are, slots and events, before at least one more part
-module _ (version : ℕ) (text k : List ℕ) (S E more : List (List ℕ)) (is : lines_of text
-    ≡ (header version ∷ k ∷ (S ++ E)) ++ more) (some : 0 < length more) (one_of : IsVersion version)
+module _ (version : ℕ) (text k : List ℕ) (S E more : List (List ℕ))
+    (is : lines_of text ≡ (header version ∷ k ∷ (S ++ E)) ++ more) (some : 0 < length more)
+    (one_of : IsVersion version)
     (second : EnteredSecond version k) (slots : All (IsSlotLine version) S)
     (events : All (EnteredEvent version) E) where
   total : length (lines_of text) ≡ 2 + (length S + length E) + length more

@@ -27,8 +27,8 @@ head_fault text kind.Header h =
 head_fault text fault h = absurd h
 
 -- after a good first line
-module _ (version : ℕ) (text rest : List ℕ) (one_of : IsVersion version) (whole : text ≡ header version
-    ++ 10 ∷ rest) where
+module _ (version : ℕ) (text rest : List ℕ) (one_of : IsVersion version)
+    (whole : text ≡ header version ++ 10 ∷ rest) where
   pub headed : lines_of text ≡ header version ∷ lines_of rest
   unfolding joined
   headed = ap lines_of (whole ∙ sym (ap (λ (xs : List ℕ). xs ++ rest) (append-nil (header version ++ 10 ∷ []))

@@ -137,8 +137,8 @@ here_of (y ∷ xs) x ys = here_of xs x ys
 no_region : RegionSpec
 no_region = record { base = 0; len = 0 }
 
-module _ (field : List ℕ) (items : List RegionSpec) (rest : Option (List ℕ)) (so_far : parts 44 field
-    ≡ map region_text items ++ parts_left 44 rest) where
+module _ (field : List ℕ) (items : List RegionSpec) (rest : Option (List ℕ))
+    (so_far : parts 44 field ≡ map region_text items ++ parts_left 44 rest) where
   parsed : (regions : List RegionSpec) → IsRegionsField field regions
       → map region_text regions ≡ map region_text items ++ parts_left 44 rest
   parsed regions is = sym (regions_parts regions is.some) ∙ sym (ap (parts 44) is.spelled) ∙ so_far

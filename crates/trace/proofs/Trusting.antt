@@ -220,7 +220,8 @@ pub record InputParts (A : Type 0) (rest : List ℕ) : Type 0 where
   pub last : List ℕ
   pub has_slot : HasSlot rest slot last
   pub has_bytes : HasBytes last (bytes bs) after
-  pub line : IsLineOf {A = A} (spelled Input ++ 32 ∷ rest) (record { slot = slot; what = what.Input bs }) after
+  pub line : IsLineOf {A = A} (spelled Input ++ 32 ∷ rest) (record { slot = slot; what = what.Input bs })
+      after
 
 by_input : (A : Type 0) (rest : List ℕ) (slot : ℕ) (w : EventKind A) (after : List ℕ)
     → IsLineOf {A = A} (spelled Input ++ 32 ∷ rest) (record { slot = slot; what = w }) after
@@ -246,7 +247,8 @@ input_parts A rest h = by_input A rest h.event.slot h.event.what h.after h.begin
 
 -- ---- what was taken off
 
-pub read_taken : (A : Type 0) (rest : List ℕ) (p : ReadParts A rest) (s : ParsedEvent A) (slot offset width : ℕ)
+pub read_taken : (A : Type 0) (rest : List ℕ) (p : ReadParts A rest) (s : ParsedEvent A)
+    (slot offset width : ℕ)
     (kind : DeviceKind) (after : List ℕ) → slot ≡ p.slot → kind ≡ p.kind → offset ≡ p.offset
     → width ≡ p.width → after ≡ p.after
     → s.event ≡ record { slot = slot; what = what.Read kind offset width } → s.bytes.now ≡ []
@@ -254,7 +256,8 @@ pub read_taken : (A : Type 0) (rest : List ℕ) (p : ReadParts A rest) (s : Pars
 read_taken A rest p s slot offset width kind after e1 e2 e3 e4 e5 is none =
     let line : IsLineOf {A = A} (spelled Read ++ 32 ∷ rest)
     (record { slot = slot; what = what.Read kind offset width }) after = rw (e1, e2, e3, e4, e5) p.line in
-    line_taken s (record { slot = slot; what = what.Read kind offset width }) (spelled Read ++ 32 ∷ rest) after
+    line_taken s (record { slot = slot; what = what.Read kind offset width }) (spelled Read ++ 32 ∷ rest)
+    after
     line (rw is refl)
     (record {
       slot = rw is line.fine.fits.slot;
@@ -352,8 +355,10 @@ pub offset_is : (text : List ℕ) (kind : DeviceKind) (offset width : ℕ) (afte
 offset_is text kind offset width after a b c h va vb vc =
     let all = access_bytes text kind offset width after h in
     let small = h.three_digits in
-    let x = digit_valued text 2 (offset / 16 / 16 % 16) a (omega arith) (ap (λ (xs : List ℕ). get_or xs 2 0) all) va in
-    let y = digit_valued text 3 (offset / 16 % 16) b (omega arith) (ap (λ (xs : List ℕ). get_or xs 3 0) all) vb in
+    let x = digit_valued text 2 (offset / 16 / 16 % 16) a (omega arith)
+    (ap (λ (xs : List ℕ). get_or xs 2 0) all) va in
+    let y = digit_valued text 3 (offset / 16 % 16) b (omega arith) (ap (λ (xs : List ℕ). get_or xs 3 0) all)
+    vb in
     let z = digit_valued text 4 (offset % 16) c (omega arith) (ap (λ (xs : List ℕ). get_or xs 4 0) all) vc in
     omega (arith, x, y, z)
 
@@ -371,13 +376,19 @@ window_found Console byte found e block console = console (λ x. omega (arith, e
 -- what is behind a slot that was read
 pub read_behind : (A : Type 0) (rest : List ℕ) (p : ReadParts A rest) (slot : ℕ) (xs : List ℕ)
     → rest ≡ num slot ++ 32 ∷ xs → (slot ≡ p.slot) × HasAccess xs p.kind p.offset p.width (10 ∷ p.after)
-read_behind A rest p slot xs e = let at = one_number rest slot p.slot xs p.behind e p.has_slot.is in
-    (at.0, subst (λ (ys : List ℕ). HasAccess ys p.kind p.offset p.width (10 ∷ p.after)) (sym at.1) p.has_access)
+read_behind A rest p slot xs e = let at = one_number rest slot p.slot xs p.behind e p.has_slot.is in (
+  at.0,
+  subst (λ (ys : List ℕ). HasAccess ys p.kind p.offset p.width (10 ∷ p.after)) (sym at.1)
+      p.has_access,
+)
 
 pub write_behind : (A : Type 0) (rest : List ℕ) (p : WriteParts A rest) (slot : ℕ) (xs : List ℕ)
     → rest ≡ num slot ++ 32 ∷ xs → (slot ≡ p.slot) × HasAccess xs p.kind p.offset p.width (32 ∷ p.field)
-write_behind A rest p slot xs e = let at = one_number rest slot p.slot xs p.behind e p.has_slot.is in
-    (at.0, subst (λ (ys : List ℕ). HasAccess ys p.kind p.offset p.width (32 ∷ p.field)) (sym at.1) p.has_access)
+write_behind A rest p slot xs e = let at = one_number rest slot p.slot xs p.behind e p.has_slot.is in (
+  at.0,
+  subst (λ (ys : List ℕ). HasAccess ys p.kind p.offset p.width (32 ∷ p.field)) (sym at.1)
+      p.has_access,
+)
 
 pub value_behind : (A : Type 0) (rest : List ℕ) (p : WriteParts A rest) (xs : List ℕ) (width : ℕ)
     → HasAccess xs p.kind p.offset p.width (32 ∷ p.field) → width ≡ p.width
@@ -507,7 +518,8 @@ pub behind_value : (xs : List ℕ) (width value : ℕ) (after : List ℕ) → Ha
     → drop (9 + 2 * width) xs ≡ after
 behind_value xs width value after h =
     let sum : 9 + 2 * width ≡ 8 + (2 * width + 1) = omega arith in
-    ap (λ (n : ℕ). drop n xs) sum ∙ sym (drop-drop (2 * width + 1) 8 xs) ∙ value_after (drop 8 xs) width value after h
+    ap (λ (n : ℕ). drop n xs) sum ∙ sym (drop-drop (2 * width + 1) 8 xs) ∙ value_after (drop 8 xs) width value
+    after h
 
 -- ---- a number, digit by digit
 

@@ -22,7 +22,8 @@ returns-clause-ok g c =
     (g.O.Outlet.bytes c.args.out.now) (g.O.Outlet.bytes c.serve_transmit_piece.new.out)
     (returns-clause-ok_within g c)
 
-pub returns-in_err-serve_transmit_piece-clause-no_memory : goal.returns-in_err-serve_transmit_piece-clause-no_memory
+pub returns-in_err-serve_transmit_piece-clause-no_memory :
+    goal.returns-in_err-serve_transmit_piece-clause-no_memory
 returns-in_err-serve_transmit_piece-clause-no_memory g c =
     on_refusal c.from_residual.result _
     (refused_somewhere (g.O.Outlet.limit c.args.out.now) 1 (queue_at 1 c.args.window.now)

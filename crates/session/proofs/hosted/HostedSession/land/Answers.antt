@@ -9,7 +9,8 @@ pub invariant_of-self : goal.invariant_of-self
 invariant_of-self g c =
     c.self.invariant
     ∙ sym (as_many_slots c.self.inside.board c.args.slot (Complete c.args.verdict) None
-    c.complete-handled.result.reply _ _ [] [] c.complete-handled.new.self (c.complete-handled.ensures.takes None []))
+    c.complete-handled.result.reply _ _ [] [] c.complete-handled.new.self
+    (c.complete-handled.ensures.takes None []))
 
 pub returns-clause-call : goal.returns-clause-call
 returns-clause-call g c =
@@ -24,7 +25,8 @@ returns-clause-call g c =
 
 pub returns-clause-suits : goal.returns-clause-suits
 returns-clause-suits g c =
-    suits_completion c.self.inside.board c.args.slot c.args.verdict None c.complete-handled.result.reply _ _ [] []
+    suits_completion c.self.inside.board c.args.slot c.args.verdict None c.complete-handled.result.reply _ _
+    [] []
     c.complete-handled.new.self (c.complete-handled.ensures.takes None [])
 
 pub waits-waits-requires : goal.waits-waits-requires

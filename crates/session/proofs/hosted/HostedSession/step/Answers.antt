@@ -15,9 +15,11 @@ returns-in_default-clause-call g c =
 pub returns-clause-call : goal.returns-clause-call
 returns-clause-call g c =
     rw (← c.self.view_is)
-    (came _ c.step_hosted-handled.new.board _ _ c.args.what.now c.step_hosted-handled.result.reply _ _ c.in-Some.output.now
+    (came _ c.step_hosted-handled.new.board _ _ c.args.what.now c.step_hosted-handled.result.reply _ _
+    c.in-Some.output.now
     c.step_hosted-handled.new.self (search (rules, slice_get_read))
-    c.step_hosted-handled.ensures.takes c.step_hosted-handled.ensures.others c.step_hosted-handled.ensures.limit)
+    c.step_hosted-handled.ensures.takes c.step_hosted-handled.ensures.others
+    c.step_hosted-handled.ensures.limit)
 
 pub returns-clause-suits : goal.returns-clause-suits
 returns-clause-suits g c =

@@ -32,14 +32,19 @@ there g c =
 -- the turn of the board is one of the session
 taken : (g : _) (c : goal.After-self-2-1 g)
     → Turned
-    (was c.self.inside.paced c.turn-shown.new.paced c.self.inside.outputs.items c.args.slot c.in-Some.output.now
-    c.turn-shown.new.self c.turn-shown.result.response (there g c) (c.self.invariant.1 ∙ sym c.self.invariant.0) c.self.invariant.0
+    (was c.self.inside.paced c.turn-shown.new.paced c.self.inside.outputs.items c.args.slot
+    c.in-Some.output.now
+    c.turn-shown.new.self c.turn-shown.result.response (there g c)
+    (c.self.invariant.1 ∙ sym c.self.invariant.0) c.self.invariant.0
     c.turn-shown.ensures.limit) c.args.slot c.args.kind c.turn-shown.result.response
-    (now c.self.inside.paced c.turn-shown.new.paced c.self.inside.outputs.items c.args.slot c.in-Some.output.now
-    c.turn-shown.new.self c.turn-shown.result.response (there g c) (c.self.invariant.1 ∙ sym c.self.invariant.0) c.self.invariant.0
+    (now c.self.inside.paced c.turn-shown.new.paced c.self.inside.outputs.items c.args.slot
+    c.in-Some.output.now
+    c.turn-shown.new.self c.turn-shown.result.response (there g c)
+    (c.self.invariant.1 ∙ sym c.self.invariant.0) c.self.invariant.0
     c.turn-shown.ensures.limit c.turn-shown.new.paced.budget)
 taken g c =
-    turned c.self.inside.paced c.turn-shown.new.paced c.self.inside.outputs.items c.args.slot c.in-Some.output.now
+    turned c.self.inside.paced c.turn-shown.new.paced c.self.inside.outputs.items c.args.slot
+    c.in-Some.output.now
     c.turn-shown.new.self
     c.turn-shown.result.response (there g c) (c.self.invariant.1 ∙ sym c.self.invariant.0) c.self.invariant.0
     c.turn-shown.ensures.limit
@@ -52,7 +57,8 @@ invariant_of-self-2 g c =
       length-set c.self.inside.outputs.items c.args.slot c.turn-shown.new.self ∙ (c.self.invariant.0 ∙ many),
       (as_many_paused c.self.inside.paced c.turn-shown.new.paced c.self.inside.outputs.items c.args.slot
           c.in-Some.output.now c.turn-shown.new.self
-          c.turn-shown.result.response (there g c) (c.self.invariant.1 ∙ sym c.self.invariant.0) c.self.invariant.0
+          c.turn-shown.result.response (there g c) (c.self.invariant.1 ∙ sym c.self.invariant.0)
+          c.self.invariant.0
           c.turn-shown.ensures.limit
           c.args.kind c.turn-shown.ensures.call ∙ c.self.invariant.1) ∙ many,
     )
@@ -68,7 +74,8 @@ returns-clause-suits g c = (taken g c).suits
 
 pub returns-clause-waits : goal.returns-clause-waits
 returns-clause-waits g c =
-    turned_waits interrupt_words c.turn-shown.new.paced.board.slots c.self.inside.outputs.items c.args.slot c.in-Some.output.now
+    turned_waits interrupt_words c.turn-shown.new.paced.board.slots c.self.inside.outputs.items c.args.slot
+    c.in-Some.output.now
     c.turn-shown.new.self c.turn-shown.result.block_irq c.turn-shown.result.console_irq c.len.result
     (omega (
       arith,

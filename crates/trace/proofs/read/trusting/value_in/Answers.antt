@@ -38,7 +38,8 @@ fixed_value-requires-2 c =
 pub returns-then-width-eq4 : goal.returns-then-width-eq4
 returns-then-width-eq4 c value after h =
     let is = c.if-width-eq4.true in
-    c.fixed_value.ensures 8 value (value_field c.args.text.now c.args.width value after 8 h (omega (arith, is)))
+    c.fixed_value.ensures 8 value (value_field c.args.text.now c.args.width value after 8 h
+    (omega (arith, is)))
 
 pub returns-then-width-eq2 : goal.returns-then-width-eq2
 returns-then-width-eq2 c value after h =

@@ -64,8 +64,8 @@ module _ (E : Bx) (dx : Dict) where
   abbrev To : RattleType
   To = parts.the_row (R E) (P E) E.al.g
 
-  module _ {M : Type 1} {𝓤 : Ura M} (𝓛 : Logic 𝓤) (at_mem : Memory → SProp 𝓤) (run : Routine
-      → Fun 𝓤) (𝓣 : Tables 𝓤 𝓛.H) where
+  module _ {M : Type 1} {𝓤 : Ura M} (𝓛 : Logic 𝓤) (at_mem : Memory → SProp 𝓤) (run : Routine → Fun 𝓤)
+      (𝓣 : Tables 𝓤 𝓛.H) where
     open 𝓛 use {H}
 
     abbrev held : Clauses 𝓤 ended
