@@ -74,6 +74,18 @@ took_is slot count words =
     ∙ ap (λ (t : List ℕ). num slot ++ 32 ∷ t) (sym (append_assoc (codes "took:") (num count) tail))
     ∙ quiet_is slot (codes "took:" ++ num count) words
 
+-- the same where that number has two digits, put at once
+pub took_two : (slot count x y : ℕ) (words : ℕ × ℕ) → 16 ≤ count → count < 256 → x ≡ digit (count / 16)
+    → y ≡ digit (count % 16)
+    → num slot ++ 32 ∷ (codes "took:"
+    ++ x ∷ y ∷ 32 ∷ 45 ∷ 32 ∷ digit words.0 ∷ 32 ∷ digit words.1 ∷ 10 ∷ [])
+    ≡ ended (quiet_line slot (codes "took:" ++ num count) words)
+took_two slot count x y words le lt p q =
+    let tail : List ℕ = 32 ∷ 45 ∷ 32 ∷ digit words.0 ∷ 32 ∷ digit words.1 ∷ 10 ∷ [] in
+    ap (λ (t : List ℕ). num slot ++ 32 ∷ (codes "took:" ++ t)) (two_digits count x y tail le lt p q)
+    ∙ ap (λ (t : List ℕ). num slot ++ 32 ∷ t) (sym (append_assoc (codes "took:") (num count) tail))
+    ∙ quiet_is slot (codes "took:" ++ num count) words
+
 -- a line without output is that line
 pub quiet_of : {A : Type 0} → (slot : ℕ) (reply : Reply A) (output : List ℕ) (words : ℕ × ℕ) (field : List ℕ)
     → length output ≡ 0 → reply_field reply ≡ field

@@ -159,8 +159,35 @@ fn put_numbered<W: Write, B: Allocator>(buffer: &mut Buffer<B>, out: &mut W, slo
     }
 }
 
-// The same of how many bytes were taken.
+// The same of how many bytes were taken. A number of two digits goes out with its line, all of it at once.
 fn put_took<W: Write, B: Allocator>(
+    buffer: &mut Buffer<B>,
+    out: &mut W,
+    slot: u8,
+    count: u64,
+    words: (u8, u8),
+)
+    requires block { words.0 ≤ 3 }
+    requires console { words.1 ≤ 3 }
+    ensures { Sends (W.contents out.old) (W.contents out.new) (waiting buffer.old) (ended (quiet_line slot (codes "took:" ++ num count) words)) (waiting buffer.new) }
+{
+    if count < 16 || count >= 256 {
+        put_took_in_parts(buffer, out, slot, count, words);
+        return;
+    }
+    let mut line = *b"00 took:00 - 0 0\n";
+    line[0] = digit_of(slot / 16);
+    line[1] = digit_of(slot % 16);
+    line[8] = digit_of((count / 16) as u8);
+    line[9] = digit_of((count % 16) as u8);
+    line[13] = digit_of(words.0);
+    line[15] = digit_of(words.1);
+    put_numbered(buffer, out, slot, &line);
+}
+
+// The same of any number.
+#[inline(never)]
+fn put_took_in_parts<W: Write, B: Allocator>(
     buffer: &mut Buffer<B>,
     out: &mut W,
     slot: u8,

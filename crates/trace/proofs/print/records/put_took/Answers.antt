@@ -1,11 +1,12 @@
-use Rattle.trace.proofs.Passing.{sends_more, sends_same}
-use Rattle.trace.proofs.RecordLines.{took_is}
+use Rattle.std.proofs.Common.{arith}
+use Rattle.trace.proofs.Passing.{sends_same}
+use Rattle.trace.proofs.RecordLines.{took_two}
 use Rattle.trace.proofs.print.records.put_took.Goals as goal
 
 pub returns : goal.returns
 returns g c =
-    sends_same _ _ _ _ _ _ (took_is c.args.slot c.args.count c.args.words)
-    (sends_more _ _ _ _ _ _ _ _ c.put_slot.ensures
-    (sends_more _ _ _ _ _ _ _ _ c.put.ensures
-    (sends_more _ _ _ _ _ _ _ _ c.put_num.ensures
-    (rw (c.digit_of-x.ensures, c.digit_of-y.ensures) at c.put-2.ensures))))
+    sends_same _ _ _ _ _ _ (rw (c.digit_of-5.ensures, c.digit_of-6.ensures)
+    (took_two c.args.slot c.args.count c.digit_of-3.result c.digit_of-4.result c.args.words (omega arith)
+        (omega arith)
+    c.digit_of-3.ensures c.digit_of-4.ensures))
+    c.put_numbered.ensures
