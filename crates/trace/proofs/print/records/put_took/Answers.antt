@@ -7,6 +7,6 @@ pub returns : goal.returns
 returns g c =
     sends_same _ _ _ _ _ _ (rw (c.digit_of-5.ensures, c.digit_of-6.ensures)
     (took_two c.args.slot c.args.count c.digit_of-3.result c.digit_of-4.result c.args.words (omega arith)
-        (omega arith)
+    (omega arith)
     c.digit_of-3.ensures c.digit_of-4.ensures))
     c.put_numbered.ensures
