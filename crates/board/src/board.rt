@@ -23,7 +23,6 @@ use crate::reply::{Handled, Record, Reply, RunStop};
 use crate::slot::Slot;
 use chain::Budget;
 use console_device::Outlet;
-use mmio_window::DeviceKind;
 use sector_cache::{Image, SectorCache};
 use std::alloc::{Allocator, Global};
 use std::marker::Model;
@@ -154,47 +153,6 @@ impl<I: Image, A: Allocator + Copy> Board<I, A> {
             },
             Turn::More(_) => unreachable!(),
         }
-    }
-}
-
-impl<I: Image, A: Allocator + Copy> Board<I, A> {
-    /// Writes `width` bytes at an offset of a window: `handle` for the event of that write.
-    #[inline(always)]
-    pub fn write<O: Outlet>(
-        &mut self,
-        slot: u8,
-        window: DeviceKind,
-        offset: u16,
-        width: u8,
-        value: u32,
-        out: &mut O,
-    ) -> Handled<A>
-        ensures handles { Tells (I.disk self.old.image) →
-            Handles (world_of I.disk self.old) (record { slot = slot; what = EventKind.Write window offset width value })
-            result.reply result.block_irq result.console_irq
-            (O.bytes out.old) (O.bytes out.new) (world_of I.disk self.new) }
-        ensures within { DecidesSlot I.disk (O.limit out.old) slot self.old self.new (λ limit found after.
-            TakesWithin limit found (EventKind.Write window offset width value) after (O.bytes out.old)
-            (O.bytes out.new) result.reply) }
-        ensures limit { O.limit out.new ≡ O.limit out.old }
-        ensures words { AreInterruptWords result.block_irq result.console_irq }
-        ensures stays { StaysInExtents I.disk self.old self.new }
-        ensures touches { TouchesSlot I.moment I.may_leave I.left_since slot self.old self.new }
-        ensures noted { NotesRefusal I.disk slot (met_refusal result.reply) self.old self.new }
-        ensures bad_slot { (result.reply ≡ Reply.BadSlot) ↔ (length self.old.slots ≤ slot) }
-        ensures missing { length self.old.slots ≤ slot →
-            IsMissed self.old self.new (O.bytes out.old) (O.bytes out.new) result.block_irq result.console_irq }
-        ensures others { KeepsOthers slot self.old.slots self.new.slots }
-        ensures no_memory { result.reply ≡ Reply.NoMemory →
-            HoldsAt slot self.old.slots (λ state. MayLackMemory {A = A} state (EventKind.Write window offset width value)) }
-    {
-        let what = EventKind::Write {
-            window,
-            offset,
-            width,
-            value,
-        };
-        self.handle(slot, &what, out)
     }
 }
 

@@ -99,12 +99,6 @@ fn answer<I: Image, A: Allocator + Copy>(
             let reply = read(board, slot, window, offset, width);
             told(reply, words(board, slot))
         }
-        EventKind::Write {
-            window,
-            offset,
-            width,
-            value,
-        } => board.write(slot, window, offset, width, value, output),
         EventKind::MemWrite { addr, .. } => {
             let reply = write_memory(board, slot, addr, bytes_in(room, parsed.bytes));
             told(reply, words(board, slot))

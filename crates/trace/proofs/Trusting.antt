@@ -10,14 +10,14 @@ use Rattle.mmio_window.specs.declared.device_kind.DeviceKind.TheVariants.{Block,
 use Rattle.board.specs.declared.event.Event.{Event}
 use Rattle.board.specs.declared.event.EventKind.{EventKind}
 use Rattle.board.specs.declared.event.EventKind.TheVariants as what
-use Rattle.hexadecimal.specs.Fields.{IsBytesField, IsDigit, IsFixed, IsValue}
+use Rattle.hexadecimal.specs.Fields.{IsBytesField, IsDigit, IsFixed, IsValue, SpellsFixed}
 use Rattle.hexadecimal.specs.Spelling.{bytes, digit, fixed, num}
 use Rattle.hexadecimal.proofs.Digits.{digit_above, digit_cases, same_digit}
 use Rattle.hexadecimal.proofs.Numbers.{Reads, are_digits_num, digit_at, length_fixed, length_num, length_num_above, no_number_zero, num_digit, num_split, reads_more, room, same_num}
 use Rattle.trace.specs.declared.read.parsed_event.ParsedEvent.{ParsedEvent}
 use Rattle.trace.specs.declared.word.Word.TheVariants.{Read, Write, MemWrite, Input}
 use Rattle.trace.specs.Cuts.{is_space, lines_of}
-use Rattle.trace.specs.Events.{BeginsWithEvent, BeginsWithNumber, BeginsWithSlot, HasAccess, HasBytes, HasNumber, HasSlot, HasValue, IsLineOf, TakesEvent}
+use Rattle.trace.specs.Events.{BeginsWithAccess, BeginsWithEvent, BeginsWithNumber, BeginsWithSlot, HasAccess, HasBytes, HasNumber, HasSlot, HasValue, IsLineOf, TakesEvent}
 use Rattle.trace.specs.Spelling.{width_digit, window}
 use Rattle.trace.specs.Text.{event_line}
 use Rattle.trace.specs.Words.{IsWidth, spelled}
@@ -382,6 +382,20 @@ read_behind A rest p slot xs e = let at = one_number rest slot p.slot xs p.behin
       p.has_access,
 )
 
+-- an access begins there
+access_begins : (text : List ℕ) (kind : DeviceKind) (offset width c : ℕ) (after : List ℕ)
+    → HasAccess text kind offset width (c ∷ after) → BeginsWithAccess text × (8 ≤ length text)
+access_begins text kind offset width c after h = (
+  record { kind = kind; offset = offset; width = width; after = c ∷ after; has = h },
+  omega (arith, access_long text kind offset width (c ∷ after) h),
+)
+
+pub read_begins : (A : Type 0) (rest : List ℕ) → BeginsWithEvent A (spelled Read ++ 32 ∷ rest)
+    → (slot : ℕ) (xs : List ℕ) → rest ≡ num slot ++ 32 ∷ xs → BeginsWithAccess xs × (8 ≤ length xs)
+read_begins A rest h slot xs e =
+    let p = read_parts A rest h in
+    access_begins xs p.kind p.offset p.width 10 p.after (read_behind A rest p slot xs e).1
+
 pub write_behind : (A : Type 0) (rest : List ℕ) (p : WriteParts A rest) (slot : ℕ) (xs : List ℕ)
     → rest ≡ num slot ++ 32 ∷ xs → (slot ≡ p.slot) × HasAccess xs p.kind p.offset p.width (32 ∷ p.field)
 write_behind A rest p slot xs e = let at = one_number rest slot p.slot xs p.behind e p.has_slot.is in (
@@ -389,6 +403,12 @@ write_behind A rest p slot xs e = let at = one_number rest slot p.slot xs p.behi
   subst (λ (ys : List ℕ). HasAccess ys p.kind p.offset p.width (32 ∷ p.field)) (sym at.1)
       p.has_access,
 )
+
+pub write_begins : (A : Type 0) (rest : List ℕ) → BeginsWithEvent A (spelled Write ++ 32 ∷ rest)
+    → (slot : ℕ) (xs : List ℕ) → rest ≡ num slot ++ 32 ∷ xs → BeginsWithAccess xs × (8 ≤ length xs)
+write_begins A rest h slot xs e =
+    let p = write_parts A rest h in
+    access_begins xs p.kind p.offset p.width 32 p.field (write_behind A rest p slot xs e).1
 
 pub value_behind : (A : Type 0) (rest : List ℕ) (p : WriteParts A rest) (xs : List ℕ) (width : ℕ)
     → HasAccess xs p.kind p.offset p.width (32 ∷ p.field) → width ≡ p.width
@@ -456,6 +476,11 @@ pub slot_long : (text : List ℕ) (slot : ℕ) (after : List ℕ) → HasSlot te
 slot_long text slot after h =
     (slot_bytes text (record { slot = slot; after = after; has = h })).long
 
+-- a slot stands at the front, and two bytes
+pub slot_begins : (text : List ℕ) (slot : ℕ) (after : List ℕ) → HasSlot text slot after
+    → BeginsWithSlot text × (2 ≤ length text)
+slot_begins text slot after h = (record { slot = slot; after = after; has = h }, slot_long text slot after h)
+
 above_zero : (d : ℕ) → d < 16 → 0 < d → digit d ≢ 48
 above_zero d lt pos e =
     elim (digit_cases d lt) [ inl low ↦ omega (arith, low, e) | inr high ↦ omega (arith, high, e) ]
@@ -492,6 +517,11 @@ value_field text width value after k h is =
       fits = h.small;
       spelled = ap (λ (n : ℕ). take n text) (sym len) ∙ digits;
     })
+
+pub value_spelled : (text : List ℕ) (width value : ℕ) (after : List ℕ) (k : ℕ)
+    → HasValue text width value after → k ≡ 2 * width → k ≤ 8 → SpellsFixed (take k text)
+value_spelled text width value after k h is few =
+    record { digits = k; few = few; n = value; is = value_field text width value after k h is }
 
 pub value_long : (text : List ℕ) (width value : ℕ) (after : List ℕ) → HasValue text width value after
     → 2 * width + 1 ≤ length text

@@ -1,6 +1,5 @@
 use Rattle.std.proofs.Common.{[], rules, arith}
 use Rattle.std.proofs.lemmas.Grind.{common_steps}
-use Rattle.board.specs.declared.event.EventKind.{EventKind}
 use Rattle.board.specs.Image.{Tells}
 use Rattle.board.specs.World.{Answers, world_of}
 use Rattle.replay.proofs.Answering.{answered_alone, words_told}
@@ -17,19 +16,3 @@ returns-in_default-clause-answers g c =
 pub returns-in_default-clause-words : goal.returns-in_default-clause-words
 returns-in_default-clause-words g c tells =
     words_told g.I.Image.disk c.args.board.now c.handle.new.self _ _ _ _ _ _ (c.handle.ensures.handles tells)
-
-pub returns-in-Write-clause-answers : goal.returns-in-Write-clause-answers
-returns-in-Write-clause-answers g c =
-    let disk = g.I.Image.disk in
-    let told : Tells (disk c.args.board.now.image) → Answers (world_of disk c.args.board.now)
-    (record {
-      slot = c.args.parsed.now.event.slot;
-      what = EventKind.Write c.in-Write.window c.in-Write.offset c.in-Write.width c.in-Write.value;
-    })
-    c.write.result.reply [] c.write.new.out.items (world_of disk c.write.new.self)
-    = λ tells. answered_alone c.requires.empty (c.write.ensures.handles tells) in
-    first_of (search (rules, told), grind (arith, common_steps, told))
-
-pub returns-in-Write-clause-words : goal.returns-in-Write-clause-words
-returns-in-Write-clause-words g c tells =
-    words_told g.I.Image.disk c.args.board.now c.write.new.self _ _ _ _ _ _ (c.write.ensures.handles tells)

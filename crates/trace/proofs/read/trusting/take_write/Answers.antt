@@ -1,43 +1,31 @@
 use Rattle.std.proofs.Common.{◌∷◌, arith, length-drop}
 use Rattle.std.proofs.lemmas.List.{take_rest}
-use Rattle.trace.proofs.Trusting.{access_long, behind_value, slot_long, value_behind, value_long, write_behind, write_parts, write_taken}
+use Rattle.trace.proofs.Trusting.{behind_value, slot_begins, value_behind, value_long, write_begins, write_behind, write_parts, write_taken}
 use Rattle.trace.proofs.read.trusting.take_write.Goals as goal
 
 pub slot_in-slot-requires-clause-begins : goal.slot_in-slot-requires-clause-begins
-slot_in-slot-requires-clause-begins g c = let p = write_parts _ c.args.rest.now c.requires in
-    record { slot = p.slot; after = p.behind; has = p.has_slot }
+slot_in-slot-requires-clause-begins g c =
+    let p = write_parts _ c.args.rest.now c.requires in (slot_begins _ p.slot p.behind p.has_slot).0
 
 pub slot_in-slot-requires-clause-long : goal.slot_in-slot-requires-clause-long
-slot_in-slot-requires-clause-long g c = let p = write_parts _ c.args.rest.now c.requires in
-    slot_long c.args.rest.now p.slot p.behind p.has_slot
+slot_in-slot-requires-clause-long g c =
+    let p = write_parts _ c.args.rest.now c.requires in (slot_begins _ p.slot p.behind p.has_slot).1
 
 pub access_in-window-requires-clause-begins : goal.access_in-window-requires-clause-begins
 access_in-window-requires-clause-begins g c =
-    let p = write_parts _ c.args.rest.now c.requires in
-    let at = write_behind _ c.args.rest.now p c.slot_in-slot.result.0 c.slot_in-slot.result.1.now
-    c.slot_in-slot.ensures in
-    record { kind = p.kind; offset = p.offset; width = p.width; after = 32 ∷ p.field; has = at.1 }
+    (write_begins _ c.args.rest.now c.requires _ _ c.slot_in-slot.ensures).0
 
 pub access_in-window-requires-clause-long : goal.access_in-window-requires-clause-long
 access_in-window-requires-clause-long g c =
-    let p = write_parts _ c.args.rest.now c.requires in
-    let at = write_behind _ c.args.rest.now p c.slot_in-slot.result.0 c.slot_in-slot.result.1.now
-    c.slot_in-slot.ensures in
-    omega (arith, access_long c.slot_in-slot.result.1.now p.kind p.offset p.width (32 ∷ p.field) at.1)
+    omega (arith, (write_begins _ c.args.rest.now c.requires _ _ c.slot_in-slot.ensures).1)
 
 pub slice_bounds-value_in-count : goal.slice_bounds-value_in-count
 slice_bounds-value_in-count g c =
-    let p = write_parts _ c.args.rest.now c.requires in
-    let at = write_behind _ c.args.rest.now p c.slot_in-slot.result.0 c.slot_in-slot.result.1.now
-    c.slot_in-slot.ensures in
-    omega (arith, access_long c.slot_in-slot.result.1.now p.kind p.offset p.width (32 ∷ p.field) at.1)
+    omega (arith, (write_begins _ c.args.rest.now c.requires _ _ c.slot_in-slot.ensures).1)
 
 pub slice_bounds-value_in-start : goal.slice_bounds-value_in-start
 slice_bounds-value_in-start g c =
-    let p = write_parts _ c.args.rest.now c.requires in
-    let at = write_behind _ c.args.rest.now p c.slot_in-slot.result.0 c.slot_in-slot.result.1.now
-    c.slot_in-slot.ensures in
-    omega (arith, access_long c.slot_in-slot.result.1.now p.kind p.offset p.width (32 ∷ p.field) at.1)
+    omega (arith, (write_begins _ c.args.rest.now c.requires _ _ c.slot_in-slot.ensures).1)
 
 pub value_in-value-requires-clause-begins : goal.value_in-value-requires-clause-begins
 value_in-value-requires-clause-begins g c =

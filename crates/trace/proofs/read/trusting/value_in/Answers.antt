@@ -1,39 +1,22 @@
 use Rattle.std.proofs.Common.{arith}
-use Rattle.trace.proofs.Trusting.{other_width, value_field}
+use Rattle.trace.proofs.Trusting.{other_width, value_field, value_spelled}
 use Rattle.trace.proofs.read.trusting.value_in.Goals as goal
 
 pub fixed_value-requires : goal.fixed_value-requires
 fixed_value-requires c =
-    let p = c.requires.begins in
     let is = c.if-width-eq4.true in
-    record {
-      digits = 8;
-      few = omega arith;
-      n = p.value;
-      is = value_field c.args.text.now c.args.width p.value p.after 8 p.has (omega (arith, is));
-    }
+    value_spelled _ _ _ _ 8 c.requires.begins.has (omega (arith, is)) (omega arith)
 
 pub fixed_value-requires-then-width-eq2 : goal.fixed_value-requires-then-width-eq2
 fixed_value-requires-then-width-eq2 c =
-    let p = c.requires.begins in
     let is = c.if-width-eq2.true in
-    record {
-      digits = 4;
-      few = omega arith;
-      n = p.value;
-      is = value_field c.args.text.now c.args.width p.value p.after 4 p.has (omega (arith, is));
-    }
+    value_spelled _ _ _ _ 4 c.requires.begins.has (omega (arith, is)) (omega arith)
 
 pub fixed_value-requires-2 : goal.fixed_value-requires-2
 fixed_value-requires-2 c =
-    let p = c.requires.begins in
-    let one = other_width c.args.width p.has.wide c.if-width-eq4.false c.if-width-eq2.false in
-    record {
-      digits = 2;
-      few = omega arith;
-      n = p.value;
-      is = value_field c.args.text.now c.args.width p.value p.after 2 p.has (omega (arith, one));
-    }
+    let has = c.requires.begins.has in
+    let one = other_width c.args.width has.wide c.if-width-eq4.false c.if-width-eq2.false in
+    value_spelled _ _ _ _ 2 has (omega (arith, one)) (omega arith)
 
 pub returns-then-width-eq4 : goal.returns-then-width-eq4
 returns-then-width-eq4 c value after h =
