@@ -476,11 +476,6 @@ pub slot_long : (text : List ℕ) (slot : ℕ) (after : List ℕ) → HasSlot te
 slot_long text slot after h =
     (slot_bytes text (record { slot = slot; after = after; has = h })).long
 
--- a slot stands at the front, and two bytes
-pub slot_begins : (text : List ℕ) (slot : ℕ) (after : List ℕ) → HasSlot text slot after
-    → BeginsWithSlot text × (2 ≤ length text)
-slot_begins text slot after h = (record { slot = slot; after = after; has = h }, slot_long text slot after h)
-
 above_zero : (d : ℕ) → d < 16 → 0 < d → digit d ≢ 48
 above_zero d lt pos e =
     elim (digit_cases d lt) [ inl low ↦ omega (arith, low, e) | inr high ↦ omega (arith, high, e) ]

@@ -83,8 +83,7 @@ pub fn take_input<A: Allocator>(alloc: A, rest: &[u8]) -> (ParsedEvent<'_, A>, &
 // The slot at the front of a text, and what follows the space after it.
 #[inline(always)]
 fn slot_in(text: &[u8]) -> (u8, &[u8])
-    requires begins { BeginsWithSlot text.now }
-    requires long { 2 ≤ length text.now }
+    requires { BeginsWithSlot text.now }
     ensures { text.now ≡ num result.0 ++ 32 ∷ result.1.now }
 {
     if text[1] == b' ' {
@@ -96,8 +95,7 @@ fn slot_in(text: &[u8]) -> (u8, &[u8])
 // The window, the offset and the width at the front of a text.
 #[inline(always)]
 fn access_in(text: &[u8]) -> (DeviceKind, u16, u8)
-    requires begins { BeginsWithAccess text.now }
-    requires long { 7 ≤ length text.now }
+    requires { BeginsWithAccess text.now }
     ensures { (kind : DeviceKind) (offset width : ℕ) (after : List ℕ) → HasAccess text.now kind offset width after →
         (result.0 ≡ kind) × (result.1 ≡ offset) × (result.2 ≡ width) }
 {

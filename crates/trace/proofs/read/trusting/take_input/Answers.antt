@@ -1,15 +1,12 @@
 use Rattle.std.proofs.Common.{◌∙◌}
 use Rattle.hexadecimal.specs.Spelling.{bytes}
-use Rattle.trace.proofs.Trusting.{input_behind, input_parts, input_taken, slot_begins}
+use Rattle.trace.proofs.Trusting.{input_behind, input_parts, input_taken}
 use Rattle.trace.proofs.read.trusting.take_input.Goals as goal
 
-pub slot_in-slot-requires-clause-begins : goal.slot_in-slot-requires-clause-begins
-slot_in-slot-requires-clause-begins g c =
-    let p = input_parts _ c.args.rest.now c.requires in (slot_begins _ p.slot p.last p.has_slot).0
-
-pub slot_in-slot-requires-clause-long : goal.slot_in-slot-requires-clause-long
-slot_in-slot-requires-clause-long g c =
-    let p = input_parts _ c.args.rest.now c.requires in (slot_begins _ p.slot p.last p.has_slot).1
+pub slot_in-slot-requires : goal.slot_in-slot-requires
+slot_in-slot-requires g c =
+    let p = input_parts _ c.args.rest.now c.requires in
+    record { slot = p.slot; after = p.last; has = p.has_slot }
 
 pub bytes_in-requires : goal.bytes_in-requires
 bytes_in-requires g c =

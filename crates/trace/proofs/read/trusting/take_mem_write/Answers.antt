@@ -1,15 +1,12 @@
 use Rattle.std.proofs.Common.{◌∙◌}
 use Rattle.hexadecimal.specs.Spelling.{bytes}
-use Rattle.trace.proofs.Trusting.{addr_behind, mem_write_behind, mem_write_parts, mem_write_taken, slot_begins}
+use Rattle.trace.proofs.Trusting.{addr_behind, mem_write_behind, mem_write_parts, mem_write_taken}
 use Rattle.trace.proofs.read.trusting.take_mem_write.Goals as goal
 
-pub slot_in-slot-requires-clause-begins : goal.slot_in-slot-requires-clause-begins
-slot_in-slot-requires-clause-begins g c =
-    let p = mem_write_parts _ c.args.rest.now c.requires in (slot_begins _ p.slot p.behind p.has_slot).0
-
-pub slot_in-slot-requires-clause-long : goal.slot_in-slot-requires-clause-long
-slot_in-slot-requires-clause-long g c =
-    let p = mem_write_parts _ c.args.rest.now c.requires in (slot_begins _ p.slot p.behind p.has_slot).1
+pub slot_in-slot-requires : goal.slot_in-slot-requires
+slot_in-slot-requires g c =
+    let p = mem_write_parts _ c.args.rest.now c.requires in
+    record { slot = p.slot; after = p.behind; has = p.has_slot }
 
 pub number_in-addr-requires : goal.number_in-addr-requires
 number_in-addr-requires g c =

@@ -1,23 +1,16 @@
 use Rattle.std.proofs.Common.{◌∷◌, arith, length-drop}
 use Rattle.std.proofs.lemmas.List.{take_rest}
-use Rattle.trace.proofs.Trusting.{behind_value, slot_begins, value_behind, value_long, write_begins, write_behind, write_parts, write_taken}
+use Rattle.trace.proofs.Trusting.{behind_value, value_behind, value_long, write_begins, write_behind, write_parts, write_taken}
 use Rattle.trace.proofs.read.trusting.take_write.Goals as goal
 
-pub slot_in-slot-requires-clause-begins : goal.slot_in-slot-requires-clause-begins
-slot_in-slot-requires-clause-begins g c =
-    let p = write_parts _ c.args.rest.now c.requires in (slot_begins _ p.slot p.behind p.has_slot).0
+pub slot_in-slot-requires : goal.slot_in-slot-requires
+slot_in-slot-requires g c =
+    let p = write_parts _ c.args.rest.now c.requires in
+    record { slot = p.slot; after = p.behind; has = p.has_slot }
 
-pub slot_in-slot-requires-clause-long : goal.slot_in-slot-requires-clause-long
-slot_in-slot-requires-clause-long g c =
-    let p = write_parts _ c.args.rest.now c.requires in (slot_begins _ p.slot p.behind p.has_slot).1
-
-pub access_in-window-requires-clause-begins : goal.access_in-window-requires-clause-begins
-access_in-window-requires-clause-begins g c =
+pub access_in-window-requires : goal.access_in-window-requires
+access_in-window-requires g c =
     (write_begins _ c.args.rest.now c.requires _ _ c.slot_in-slot.ensures).0
-
-pub access_in-window-requires-clause-long : goal.access_in-window-requires-clause-long
-access_in-window-requires-clause-long g c =
-    omega (arith, (write_begins _ c.args.rest.now c.requires _ _ c.slot_in-slot.ensures).1)
 
 pub slice_bounds-value_in-count : goal.slice_bounds-value_in-count
 slice_bounds-value_in-count g c =
