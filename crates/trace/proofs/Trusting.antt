@@ -1,5 +1,5 @@
 -- Lines that were validated, which are read without a test.
-use Rattle.std.proofs.Common.{◌≡◌, ◌≢◌, ℕ, ◌+◌, ◌*◌, ◌/◌, ◌%◌, ◌^◌, ◌<◌, ◌≤◌, ◌⊎◌, inl, inr, List, [], ◌∷◌, ◌++◌, length, get_or, take, drop, refl, sym, ap, subst, ◌∙◌, append_assoc, arith}
+use Rattle.std.proofs.Common.{◌≡◌, ◌≢◌, ℕ, ◌+◌, ◌*◌, ◌/◌, ◌%◌, ◌^◌, ◌<◌, ◌≤◌, ◌⊎◌, inl, inr, List, [], ◌∷◌, ◌++◌, length, get_or, take, drop, refl, sym, ap, subst, ◌∙◌, append_assoc, length-drop, arith}
 use Rattle.std.specs.List.{slice_split}
 use Rattle.std.proofs.Math.Seq.{drop-append-add, drop-append_seam, get_or-append_seam, take-append_seam}
 use Rattle.std.proofs.lemmas.Bool.{cases_eq, cases_lt}
@@ -526,6 +526,18 @@ value_long text width value after h = omega (
   length-append (fixed (2 * width) value) (10 ∷ after),
   length_fixed (2 * width) value,
 )
+
+-- the text behind a slot is long enough for an access, a value and a line feed
+pub write_ends : {A : Type 0} (rest : List ℕ) (slot : ℕ) {xs : List ℕ} {found : DeviceKind} {at width : ℕ}
+    → BeginsWithEvent A (spelled Write ++ 32 ∷ rest) → rest ≡ num slot ++ 32 ∷ xs
+    → ((kind : DeviceKind) (offset wide : ℕ) (after : List ℕ) → HasAccess xs kind offset wide after
+    → (found ≡ kind) × (at ≡ offset) × (width ≡ wide))
+    → 9 + 2 * width ≤ length xs
+write_ends {A = A} rest slot {xs = xs} {width = width} h e same =
+    let p = write_parts A rest h in
+    let is = (write_behind A rest p slot xs e).1 in
+    let has = value_behind A rest p xs width is (same p.kind p.offset p.width (32 ∷ p.field) is).2 in
+    omega (arith, value_long _ _ _ _ has, length-drop 8 xs)
 
 pub value_after : (text : List ℕ) (width value : ℕ) (after : List ℕ) → HasValue text width value after
     → drop (2 * width + 1) text ≡ after

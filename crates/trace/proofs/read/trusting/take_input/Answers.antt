@@ -4,8 +4,7 @@ use Rattle.trace.proofs.Trusting.{input_behind, input_parts, input_taken}
 use Rattle.trace.proofs.read.trusting.take_input.Goals as goal
 
 pub slot_in-slot-requires : goal.slot_in-slot-requires
-slot_in-slot-requires g c =
-    let p = input_parts _ c.args.rest.now c.requires in
+slot_in-slot-requires g c = let p = input_parts _ c.args.rest.now c.requires in
     record { slot = p.slot; after = p.last; has = p.has_slot }
 
 pub bytes_in-requires : goal.bytes_in-requires

@@ -3,11 +3,6 @@ use Rattle.hexadecimal.specs.Spelling.{bytes}
 use Rattle.trace.proofs.Trusting.{addr_behind, mem_write_behind, mem_write_parts, mem_write_taken}
 use Rattle.trace.proofs.read.trusting.take_mem_write.Goals as goal
 
-pub slot_in-slot-requires : goal.slot_in-slot-requires
-slot_in-slot-requires g c =
-    let p = mem_write_parts _ c.args.rest.now c.requires in
-    record { slot = p.slot; after = p.behind; has = p.has_slot }
-
 pub number_in-addr-requires : goal.number_in-addr-requires
 number_in-addr-requires g c =
     let p = mem_write_parts _ c.args.rest.now c.requires in
@@ -23,6 +18,10 @@ bytes_in-requires g c =
     let on = addr_behind _ c.args.rest.now p c.slot_in-slot.result.1.now c.number_in-addr.result.0
     c.number_in-addr.result.1.now at.1 c.number_in-addr.ensures in
     record { field = bytes p.bs; after = p.after; has = on.1 }
+
+pub slot_in-slot-requires : goal.slot_in-slot-requires
+slot_in-slot-requires g c = let p = mem_write_parts _ c.args.rest.now c.requires in
+    record { slot = p.slot; after = p.behind; has = p.has_slot }
 
 pub returns : goal.returns
 returns g c =

@@ -4,8 +4,7 @@ use Rattle.trace.proofs.Trusting.{access_past, read_begins, read_behind, read_pa
 use Rattle.trace.proofs.read.trusting.take_read.Goals as goal
 
 pub slot_in-slot-requires : goal.slot_in-slot-requires
-slot_in-slot-requires g c =
-    let p = read_parts _ c.args.rest.now c.requires in
+slot_in-slot-requires g c = let p = read_parts _ c.args.rest.now c.requires in
     record { slot = p.slot; after = p.behind; has = p.has_slot }
 
 pub access_in-window-requires : goal.access_in-window-requires

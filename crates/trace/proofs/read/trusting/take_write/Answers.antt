@@ -1,20 +1,23 @@
 use Rattle.std.proofs.Common.{◌∷◌, arith, length-drop}
 use Rattle.std.proofs.lemmas.List.{take_rest}
-use Rattle.trace.proofs.Trusting.{behind_value, value_behind, value_long, write_begins, write_behind, write_parts, write_taken}
+use Rattle.trace.proofs.Trusting.{behind_value, value_behind, write_begins, write_behind, write_ends, write_parts, write_taken}
 use Rattle.trace.proofs.read.trusting.take_write.Goals as goal
 
-pub slot_in-slot-requires : goal.slot_in-slot-requires
-slot_in-slot-requires g c =
-    let p = write_parts _ c.args.rest.now c.requires in
-    record { slot = p.slot; after = p.behind; has = p.has_slot }
+pub slice_bounds-value_in-count : goal.slice_bounds-value_in-count
+slice_bounds-value_in-count g c =
+    omega (arith, (write_begins _ c.args.rest.now c.requires _ _ c.slot_in-slot.ensures).1)
 
 pub access_in-window-requires : goal.access_in-window-requires
 access_in-window-requires g c =
     (write_begins _ c.args.rest.now c.requires _ _ c.slot_in-slot.ensures).0
 
-pub slice_bounds-value_in-count : goal.slice_bounds-value_in-count
-slice_bounds-value_in-count g c =
-    omega (arith, (write_begins _ c.args.rest.now c.requires _ _ c.slot_in-slot.ensures).1)
+pub slice_bounds-after-count : goal.slice_bounds-after-count
+slice_bounds-after-count g c =
+    omega (arith, write_ends c.args.rest.now _ c.requires c.slot_in-slot.ensures c.access_in-window.ensures)
+
+pub slot_in-slot-requires : goal.slot_in-slot-requires
+slot_in-slot-requires g c = let p = write_parts _ c.args.rest.now c.requires in
+    record { slot = p.slot; after = p.behind; has = p.has_slot }
 
 pub slice_bounds-value_in-start : goal.slice_bounds-value_in-start
 slice_bounds-value_in-start g c =
@@ -35,33 +38,12 @@ value_in-value-requires-clause-begins g c =
 
 pub value_in-value-requires-clause-long : goal.value_in-value-requires-clause-long
 value_in-value-requires-clause-long g c =
-    let p = write_parts _ c.args.rest.now c.requires in
-    let at = write_behind _ c.args.rest.now p c.slot_in-slot.result.0 c.slot_in-slot.result.1.now
-    c.slot_in-slot.ensures in
-    let same = c.access_in-window.ensures p.kind p.offset p.width (32 ∷ p.field) at.1 in
-    let has = value_behind _ c.args.rest.now p c.slot_in-slot.result.1.now
-    c.access_in-window.result.2 at.1 same.2 in
-    rw take_rest (omega (arith, value_long _ _ _ _ has))
-
-pub slice_bounds-after-count : goal.slice_bounds-after-count
-slice_bounds-after-count g c =
-    let p = write_parts _ c.args.rest.now c.requires in
-    let at = write_behind _ c.args.rest.now p c.slot_in-slot.result.0 c.slot_in-slot.result.1.now
-    c.slot_in-slot.ensures in
-    let same = c.access_in-window.ensures p.kind p.offset p.width (32 ∷ p.field) at.1 in
-    let has = value_behind _ c.args.rest.now p c.slot_in-slot.result.1.now
-    c.access_in-window.result.2 at.1 same.2 in
-    omega (arith, value_long _ _ _ _ has, length-drop 8 c.slot_in-slot.result.1.now)
+    let ends = write_ends c.args.rest.now _ c.requires c.slot_in-slot.ensures c.access_in-window.ensures in
+    rw take_rest (omega (arith, ends, length-drop 8 c.slot_in-slot.result.1.now))
 
 pub slice_bounds-after-start : goal.slice_bounds-after-start
 slice_bounds-after-start g c =
-    let p = write_parts _ c.args.rest.now c.requires in
-    let at = write_behind _ c.args.rest.now p c.slot_in-slot.result.0 c.slot_in-slot.result.1.now
-    c.slot_in-slot.ensures in
-    let same = c.access_in-window.ensures p.kind p.offset p.width (32 ∷ p.field) at.1 in
-    let has = value_behind _ c.args.rest.now p c.slot_in-slot.result.1.now
-    c.access_in-window.result.2 at.1 same.2 in
-    omega (arith, value_long _ _ _ _ has, length-drop 8 c.slot_in-slot.result.1.now)
+    omega (arith, write_ends c.args.rest.now _ c.requires c.slot_in-slot.ensures c.access_in-window.ensures)
 
 pub returns : goal.returns
 returns g c =
