@@ -21,9 +21,9 @@ slice_bounds-result-start g c =
 
 pub returns : goal.returns
 returns g c =
+    let is = c.slot_in-slot.ensures in
     let p = read_parts _ c.args.rest.now c.requires in
-    let at = read_behind _ c.args.rest.now p c.slot_in-slot.result.0 c.slot_in-slot.result.1.now
-    c.slot_in-slot.ensures in
+    let at = read_behind _ c.args.rest.now p _ _ is in
     let same = c.access_in-window.ensures p.kind p.offset p.width (10 ∷ p.after) at.1 in
     rw take_rest (
     read_taken _ c.args.rest.now p c.plain.result c.slot_in-slot.result.0 c.access_in-window.result.1
