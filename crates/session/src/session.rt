@@ -1,6 +1,7 @@
 //! The session: a board over an image in memory, and what its consoles put out.
 
-ghost use Rattle.std.specs.Prelude.{◌≡◌, ◌≢◌, ◌⊎◌, ◌↔◌, ◌%◌, ◌/◌, ℕ, None, map, length, replicate, IsFalse, IfNone, IfOk, IfSome, OnOk, IfErr, OnErr, IsErrAnd, IsErrOf};
+ghost use Rattle.std.specs.Prelude.{◌≡◌, ◌≢◌, ◌⊎◌, ◌↔◌, ◌%◌, ◌/◌, ℕ, None, Some, map, length, replicate, IsFalse, IfNone, IfOk, IfSome, OnOk, IfErr, OnErr, IsErrAnd, IsErrOf};
+ghost use Rattle.std.specs.List.{slice_get};
 ghost use Rattle.std.specs.Vec.{vec_items};
 ghost use Rattle.chain.specs.Budget.{IsSpent};
 ghost use Rattle.board.specs.declared.fault.BoardFault.{BoardFault};
@@ -9,7 +10,7 @@ ghost use Rattle.sector_cache.specs.MemoryImage.{disk_of};
 ghost use Rattle.board.specs.Fault.{IsAccepted, Refuses};
 ghost use Rattle.board.specs.Image.{bytes_of};
 ghost use Rattle.board.specs.Lent.{AreBytesOf, made_over, opened_over};
-ghost use Rattle.board.specs.Slot.{opened};
+ghost use Rattle.board.specs.Slot.{BoardSlot, interrupt_words, opened};
 ghost use Rattle.session.specs.declared.fault.SessionFault.{SessionFault};
 ghost use Rattle.board.specs.declared.event.EventKind.{EventKind};
 ghost use Rattle.session.specs.Pacing.{call_of};
@@ -180,15 +181,35 @@ impl<A: Allocator + Copy> Session<A> {
     }
 
     // Types to a slot's console.
-    fn put_in(&mut self, slot: u8, bytes: &[u8]) -> Response<A>
-        ensures call { IsEventCall self.old slot (EventKind.Input bytes.now) result self.new }
-        ensures suits { SuitsCall (EventKind.Input bytes.now) result }
+    fn put_in(&mut self, slot: u8, bytes: &[u8]) -> Turned<A>
+        ensures call { IsEventCall self.old slot (EventKind.Input bytes.now) result.response self.new }
+        ensures suits { SuitsCall (EventKind.Input bytes.now) result.response }
+        ensures waits { result.waits ≡ waits_at slot self.new }
     {
-        self.paced.input(slot, bytes)
+        let shown = self.paced.type_in(slot, bytes);
+        let waits = self.waits(slot, shown.block_irq, shown.console_irq);
+        Turned {
+            response: shown.response,
+            waits,
+        }
     }
 }
 
 impl<A: Allocator> Session<A> {
+    // What waits for a slot that shows these interrupt words.
+    fn waits(&self, slot: u8, block_irq: u8, console_irq: u8) -> Option<Waits>
+        requires shown { (found : BoardSlot) → slice_get self.now.slots slot ≡ Some found →
+            (block_irq, console_irq) ≡ interrupt_words found }
+        ensures { result ≡ waits_at slot self.now }
+    {
+        let output = self.outputs.get(slot as usize)?;
+        Some(Waits {
+            block_irq,
+            console_irq,
+            output: output.len(),
+        })
+    }
+
     // Stores bytes into a slot's memory.
     fn store(&mut self, slot: u8, addr: u64, from: &[u8]) -> Response<A>
         ensures call { IsEventCall self.old slot (EventKind.MemWrite addr from.now) result self.new }

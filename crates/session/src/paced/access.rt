@@ -11,7 +11,7 @@ ghost use Rattle.board.specs.Image.{Tells};
 ghost use Rattle.board.specs.declared.saved.RestoreFault.{RestoreFault};
 ghost use Rattle.board.specs.Pausing.{HasLimit};
 ghost use Rattle.board.specs.Saved.{IsAs, IsCauseOf, IsLike, IsSavedTo, IsSnapshotOf, snapshot_of};
-ghost use Rattle.board.specs.Slot.{BoardSlot};
+ghost use Rattle.board.specs.Slot.{BoardSlot, interrupt_words};
 ghost use Rattle.board.specs.World.{KeepsOthers, disturbed_of, extents_of};
 ghost use Rattle.session.specs.Pacing.{Handle, Responds, paced_world, paused_at, with_slot_bytes};
 ghost use Rattle.session.specs.Restoring.{restore_response, told_of};
@@ -20,7 +20,7 @@ ghost use Rattle.board.specs.declared.saved.RestoreRefusal.{RestoreRefusal};
 ghost use Rattle.board.specs.declared.saved.SaveRefusal.{SaveRefusal};
 
 use crate::paced::Paced;
-use crate::response::Response;
+use crate::response::{Response, Shown};
 use board::{Image, Reply, RestoreFault, RestoreRefusal, SaveRefusal, ShortBuffer};
 use std::alloc::Allocator;
 
@@ -42,12 +42,41 @@ impl<I: Image, A: Allocator + Copy> Paced<I, A> {
         ensures bad_slot { (result ≡ Response.Answered Reply.BadSlot) ↔ (length self.old.board.slots ≤ slot) }
         ensures bad_slot_keeps { result ≡ Response.Answered Reply.BadSlot → self.new ≡ self.old }
     {
+        self.type_in(slot, bytes).response
+    }
+
+    /// As `input`, and the slot's interrupt words after it are told.
+    #[inline(always)]
+    pub(crate) fn type_in(&mut self, slot: u8, bytes: &[u8]) -> Shown<A>
+        ensures responds { Tells (I.disk self.old.board.image) →
+            Responds self.old.budget (paced_world I.disk self.old)
+            (Handle (record { slot = slot; what = EventKind.Input bytes.now })) result.response [] []
+            (paced_world I.disk self.new) }
+        ensures shown { (found : BoardSlot) → slice_get self.new.board.slots slot ≡ Some found →
+            (result.block_irq, result.console_irq) ≡ interrupt_words found }
+        ensures image { self.new.board.image ≡ self.old.board.image }
+        ensures budget { self.new.budget ≡ self.old.budget }
+        ensures busy { result.response ≡ Response.Busy → self.new ≡ self.old }
+        ensures not_idle { result.response ≡ Response.Idle → ⊥ }
+        ensures extents { extents_of self.new.board.slots ≡ extents_of self.old.board.slots }
+        ensures others { KeepsOthers slot self.old.board.slots self.new.board.slots }
+        ensures disturbed { disturbed_of self.new.board.slots ≡ disturbed_of self.old.board.slots }
+        ensures limited { result.response ≡ Response.More → HasLimit self.old.budget }
+        ensures bad_slot { (result.response ≡ Response.Answered Reply.BadSlot) ↔
+            (length self.old.board.slots ≤ slot) }
+        ensures bad_slot_keeps { result.response ≡ Response.Answered Reply.BadSlot → self.new ≡ self.old }
+    {
         match self.waiting(slot) {
-            None => Response::Answered(Reply::BadSlot),
-            Some(Some(_)) => Response::Busy,
+            None => self.shown(slot, Response::Answered(Reply::BadSlot)),
+            Some(Some(_)) => self.shown(slot, Response::Busy),
             Some(None) => {
                 let taken = self.board.begin_input(slot, bytes, self.budget);
-                self.note(slot, taken.turn)
+                let response = self.note(slot, taken.turn);
+                Shown {
+                    response,
+                    block_irq: taken.block_irq,
+                    console_irq: taken.console_irq,
+                }
             }
         }
     }

@@ -23,14 +23,16 @@ impl<A: Allocator + Copy> Session<A> {
     /// Types bytes to the guest's console, and answers how many were taken: the first ones. A console keeps
     /// 4096 until its guest reads them. Where more is to come, `go_on` goes on with the service of its receive queue. It
     /// is refused for a bad slot, and while a service of the slot is paused.
-    pub fn input(&mut self, slot: u8, bytes: &[u8]) -> Result<Typed, Refusal>
+    pub fn input(&mut self, slot: u8, bytes: &[u8]) -> Told<Typed>
         ensures call { IsEventCall {A = A} self.old slot (EventKind.Input bytes.now)
-            (typed_response result) self.new }
-        ensures taken { IfOk result (λ typed. typed.progress ≡ Progress.More →
+            (typed_response result.answer) self.new }
+        ensures taken { IfOk result.answer (λ typed. typed.progress ≡ Progress.More →
             taken_at slot self.new ≡ Some typed.taken) }
-        ensures refused { IfErr result (λ why. (why ≡ Refusal.BadSlot) ⊎ (why ≡ Refusal.Busy)) }
+        ensures refused { IfErr result.answer (λ why. (why ≡ Refusal.BadSlot) ⊎ (why ≡ Refusal.Busy)) }
+        ensures waits { result.waits ≡ waits_at slot self.new }
     {
-        match self.put_in(slot, bytes) {
+        let Turned { response, waits } = self.put_in(slot, bytes);
+        let answer = match response {
             Response::Answered(Reply::Took(taken)) => Ok(Typed {
                 taken,
                 progress: Progress::Done,
@@ -51,7 +53,8 @@ impl<A: Allocator + Copy> Session<A> {
                 })
             }
             response => Err(Refusal::of(&response)),
-        }
+        };
+        Told { answer, waits }
     }
 
     /// Gives the guest's console another size, of which its driver is told. It is refused for a bad slot, and while a

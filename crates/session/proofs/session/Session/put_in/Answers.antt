@@ -8,15 +8,26 @@ use Rattle.session.proofs.session.Session.put_in.Goals as goal
 
 pub invariant_of-self : goal.invariant_of-self
 invariant_of-self g c =
-    as_many_still c.self.inside.paced c.input.new.self c.self.inside.outputs.items c.input.ensures.extents
+    let typed = c.type_in-shown in
+    as_many_still c.self.inside.paced typed.new.self c.self.inside.outputs.items typed.ensures.extents
     (responded_paused c.self.inside.paced.budget
-    (Handle (record { slot = c.args.slot; what = Input c.args.bytes.now })) _ _ c.input.result [] []
-    (c.input.ensures.responds refl)) c.self.invariant
+    (Handle (record { slot = c.args.slot; what = Input c.args.bytes.now })) _ _ typed.result.response [] []
+    (typed.ensures.responds refl)) c.self.invariant
 
-pub returns : goal.returns
-returns g c =
-    let handled = handled_quietly c.self.inside.paced c.input.new.self c.self.inside.outputs.items c.args.slot
-    (Input c.args.bytes.now) c.input.result c.self.invariant (quiet_input c.args.bytes.now)
-    (assumption (c.input.ensures, c.input.ensures.responds refl)) c.input.ensures.limited
+pub returns-clause-call : goal.returns-clause-call
+returns-clause-call g c =
+    let typed = c.type_in-shown in
+    let handled = handled_quietly c.self.inside.paced typed.new.self c.self.inside.outputs.items c.args.slot
+    (Input c.args.bytes.now) typed.result.response c.self.invariant (quiet_input c.args.bytes.now)
+    (assumption (typed.ensures, typed.ensures.responds refl)) typed.ensures.limited
     (λ never is. absurd never) in
-    rw (← c.self.view_is) (assumption (handled))
+    rw (← c.self.view_is) (handled.call)
+
+pub returns-clause-suits : goal.returns-clause-suits
+returns-clause-suits g c =
+    let typed = c.type_in-shown in
+    let handled = handled_quietly c.self.inside.paced typed.new.self c.self.inside.outputs.items c.args.slot
+    (Input c.args.bytes.now) typed.result.response c.self.invariant (quiet_input c.args.bytes.now)
+    (assumption (typed.ensures, typed.ensures.responds refl)) typed.ensures.limited
+    (λ never is. absurd never) in
+    handled.suits
