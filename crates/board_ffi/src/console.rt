@@ -23,10 +23,7 @@ pub extern "C" fn kalyubos_input(
     ensures kept { result ≢ 0 → result ≢ 18 → took.new ≡ took.old }
     ensures pending { Tells slot board.new.session pending.old pending.new }
 {
-    let session = session_of!(board);
-    let answer = session.input(slot, bytes, took);
-    pending.tell(session, slot);
-    answer
+    session_of!(board).input(slot, bytes, took, pending)
 }
 
 /// Gives a guest's console another size, of which its driver is told, and tells what then waits.

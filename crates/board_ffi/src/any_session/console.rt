@@ -9,28 +9,44 @@ use crate::pending::Pending;
 use session::{Told, Typed};
 
 impl AnySession {
-    /// Types bytes to a guest's console, and tells how many were taken, the first ones.
-    pub(crate) fn input(&mut self, slot: u8, bytes: &[u8], took: &mut usize) -> u32
+    /// Types bytes to a guest's console, and tells how many were taken, the first ones. What then waits is told.
+    #[tactic(auto, using(crate::proofs::Telling::tells))]
+    pub(crate) fn input(
+        &mut self,
+        slot: u8,
+        bytes: &[u8],
+        took: &mut usize,
+        pending: &mut Pending,
+    ) -> u32
         ensures takes { Takes slot (EventKind.Input bytes.now) result (Reply.Took took.new) self.old self.new }
         ensures taken { result ≡ 18 → PausesBehind slot took.new self.old self.new }
         ensures refused { (result ≡ 0) ⊎ (result ≡ 3) ⊎ (result ≡ 18) ⊎ (result ≡ 19) }
         ensures kept { result ≢ 0 → result ≢ 18 → took.new ≡ took.old }
+        ensures pending { TellsOf slot self.new pending.old pending.new }
     {
         match self {
-            AnySession::OfImage(session) => match session.input(slot, bytes) {
-                Ok(Typed { taken, progress }) => {
-                    *took = taken;
-                    of_progress(progress)
+            AnySession::OfImage(session) => {
+                let Told { answer, waits } = session.input(slot, bytes);
+                pending.tell_waits(waits);
+                match answer {
+                    Ok(Typed { taken, progress }) => {
+                        *took = taken;
+                        of_progress(progress)
+                    }
+                    Err(why) => of_refusal(why),
                 }
-                Err(why) => of_refusal(why),
-            },
-            AnySession::Hosted(session) => match session.input(slot, bytes) {
-                Ok(taken) => {
-                    *took = taken;
-                    DONE
+            }
+            AnySession::Hosted(session) => {
+                let answer = session.input(slot, bytes);
+                pending.tell_of(session.interrupts(slot), session.output_len(slot));
+                match answer {
+                    Ok(taken) => {
+                        *took = taken;
+                        DONE
+                    }
+                    Err(why) => of_refusal(why),
                 }
-                Err(why) => of_refusal(why),
-            },
+            }
         }
     }
 
