@@ -203,7 +203,10 @@ fn answer_event<A: Allocator + Copy>(
         EventKind::MemWrite { addr, bytes } => {
             put_result(answer, session.write_memory(slot, *addr, bytes.as_slice()))
         }
-        EventKind::Input { bytes } => put_typed(answer, session.input(slot, bytes.as_slice())),
+        EventKind::Input { bytes } => put_typed(
+            answer,
+            session.input(slot, bytes.as_slice()).answer,
+        ),
         EventKind::Resize { cols, rows } => put_result(
             answer,
             session.resize(slot, *cols, *rows).answer,

@@ -6,7 +6,8 @@ use Rattle.session.proofs.paced.Paced.type_in.Goals as goal
 pub returns-in-Some-None-clause-responds : goal.returns-in-Some-None-clause-responds
 returns-in-Some-None-clause-responds g c =
     let taken = c.begin_input-taken in
+    let note = c.note-response in
     begins g.I.Image.disk c.self.view_is c.self.invariant c.args.slot c.waiting.ensures c.in-Some-None.is
     c.in-Some-None.field-0-is (Input c.args.bytes.now) taken.result.turn taken.result.block_irq
-    taken.result.console_irq taken.new.self c.note-response.result c.note-response.new.self taken.ensures.takes
-    c.note-response.ensures.told c.note-response.ensures.paused
+    taken.result.console_irq taken.new.self note.result note.new.self taken.ensures.takes
+    note.ensures.told note.ensures.paused
