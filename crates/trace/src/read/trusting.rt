@@ -22,13 +22,14 @@ pub fn take_read<A: Allocator>(rest: &[u8]) -> (ParsedEvent<'_, A>, &[u8])
     ensures { TakesEvent (spelled Word.Read ++ 32 ∷ rest.now) result.0 result.1.now }
 {
     let (slot, rest) = slot_in(rest);
+    let after = &rest[8..];
     let (window, offset, width) = access_in(rest);
     let what = EventKind::Read {
         window,
         offset,
         width,
     };
-    (ParsedEvent::plain(slot, what), &rest[8..])
+    (ParsedEvent::plain(slot, what), after)
 }
 
 /// The same of a write of a register.
@@ -72,11 +73,10 @@ pub fn take_input<A: Allocator>(alloc: A, rest: &[u8]) -> (ParsedEvent<'_, A>, &
     requires { BeginsWithEvent A (spelled Word.Input ++ 32 ∷ rest.now) }
     ensures { TakesEvent (spelled Word.Input ++ 32 ∷ rest.now) result.0 result.1.now }
 {
+    let bytes = Bytes::new(alloc);
     let (slot, rest) = slot_in(rest);
     let (field, after) = bytes_in(rest);
-    let what = EventKind::Input {
-        bytes: Bytes::new(alloc),
-    };
+    let what = EventKind::Input { bytes };
     (ParsedEvent::new(slot, what, field), after)
 }
 

@@ -25,9 +25,8 @@ returns-clause-call g c =
 
 pub returns-clause-suits : goal.returns-clause-suits
 returns-clause-suits g c =
-    let typed = c.type_in-shown in
-    let handled = handled_quietly c.self.inside.paced typed.new.self c.self.inside.outputs.items c.args.slot
-    (Input c.args.bytes.now) typed.result.response c.self.invariant (quiet_input c.args.bytes.now)
-    (assumption (typed.ensures, typed.ensures.responds refl)) typed.ensures.limited
-    (λ never is. absurd never) in
-    handled.suits
+    (handled_quietly c.self.inside.paced c.type_in-shown.new.self c.self.inside.outputs.items c.args.slot
+    (Input c.args.bytes.now) c.type_in-shown.result.response c.self.invariant
+    (quiet_input c.args.bytes.now)
+    (assumption (c.type_in-shown.ensures, c.type_in-shown.ensures.responds refl))
+    c.type_in-shown.ensures.limited (λ never is. absurd never)).suits

@@ -11,12 +11,12 @@ pub access_in-window-requires : goal.access_in-window-requires
 access_in-window-requires g c =
     (read_begins _ c.args.rest.now c.requires _ _ c.slot_in-slot.ensures).0
 
-pub slice_bounds-result-count : goal.slice_bounds-result-count
-slice_bounds-result-count g c =
+pub slice_bounds-after-count : goal.slice_bounds-after-count
+slice_bounds-after-count g c =
     omega (arith, (read_begins _ c.args.rest.now c.requires _ _ c.slot_in-slot.ensures).1)
 
-pub slice_bounds-result-start : goal.slice_bounds-result-start
-slice_bounds-result-start g c =
+pub slice_bounds-after-start : goal.slice_bounds-after-start
+slice_bounds-after-start g c =
     omega (arith, (read_begins _ c.args.rest.now c.requires _ _ c.slot_in-slot.ensures).1)
 
 pub returns : goal.returns
