@@ -194,8 +194,8 @@ impl Virtqueue for PackedRing {
         Ok(())
     }
 
-    #[inline(always)]
     /// The next chain is the list at the ring's place, where that is available.
+    #[inline(always)]
     fn take<A: Allocator>(
         &mut self,
         mem: &GuestMemory<A>,
@@ -224,8 +224,8 @@ impl Virtqueue for PackedRing {
         }
     }
 
-    #[inline(always)]
     /// The used descriptor tells whether any byte was written, too (2.8.3, 2.8.4).
+    #[inline(always)]
     fn give<A: Allocator>(&mut self, mem: &mut GuestMemory<A>, token: Token, used: Used) {
         self.put_used(mem, token.id, used.len, used.wrote);
         self.state.place = reduced(self.state.place + token.length, 2 * self.size());

@@ -181,8 +181,8 @@ impl Virtqueue for SplitRing {
         Ok(())
     }
 
-    #[inline(always)]
     /// The next chain is that of the head at the ring's place.
+    #[inline(always)]
     fn take<A: Allocator>(
         &mut self,
         mem: &GuestMemory<A>,
@@ -211,8 +211,8 @@ impl Virtqueue for SplitRing {
         }
     }
 
-    #[inline(always)]
     /// Whether any byte was written is of no account here (2.7.8).
+    #[inline(always)]
     fn give<A: Allocator>(&mut self, mem: &mut GuestMemory<A>, token: Token, used: Used) {
         let next = self.state.place.wrapping_add(1);
         self.put_used(mem, token.head, used.len, next);
