@@ -147,6 +147,7 @@ impl PackedRing {
 
     #[tactic(auto, using(guest_memory::proofs::Ranges::inside_part, guest_memory::proofs::Ranges::inside_same))]
     /// Writes len, buffer id and flags into the descriptor at the ring's place (2.8.4).
+    #[inline(always)]
     fn put_used<A: Allocator>(&self, mem: &mut GuestMemory<A>, id: u16, len: u32, wrote: bool)
         requires { LiesIn mem.old self.now.setup }
         ensures used { mem.new ≡ with_used mem.old self.now id len wrote }

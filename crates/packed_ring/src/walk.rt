@@ -28,6 +28,7 @@ pub(crate) struct End {
 
 /// Fills the empty chain with the buffers of the list that begins at a position (2.8.6). After a fault the
 /// chain holds those before it.
+#[inline(always)]
 pub(crate) fn append_list<A: Allocator>(
     mem: &GuestMemory<A>,
     table: Table,

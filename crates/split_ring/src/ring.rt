@@ -115,6 +115,7 @@ impl SplitRing {
 
     #[tactic(auto, using(guest_memory::proofs::Ranges::inside_part, guest_memory::proofs::Ranges::inside_same))]
     /// Writes the used entry of the ring's place, and then the used idx (2.7.8).
+    #[inline(always)]
     fn put_used<A: Allocator>(&self, mem: &mut GuestMemory<A>, head: u16, len: u32, next: u16)
         requires lies { LiesIn mem.old self.now.setup }
         requires next { next ≡ next_place self.now }

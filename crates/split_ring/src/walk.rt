@@ -21,6 +21,7 @@ pub(crate) struct Table {
 #[tactic(auto, using(guest_memory::proofs::Ranges::inside_part, guest_memory::proofs::Ranges::inside_same))]
 /// Fills the empty chain with the buffers that `head` leads to (2.7.5). After a fault the chain holds those
 /// before it.
+#[inline(always)]
 pub(crate) fn append_path<A: Allocator>(
     mem: &GuestMemory<A>,
     table: Table,
