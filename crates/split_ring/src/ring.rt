@@ -128,8 +128,8 @@ impl SplitRing {
             6 + 8 * u64::from(self.state.setup.size),
         );
         let entry = self.state.setup.device + 4 + offset;
-        mem.write_u32(entry, u32::from(head));
-        mem.write_u32(entry + 4, len);
+        // id and len, side by side
+        mem.write_u64(entry, u64::from(len) * (1 << 32) + u64::from(head));
         mem.write_u16(self.state.setup.device + 2, next);
     }
 
