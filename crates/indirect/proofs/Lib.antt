@@ -4,3 +4,4 @@ pub mod Outcomes
 pub mod TableOutcomes
 pub mod Listing
 pub mod Totality
+pub mod Beside

@@ -1,7 +1,7 @@
 -- Descriptors as they stand in guest memory: 16 bytes in the split (2.7.5) or the packed layout (2.8.13).
-use Rattle.std.specs.Prelude.{ℕ, ◌+◌, ◌*◌, Bool, not, ◌==◌, if◌then◌else◌, Some, None, List, map, bit_and}
+use Rattle.std.specs.Prelude.{ℕ, ◌+◌, ◌*◌, ◌≡◌, Bool, not, ◌==◌, if◌then◌else◌, Some, None, List, map, bit_and}
 use Rattle.std.specs.List.{range_with_len}
-use Rattle.guest_memory.specs.Memory.{Memory, num}
+use Rattle.guest_memory.specs.Memory.{Memory, Inside, num, part_of}
 use Rattle.chain.specs.Buffers.{buffer_of}
 use Rattle.chain.specs.declared.segment.Buffer.{Buffer}
 use Rattle.indirect.specs.declared.descriptor.Descriptor.{Descriptor}
@@ -43,3 +43,8 @@ split_table m addr i = split_descriptor m (addr + 16 * i)
 -- the buffers of the first n descriptors of the packed table at an address
 abbrev pub packed_buffers : Memory → ℕ → ℕ → List Buffer
 packed_buffers m addr n = map (λ i. packed_buffer m (addr + 16 * i)) (range_with_len 0 n)
+
+-- wherever these bytes are a range of a memory, the fact holds of that memory and of the address of the i-th
+-- byte
+abbrev pub StandsIn : List ℕ → ℕ → (Memory → ℕ → Type 0) → Type 0
+StandsIn bytes i Fact = (m : Memory) (a n : ℕ) → Inside m a n → bytes ≡ part_of m a n → Fact m (a + i)

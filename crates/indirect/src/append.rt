@@ -1,10 +1,9 @@
 //! The buffers of an indirect table, put behind those that a chain has.
 
-ghost use Rattle.std.specs.Prelude.{◌≡◌, true, false, IfOk, OnOk, IfErr, OnErr};
-ghost use Rattle.guest_memory.specs.Memory.{Inside};
+ghost use Rattle.std.specs.Prelude.{◌≡◌, ◌+◌, ◌≤◌, length, true, false, IfOk, OnOk, IfErr, OnErr};
 ghost use Rattle.chain.specs.Buffers.{Good};
 ghost use Rattle.chain.specs.declared.fault.Fault.TheVariants.{Nested};
-ghost use Rattle.indirect.specs.Descriptors.{split_descriptor};
+ghost use Rattle.indirect.specs.Descriptors.{StandsIn, split_descriptor};
 ghost use Rattle.indirect.specs.Tables.{SplitTableResolves, SplitTableFails, PackedTableResolves, PackedTableFails};
 
 use crate::descriptor::{Descriptor, PackedDescriptor};
@@ -27,13 +26,14 @@ pub fn append_split<A: Allocator>(
     ensures keeps { Good mem.now chain.old → Good mem.now chain.new }
 {
     let entries = entries_of(mem, addr, len)?;
+    let table = mem.slice(addr, u64::from(len));
     let mut index = 0;
     for _count in 0..entries {
         if index >= entries {
             return Err(Fault::Index);
         }
-        let at = addr + u64::from(index * DESCRIPTOR_LEN);
-        let descriptor = read_plain(mem, at)?;
+        let at = (index * DESCRIPTOR_LEN) as usize;
+        let descriptor = read_plain(table, at)?;
         let segment = descriptor.buffer.segment;
         chain.push(mem, segment.addr, segment.len, descriptor.buffer.writable)?;
         match descriptor.next {
@@ -44,16 +44,17 @@ pub fn append_split<A: Allocator>(
     Err(Fault::Loop)
 }
 
-/// The descriptor of a split table that stands at `addr`. One that refers to a table of its own is refused
-/// (2.7.5.3.1).
-fn read_plain<A: Allocator>(mem: &GuestMemory<A>, addr: u64) -> Result<Descriptor, Fault>
-    requires { Inside mem.now addr 16 }
-    ensures ok { IfOk result (λ descriptor. descriptor ≡ split_descriptor mem.now addr) }
+/// The descriptor of a split table in the 16 bytes from the `at`-th on. One that refers to a table of its own
+/// is refused (2.7.5.3.1).
+#[inline(always)]
+fn read_plain(table: &[u8], at: usize) -> Result<Descriptor, Fault>
+    requires { at + 16 ≤ length table.now }
+    ensures ok { IfOk result (λ d. StandsIn table.now at (λ m a. d ≡ split_descriptor m a)) }
     ensures plain { IfOk result (λ descriptor. descriptor.indirect ≡ false) }
     ensures fault { IfErr result (λ fault. fault ≡ Nested) }
-    ensures nested { OnErr result ((split_descriptor mem.now addr).indirect ≡ true) }
+    ensures nested { OnErr result (StandsIn table.now at (λ m a. (split_descriptor m a).indirect ≡ true)) }
 {
-    let descriptor = Descriptor::read_split(mem, addr);
+    let descriptor = Descriptor::of_split(table, at);
     if descriptor.indirect {
         return Err(Fault::Nested);
     }
@@ -74,9 +75,10 @@ pub fn append_packed<A: Allocator>(
     ensures keeps { Good mem.now chain.old → Good mem.now chain.new }
 {
     let entries = entries_of(mem, addr, len)?;
+    let table = mem.slice(addr, u64::from(len));
     for index in 0..entries {
-        let at = addr + u64::from(index * DESCRIPTOR_LEN);
-        let buffer = PackedDescriptor::read(mem, at).buffer;
+        let at = (index * DESCRIPTOR_LEN) as usize;
+        let buffer = PackedDescriptor::of(table, at).buffer;
         let segment = buffer.segment;
         chain.push(mem, segment.addr, segment.len, buffer.writable)?;
     }

@@ -1,8 +1,8 @@
 //! One descriptor, read from guest memory in the layout of its queue.
 
-ghost use Rattle.std.specs.Prelude.{◌≡◌, ◌+◌};
+ghost use Rattle.std.specs.Prelude.{◌≡◌, ◌+◌, ◌≤◌, length};
 ghost use Rattle.guest_memory.specs.Memory.{Inside, num};
-ghost use Rattle.indirect.specs.Descriptors.{packed_buffer};
+ghost use Rattle.indirect.specs.Descriptors.{StandsIn, packed_buffer};
 
 use byteorder::{ByteOrder, LittleEndian};
 use chain::{Buffer, Segment};
@@ -44,23 +44,22 @@ struct Fields {
 }
 
 impl Fields {
-    /// The fields that stand in the 16 bytes at `addr`, by one look at memory.
+    /// The fields that stand in the 16 bytes from the `at`-th on.
     #[inline(always)]
-    fn read<A: Allocator>(mem: &GuestMemory<A>, addr: u64) -> Fields
-        requires { Inside mem.now addr 16 }
-        ensures addr { result.segment.addr ≡ num mem.now addr 8 }
-        ensures len { result.segment.len ≡ num mem.now (addr + 8) 4 }
-        ensures third { result.third ≡ num mem.now (addr + 12) 2 }
-        ensures last { result.last ≡ num mem.now (addr + 14) 2 }
+    fn of(bytes: &[u8], at: usize) -> Fields
+        requires { at + 16 ≤ length bytes.now }
+        ensures addr { StandsIn bytes.now at (λ m a. result.segment.addr ≡ num m a 8) }
+        ensures len { StandsIn bytes.now at (λ m a. result.segment.len ≡ num m (a + 8) 4) }
+        ensures third { StandsIn bytes.now at (λ m a. result.third ≡ num m (a + 12) 2) }
+        ensures last { StandsIn bytes.now at (λ m a. result.last ≡ num m (a + 14) 2) }
     {
-        let bytes = mem.slice(addr, 16);
         Fields {
             segment: Segment {
-                addr: LittleEndian::read_u64(bytes),
-                len: LittleEndian::read_u32(&bytes[8..]),
+                addr: LittleEndian::read_u64(&bytes[at..]),
+                len: LittleEndian::read_u32(&bytes[at + 8..]),
             },
-            third: LittleEndian::read_u16(&bytes[12..]),
-            last: LittleEndian::read_u16(&bytes[14..]),
+            third: LittleEndian::read_u16(&bytes[at + 12..]),
+            last: LittleEndian::read_u16(&bytes[at + 14..]),
         }
     }
 }
@@ -76,7 +75,18 @@ impl PackedDescriptor {
         ensures id { result.id ≡ num mem.now (addr + 12) 2 }
         ensures flags { result.flags ≡ num mem.now (addr + 14) 2 }
     {
-        let fields = Fields::read(mem, addr);
+        PackedDescriptor::of(mem.slice(addr, 16), 0)
+    }
+
+    /// The same of 16 bytes that memory lent, from the `at`-th on.
+    #[inline(always)]
+    pub fn of(bytes: &[u8], at: usize) -> PackedDescriptor
+        requires { at + 16 ≤ length bytes.now }
+        ensures buffer { StandsIn bytes.now at (λ m a. result.buffer ≡ packed_buffer m a) }
+        ensures id { StandsIn bytes.now at (λ m a. result.id ≡ num m (a + 12) 2) }
+        ensures flags { StandsIn bytes.now at (λ m a. result.flags ≡ num m (a + 14) 2) }
+    {
+        let fields = Fields::of(bytes, at);
         PackedDescriptor {
             buffer: Buffer {
                 segment: fields.segment,
@@ -97,7 +107,16 @@ impl Descriptor {
         requires { Inside mem.now addr 16 }
         ensures { result ≡ split_descriptor mem.now addr }
     {
-        let fields = Fields::read(mem, addr);
+        Descriptor::of_split(mem.slice(addr, 16), 0)
+    }
+
+    /// The same of 16 bytes that memory lent, from the `at`-th on.
+    #[inline(always)]
+    pub fn of_split(bytes: &[u8], at: usize) -> Descriptor
+        requires { at + 16 ≤ length bytes.now }
+        ensures { StandsIn bytes.now at (λ m a. result ≡ split_descriptor m a) }
+    {
+        let fields = Fields::of(bytes, at);
         let flags = fields.third;
         Descriptor {
             buffer: Buffer {

@@ -1,3 +1,4 @@
 pub mod Positions
 pub mod Passing
 pub mod Outcomes
+mod Using

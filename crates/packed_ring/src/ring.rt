@@ -147,6 +147,7 @@ impl PackedRing {
 
     #[tactic(auto, using(guest_memory::proofs::Ranges::inside_part, guest_memory::proofs::Ranges::inside_same))]
     /// Writes len, buffer id and flags into the descriptor at the ring's place (2.8.4).
+    #[inline(always)]
     fn put_used<A: Allocator>(&self, mem: &mut GuestMemory<A>, id: u16, len: u32, wrote: bool)
         requires { LiesIn mem.old self.now.setup }
         ensures used { mem.new ≡ with_used mem.old self.now id len wrote }
@@ -155,9 +156,12 @@ impl PackedRing {
         let offset = 16 * u64::from(self.head());
         mem.fits(self.state.setup.desc, 16 * u64::from(self.state.setup.size));
         let descriptor = self.state.setup.desc + offset;
-        mem.write_u32(descriptor + 8, len);
-        mem.write_u16(descriptor + 12, id);
-        mem.write_u16(descriptor + 14, flags_of_used(self.wrap_counter(), wrote));
+        let flags = flags_of_used(self.wrap_counter(), wrote);
+        // len, id and flags, side by side
+        mem.write_u64(
+            descriptor + 8,
+            u64::from(flags) * (1 << 48) + u64::from(id) * (1 << 32) + u64::from(len),
+        );
     }
 
     /// The first of the places passed since the last `open`.

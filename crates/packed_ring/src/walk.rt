@@ -1,7 +1,7 @@
 //! The walk from a position through the descriptor ring.
 
-ghost use Rattle.std.specs.Prelude.{◌≡◌, ◌*◌, ◌<◌, [], OnOk, IfOk, IfErr};
-ghost use Rattle.guest_memory.specs.Memory.{Inside};
+ghost use Rattle.std.specs.Prelude.{◌≡◌, ℕ, ◌*◌, ◌<◌, length, [], OnOk, IfOk, IfErr};
+ghost use Rattle.guest_memory.specs.Memory.{Memory, Inside, part_of};
 ghost use Rattle.indirect.specs.Lists.{packed_tables, EndsInTable, TableRefused, ListResolves, ListFails};
 ghost use Rattle.packed_ring.specs.Ring.{ring_descriptor};
 
@@ -28,6 +28,7 @@ pub(crate) struct End {
 
 /// Fills the empty chain with the buffers of the list that begins at a position (2.8.6). After a fault the
 /// chain holds those before it.
+#[inline(always)]
 pub(crate) fn append_list<A: Allocator>(
     mem: &GuestMemory<A>,
     table: Table,
@@ -41,9 +42,10 @@ pub(crate) fn append_list<A: Allocator>(
         table.size first end.count end.last chain.new) }
     ensures fault { IfErr result (ListFails packed_tables table.indirect mem.now (ring_descriptor mem.now table.addr table.size) table.size first) }
 {
+    let ring = mem.slice(table.addr, 16 * u64::from(table.size));
     let mut index = first;
     for count in 0..table.size {
-        let descriptor = read_descriptor(mem, table, index);
+        let descriptor = read_descriptor(ring, table.size, index);
         if descriptor.indirect {
             append_table(mem, table.indirect, count, descriptor, chain)?;
             return Ok(End { count, last: index });
@@ -58,23 +60,21 @@ pub(crate) fn append_list<A: Allocator>(
     Err(Fault::Loop)
 }
 
-#[tactic(auto, using(guest_memory::proofs::Ranges::inside_part, guest_memory::proofs::Ranges::inside_same))]
-/// The descriptor at a position of the ring (2.8.13). One with NEXT goes on at the next position, and behind
-/// the last at the first.
-fn read_descriptor<A: Allocator>(mem: &GuestMemory<A>, table: Table, index: u16) -> Descriptor
-    requires area { Inside mem.now table.addr (16 * table.size) }
-    requires below { index < table.size }
-    ensures { result ≡ ring_descriptor mem.now table.addr table.size index }
+/// The descriptor at a position of a ring of `size` descriptors, which has these bytes (2.8.13). One with
+/// NEXT goes on at the next position, and behind the last at the first.
+#[inline(always)]
+fn read_descriptor(ring: &[u8], size: u16, index: u16) -> Descriptor
+    requires below { index < size }
+    requires len { length ring.now ≡ 16 * size }
+    ensures { (m : Memory) (desc : ℕ) → Inside m desc (16 * size) → ring.now ≡ part_of m desc (16 * size)
+        → result ≡ ring_descriptor m desc size index }
 {
-    // So no address in the ring passes 2^64.
-    mem.fits(table.addr, 16 * u64::from(table.size));
-    let addr = table.addr + 16 * u64::from(index);
-    let descriptor = PackedDescriptor::read(mem, addr);
+    let descriptor = PackedDescriptor::of(ring, 16 * usize::from(index));
     Descriptor {
         buffer: descriptor.buffer,
         indirect: descriptor.flags & INDIRECT != 0,
         next: if descriptor.flags & NEXT != 0 {
-            Some(reduced(index + 1, table.size))
+            Some(reduced(index + 1, size))
         } else {
             None
         },
@@ -83,6 +83,7 @@ fn read_descriptor<A: Allocator>(mem: &GuestMemory<A>, table: Table, index: u16)
 
 /// Puts the buffers of the indirect table that `descriptor` refers to behind those of the chain (2.8.7).
 /// `count` is how many descriptors of its list come before it.
+#[inline(always)]
 fn append_table<A: Allocator>(
     mem: &GuestMemory<A>,
     negotiated: bool,

@@ -2,3 +2,4 @@ pub mod Sizes
 pub mod Outcomes
 pub mod Passing
 mod Masks
+mod Using

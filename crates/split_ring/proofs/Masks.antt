@@ -1,6 +1,6 @@
 -- A queue size is a power of two, so a place modulo the size is its low bits.
-use Rattle.std.proofs.Common.{◌≡◌, ◌<◌, ◌≤◌, ◌-◌, ◌^◌, ◌%◌, ◌||◌, ◌&&◌, ℕ, zero, suc, Bool, true, false, refl, sym, ◌∙◌, ap, subst, arith, bit_and, nat_eq}
-use Rattle.std.specs.Prelude.{not, IsTrue}
+use Rattle.std.proofs.Common.{◌≡◌, ◌<◌, ◌-◌, ◌^◌, ◌%◌, ◌||◌, ◌&&◌, ℕ, zero, suc, Bool, true, refl, sym, subst, arith, bit_and, nat_eq}
+use Rattle.std.specs.Prelude.{not}
 use Rattle.std.specs.Int.{is_power_of_two}
 use Rattle.std.proofs.lemmas.Grind.{bit_length}
 use Rattle.std.proofs.lemmas.Bool.Decides.{nat_tests}

@@ -115,6 +115,7 @@ impl SplitRing {
 
     #[tactic(auto, using(guest_memory::proofs::Ranges::inside_part, guest_memory::proofs::Ranges::inside_same))]
     /// Writes the used entry of the ring's place, and then the used idx (2.7.8).
+    #[inline(always)]
     fn put_used<A: Allocator>(&self, mem: &mut GuestMemory<A>, head: u16, len: u32, next: u16)
         requires lies { LiesIn mem.old self.now.setup }
         requires next { next ≡ next_place self.now }
@@ -127,8 +128,8 @@ impl SplitRing {
             6 + 8 * u64::from(self.state.setup.size),
         );
         let entry = self.state.setup.device + 4 + offset;
-        mem.write_u32(entry, u32::from(head));
-        mem.write_u32(entry + 4, len);
+        // id and len, side by side
+        mem.write_u64(entry, u64::from(len) * (1 << 32) + u64::from(head));
         mem.write_u16(self.state.setup.device + 2, next);
     }
 

@@ -21,6 +21,7 @@ pub(crate) struct Table {
 #[tactic(auto, using(guest_memory::proofs::Ranges::inside_part, guest_memory::proofs::Ranges::inside_same))]
 /// Fills the empty chain with the buffers that `head` leads to (2.7.5). After a fault the chain holds those
 /// before it.
+#[inline(always)]
 pub(crate) fn append_path<A: Allocator>(
     mem: &GuestMemory<A>,
     table: Table,
@@ -33,14 +34,13 @@ pub(crate) fn append_path<A: Allocator>(
         × ListResolves split_tables table.indirect mem.now (split_table mem.now table.addr) table.size head count last chain.new) }
     ensures fault { IfErr result (ListFails split_tables table.indirect mem.now (split_table mem.now table.addr) table.size head) }
 {
-    // So no address in the table passes 2^64.
-    mem.fits(table.addr, 16 * u64::from(table.size));
+    let descriptors = mem.slice(table.addr, 16 * u64::from(table.size));
     let mut index = head;
     for _count in 0..table.size {
         if index >= table.size {
             return Err(Fault::Index);
         }
-        let descriptor = Descriptor::read_split(mem, table.addr + 16 * u64::from(index));
+        let descriptor = Descriptor::of_split(descriptors, 16 * usize::from(index));
         if descriptor.indirect {
             return append_table(mem, table.indirect, descriptor, chain);
         }
@@ -55,6 +55,7 @@ pub(crate) fn append_path<A: Allocator>(
 }
 
 /// Puts the buffers of the indirect table that `descriptor` refers to behind those of the chain (2.7.5.3).
+#[inline(always)]
 fn append_table<A: Allocator>(
     mem: &GuestMemory<A>,
     negotiated: bool,

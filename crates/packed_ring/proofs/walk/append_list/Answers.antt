@@ -1,5 +1,6 @@
-use Rattle.std.proofs.Common.{[], sym, ap, ◌∙◌}
+use Rattle.std.proofs.Common.{[], ◌*◌, sym, ap, ◌∙◌, arith}
 use Rattle.indirect.specs.declared.descriptor.Descriptor.{Descriptor}
+use Rattle.indirect.proofs.Entries.{lent_by}
 use Rattle.indirect.proofs.Walking.{reached_step}
 use Rattle.packed_ring.specs.Ring.{ring_descriptor}
 use Rattle.packed_ring.proofs.Positions.{next_below}
@@ -12,7 +13,9 @@ loop-count-preserved g c =
     let n = c.args.table.size in
     let i = c.loop-count.index in
     let d = c.read_descriptor-descriptor.result in
-    let e = c.read_descriptor-descriptor.ensures in
+    let lent = lent_by m a (16 * c.from.result) (16 * n) _ c.slice-ring.ensures.value
+    (omega (arith, c.from.ensures)) in
+    let e = c.read_descriptor-descriptor.ensures m a c.requires.area lent in
     let next = ap (λ (d : Descriptor). d.next) (sym e) ∙ c.in-Some.is in
     record {
       walk = reached_step m [] c.loop-count.chain c.push.new.self (ring_descriptor m a n) n c.args.first

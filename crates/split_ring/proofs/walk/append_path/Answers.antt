@@ -2,7 +2,7 @@ use Rattle.std.proofs.Common.{ℕ, ◌*◌, [], arith, rules}
 use Rattle.std.proofs.lemmas.Result.{on_ok_weaker}
 use Rattle.indirect.specs.Descriptors.{split_table}
 use Rattle.indirect.specs.Lists.{split_tables, EndsInTable}
-use Rattle.indirect.proofs.Entries.{entry_is}
+use Rattle.indirect.proofs.Entries.{entry_is, lent_by}
 use Rattle.indirect.proofs.Walking.{reached_step}
 use Rattle.indirect.proofs.Listing.{list_refused, list_table}
 use Rattle.split_ring.proofs.walk.append_path.Goals as goal
@@ -10,9 +10,11 @@ use Rattle.split_ring.proofs.walk.append_path.Goals as goal
 pub loop-count-preserved : goal.loop-count-preserved
 loop-count-preserved g c =
     let i = c.loop-count.index in
-    let d = c.read_split-descriptor.result in
+    let d = c.of_split-descriptor.result in
+    let lent = lent_by c.args.mem.now c.args.table.addr (16 * c.from.result) (16 * c.args.table.size) _
+    c.slice-descriptors.ensures.value (omega (arith, c.from.ensures)) in
     let e = entry_is c.args.mem.now c.args.table.addr (16 * c.from-in-loop-count.result) i d
-    c.read_split-descriptor.ensures (omega arith) in
+    (c.of_split-descriptor.ensures _ _ (16 * c.args.table.size) c.requires.area lent) (omega arith) in
     reached_step c.args.mem.now [] c.loop-count.chain c.push.new.self
     (split_table c.args.mem.now c.args.table.addr) c.args.table.size c.args.head
     c.loop-count._count i c.in-Some.next
@@ -22,9 +24,11 @@ loop-count-preserved g c =
 pub returns-in_err-push-clause-fault : goal.returns-in_err-push-clause-fault
 returns-in_err-push-clause-fault g c =
     let i = c.loop-count.index in
-    let d = c.read_split-descriptor.result in
+    let d = c.of_split-descriptor.result in
+    let lent = lent_by c.args.mem.now c.args.table.addr (16 * c.from.result) (16 * c.args.table.size) _
+    c.slice-descriptors.ensures.value (omega (arith, c.from.ensures)) in
     let e = entry_is c.args.mem.now c.args.table.addr (16 * c.from-in-loop-count.result) i d
-    c.read_split-descriptor.ensures (omega arith) in
+    (c.of_split-descriptor.ensures _ _ (16 * c.args.table.size) c.requires.area lent) (omega arith) in
     let fails = list_refused split_tables c.args.table.indirect c.args.mem.now
     (split_table c.args.mem.now c.args.table.addr) c.args.table.size c.args.head
     c.loop-count.chain c.loop-count._count i d _
@@ -38,11 +42,13 @@ returns-then-descriptor-clause-ok g c =
     let a = c.args.table.addr in
     let i = c.loop-count.index in
     let k = c.loop-count._count in
-    let d = c.read_split-descriptor.result in
+    let d = c.of_split-descriptor.result in
     let before = c.loop-count.chain in
     let after = c.append_table.new.chain in
+    let lent = lent_by m a (16 * c.from.result) (16 * c.args.table.size) _ c.slice-descriptors.ensures.value
+    (omega (arith, c.from.ensures)) in
     let e = entry_is m a (16 * c.from-in-loop-count.result) i d
-    c.read_split-descriptor.ensures (omega arith) in
+    (c.of_split-descriptor.ensures m a (16 * c.args.table.size) c.requires.area lent) (omega arith) in
     on_ok_weaker c.append_table.result
     (λ (ends : (count : ℕ) → EndsInTable split_tables c.args.table.indirect m before count d after). (
       k,
