@@ -32,15 +32,11 @@ bytes_of_three : (x y z : ℕ) → x < 2 ^ 32 → y < 2 ^ 16
     ≡ little_bytes 4 x ++ (little_bytes 2 y ++ little_bytes 2 z)
 bytes_of_three x y z first second =
     let v = z * 2 ^ 48 + y * 2 ^ 32 + x in
-    let a0 : byte_at 0 v ≡ byte_at 0 x = omega arith in
-    let a1 : byte_at 1 v ≡ byte_at 1 x = omega arith in
-    let a2 : byte_at 2 v ≡ byte_at 2 x = omega arith in
-    let a3 : byte_at 3 v ≡ byte_at 3 x = omega arith in
-    let b0 : byte_at 4 v ≡ byte_at 0 y = omega arith in
-    let b1 : byte_at 5 v ≡ byte_at 1 y = omega arith in
-    let c0 : byte_at 6 v ≡ byte_at 0 z = omega arith in
-    let c1 : byte_at 7 v ≡ byte_at 1 z = omega arith in
-    rw (a0, a1, a2, a3, b0, b1, c0, c1) refl
+    let low : (byte_at 0 v ≡ byte_at 0 x) × (byte_at 1 v ≡ byte_at 1 x) × (byte_at 2 v ≡ byte_at 2 x)
+    × (byte_at 3 v ≡ byte_at 3 x) = (omega arith, omega arith, omega arith, omega arith) in
+    let high : (byte_at 4 v ≡ byte_at 0 y) × (byte_at 5 v ≡ byte_at 1 y) × (byte_at 6 v ≡ byte_at 0 z)
+    × (byte_at 7 v ≡ byte_at 1 z) = (omega arith, omega arith, omega arith, omega arith) in
+    rw (low.0, low.1, low.2, low.3, high.0, high.1, high.2, high.3) refl
 
 -- a write of 8 bytes writes the three
 pub three_beside : (m written : Memory) (a v x y z : ℕ) → written ≡ put_num m a 8 v

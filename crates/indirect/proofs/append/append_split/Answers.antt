@@ -26,10 +26,10 @@ returns-in_err-push-clause-fault g c =
 
 pub returns-in-None-clause-ok : goal.returns-in-None-clause-ok
 returns-in-None-clause-ok g c =
-    let m = c.args.mem.now in
-    let a = c.args.addr in
     let i = c.loop-count.index in
+    let m = c.args.mem.now in
     let d = c.in_ok-descriptor.descriptor in
+    let a = c.args.addr in
     let lent = lent_by m a c.from.result c.args.len _ c.slice-table.ensures.value c.from.ensures in
     let e = entry_is m a (i * 16) i d
     (c.in_ok-descriptor.ensures.ok m a c.args.len c.in_ok-entries.ensures.ok.inside lent) (omega arith) in
@@ -46,10 +46,10 @@ returns-in-None-clause-ok g c =
 
 pub loop-count-preserved : goal.loop-count-preserved
 loop-count-preserved g c =
-    let m = c.args.mem.now in
-    let a = c.args.addr in
-    let i = c.loop-count.index in
     let d = c.in_ok-descriptor.descriptor in
+    let a = c.args.addr in
+    let m = c.args.mem.now in
+    let i = c.loop-count.index in
     let lent = lent_by m a c.from.result c.args.len _ c.slice-table.ensures.value c.from.ensures in
     let e = entry_is m a (i * 16) i d
     (c.in_ok-descriptor.ensures.ok m a c.args.len c.in_ok-entries.ensures.ok.inside lent) (omega arith) in
