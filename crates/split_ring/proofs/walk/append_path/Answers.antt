@@ -23,13 +23,13 @@ loop-count-preserved g c =
 
 pub returns-in_err-push-clause-fault : goal.returns-in_err-push-clause-fault
 returns-in_err-push-clause-fault g c =
-    let n = c.args.table.size in
     let m = c.args.mem.now in
-    let d = c.of_split-descriptor.result in
-    let i = c.loop-count.index in
+    let n = c.args.table.size in
     let a = c.args.table.addr in
     let lent = lent_by m a (16 * c.from.result) (16 * n) _ c.slice-descriptors.ensures.value
     (omega (arith, c.from.ensures)) in
+    let d = c.of_split-descriptor.result in
+    let i = c.loop-count.index in
     let e = entry_is m a (16 * c.from-in-loop-count.result) i d
     (c.of_split-descriptor.ensures _ _ (16 * n) c.requires.area lent) (omega arith) in
     let fails = list_refused split_tables c.args.table.indirect m (split_table m a) n c.args.head
