@@ -165,8 +165,8 @@ pub record CompletesIn (flight : Flight) (answer : Verdict) (old new : Memory) (
   pub wanted_is : IsTrue wanted ↔ queue_kind.Wants new behind
   pub window : after ≡ after_service Spent wanted (with_ring 0 before (queue_kind.shut behind))
 
--- Where the host did with the disk what may become of such a request, the chain is served by the device over
--- that disk.
+-- Where the host did with the disk what may become of such a request, and memory is that of the asking with the
+-- data that was read in it, the chain is served by the device over that disk.
 abbrev pub HonestHostServes : Type 0
 HonestHostServes =
     (device : BlockDevice) (start : Site Queue Disk) (asked old new : Memory) (before after : Queue)

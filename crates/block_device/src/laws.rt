@@ -96,8 +96,8 @@ pub fn a_flight_outlasts()
     ensures { FlightOutlasts }
 {}
 
-/// Where a host did with a disk what may become of such a request, the chain that it completes is served by the device over
-/// that disk: by the very device of a disk behind the cache.
+/// Where a host did with a disk what may become of such a request, and memory is that of the asking but for the data that was
+/// read, the chain that it completes is served by the device over that disk: by the very device of a disk behind the cache.
 pub fn an_honest_host_serves()
     ensures { HonestHostServes }
 {}
@@ -154,7 +154,8 @@ pub fn a_cut_request_touches_its_own_sectors<I: Image>()
 {}
 
 /// A byte that the host of a disk said is on the medium, by a FLUSH or a stable write that was done, is there after a stop
-/// as the host reads it, until an operation writes it again. It rests on a host that keeps its word.
+/// as the host reads it, until an operation writes it again. It restates the word that the host must keep, for a list of
+/// completions: it isn't said that they are those of a board, nor what status the guest reads.
 pub fn a_hosted_flush_lasts()
     ensures { (done : Completion) (later : List Completion) (old new : Medium) (place : ℕ)
         → KeepsWordIn old (done ∷ later) new → must_last done place ≡ true → IsUnwritten place later

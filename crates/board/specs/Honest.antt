@@ -27,7 +27,7 @@ AreOwn [] = ⊤
 AreOwn (call ∷ calls) = IsOwn call.event × AreOwn calls
 
 -- The way of a request that the host serves: the slot, which was old, looked at its queue and asked; its
--- guest did what it did, and its memory was written; and then the host completed what is in flight.
+-- guest made calls; and then the host completed what is in flight.
 pub record IsFlown (A : Type 0) (old : SlotState) (here : InFlight) (now : HostedState) (verdict : Verdict)
     (new : HostedState) : Type 0 where
   pub asking : HostedState
@@ -41,7 +41,7 @@ pub record IsFlown (A : Type 0) (old : SlotState) (here : InFlight) (now : Hoste
 
 -- Over this disk it is a course of the model's block device, from the opened queue to behind the chain:
 -- whatever the host did to the disk meanwhile, where that is what may become of the request that was asked
--- for, and memory has it.
+-- for, and memory is that of the asking with the data that was read in it.
 pub record IsHonestlyServed {A : Type 0} (old : SlotState) (here : InFlight) (now : HostedState)
     (verdict : Verdict) (new : HostedState)
     (flown : IsFlown A old here now verdict new) (disk : Disk) : Type 0 where

@@ -130,8 +130,9 @@ pub fn one_outcome_within<A: Allocator>()
         (reply ≡ reply') × (one ≡ other) }
 {}
 
-/// A guest that was saved on one board and restored on another goes on there as if it had never left: it is in the
-/// state that it was in, and what it sees on both is one run of it on its own.
+/// A slot that is as a saved one, with the bytes of its memory and disk put back, is in that one's state (`state`). A guest
+/// that begins in a slot of one board in the state in which it left the slot of that number on another has on both what is
+/// one run of it on its own (`run`). Both speak of disks of an image; neither names the save or the restore.
 pub fn a_restored_guest_goes_on<A: Allocator>()
     ensures state { (bytes other : List ℕ) (slot old new : BoardSlot) → IsAs slot old new →
         HasBytesOf slot bytes old other → state_of other new ≡ state_of bytes slot }

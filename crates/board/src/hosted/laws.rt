@@ -51,7 +51,8 @@ pub fn what_waits_changes_nothing<A: Allocator>()
 {}
 
 /// Where a host did with a guest's disk what may become of the request that was asked for, and says so, the slot's block
-/// device did what the model's does over that disk, whatever its guest did in between.
+/// device did what the model's does over that disk. At the completion memory must be that of the asking but for the data
+/// that was read: nothing is said of a guest that wrote to memory in between, as one that offered another chain.
 pub fn an_honest_host_serves<A: Allocator>()
     ensures { (old : SlotState) (here : InFlight) (now : HostedState) (verdict : Verdict) (new : HostedState)
         (flown : IsFlown A old here now verdict new) (disk : Disk) →
