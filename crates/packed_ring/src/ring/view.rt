@@ -62,15 +62,17 @@ impl PackedRing {
         Some((descriptor.buffer, descriptor.id, descriptor.flags))
     }
 
-    /// The same of the descriptor at a place's position.
+    /// The same of the descriptor at a place's position, behind the wrap too. There always is one.
     pub fn descriptor_of<A: Allocator>(
         &self,
         mem: &GuestMemory<A>,
         place: u16,
     ) -> Option<(Buffer, u16, u16)>
         requires { LiesIn mem.now self.now.setup }
-        ensures len { IfSome result (λ found. found.0 ≡ packed_buffer mem.now (descriptor_addr self.now.setup.desc (place % self.now.setup.size))) }
+        ensures there { IsSome result }
+        ensures buffer { IfSome result (λ found. found.0 ≡ packed_buffer mem.now (descriptor_addr self.now.setup.desc (place % self.now.setup.size))) }
         ensures id { IfSome result (λ found. found.1 ≡ id_of mem.now (descriptor_addr self.now.setup.desc (place % self.now.setup.size))) }
+        ensures flags { IfSome result (λ found. found.2 ≡ flags_of mem.now (descriptor_addr self.now.setup.desc (place % self.now.setup.size))) }
     {
         self.descriptor(mem, place % self.size())
     }
