@@ -22,17 +22,19 @@ LINES = {
     "io": [8, "verdict"],
 }
 
-# The fields of those that have others in version 3.
-IN_VERSION_3 = {"slot": ["regions", 64, 64, "mode", 16, 16]}
+# The first line of each kind of trace: the two versions of a plain one, and an extended one.
+FIRST_LINES = ["vreplay 1", "vreplay 2", "kalyubos 1"]
+FIRST, _, EXTENDED = FIRST_LINES
+
+# The fields of those that have others in an extended trace.
+IN_EXTENDED = {"slot": ["regions", 64, 64, "mode", 16, 16]}
 
 # The words that stand in line 2, and nowhere else.
 SECOND = ["cache", "hosted"]
 
-# What stands behind them from version 2 on, and the words that only later versions have.
+# What stands behind them in all but version 1, and the words that an extended trace has alone.
 ADDED = {"slot": ["identity"]}
-SINCE = {"hosted": 3, "st": 3, "io": 3}
-
-VERSIONS = {"vreplay 1": 1, "vreplay 2": 2, "vreplay 3": 3}
+EXTENDED_WORDS = ["hosted", "st", "io"]
 
 CHOICES = {"win": ["b", "c"], "wid": ["1", "2", "4"], "mode": ["rw", "ro"], "verdict": ["done", "failed"]}
 
@@ -40,13 +42,13 @@ CHOICES = {"win": ["b", "c"], "wid": ["1", "2", "4"], "mode": ["rw", "ro"], "ver
 def fault_of(text):
     """The first line with a fault and its kind, as (line, kind), or none where `text` (bytes) is a trace."""
     rest, line, had_event = text.decode("latin-1"), 0, False
-    version = VERSIONS.get(rest.partition("\n")[0])
+    first = rest.partition("\n")[0]
     while rest or line < 2:
         line += 1
         cut = rest.find("\n")
         if cut < 0:
             return line, "Cut"
-        kind = fault_in(rest[:cut], line, had_event, version)
+        kind = fault_in(rest[:cut], line, had_event, first)
         if kind:
             return line, kind
         had_event = had_event or line > 2 and not rest.startswith("slot ")
@@ -54,16 +56,16 @@ def fault_of(text):
     return None
 
 
-def fault_in(text, line, had_event, version):
-    """The kind of fault of one line, or none."""
+def fault_in(text, line, had_event, first):
+    """The kind of fault of one line of a trace with this first line, or none."""
     if line == 1:
-        return None if text in VERSIONS else "Header"
+        return None if text in FIRST_LINES else "Header"
     word, *fields = text.split(" ")
-    if word not in LINES or (word in SECOND) != (line == 2) or version < SINCE.get(word, 1):
+    if word not in LINES or (word in SECOND) != (line == 2) or word in EXTENDED_WORDS and first != EXTENDED:
         return "Word"
     if word == "slot" and had_event:
         return "Order"
-    kinds = (IN_VERSION_3.get(word, LINES[word]) if version == 3 else LINES[word]) + (ADDED.get(word, []) if version > 1 else [])
+    kinds = (IN_EXTENDED.get(word, LINES[word]) if first == EXTENDED else LINES[word]) + (ADDED.get(word, []) if first != FIRST else [])
     if len(fields) != len(kinds):
         return "Fields"
     spelled = dict(zip(kinds, fields))

@@ -3,13 +3,14 @@ import random
 
 from guests import IDENTITY_TEXT, MEMORIES, SECTOR, Guest, Slot, live
 from host import Host
+from reader import EXTENDED, FIRST, FIRST_LINES
 
 BASES = [0x80000000, 0x80000000, 0, 0x40000000, (1 << 64) - 0x10000]
 CACHES = [1, 2, 3, 8, 65536]
 WILDNESS = [0, 0, 0.1, 0.4, 0.8]
 STRANGERS = ["r {} b 000 4", "w {} b 070 4 00000000", "w {} c 050 4 00000000", "mr {} 80000000 4", "mw {} 80000000 ff"]
 
-# How many regions a memory has behind its first one in a trace of version 3, how long these are, and how far from the next.
+# How many regions a memory has behind its first one in an extended trace, how long these are, and how far from the next.
 OTHERS = [0, 0, 1, 1, 2, 7]
 OTHER_LENGTHS = [0x8000, 0x10000]
 GAPS = [0x1000, 0x1000, 0x3000, 0x100000, 0x10000000]
@@ -29,14 +30,14 @@ class Scene:
         self.seed, dice = seed, random.Random(seed)
         names, hosts = random.Random(f"identities {seed}"), random.Random(f"hosts {seed}")
         self.is_hosted = may_be_hosted and hosts.random() < HOSTED
-        self.version = 3 if self.is_hosted else names.choice([1, 2, 3])
+        self.first_line = EXTENDED if self.is_hosted else names.choice(FIRST_LINES)
         self.cache = dice.choice(CACHES)
         self.guests, start = [], dice.randrange(3)
         for _ in range(dice.randrange(*self.GUESTS)):
             length, count = dice.choice(MEMORIES), dice.choice(self.DISKS)
             count = hosts.choice([count, 8]) if self.is_hosted else count
             base = min(dice.choice(BASES), (1 << 64) - length)
-            identity = IDENTITY_TEXT if self.version == 1 else names.randbytes(20)
+            identity = IDENTITY_TEXT if self.first_line == FIRST else names.randbytes(20)
             slot = Slot(base, length, start, count, dice.random() < 0.2, dice.randrange(200), dice.randrange(100), identity)
             slot = slot._replace(others=self.others(slot, random.Random(f"regions {seed} {len(self.guests)}")))
             self.guests.append(Guest(dice, slot, dice.choice(WILDNESS)))
@@ -53,7 +54,7 @@ class Scene:
     def others(self, slot, dice):
         """The other regions of a guest's memory: above or below all that it has so far."""
         found = []
-        for _ in range(dice.choice(OTHERS) if self.version == 3 else 0):
+        for _ in range(dice.choice(OTHERS) if self.first_line == EXTENDED else 0):
             regions = sorted([(slot.base, slot.length), *found])
             (first, _), (last, length) = regions[0], regions[-1]
             size, gap = dice.choice(OTHER_LENGTHS), dice.choice(GAPS)
@@ -77,20 +78,20 @@ class Scene:
             if dice.random() < 0.01:
                 yield None, dice.choice(STRANGERS).format(f"{dice.randrange(len(done), 256):x}")
 
-    def trace(self, cache=None, version=None):
+    def trace(self, cache=None, first_line=None):
         """The whole trace."""
-        return self.text(version or self.version, cache or self.cache, range(len(self.guests)), [
+        return self.text(first_line or self.first_line, cache or self.cache, range(len(self.guests)), [
             what if guest is None else self.event(guest, what, guest) for guest, what in self.lines])
 
     def trace_alone(self, guest):
         """The trace of a board with this guest alone, as its slot 0."""
         count = len(self.guests[guest].events)
-        return self.text(self.version, self.cache, [guest], [self.event(guest, number, 0) for number in range(count)])
+        return self.text(self.first_line, self.cache, [guest], [self.event(guest, number, 0) for number in range(count)])
 
-    def text(self, version, cache, guests, events):
-        slots = [slot_line(self.guests[guest].slot, version) for guest in guests]
+    def text(self, first_line, cache, guests, events):
+        slots = [slot_line(self.guests[guest].slot, first_line) for guest in guests]
         second = "hosted" if self.is_hosted else f"cache {cache:x}"
-        return "\n".join([f"vreplay {version}", second] + slots + events) + "\n"
+        return "\n".join([first_line, second] + slots + events) + "\n"
 
     def event(self, guest, number, slot):
         word, fields = self.guests[guest].events[number]
@@ -103,9 +104,9 @@ class Scene:
         return [image[SECTOR * first:SECTOR * last] for first, last in gaps]
 
 
-def slot_line(slot, version):
+def slot_line(slot, first_line):
     mode = "ro" if slot.read_only else "rw"
-    identity = f" {slot.identity.hex()}" if version > 1 else ""
+    identity = f" {slot.identity.hex()}" if first_line != FIRST else ""
     regions = [f"{base:x}+{length:x}" for base, length in slot.regions()]
-    memory = ",".join(regions) if version == 3 else f"{slot.base:x} {slot.length:x}"
+    memory = ",".join(regions) if first_line == EXTENDED else f"{slot.base:x} {slot.length:x}"
     return f"slot {memory} {slot.start:x} {slot.count:x} {mode} {slot.columns:x} {slot.rows:x}{identity}"

@@ -121,9 +121,9 @@ def version():
 
 
 EVERY_LINE = "each line ends with a line feed, and the first two are there"
-FIRST_LINE = 'the first line is "vreplay 1", "vreplay 2" or "vreplay 3"'
+FIRST_LINE = 'the first line is "vreplay 1", "vreplay 2" or "kalyubos 1"'
 WORDS = "a line begins with slot, r, w, mr, mw, in or sz"
-WORDS_3 = "a line begins with slot, r, w, mr, mw, in, sz, st or io"
+WORDS_EXTENDED = "a line begins with slot, r, w, mr, mw, in, sz, st or io"
 NUMBER = "is lower case hexadecimal digits without zeros in front, of {} bits at most, as 1f"
 BYTES = "bytes are two lower case hexadecimal digits each, as 4142, or - for none"
 IDENTITY = "an identity is 20 bytes by two lower case hexadecimal digits each, so 40 digits"
@@ -138,6 +138,8 @@ TEXTS = [
     (b"", f'line 1: {EVERY_LINE}; found ""'),
     (b"vreplay 1\ncache 1\nr 0 c 00", f'line 3: {EVERY_LINE}; found "r 0 c 00"'),
     (b"vreplay 4\n", f'line 1: {FIRST_LINE}; found "vreplay 4"'),
+    (b"vreplay 3\n", f'line 1: {FIRST_LINE}; found "vreplay 3"'),
+    (b"kalyubos 2\n", f'line 1: {FIRST_LINE}; found "kalyubos 2"'),
     (b'\x7fELF"\\\r\n', f'line 1: {FIRST_LINE}; found "\\x7fELF\\"\\\\\\x0d"'),
     (b"vreplay 1\nslot 0 1000 0 1 rw 50 19\n",
      'line 2: the second line is the cache\'s, as "cache 8"; found "slot 0 1000 0 1 rw 50 19"'),
@@ -165,26 +167,26 @@ TEXTS = [
     (b"vreplay 2\ncache 1\nslot 0 1000 0 1 wr 50 19 -\n", 'line 3: a slot is rw or ro; found "wr"'),
     (b"vreplay 2\ncache 1\nslot 0 1000 0 1 wr 50 019 -\n", f'line 3: a number of rows {NUMBER.format(16)}; found "019"'),
     (b"vreplay 2\ncache 1\nin 0 6c7\n", f'line 3: {BYTES}; found "6c7"'),
-    # a slot line of version 3, with regions
-    (f"vreplay 3\ncache 1\nslot 0 1000 0 1 rw 50 19 {NAMED}\n".encode(),
+    # a slot line of an extended trace, with regions
+    (f"kalyubos 1\ncache 1\nslot 0 1000 0 1 rw 50 19 {NAMED}\n".encode(),
      f'line 3: slot has 7 fields after it, each after one space, as "slot 80000000+1000,100000000+1000 0 8 rw 50 19 {NAMED}"; '
      'found "slot 0 1000 0 1 rw 50 19 6469736b2d30000"..'),
-    (f"vreplay 3\ncache 1\nslot 80000000 0 1 rw 50 19 {NAMED}\n".encode(), f'line 3: {REGIONS}; found "80000000"'),
-    (f"vreplay 3\ncache 1\nslot 0+1000,1000+1000 0 1 rw 50 19 {NAMED}\n".encode(),
+    (f"kalyubos 1\ncache 1\nslot 80000000 0 1 rw 50 19 {NAMED}\n".encode(), f'line 3: {REGIONS}; found "80000000"'),
+    (f"kalyubos 1\ncache 1\nslot 0+1000,1000+1000 0 1 rw 50 19 {NAMED}\n".encode(),
      "slot 0 (line 3): a guest's memory: a region doesn't begin above the end of the one before it"),
-    # a restore, which version 3 alone has
+    # a restore, which an extended trace has alone
     (b"vreplay 2\ncache 1\nst 0 4b\n", f'line 3: {WORDS}; found "st 0 4b"'),
-    (b"vreplay 3\ncache 1\nrestore 0 4b\n", f'line 3: {WORDS_3}; found "restore 0 4b"'),
-    (b"vreplay 3\ncache 1\nst 0\n", 'line 3: st has 2 fields after it, each after one space, as "st 0 4b414c59"; found "st 0"'),
-    (b"vreplay 3\ncache 1\nst 0 4B\n", f'line 3: {BYTES}; found "4B"'),
+    (b"kalyubos 1\ncache 1\nrestore 0 4b\n", f'line 3: {WORDS_EXTENDED}; found "restore 0 4b"'),
+    (b"kalyubos 1\ncache 1\nst 0\n", 'line 3: st has 2 fields after it, each after one space, as "st 0 4b414c59"; found "st 0"'),
+    (b"kalyubos 1\ncache 1\nst 0 4B\n", f'line 3: {BYTES}; found "4B"'),
     # hosted disks and completions, which it has alone too
     (b"vreplay 2\nhosted\n", 'line 2: the second line is the cache\'s, as "cache 8"; found "hosted"'),
-    (b"vreplay 3\nhost\n", 'line 2: the second line is the cache\'s, as "cache 8", or "hosted"; found "host"'),
-    (b"vreplay 3\nhosted 1\n", 'line 2: hosted has no field after it; found "hosted 1"'),
+    (b"kalyubos 1\nhost\n", 'line 2: the second line is the cache\'s, as "cache 8", or "hosted"; found "host"'),
+    (b"kalyubos 1\nhosted 1\n", 'line 2: hosted has no field after it; found "hosted 1"'),
     (b"vreplay 2\ncache 1\nio 0 done\n", f'line 3: {WORDS}; found "io 0 done"'),
-    (b"vreplay 3\nhosted\nio 0\n", 'line 3: io has 2 fields after it, each after one space, as "io 0 done"; found "io 0"'),
-    (b"vreplay 3\nhosted\nio 0 ok\n", 'line 3: what came of an operation is done or failed; found "ok"'),
-    (b"vreplay 3\nhosted\n", "the trace's board: a board needs a slot"),
+    (b"kalyubos 1\nhosted\nio 0\n", 'line 3: io has 2 fields after it, each after one space, as "io 0 done"; found "io 0"'),
+    (b"kalyubos 1\nhosted\nio 0 ok\n", 'line 3: what came of an operation is done or failed; found "ok"'),
+    (b"kalyubos 1\nhosted\n", "the trace's board: a board needs a slot"),
     (f"vreplay 2\ncache 1\nslot 0 1000 0 9 rw 50 19 {NAMED}\n".encode(),
      "slot 0 (line 3): an extent passes the end of the image"),
     (b"vreplay 1\ncache 1\n" + b"slot 0 1000 0 0 rw 0 0\n" * 17,
@@ -223,6 +225,8 @@ LINES = [
 FAULTS = [
     (b"vreplay 1", "fault trace 1 Cut"),
     (b"vreplay 4\ncache 1\n", "fault trace 1 Header"),
+    (b"vreplay 3\ncache 1\n", "fault trace 1 Header"),
+    (b"kalyubos 2\ncache 1\n", "fault trace 1 Header"),
     (b"vreplay 1\n\xff\xfe\n", "fault trace 2 Word"),
     (b"vreplay 1\ncache 1\nx\n", "fault trace 3 Word"),
     (b"vreplay 1\ncache 1\nslot 0 1000 0 8 rw 50 19\nr 0 c 008 4\nslot\n", "fault trace 5 Order"),
@@ -237,10 +241,10 @@ FAULTS = [
     (b"vreplay 1\ncache 1\nslot 0 1000 0 9 rw 50 19\n", "fault board ExtentOutside"),
     (b"vreplay 1\ncache 1\nslot 0 1000 0 2 rw 50 19\nslot 0 1000 1 1 rw 50 19\n", "fault board ExtentsOverlap"),
     (b"vreplay 1\ncache 0\nslot 0 1000 0 8 rw 50 19\n", "fault board BadCapacity"),
-    (f"vreplay 3\ncache 1\nslot 0+1000,1000+1000 0 8 rw 50 19 {NAMED}\n".encode(), "fault board NotApart"),
+    (f"kalyubos 1\ncache 1\nslot 0+1000,1000+1000 0 8 rw 50 19 {NAMED}\n".encode(), "fault board NotApart"),
     (b"vreplay 2\nhosted\n", "fault trace 2 Word"),
-    (b"vreplay 3\nhosted 1\n", "fault trace 2 Fields"),
-    (f"vreplay 3\nhosted\nslot 80000000+1000 0 8 rw 50 19 {NAMED}\nio 0 ok\n".encode(), "fault trace 4 Choice"),
-    (b"vreplay 3\nhosted\n", "fault board NoSlots"),
-    (f"vreplay 3\nhosted\nslot 80000000+1000 0 80000000000000 rw 50 19 {NAMED}\n".encode(), "fault board ExtentOutside"),
+    (b"kalyubos 1\nhosted 1\n", "fault trace 2 Fields"),
+    (f"kalyubos 1\nhosted\nslot 80000000+1000 0 8 rw 50 19 {NAMED}\nio 0 ok\n".encode(), "fault trace 4 Choice"),
+    (b"kalyubos 1\nhosted\n", "fault board NoSlots"),
+    (f"kalyubos 1\nhosted\nslot 80000000+1000 0 80000000000000 rw 50 19 {NAMED}\n".encode(), "fault board ExtentOutside"),
 ]

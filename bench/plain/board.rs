@@ -3,12 +3,12 @@ use crate::device::{Disk, Receive, Requests, Transmit, MOST_SEGMENTS, MOST_ZEROE
 use crate::hex;
 use crate::memory::Memory;
 use crate::queue::Chain;
-use crate::text::{Access, Description, Event, Trace, Win};
+use crate::text::{Access, Description, Event, Form, Trace, Win};
 use crate::window::{self, Window};
 
 const PAGE: u64 = 4096;
 const MOST_MEMORY: u64 = 1 << 28;
-const MOST_MEMORY_OF_VERSION_3: u64 = 1 << 32;
+const MOST_EXTENDED_MEMORY: u64 = 1 << 32;
 const MOST_CACHE: u32 = 65536;
 const MOST_PENDING: usize = 4096;
 
@@ -54,7 +54,7 @@ pub struct Board {
 
 impl Board {
     pub fn new(trace: &Trace<'_>, image: Vec<u8>) -> Result<Board, Refused> {
-        let most = if trace.version == 1 { MOST_SLOTS_OF_VERSION_1 } else { MOST_SLOTS };
+        let most = if trace.form == Form::Version1 { MOST_SLOTS_OF_VERSION_1 } else { MOST_SLOTS };
         if trace.slots.is_empty() {
             return Err(Refused::NoSlots);
         }
@@ -62,7 +62,7 @@ impl Board {
             return Err(Refused::TooManySlots);
         }
         for (number, slot) in trace.slots.iter().enumerate() {
-            let most_memory = if trace.version == 3 { MOST_MEMORY_OF_VERSION_3 } else { MOST_MEMORY };
+            let most_memory = if trace.form == Form::Extended { MOST_EXTENDED_MEMORY } else { MOST_MEMORY };
             judge(slot, &trace.slots[..number], (image.len() / SECTOR) as u64, most_memory)?;
         }
         if !(1..=MOST_CACHE).contains(&trace.capacity) {

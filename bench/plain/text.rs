@@ -19,8 +19,16 @@ pub enum Kind {
 pub enum Refused {
     /// The first line with a fault.
     Fault(usize, Kind),
-    /// A word of version 3 that this program leaves out, or a memory of several regions.
+    /// A word of an extended trace that this program leaves out, or a memory of several regions.
     NotServed,
+}
+
+/// What kind of trace the first line says.
+#[derive(Clone, Copy, PartialEq, Eq)]
+pub enum Form {
+    Version1,
+    Version2,
+    Extended,
 }
 
 #[derive(Clone, Copy, PartialEq, Eq)]
@@ -73,7 +81,7 @@ pub struct Description {
 const IDENTITY_OF_VERSION_1: &[u8; 20] = b"vreplay-block\0\0\0\0\0\0\0";
 
 pub struct Trace<'a> {
-    pub version: u8,
+    pub form: Form,
     pub capacity: u32,
     pub slots: Vec<Description>,
     pub events: Vec<Event>,
@@ -83,15 +91,15 @@ pub struct Trace<'a> {
 
 pub fn read(text: &[u8]) -> Result<Trace<'_>, Refused> {
     let (line, rest) = cut(text, 1)?;
-    let version = match line {
-        b"vreplay 1" => 1,
-        b"vreplay 2" => 2,
-        b"vreplay 3" => 3,
+    let form = match line {
+        b"vreplay 1" => Form::Version1,
+        b"vreplay 2" => Form::Version2,
+        b"kalyubos 1" => Form::Extended,
         _ => return Err(Refused::Fault(1, Kind::Header)),
     };
     let (line, mut rest) = cut(rest, 2)?;
-    let capacity = capacity(line, version)?;
-    let mut trace = Trace { version, capacity, slots: Vec::new(), events: Vec::new(), fields: Vec::new() };
+    let capacity = capacity(line, form)?;
+    let mut trace = Trace { form, capacity, slots: Vec::new(), events: Vec::new(), fields: Vec::new() };
     while !rest.is_empty() {
         let mut reader = Reader(rest);
         rest = match reader.event(&mut trace.fields) {
@@ -111,14 +119,14 @@ fn cut(text: &[u8], number: usize) -> Result<(&[u8], &[u8]), Refused> {
     Ok((&text[..end], &text[end + 1..]))
 }
 
-fn capacity(line: &[u8], version: u8) -> Result<u32, Refused> {
+fn capacity(line: &[u8], form: Form) -> Result<u32, Refused> {
     let (word, fields) = split(line);
     match word {
         b"cache" => {
-            judge(word, &fields, version).map_err(|kind| Refused::Fault(2, kind))?;
+            judge(word, &fields, form).map_err(|kind| Refused::Fault(2, kind))?;
             Ok(number(fields[0], 32).expect("a judged number") as u32)
         }
-        b"hosted" if version == 3 => Err(Refused::NotServed),
+        b"hosted" if form == Form::Extended => Err(Refused::NotServed),
         _ => Err(Refused::Fault(2, Kind::Word)),
     }
 }
@@ -130,22 +138,22 @@ impl<'a> Trace<'a> {
         let (line, rest) = cut(text, line_number)?;
         let (word, fields) = split(line);
         let judged = match word {
-            b"st" | b"io" if self.version == 3 => return Err(Refused::NotServed),
+            b"st" | b"io" if self.form == Form::Extended => return Err(Refused::NotServed),
             b"cache" => Err(Kind::Word),
             b"slot" if !self.events.is_empty() => Err(Kind::Order),
-            _ => judge(word, &fields, self.version),
+            _ => judge(word, &fields, self.form),
         };
         judged.map_err(|kind| Refused::Fault(line_number, kind))?;
-        self.slots.push(Description::of(&fields, self.version).ok_or(Refused::NotServed)?);
+        self.slots.push(Description::of(&fields, self.form).ok_or(Refused::NotServed)?);
         Ok(rest)
     }
 }
 
 impl Description {
     /// What judged fields say, where the memory has one region.
-    fn of(fields: &[&[u8]], version: u8) -> Option<Description> {
+    fn of(fields: &[&[u8]], form: Form) -> Option<Description> {
         let ((base, len), fields) = match fields {
-            [regions, others @ ..] if version == 3 => (region(regions)?, others),
+            [regions, others @ ..] if form == Form::Extended => (region(regions)?, others),
             [base, len, others @ ..] => ((number(base, 64)?, number(len, 64)?), others),
             _ => return None,
         };
@@ -291,12 +299,12 @@ fn split(line: &[u8]) -> (&[u8], Vec<&[u8]>) {
 }
 
 /// The fields that a word has behind it.
-fn fields_of(word: &[u8], version: u8) -> Option<&'static [Field]> {
+fn fields_of(word: &[u8], form: Form) -> Option<&'static [Field]> {
     use Field::*;
     Some(match word {
         b"cache" => &[Num(32)],
-        b"slot" if version == 1 => &[Num(64), Num(64), Num(64), Num(64), Mode, Num(16), Num(16)],
-        b"slot" if version == 3 => &[Regions, Num(64), Num(64), Mode, Num(16), Num(16), Identity],
+        b"slot" if form == Form::Version1 => &[Num(64), Num(64), Num(64), Num(64), Mode, Num(16), Num(16)],
+        b"slot" if form == Form::Extended => &[Regions, Num(64), Num(64), Mode, Num(16), Num(16), Identity],
         b"slot" => &[Num(64), Num(64), Num(64), Num(64), Mode, Num(16), Num(16), Identity],
         b"r" => &[Num(8), Win, Off, Wid],
         b"w" => &[Num(8), Win, Off, Wid, Val],
@@ -309,8 +317,8 @@ fn fields_of(word: &[u8], version: u8) -> Option<&'static [Field]> {
 }
 
 /// Whether the fields of a line are spelled as its word wants.
-fn judge(word: &[u8], fields: &[&[u8]], version: u8) -> Result<(), Kind> {
-    let wanted = fields_of(word, version).ok_or(Kind::Word)?;
+fn judge(word: &[u8], fields: &[&[u8]], form: Form) -> Result<(), Kind> {
+    let wanted = fields_of(word, form).ok_or(Kind::Word)?;
     if fields.len() != wanted.len() {
         return Err(Kind::Fields);
     }

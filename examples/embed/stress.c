@@ -344,7 +344,7 @@ static void open_files(const char *trace_path, const char *records_path)
         fail("files", 0);
     for (int i = 0; i < SLOTS; i++)
         slots[i].outlet = MOST_OUTPUT;
-    fprintf(trace, "vreplay 3\ncache 8\n");
+    fprintf(trace, "kalyubos 1\ncache 8\n");
     for (int i = 0; i < SLOTS; i++) {
         for (size_t j = 0; j < KALYUBOS_REGIONS && slots[i].regions[j].len != 0; j++)
             fprintf(trace, "%s%" PRIx64 "+%" PRIx64, j == 0 ? "slot " : ",", slots[i].regions[j].base, slots[i].regions[j].len);

@@ -268,24 +268,24 @@ static void see_memory(struct kalyubos *board, uint8_t index, const struct kalyu
     }
 }
 
-/* A slot's line, whose regions are one field from version 3 on. */
-static void put_slot(const struct memory *memory, const struct kalyubos_slot *slot, unsigned version)
+/* A slot's line, whose regions are one field of an extended trace. */
+static void put_slot(const struct memory *memory, const struct kalyubos_slot *slot, bool extended)
 {
     fputs("slot ", trace);
     for (size_t i = 0; i < memory->count; i++)
         fprintf(trace, "%s%llx%c%llx", i > 0 ? "," : "", (unsigned long long)memory->regions[i].base,
-                version < 3 ? ' ' : '+', (unsigned long long)memory->regions[i].len);
+                extended ? '+' : ' ', (unsigned long long)memory->regions[i].len);
     fprintf(trace, " %llx %llx %s %x %x ", (unsigned long long)slot->start, (unsigned long long)slot->count,
             slot->read_only ? "ro" : "rw", slot->cols, slot->rows);
     put_bytes(trace, slot->identity, sizeof slot->identity);
     fputc('\n', trace);
 }
 
-static void put_slots(struct kalyubos *board, const struct kalyubos_slot *slots, size_t slots_len, unsigned version)
+static void put_slots(struct kalyubos *board, const struct kalyubos_slot *slots, size_t slots_len, bool extended)
 {
     for (size_t i = 0; i < slots_len; i++) {
         see_memory(board, i, &slots[i]);
-        put_slot(&seen[i].now, &slots[i], version);
+        put_slot(&seen[i].now, &slots[i], extended);
     }
     lines = called = 2 + slots_len;
 }
@@ -296,11 +296,11 @@ uint32_t record_create(struct kalyubos *board, const struct kalyubos_slot *slots
     uint32_t answer = kalyubos_create(board, slots, slots_len, image, image_len, cache, chains, bytes);
     if (trace == NULL || answer != KALYUBOS_DONE)
         return answer;
-    unsigned version = 2;
+    bool extended = false;
     for (size_t i = 0; i < slots_len; i++)
-        version = is_small(&slots[i]) ? version : 3;
-    fprintf(trace, "vreplay %u\ncache %x\n", version, (unsigned)cache);
-    put_slots(board, slots, slots_len, version);
+        extended = extended || !is_small(&slots[i]);
+    fprintf(trace, "%s\ncache %x\n", extended ? "kalyubos 1" : "vreplay 2", (unsigned)cache);
+    put_slots(board, slots, slots_len, extended);
     return answer;
 }
 
@@ -310,8 +310,8 @@ uint32_t record_create_hosted(struct kalyubos *board, const struct kalyubos_slot
     if (trace == NULL || answer != KALYUBOS_DONE)
         return answer;
     hosted = true;
-    fputs("vreplay 3\nhosted\n", trace);
-    put_slots(board, slots, slots_len, 3);
+    fputs("kalyubos 1\nhosted\n", trace);
+    put_slots(board, slots, slots_len, true);
     return answer;
 }
 

@@ -86,7 +86,7 @@ static bool next_line(const char **at, const char *end, struct field *line)
     return true;
 }
 
-/* The identity of a guest: a field from version 2 on, and in version 1 always the same. */
+/* The identity of a guest: in version 1 always the same, else a field. */
 static bool read_identity(const struct field *field, struct guest *guest)
 {
     enum { LEN = sizeof guest->identity };
@@ -125,7 +125,7 @@ static bool read_region(const struct field *fields, struct guest *guest)
     return number(fields[0], UINT64_MAX, &guest->regions[0].base) && number(fields[1], UINT64_MAX, &guest->regions[0].len);
 }
 
-/* The regions of version 3, one field: BASE+LEN of each, and a comma between two. */
+/* The regions of an extended trace, one field: BASE+LEN of each, and a comma between two. */
 static bool read_regions(struct field field, struct guest *guest)
 {
     for (const char *at = field.at, *end = field.at + field.len; guest->regions_len < MOST_REGIONS; at++) {
@@ -142,7 +142,7 @@ static bool read_regions(struct field field, struct guest *guest)
     return false;
 }
 
-/* Line 2: the cache's capacity, or in version 3 that the host serves the disks. */
+/* Line 2: the cache's capacity, or in an extended trace that the host serves the disks. */
 static bool read_disks(struct field line, bool hosted_may_be, struct trace *trace)
 {
     struct field fields[9];
@@ -160,19 +160,19 @@ bool read_setup(const char *text, size_t len, struct trace *trace)
     size_t most;
     *trace = (struct trace){.events = text, .end = text + len};
     if (!next_line(&trace->events, trace->end, &line) ||
-        (!is(line, "vreplay 1") && !is(line, "vreplay 2") && !is(line, "vreplay 3")))
+        (!is(line, "vreplay 1") && !is(line, "vreplay 2") && !is(line, "kalyubos 1")))
         return false;
-    bool named = !is(line, "vreplay 1"), third = is(line, "vreplay 3");
-    if (!next_line(&trace->events, trace->end, &line) || !read_disks(line, third, trace))
+    bool named = !is(line, "vreplay 1"), extended = is(line, "kalyubos 1");
+    if (!next_line(&trace->events, trace->end, &line) || !read_disks(line, extended, trace))
         return false;
     most = named ? MOST_GUESTS : 16;
     for (const char *at = trace->events; next_line(&at, trace->end, &line); trace->events = at) {
         if (line.len < 5 || memcmp(line.at, "slot ", 5))
             return true;
         struct guest *guest = &trace->guests[trace->guests_len];
-        if (trace->guests_len++ == most || split(line.at, line.len, fields, 9) != (named && !third ? 9 : 8) ||
-            !(third ? read_regions(fields[1], guest) : read_region(&fields[1], guest)) ||
-            !read_guest(&fields[third ? 2 : 3], named, guest))
+        if (trace->guests_len++ == most || split(line.at, line.len, fields, 9) != (named && !extended ? 9 : 8) ||
+            !(extended ? read_regions(fields[1], guest) : read_region(&fields[1], guest)) ||
+            !read_guest(&fields[extended ? 2 : 3], named, guest))
             return false;
     }
     return true;

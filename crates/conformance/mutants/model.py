@@ -10,6 +10,9 @@ import sys
 
 NEXT, WRITE, INDIRECT, AVAIL, USED = 1, 2, 4, 0x80, 0x8000
 ACKNOWLEDGE, DRIVER, DRIVER_OK, FEATURES_OK, NEEDS_RESET, FAILED = 1, 2, 4, 8, 64, 128
+# The first line of an extended trace.
+EXTENDED = "kalyubos 1"
+
 FEATURE = {"indirect_desc": 28, "event_idx": 29, "version_1": 32, "ring_packed": 34, "notification_data": 38, "seg_max": 2, "ro": 5,
            "blk_size": 6, "flush": 9, "write_zeroes": 14, "size": 0, "emerg_write": 2}
 EVERY = ["indirect_desc", "event_idx", "version_1", "ring_packed", "notification_data"]
@@ -909,9 +912,9 @@ def spelled(content):
     return content.hex() or "-"
 
 
-def slot_of(version, line):
+def slot_of(first_line, line):
     """What a slot line says: base and length of the first region, what stands behind the memory, and the other regions."""
-    memory, rest = ([one.split("+") for one in line[1].split(",")], line[2:]) if version == "3" else ([line[1:3]], line[3:])
+    memory, rest = ([one.split("+") for one in line[1].split(",")], line[2:]) if first_line == EXTENDED else ([line[1:3]], line[3:])
     regions = [tuple(int(number, 16) for number in one) for one in memory]
     numbers = [field if field in ("rw", "ro") else int(field, 16) for field in rest[:5]]
     return [*regions[0], *numbers, *[bytes.fromhex(field) for field in rest[5:]], *regions[1:]]
@@ -1001,9 +1004,9 @@ def replay(text, content, fails=(), lacks=(), fault_of=None):
     if fault:
         return f"fault trace {fault[0]} {fault[1]}\n", 1, image
     lines = [line.split(" ") for line in text.decode("ascii").split("\n")[:-1]]
-    version, is_hosted = lines[0][1], lines[1] == ["hosted"]
-    slots = [slot_of(version, line) for line in lines if line[0] == "slot"]
-    most, largest = 16 if version == "1" else 64, 2**32 if version == "3" else 2**28
+    first_line, is_hosted = " ".join(lines[0]), lines[1] == ["hosted"]
+    slots = [slot_of(first_line, line) for line in lines if line[0] == "slot"]
+    most, largest = 16 if first_line == "vreplay 1" else 64, 2**32 if first_line == EXTENDED else 2**28
     try:
         board = hosted_board_of(slots, lacks) if is_hosted else board_of(slots, int(lines[1][1], 16), image, lacks, most, largest)
     except BadBoard as refused:

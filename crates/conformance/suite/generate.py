@@ -10,6 +10,7 @@ sys.path.append(os.path.join(os.path.dirname(os.path.dirname(CRATE)), "fuzz"))
 
 import guests
 from guests import IDENTITY_TEXT, SECTOR, Guest, Offered, Slot
+from reader import FIRST
 from scene import slot_line
 
 SECTORS = 8
@@ -166,7 +167,7 @@ def probe():
 
 def front(cache):
     """The lines of a trace before its events."""
-    return ["vreplay 1", f"cache {cache:x}", slot_line(SLOT, 1)]
+    return [FIRST, f"cache {cache:x}", slot_line(SLOT, FIRST)]
 
 
 def offered_by(replies):
