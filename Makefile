@@ -93,20 +93,20 @@ fuzz:
 
 # Runs the built program on some thousand broken traces.
 broken:
-	@fuzz/broken
+	@tests/program/broken
 
 # Runs the built program with wrong arguments, closed streams, odd files, and failing system calls and memory. It also replays
 # N traces in place over a file of which one call goes wrong, from the seed FROM on.
 trouble:
-	@fuzz/calls
-	@fuzz/streams
-	@fuzz/files
-	@fuzz/trouble $(N) --from $(FROM)
+	@tests/program/calls
+	@tests/program/streams
+	@tests/program/files
+	@tests/power/trouble $(N) --from $(FROM)
 
 # Tries power losses: of N traces in place and N boots of Linux, from the seed FROM on. It makes the files that a stop may leave,
 # and looks in them for what the guests were told. The boots want what make linux builds.
 stops:
-	@fuzz/stops $(N) --from $(FROM)
+	@tests/power/stops $(N) --from $(FROM)
 
 # Builds the library and the example hosts in C and Rust, runs them, and compares what they print. It leaves out hosts whose
 # tools aren't installed.

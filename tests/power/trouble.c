@@ -1,4 +1,4 @@
-/* Preloaded by fuzz/trouble and fuzz/calls: calls of the system or requests for memory go wrong, and what was written is lost
+/* Preloaded by trouble and by tests/program/calls: calls of the system or requests for memory go wrong, and what was written is lost
    where a sync failed, as a system may lose it.
 
    TROUBLE is CALL NUMBER HOW: the call of that name with that number, from 0 on, `fails` (EIO), finds the device

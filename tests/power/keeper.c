@@ -1,5 +1,5 @@
 /*
- * The only program of a guest of fuzz/stops, without a C library (the kernel's nolibc), on an ext4 file system. In rounds it
+ * The only program of a guest of stops, without a C library (the kernel's nolibc), on an ext4 file system. In rounds it
  * syncs a file and then says so on its console, "kept NAME LENGTH SEED", and does much else that it doesn't sync.
  */
 #include <linux/fs.h>

@@ -5,7 +5,7 @@ from collections import namedtuple
 
 from guests import SECTOR
 
-sys.path.insert(0, os.path.join(os.path.dirname(os.path.dirname(os.path.abspath(__file__))), "crates", "conformance", "mutants"))
+sys.path.insert(0, os.path.join(os.path.dirname(os.path.abspath(__file__)), "..", "..", "crates", "conformance", "mutants"))
 import model
 
 

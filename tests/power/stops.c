@@ -1,4 +1,4 @@
-/* Preloaded by fuzz/stops: writes down what becomes of some files, call by call, and when the program's output went out.
+/* Preloaded by stops: writes down what becomes of some files, call by call, and when the program's output went out.
 
    STOPS_LOG is the file for it. STOPS_FILES are the files that are watched, and STOPS_TOLD those that take output, with a colon
    between two names. STOPS_LIES is the number of a sync, from 0 on, that is answered at once, with nothing synced; with `on`

@@ -1,4 +1,4 @@
-"""Linux on two disks in files, and what a stop leaves of these: the part of fuzz/stops that boots.
+"""Linux on two disks in files, and what a stop leaves of these: the part of stops that boots.
 
 keeper.c is each guest's program. A guest's writes are those that it makes alone, on a board of its own.
 """
@@ -15,7 +15,7 @@ import tempfile
 from medium import END, LIE, OUTPUT, SECTOR, SYNC, WRITE, ZEROS, Followed, entries_of, is_torn
 
 HERE = os.path.dirname(os.path.abspath(__file__))
-LINUX = os.path.join(os.path.dirname(HERE), "examples", "linux")
+LINUX = os.path.join(os.path.dirname(os.path.dirname(HERE)), "examples", "linux")
 MACHINE, KERNEL, TREE = (os.path.join(LINUX, "out", name) for name in ("linux-machine", "Image", "tree"))
 CACHE = os.path.join(os.environ.get("XDG_CACHE_HOME") or os.path.expanduser("~/.cache"), "kalyubos", "linux")
 KEEPER = os.path.join(HERE, "out", "keeper")

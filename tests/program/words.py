@@ -1,4 +1,4 @@
-"""Which words name a call, and which don't; and what a person is told of a text. Tables for fuzz/calls, worked out from
+"""Which words name a call, and which don't; and what a person is told of a text. Tables for tests/program/calls, worked out from
 docs/formats.md.
 """
 import os
@@ -114,7 +114,7 @@ def has_help(text, name, takes):
 
 def version():
     """The version that the library's header has."""
-    header = os.path.join(os.path.dirname(os.path.dirname(os.path.abspath(__file__))), "crates", "board_ffi", "kalyubos.h")
+    header = os.path.join(os.path.dirname(os.path.abspath(__file__)), "..", "..", "crates", "board_ffi", "kalyubos.h")
     with open(header, encoding="utf-8") as file:
         number = next(int(line.split()[-1]) for line in file if line.startswith("#define KALYUBOS_VERSION "))
     return f"{number // 10000}.{number // 100 % 100}.{number % 100}"
