@@ -95,12 +95,14 @@ fuzz:
 broken:
 	@tests/program/broken
 
-# Runs the built program with wrong arguments, closed streams, odd files, and failing system calls and memory. It also replays
+# Runs the built program with wrong arguments, closed streams, odd files, large guests, and failing system calls and memory. It also replays
 # N traces in place over a file of which one call goes wrong, from the seed FROM on.
 trouble:
 	@tests/program/calls
 	@tests/program/streams
 	@tests/program/files
+	@tests/program/places
+	@tests/program/large
 	@tests/power/trouble $(N) --from $(FROM)
 
 # Tries power losses: of N traces in place and N boots of Linux, from the seed FROM on. It makes the files that a stop may leave,
