@@ -3,6 +3,8 @@
 ghost use Rattle.std.specs.Prelude.{◌≡◌, ◌<◌, slice_index};
 ghost use Rattle.mmio_window.specs.Configuration.{configuration_value, is_configuration_access, narrowed};
 
+use byteorder::{ByteOrder, LittleEndian};
+
 /// The offset of the configuration: below it stand the control registers.
 pub const CONFIGURATION_OFFSET: u16 = 0x100;
 
@@ -26,15 +28,16 @@ pub fn configuration_value(config: &[u8; CONFIGURATION_LEN], at: usize, width: u
     requires { at < 65536 }
     ensures { result ≡ configuration_value config.now at width }
 {
+    let bytes = [
+        byte_at(config, at),
+        byte_at(config, at + 1),
+        byte_at(config, at + 2),
+        byte_at(config, at + 3),
+    ];
     match width {
-        1 => byte_at(config, at),
-        2 => byte_at(config, at) + 0x100 * byte_at(config, at + 1),
-        _ => {
-            byte_at(config, at)
-                + 0x100 * byte_at(config, at + 1)
-                + 0x1_0000 * byte_at(config, at + 2)
-                + 0x100_0000 * byte_at(config, at + 3)
-        }
+        1 => u32::from(bytes[0]),
+        2 => u32::from(LittleEndian::read_u16(&bytes)),
+        _ => LittleEndian::read_u32(&bytes),
     }
 }
 
@@ -49,9 +52,8 @@ pub fn narrowed(width: u8, value: u32) -> u32
     }
 }
 
-fn byte_at(config: &[u8; CONFIGURATION_LEN], at: usize) -> u32
-    ensures value { result ≡ slice_index config.now at }
-    ensures byte { result < 256 }
+fn byte_at(config: &[u8; CONFIGURATION_LEN], at: usize) -> u8
+    ensures { result ≡ slice_index config.now at }
 {
-    u32::from(config.get(at).copied().unwrap_or(0))
+    config.get(at).copied().unwrap_or(0)
 }
