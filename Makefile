@@ -1,15 +1,20 @@
 # The commands of the README, the library, its installing and its packages, the measurements, tries from outside, the hosts of the
 # library, and the suite. The first sentence above a target is its line in make help.
-.PHONY: run prove show vshow look-test look-picture show-check test help library install uninstall dist deb dist-check bench fuzz broken trouble stops embed linux linux-test linux-picture stress doors peer mutants matrix
+.PHONY: check unproved unproved-program unproved-fast run prove show vshow look-test look-picture show-check test help library install uninstall dist deb dist-check bench fuzz broken trouble stops embed linux linux-test linux-picture stress doors peer mutants matrix
 
 TRACE ?= examples/two-guests.trace
 IMAGE ?=
 SAVE ?=
 N ?= 1000
 FROM ?= 0
+# A word, as UNPROVED=1, has bench, fuzz, broken, trouble, stops and doors take what packaging/unproved builds, without a proof.
+UNPROVED ?=
 PREFIX ?= /usr/local
 LIBDIR ?= $(PREFIX)/lib
 INCLUDEDIR ?= $(PREFIX)/include
+
+PROGRAM := $(CURDIR)/$(if $(UNPROVED),out/vreplay-unproved,crates/vreplay/out/vreplay)
+BUILT := $(if $(UNPROVED),unproved-program)
 
 # Replays TRACE=FILE over IMAGE=FILE, by the proved program if it is built, else without a proof. SAVE=FILE gets the image's bytes
 # afterwards; it needs the proved program. Without IMAGE there are eight sectors of zeros.
@@ -44,6 +49,21 @@ look-picture: look-test
 show-check: vshow
 	@crates/show/look/rules crates/show/out/vshow
 	@crates/show/look/check --fuzz $(N) --from $(FROM) crates/show/out/vshow
+
+# What a contributor runs, in minutes: all that can be tried of a change without proving what stands above it. A line for each
+# check; .ci/check --only NAME makes one.
+check:
+	@.ci/check
+
+# Builds the program and the library for C without a proof, as out/vreplay-unproved and out/libkalyubos-unproved.a.
+unproved: unproved-program
+	@packaging/unproved board_ffi
+
+unproved-program:
+	@packaging/unproved vreplay
+
+unproved-fast:
+	@packaging/unproved --fast vreplay
 
 # The gate: every proof, the must-fail edits, the programs and the scenarios. It shows how far it is.
 test:
@@ -84,31 +104,31 @@ dist-check:
 	@packaging/release check
 
 # Measures the built program over generated traces.
-bench:
-	@bench/run
+bench: $(if $(UNPROVED),unproved-fast)
+	@bench/run --program "$(PROGRAM)"
 
 # Replays N traces of hostile and sane guests on the built program, from the seed FROM on.
-fuzz:
-	@fuzz/run $(N) --from $(FROM)
+fuzz: $(BUILT)
+	@fuzz/run $(N) --from $(FROM) --program "$(PROGRAM)" --in-place
 
 # Runs the built program on some thousand broken traces.
-broken:
-	@tests/program/broken
+broken: $(BUILT)
+	@tests/program/broken --program "$(PROGRAM)"
 
 # Runs the built program with wrong arguments, closed streams, odd files, large guests, and failing system calls and memory. It also replays
 # N traces in place over a file of which one call goes wrong, from the seed FROM on.
-trouble:
-	@tests/program/calls
-	@tests/program/streams
-	@tests/program/files
-	@tests/program/places
-	@tests/program/large
-	@tests/power/trouble $(N) --from $(FROM)
+trouble: $(BUILT)
+	@tests/program/calls --program "$(PROGRAM)"
+	@tests/program/streams "$(PROGRAM)"
+	@tests/program/files "$(PROGRAM)"
+	@tests/program/places --program "$(PROGRAM)"
+	@tests/program/large --program "$(PROGRAM)"
+	@tests/power/trouble $(N) --from $(FROM) --program "$(PROGRAM)"
 
 # Tries power losses: of N traces in place and N boots of Linux, from the seed FROM on. It makes the files that a stop may leave,
 # and looks in them for what the guests were told. The boots want what make linux builds.
-stops:
-	@tests/power/stops $(N) --from $(FROM)
+stops: $(BUILT)
+	@tests/power/stops $(N) --from $(FROM) --program "$(PROGRAM)"
 
 # Builds the library and the example hosts in C and Rust, runs them, and compares what they print. It leaves out hosts whose
 # tools aren't installed.
@@ -135,8 +155,8 @@ stress:
 	@examples/embed/stress-run
 
 # Runs the test suite on what is built: the program, the program in place, the C library, and the library with hosted disks.
-doors:
-	@crates/conformance/in-process/doors
+doors: $(if $(UNPROVED),unproved)
+	@crates/conformance/in-process/doors $(if $(UNPROVED),--unproved)
 
 # Runs the test suite on QEMU's devices, and compares the differences with a table; it wants qemu-system-arm.
 peer:

@@ -180,19 +180,33 @@ def prove(crate, what, verb, words, log):
     else:
         print(f"Proved and built: {what}, {minutes(display.start)}.", file=sys.stderr, flush=True)
         note(crate, proved_from)
+        if sources(crate) == proved_from:
+            note_checked(order(crate))
     return status
 
 
-def sources(crate):
-    """A sum of all that the crate and those below it are proved from."""
-    found = hashlib.sha256((TOP / "KIT").read_bytes())
-    used = uses()
+PARTS = ("src", "specs", "proofs")
+
+
+def sources(crate, parts=PARTS):
+    """A sum of all that the crate and those below it are proved from, or of these parts of it."""
+    found, used = hashlib.sha256((TOP / "KIT").read_bytes()), uses()
     for name in order(crate):
         found.update(repr((name, used[name])).encode())
-        for part in ("src", "specs", "proofs"):
-            for path in sorted((TOP / "crates" / name / part).rglob("*")):
-                if path.is_file():
-                    found.update(repr((str(path.relative_to(TOP)), path.read_bytes())).encode())
+        found.update(own_sources(name, parts).encode())
+    return found.hexdigest()
+
+
+def own_sources(crate, parts=PARTS):
+    """A sum of the crate's own files."""
+    return sum_of(path for part in parts for path in sorted((TOP / "crates" / crate / part).rglob("*")) if path.is_file())
+
+
+def sum_of(paths):
+    """A sum of files."""
+    found = hashlib.sha256()
+    for path in paths:
+        found.update(repr((str(path.relative_to(TOP)), path.read_bytes())).encode())
     return found.hexdigest()
 
 
@@ -232,6 +246,30 @@ def note(crate, proved_from):
 def kit_of(crate):
     """The kit by which what is noted of a crate was proved."""
     return " ".join(noted(crate).read_text(encoding="utf-8").splitlines()[1:]) or "an unknown kit"
+
+
+# How a crate stands to what was proved last in this checkout: as it was, with a change of its own, with one below it, or unknown.
+PROVED, CHANGED, BELOW, NEVER = "proved", "changed", "below", "never"
+
+
+def checked(crate):
+    """The file that has a sum of the crate's own files, and one of all that it stands on too, as they were proved last."""
+    return TOP / "crates" / crate / "out" / f"{crate}.checked"
+
+
+def note_checked(crates):
+    """Notes that these crates are proved as they are."""
+    for crate in crates:
+        checked(crate).parent.mkdir(parents=True, exist_ok=True)
+        checked(crate).write_text(f"{own_sources(crate)} {sources(crate)}\n", encoding="utf-8")
+
+
+def was_checked(crate):
+    """How the crate stands to what was proved last."""
+    if not checked(crate).exists():
+        return NEVER
+    own, whole = checked(crate).read_text(encoding="utf-8").split()
+    return PROVED if whole == sources(crate) else BELOW if own == own_sources(crate) else CHANGED
 
 
 def is_proved(crate):

@@ -54,4 +54,4 @@ class ServedSlot(model.HostedSlot):
 model.Slot = ServedSlot
 
 if __name__ == "__main__":
-    sys.exit(model.main(sys.argv[1:]))
+    sys.exit(print(__doc__) if "--help" in sys.argv else model.main(sys.argv[1:]))

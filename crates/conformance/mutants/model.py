@@ -1038,4 +1038,4 @@ def main(words):
 
 
 if __name__ == "__main__":
-    sys.exit(main(sys.argv[1:]))
+    sys.exit(print(__doc__) if "--help" in sys.argv else main(sys.argv[1:]))

@@ -1,0 +1,165 @@
+"""What stays true of the hosts in C: the header has the library's exports, README's lines compile, and the parts of examples do
+what their texts say, over a stub of the library, and over the library where it is built."""
+import difflib
+import os
+import pathlib
+import re
+import shutil
+import subprocess
+import tempfile
+
+from .common import COMPILER, TOP, script
+
+LINUX, EMBED = TOP / "examples/linux", TOP / "examples/embed"
+
+
+def compiled(to, sources):
+    """Compiles a program of examples/linux, with warnings as errors; what is wrong, or nothing."""
+    command = [COMPILER, "-std=gnu11", "-O2", "-Wall", "-Wextra", "-Werror", "-I", TOP / "crates/board_ffi", "-o", to]
+    ran = subprocess.run([*command, *sources], capture_output=True, text=True, cwd=LINUX)
+    return (ran.stdout + ran.stderr).splitlines() if ran.returncode else []
+
+
+def self_test(*sources):
+    """A self-test of examples/linux, where there is a C compiler."""
+    if not shutil.which(COMPILER):
+        return True, [f"no {COMPILER} to build its self-test with"]
+    with tempfile.TemporaryDirectory() as folder:
+        wrong = compiled(f"{folder}/self-test", sources)
+        if wrong:
+            return False, wrong
+        ran = subprocess.run([f"{folder}/self-test"], capture_output=True, text=True)
+    return ran.returncode == 0, (ran.stdout + ran.stderr).splitlines()
+
+
+# What stands round the lines of C in README.md.
+FIRST_HOST = """#include "kalyubos.h"
+enum { BLOCK_LINE };
+static uint8_t image[4096];
+void set_line(int line, bool is_high);
+void first_host(void)
+{
+uint32_t value;
+struct kalyubos_pending pending;
+%s}
+"""
+
+
+def readme():
+    """README's lines of C, with the header."""
+    if not shutil.which(COMPILER):
+        return True, [f"no {COMPILER} to compile its lines of C with"]
+    lines = re.search(r"^```c\n(.*?)^```", (TOP / "README.md").read_text(encoding="utf-8"), re.MULTILINE | re.DOTALL)[1]
+    with tempfile.TemporaryDirectory() as folder:
+        source = pathlib.Path(folder, "first_host.c")
+        source.write_text(FIRST_HOST % lines)
+        wrong = compiled(f"{folder}/first_host.o", [source, "-c"])
+    return not wrong, wrong or [f"its {len(lines.splitlines())} lines of C compile"]
+
+
+RECORDER = ["record-test.c", "record.c", "watch.c", "mistake.c", "window.c", "queue.c", "chain.c"]
+
+
+def differences(program, folder, name, *words):
+    """How what the recorder's host writes differs from the texts of this name that were written by hand."""
+    ran = subprocess.run([program, f"{folder}/trace", *words], capture_output=True, text=True)
+    wrong = [] if not ran.returncode else [f"status {ran.returncode}", *ran.stderr.splitlines()]
+    for found, expected in (("trace", "trace"), ("trace.records", "records"), ("trace.mistakes", "mistakes")):
+        path, wanted = pathlib.Path(folder, found), LINUX / f"{name}.{expected}"
+        told = path.read_text().splitlines() if path.exists() else []
+        wrong += [line.rstrip() for line in difflib.unified_diff(wanted.read_text().splitlines(), told, wanted.name, found, n=0)]
+    return wrong
+
+
+def library():
+    """What a host in C is linked to where the library is built, or nothing."""
+    built, header = TOP / "crates/board_ffi/out/libboard_ffi.a", TOP / "crates/board_ffi/kalyubos.h"
+    is_built = built.exists() and built.stat().st_mtime > header.stat().st_mtime
+    return [EMBED / "heap.c", built] if is_built else []
+
+
+def recorder():
+    """record.c and watch.c over a stub of the library, and over the library where it is built: with an image, and with disks
+    that the host serves."""
+    if not shutil.which(COMPILER):
+        return True, [f"no {COMPILER} to build it with"]
+    over = {"a stub": ["record-stub.c"]}
+    if library():
+        over["the library"] = library()
+    for name, sources in over.items():
+        with tempfile.TemporaryDirectory() as folder:
+            program = f"{folder}/record-test"
+            wrong = compiled(program, [*RECORDER, *sources])
+            wrong = wrong or differences(program, folder, "record-test") + differences(program, folder, "record-hosted", "hosted")
+            if wrong:
+                return False, [f"over {name}", *wrong]
+    return True, ["its traces, records and mistakes over " + " and ".join(over)]
+
+
+def full_outlet():
+    """kvm.c of examples/embed, over a stub of the library and over the library where it is built: a guest with 65 emergency
+    writes into an outlet of 64 bytes, beside one that goes on; and a guest of two CPUs."""
+    if not shutil.which(COMPILER):
+        return True, [f"no {COMPILER} to build its host with"]
+    if not os.access("/dev/kvm", os.R_OK | os.W_OK):
+        return True, ["not tried: no /dev/kvm that may be opened"]
+    over = {"a stub": [EMBED / "kvm-stub.c"]}
+    if library():
+        over["the library"] = library()
+    for name, sources in over.items():
+        wrong = flooded(sources)
+        if wrong:
+            return False, [f"over {name}", *wrong]
+    return True, ["a KVM guest that fills its outlet puts out all, the other goes on, and two CPUs of one stand, over " + " and ".join(over)]
+
+
+def flooded(sources):
+    """What is wrong with kvm.c over these sources of the library's functions, or nothing."""
+    with tempfile.TemporaryDirectory() as folder:
+        host = f"{folder}/kvm"
+        wrong = compiled(host, [EMBED / "kvm.c", EMBED / "cpus.c", EMBED / "file_disk.c", *sources, "-pthread"])
+        for words, expected in () if wrong else (([], "expected-guests"), (["hosted"], "expected-guests"), (["flood"], "expected-flood"), (["pair"], "expected-pair")):
+            ran = subprocess.run([host, *words], capture_output=True, text=True, timeout=60)
+            wanted = (EMBED / expected).read_text().splitlines()
+            wrong += [line.rstrip() for line in difflib.unified_diff(wanted, ran.stdout.splitlines(), expected, "found", n=0)]
+            wrong += ran.stderr.splitlines()
+    return wrong
+
+
+# How long file_disk.c may be, which serves the disks of several guests by threads: a stranger reads it whole.
+MOST_LINES = 150
+
+
+def disks():
+    """disk.c of examples/embed: two guests whose disks are files, by io_uring and by threads."""
+    length = len((EMBED / "file_disk.c").read_text().splitlines())
+    if length > MOST_LINES:
+        return False, [f"file_disk.c has {length} lines, more than {MOST_LINES}"]
+    if not shutil.which(COMPILER):
+        return True, [f"no {COMPILER} to build its host with"]
+    sources, expected = [EMBED / "disk.c", EMBED / "file_disk.c", EMBED / "file_ring.c"], (EMBED / "expected-disk").read_text().splitlines()
+    with tempfile.TemporaryDirectory() as folder:
+        if not library():
+            wrong = [line for source in sources for line in compiled(f"{folder}/{source.stem}.o", [source, "-c"])]
+            return not wrong, wrong or ["compiled alone: the library isn't built (`make embed` builds it)"]
+        host, ways = f"{folder}/disk", []
+        wrong = compiled(host, [*sources, *library(), "-pthread"])
+        for words in () if wrong else ([], ["threads"]):
+            ran = subprocess.run([host, *words], capture_output=True, text=True, timeout=60)
+            wrong += [line.rstrip() for line in difflib.unified_diff(expected, ran.stdout.splitlines(), "expected-disk", "found", n=0)]
+            ways += [line.rpartition(" by ")[2] for line in ran.stderr.splitlines()[:1]]
+    return not wrong, wrong or [f"two guests on files, by {' and by '.join(ways)}, whose code has {length} lines"]
+
+
+AGAINST, MODEL = "crates/conformance/against", "crates/conformance/mutants/model.py"
+
+
+CHECKS = {
+    "header": lambda: script(TOP / "examples/embed/check-header"),
+    "cpu": lambda: self_test("cpu-test.c", "cpu.c"),
+    "virtqueue": lambda: self_test("queue-test.c", "queue.c", "chain.c"),
+    "readme": readme,
+    "recorder": recorder,
+    "full outlet": full_outlet,
+    "disks": disks,
+}

@@ -1,0 +1,72 @@
+"""What make check tries on the program and the library, which it builds without a proof: every scenario and row of the matrix,
+traces of guests from seeds, broken texts, the suite in one process, and the hosts in C."""
+import shutil
+import tempfile
+
+from .common import COMPILER, TOP, called, script
+from .runner import processors
+
+RUN_ON, IN_PROCESS = "crates/conformance/run-on", TOP / "crates/conformance/in-process"
+PROGRAM, LIBRARY = TOP / "out/vreplay-unproved", TOP / "out/libkalyubos-unproved.a"
+TRACES = "300"
+
+
+def built(crate):
+    """Builds the crate without a proof, where a source changed."""
+    good, lines = script("packaging/unproved", crate)
+    return good, lines[-1:] if good else lines
+
+
+def counted(*words):
+    """run-on with these words: its counts, and what differs."""
+    good, lines = script(RUN_ON, "--quiet", "--jobs", str(processors()), *words)
+    return good, lines[-1:] + lines[:-1]
+
+
+def in_one_process():
+    """The suite on the C library, over an image and with disks that the host serves."""
+    said = []
+    with tempfile.TemporaryDirectory() as folder:
+        for flags, sources, words in (
+            ([], [], []),
+            (["-DHOSTED"], ["disks.c"], ["--fails", "--fails", "--table", IN_PROCESS / "HOSTED.md"]),
+        ):
+            device = f"{folder}/device"
+            own = [IN_PROCESS / name for name in ("run.c", "trace.c", "kalyubos.c", *sources)]
+            ran = called(COMPILER, "-std=c11", "-O2", "-Wall", "-Wextra", "-I", "crates/board_ffi", *flags, "-o", device, *own, LIBRARY)
+            good, lines = (False, ran.stderr.splitlines()) if ran.returncode else counted("--adapter", "--after", "--save", *words, device)
+            said += lines if not good else lines[:1]
+            if not good:
+                return False, said
+    return True, [f"over an image {said[0]}; with the host's disks {said[1]}"]
+
+
+def fuzzed():
+    """Traces of hostile and sane guests, of each kind."""
+    good, lines = script("fuzz/run", TRACES, "--program", PROGRAM, "--in-place")
+    return good, lines[-1:] if good else lines
+
+
+def last_line(*words):
+    good, lines = script(*words)
+    return good, lines[-1:] if good else lines
+
+
+CHECKS = {
+    "program": lambda: built("vreplay"),
+    "library": lambda: built("board_ffi"),
+    "scenarios": lambda: counted("--after", "--save", PROGRAM),
+    "fuzz": fuzzed,
+    "broken": lambda: last_line("tests/program/broken", "--program", PROGRAM),
+    "streams": lambda: last_line("tests/program/streams", PROGRAM),
+    "in-process": in_one_process,
+    "hosts in C": lambda: last_line("examples/embed/run", "--unproved"),
+}
+AFTER = {"scenarios": ["program"], "fuzz": ["program"], "broken": ["program"], "streams": ["program"], "in-process": ["library"],
+         "hosts in C": ["library"]}
+
+
+def can_build():
+    """Why nothing can be built here, or None."""
+    lacking = [name for name in ("rt", COMPILER) if not shutil.which(name)]
+    return f"{' and '.join(lacking)} isn't there" if lacking else None

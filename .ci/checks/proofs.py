@@ -1,0 +1,40 @@
+"""What make check proves: the crates whose files differ from those that were proved last in this checkout, and no other."""
+import os
+
+import proving
+
+from .common import TOP, called
+
+
+def proofs():
+    """rt check of each crate that changed, lowest first; and which crates above weren't proved again."""
+    crates = list(proving.uses())
+    changed = [crate for crate in sorted(crates, key=lambda crate: len(proving.order(crate))) if proving.was_checked(crate) == proving.CHANGED]
+    said = []
+    for crate in changed:
+        before = proving.sources(crate)
+        ran = called("rt", "check", cwd=TOP / "crates" / crate, env={"RT_JOBS": "1", **os.environ})
+        if ran.returncode:
+            return False, [f"{crate} isn't proved", *(ran.stdout + ran.stderr).splitlines()[-30:]]
+        if proving.sources(crate) == before:
+            proving.note_checked(proving.order(crate))
+        said.append(f"{crate} is proved")
+    return True, said or ["no crate differs from what was proved here"]
+
+
+def summary():
+    """What was proved in this checkout, in plain words."""
+    states = {crate: proving.was_checked(crate) for crate in proving.uses()}
+    named = {state: [crate for crate in states if states[crate] == state] for state in set(states.values())}
+    if set(named) == {proving.NEVER}:
+        yield "No crate was ever proved in this checkout, so none was proved now: a first proof of all takes an hour, by make test."
+        return
+    for state, words in ((proving.CHANGED, "They changed, and aren't proved"), (proving.BELOW, "Crates below them changed, and they were not proved again"),
+                         (proving.NEVER, "Never proved in this checkout")):
+        if state in named:
+            yield f"{words}: {', '.join(named[state])}."
+    if set(named) != {proving.PROVED}:
+        yield "make test proves all."
+
+
+CHECKS = {"proofs": proofs}
