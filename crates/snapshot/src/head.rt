@@ -1,10 +1,13 @@
 //! The front of a snapshot, up to the pending input, field by field.
 
-ghost use Rattle.std.specs.Prelude.{◌≡◌, ◌<◌, ◌≤◌, ◌+◌, ◌∷◌, [], length};
+ghost use Rattle.std.specs.Prelude.{◌≡◌, ◌<◌, ◌≤◌, ◌+◌, ◌^◌, ◌∷◌, [], length};
+ghost use Rattle.std.specs.Int.{w16, w32, w64, to_le_bytes};
 ghost use Rattle.snapshot.specs.Spelling.{MayReach, Puts, QueueFits, SlotFits, WindowFits, head, queue, reached, slot, window};
 
+use crate::reading::VERSION;
 use crate::saved::SavedSlot;
 use arrayvec::ArrayVec;
+use byteorder::{ByteOrder, LittleEndian};
 use mmio_window::{Reached, SavedQueue, SavedWindow};
 
 /// How long a snapshot is at most, beside the pending input.
@@ -23,9 +26,9 @@ pub(crate) fn head_of(saved: &SavedSlot, pending: usize) -> Head
 {
     let mut out = ArrayVec::new();
     put(&mut out, b"KALYUBOS");
-    put(&mut out, &1u32.to_le_bytes());
+    put_u32(&mut out, VERSION);
     put_slot(&mut out, saved);
-    put(&mut out, &(pending as u32).to_le_bytes());
+    put_u32(&mut out, pending as u32);
     out
 }
 
@@ -47,18 +50,48 @@ fn put_u8(out: &mut Head, byte: u8)
     put(out, &[byte]);
 }
 
+fn put_u16(out: &mut Head, number: u16)
+    requires room { length out.old.items + 2 ≤ 281 }
+    ensures puts { Puts out.old.items out.new.items (to_le_bytes w16 number) 2 }
+    ensures fits { number < 2 ^ 16 }
+{
+    let mut bytes = [0; 2];
+    LittleEndian::write_u16(&mut bytes, number);
+    put(out, &bytes);
+}
+
+fn put_u32(out: &mut Head, number: u32)
+    requires room { length out.old.items + 4 ≤ 281 }
+    ensures puts { Puts out.old.items out.new.items (to_le_bytes w32 number) 4 }
+    ensures fits { number < 2 ^ 32 }
+{
+    let mut bytes = [0; 4];
+    LittleEndian::write_u32(&mut bytes, number);
+    put(out, &bytes);
+}
+
+fn put_u64(out: &mut Head, number: u64)
+    requires room { length out.old.items + 8 ≤ 281 }
+    ensures puts { Puts out.old.items out.new.items (to_le_bytes w64 number) 8 }
+    ensures fits { number < 2 ^ 64 }
+{
+    let mut bytes = [0; 8];
+    LittleEndian::write_u64(&mut bytes, number);
+    put(out, &bytes);
+}
+
 fn put_slot(out: &mut Head, saved: &SavedSlot)
     requires room { length out.old.items + 265 ≤ 281 }
     ensures puts { Puts out.old.items out.new.items (slot saved.now) 265 }
     ensures fits { SlotFits saved.now }
 {
-    put(out, &saved.base.to_le_bytes());
-    put(out, &saved.len.to_le_bytes());
-    put(out, &saved.sectors.to_le_bytes());
+    put_u64(out, saved.base);
+    put_u64(out, saved.len);
+    put_u64(out, saved.sectors);
     put_u8(out, u8::from(saved.read_only));
     put(out, &saved.identity);
-    put(out, &saved.cols.to_le_bytes());
-    put(out, &saved.rows.to_le_bytes());
+    put_u16(out, saved.cols);
+    put_u16(out, saved.rows);
     put_window(out, &saved.block);
     put_window(out, &saved.console);
 }
@@ -68,17 +101,17 @@ fn put_window(out: &mut Head, saved: &SavedWindow)
     ensures puts { Puts out.old.items out.new.items (window saved.now) 108 }
     ensures fits { WindowFits saved.now }
 {
-    put(out, &saved.negotiation.offered.to_le_bytes());
+    put_u64(out, saved.negotiation.offered);
     put_u8(out, saved.negotiation.status);
-    put(out, &saved.negotiation.accepted.to_le_bytes());
-    put(out, &saved.selectors.device_features.to_le_bytes());
-    put(out, &saved.selectors.driver_features.to_le_bytes());
-    put(out, &saved.selectors.queue.to_le_bytes());
-    put(out, &saved.selectors.shm.to_le_bytes());
+    put_u64(out, saved.negotiation.accepted);
+    put_u32(out, saved.selectors.device_features);
+    put_u32(out, saved.selectors.driver_features);
+    put_u32(out, saved.selectors.queue);
+    put_u32(out, saved.selectors.shm);
     put_queue(out, &saved.queue_0);
     put_queue(out, &saved.queue_1);
     put_u8(out, saved.interrupts.bits());
-    put(out, &saved.config_generation.to_le_bytes());
+    put_u32(out, saved.config_generation);
 }
 
 fn put_queue(out: &mut Head, saved: &SavedQueue)
@@ -86,10 +119,10 @@ fn put_queue(out: &mut Head, saved: &SavedQueue)
     ensures puts { Puts out.old.items out.new.items (queue saved.now) 35 }
     ensures fits { QueueFits saved.now }
 {
-    put(out, &saved.number.to_le_bytes());
-    put(out, &saved.descriptor_area.to_le_bytes());
-    put(out, &saved.driver_area.to_le_bytes());
-    put(out, &saved.device_area.to_le_bytes());
+    put_u32(out, saved.number);
+    put_u64(out, saved.descriptor_area);
+    put_u64(out, saved.driver_area);
+    put_u64(out, saved.device_area);
     put_reached(out, saved.reached);
 }
 
@@ -104,7 +137,7 @@ fn put_reached(out: &mut Head, saved: Option<Reached>)
         return;
     };
     put_u8(out, 1);
-    put(out, &served.place.to_le_bytes());
-    put(out, &served.pending.to_le_bytes());
-    put(out, &served.used_count.to_le_bytes());
+    put_u16(out, served.place);
+    put_u16(out, served.pending);
+    put_u16(out, served.used_count);
 }

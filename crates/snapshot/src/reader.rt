@@ -5,6 +5,7 @@ ghost use Rattle.std.specs.Int.{w16, w32, w64};
 ghost use Rattle.snapshot.specs.Reading.{Reads, byte_at, flag_at, identity_at, interrupts_at, number_at};
 
 use crate::fault::{Stop, Why};
+use byteorder::{ByteOrder, LittleEndian};
 use mmio_window::Interrupts;
 
 /// The bytes of a snapshot that aren't read yet.
@@ -43,25 +44,19 @@ impl<'a> Reader<'a> {
     pub(crate) fn u16(&mut self) -> Result<u16, Stop>
         ensures { Reads (number_at w16) self.old.left.now result self.new.left.now }
     {
-        let front = self.front(2)?;
-        Ok(u16::from_le_bytes([front[0], front[1]]))
+        Ok(LittleEndian::read_u16(self.front(2)?))
     }
 
     pub(crate) fn u32(&mut self) -> Result<u32, Stop>
         ensures { Reads (number_at w32) self.old.left.now result self.new.left.now }
     {
-        let front = self.front(4)?;
-        let number = u32::from_le_bytes([front[0], front[1], front[2], front[3]]);
-        Ok(number)
+        Ok(LittleEndian::read_u32(self.front(4)?))
     }
 
     pub(crate) fn u64(&mut self) -> Result<u64, Stop>
         ensures { Reads (number_at w64) self.old.left.now result self.new.left.now }
     {
-        let front = self.front(8)?;
-        Ok(u64::from_le_bytes([
-            front[0], front[1], front[2], front[3], front[4], front[5], front[6], front[7],
-        ]))
+        Ok(LittleEndian::read_u64(self.front(8)?))
     }
 
     /// An identity of 20 bytes.

@@ -15,7 +15,7 @@ use crate::saved::SavedSlot;
 const MAGIC: u64 = 6003089762645983563;
 
 /// The version of the format.
-const VERSION: u32 = 1;
+pub(crate) const VERSION: u32 = 1;
 
 /// How many bytes of input may be pending.
 const MOST_PENDING: usize = 4096;

@@ -6,14 +6,12 @@ use Rattle.snapshot.proofs.head.put_slot.Goals as goal
 pub returns-clause-puts : goal.returns-clause-puts
 unfolding slot
 returns-clause-puts c =
-    let sizes = puts_then (rw c.to_le_bytes.ensures at c.put.ensures)
-    (puts_then (rw c.to_le_bytes-2.ensures at c.put-2.ensures)
-    (rw c.to_le_bytes-3.ensures at c.put-3.ensures)) in
+    let sizes = puts_then c.put_u64.ensures.puts
+    (puts_then c.put_u64-2.ensures.puts c.put_u64-3.ensures.puts) in
     let len : length c.args.saved.now.identity ≡ 20 = search rules in
     let flag = rw (c.from.ensures ∙ flag_spelled c.args.saved.now.read_only) at c.put_u8.ensures.puts in
-    let traits = puts_then flag (puts_then c.put-4.ensures
-    (puts_then (rw c.to_le_bytes-4.ensures at c.put-5.ensures)
-    (rw c.to_le_bytes-5.ensures at c.put-6.ensures))) in
+    let traits = puts_then flag
+    (puts_then c.put.ensures (puts_then c.put_u16.ensures.puts c.put_u16-2.ensures.puts)) in
     let windows = puts_then c.put_window.ensures.puts c.put_window-2.ensures.puts in
     let all = puts_then sizes (puts_then traits windows) in
     record { text = all.text; len = omega (arith, len, all.len) }
