@@ -83,6 +83,10 @@ def named():
 NOT_OURS = {"virtio_console", "virtio_mmio"}
 
 
+# Files whose names count alone.
+NO_SOURCES = {".md", ".trace", ".records", ".after", ".before", ".fails", ".calls"}
+
+
 def words():
     """Names with an underscore that the pages have as code: each stands in a source, names a file, or is an anchor."""
     known, found, wrong = set(NOT_OURS), 0, []
@@ -90,7 +94,7 @@ def words():
         below[:] = [name for name in below if name not in ("out", "target", ".git")]
         for path in (pathlib.Path(folder, name) for name in files):
             known.update((path.name, path.stem))
-            if path.suffix != ".md" and path.stat().st_size < 1 << 20:
+            if path.suffix not in NO_SOURCES and path.stat().st_size < 1 << 20:
                 known.update(re.findall(r"\w+", path.read_text(encoding="utf-8", errors="ignore")))
     for page in pages():
         known.update(anchors(page))
@@ -105,7 +109,7 @@ def words():
 def events(trace, records):
     """Each line of a trace with its record; the lines before the events have none."""
     told = iter(records.read_text().splitlines())
-    return [(line, "" if line.startswith(("vreplay", "cache", "slot")) else next(told)) for line in trace.read_text().splitlines()]
+    return [(line, "" if line.startswith(("vreplay", "kalyubos", "cache", "hosted", "slot")) else next(told)) for line in trace.read_text().splitlines()]
 
 
 # What was true once, and must stand in no page and in no text that is packaged; and what is true.
@@ -142,7 +146,18 @@ def sentences():
     wrong = [f"{path.relative_to(TOP)}: {found[0]!r}, but {truth}" for path, text in texts.items() if path.name != "CHANGELOG.md"
              for stale, truth in STALE.items() for found in re.finditer(stale, text, re.IGNORECASE)]
     wrong += [f"{name} doesn't say: {sentence}" for name, sentence in SAID.items() if sentence not in texts[TOP / name]]
+    wrong += costs()
     return not wrong, wrong or [f"{len(SAID)} that must be there, none of {len(STALE)} that mustn't, in {len(texts)} texts"]
+
+
+def costs():
+    """What README says of the gate's minutes, where it isn't what the table of docs/CHANGING.md adds up to."""
+    table = re.search(r"^all +[\d.]+ +[\d.]+ +([\d.]+)$", (TOP / "docs/CHANGING.md").read_text(encoding="utf-8"), re.MULTILINE)
+    told = re.search(r"\[(\d+) minutes of processor time\]\(docs/CHANGING.md#what-it-costs\)", (TOP / "README.md").read_text(encoding="utf-8"))
+    if table and told and round(float(table[1])) == int(told[1]):
+        return []
+    said, count = (it[1] if it else "nothing" for it in (told, table))
+    return [f"README.md says {said} of the minutes of make test, and docs/CHANGING.md {count}"]
 
 
 # Pages for newcomers, whose sentences have so many words at most.

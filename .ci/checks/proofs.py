@@ -19,7 +19,9 @@ def proofs():
         if proving.sources(crate) == before:
             proving.note_checked(proving.order(crate))
         said.append(f"{crate} is proved")
-    return True, said or ["no crate differs from what was proved here"]
+    if not said and all(proving.was_checked(crate) == proving.NEVER for crate in crates):
+        return True, ["none made: none was made in this checkout before"]
+    return True, said or ["no crate differs from what was proved in this checkout"]
 
 
 def summary():
