@@ -166,6 +166,6 @@ peer:
 mutants:
 	@crates/conformance/mutants/run
 
-# Makes the matrix of scenarios anew from its tables, and compares it with the files checked in.
+# Makes the scenarios of the suite that are made, and compares their sums with those checked in. DIFF=1 shows what differs from an earlier commit.
 matrix:
-	@crates/conformance/matrix/make
+	@crates/conformance/matrix/make $(if $(DIFF),--diff)

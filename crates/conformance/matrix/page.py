@@ -1,42 +1,5 @@
 """The pages of the matrix: the list that the tools read, and MATRIX.md, which says where each field and bit is shown."""
-import importlib
 import re
-
-# The modules of this folder that have a table, in the page's order.
-TABLES = [
-    "descriptors",
-    "flags",
-    "tables",
-    "links",
-    "rings",
-    "requests",
-    "own_writes",
-    "registers",
-    "unnamed",
-    "fields",
-    "pairs",
-    "statuses",
-    "lines",
-    "large",
-    "sums",
-    "meetings",
-    "ends",
-    "buffers",
-    "segments",
-    "sectors",
-    "chains",
-    "sizes",
-    "guests",
-    "beside",
-    "at_work",
-    "contexts",
-    "any_place",
-    "large_disks",
-    "spellings",
-    "words",
-    "orders",
-    "rounds",
-]
 
 LIST_HEAD = """# The matrix
 
@@ -55,44 +18,26 @@ written by hand.
 MATRIX_HEAD = """# The matrix of fields, positions, orders and ends
 
 Where each bit of each number that a guest or a trace gives decides alone, and each end, position, order of checks and later round is met.
-`matrix/make` makes this page and [the scenarios](data/matrix/README.md); [matrix](matrix) has the tables.
+`matrix/make` makes this page and the scenarios, in `data/matrix`; [matrix](matrix) has the tables.
 """
 
 
-def tables():
-    return [importlib.import_module(f"matrix.{table}") for table in TABLES]
+def listed(folders, head):
+    """The page of data/matrix or of data/large: folders with their sentences, and the names and sentences of their scenarios."""
+    parts = [f"\n## {folder}\n\n{sentence}\n\n" + "".join(f"- `{name}`: {about}\n" for name, about in scenarios)
+             for folder, sentence, scenarios in folders]
+    return head + "".join(parts)
 
 
-def folder_of(story):
-    return story.name.split("/")[0]
-
-
-def listed(stories, head):
-    """The page of data/matrix or of data/large."""
-    text, folders = head, {}
-    for table in tables():
-        folders.update(table.FOLDERS)
-    last = None
-    for story in stories:
-        if folder_of(story) != last:
-            last = folder_of(story)
-            text += f"\n## {last}\n\n{folders[last]}\n\n"
-        text += f"- `{story.name}`: {story.about}\n"
-    return text
-
-
-def matrix(stories):
-    """MATRIX.md: a part for each table, a row for each field."""
-    text = MATRIX_HEAD
-    for table in tables():
-        rows = [(field, bits, story.name) for story in table.stories() for field, bits in story.shows]
-        columns = " | ".join(getattr(table, "COLUMNS", ("Field", "Bits")))
-        text += f"\n## {table.TITLE}\n\n{table.HOW}\n\n| {columns} | Shown in |\n|---|---|---|\n"
-        for field, bits in dict.fromkeys((field, bits) for field, bits, _ in rows):
-            names = [name for one, two, name in rows if (one, two) == (field, bits)]
-            text += f"| {field} | {bits} | {grouped(names)} |\n"
-        text += "".join(f"| {field} | {bits} | {why} |\n" for field, bits, why in getattr(table, "UNSEEN", ()))
-    return text
+def part_of(table, stories):
+    """The part of MATRIX.md of a table: a row for each field."""
+    rows = [(field, bits, story.name) for story in stories for field, bits in story.shows]
+    columns = " | ".join(getattr(table, "COLUMNS", ("Field", "Bits")))
+    text = f"\n## {table.TITLE}\n\n{table.HOW}\n\n| {columns} | Shown in |\n|---|---|---|\n"
+    for field, bits in dict.fromkeys((field, bits) for field, bits, _ in rows):
+        names = [name for one, two, name in rows if (one, two) == (field, bits)]
+        text += f"| {field} | {bits} | {grouped(names)} |\n"
+    return text + "".join(f"| {field} | {bits} | {why} |\n" for field, bits, why in getattr(table, "UNSEEN", ()))
 
 
 def grouped(names):

@@ -4,7 +4,7 @@ import functools
 import os
 import re
 
-from . import trace
+from . import made, trace
 
 CRATE = os.path.dirname(os.path.dirname(os.path.abspath(__file__)))
 # The worked scenarios, those that are made from tables, and those of these with a large image, which the gate's program doesn't replay.
@@ -89,7 +89,11 @@ LISTED = re.compile(r"- `([^`]*)`:? ?(.*)")
 
 
 def load():
-    """All scenarios, first the worked ones."""
+    """All scenarios, first the worked ones. What is made and isn't there is made first."""
+    try:
+        made.ensure()
+    except made.Unmade as why:
+        raise Broken(str(why)) from None
     return [scenario for folder in FOLDERS for scenario in load_folder(folder)]
 
 

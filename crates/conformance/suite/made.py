@@ -1,0 +1,113 @@
+"""Whether what is made of the suite is there as its tables have it; where it isn't, it is made.
+
+Scenarios are made by `matrix/make` from the tables of the matrix and from data/rows. Of each table the file data/.made says of which
+sources it was made, and the sizes of its files; so where nothing changed nothing is made.
+"""
+import functools
+import hashlib
+import json
+import os
+import pathlib
+import re
+import subprocess
+import sys
+
+CRATE = os.path.dirname(os.path.dirname(os.path.abspath(__file__)))
+DATA, ROWS, MATRIX = os.path.join(CRATE, "data"), os.path.join(CRATE, "data", "rows"), os.path.join(CRATE, "matrix")
+STATE, PAGES = os.path.join(DATA, ".made"), [os.path.join(DATA, name, "README.md") for name in ("matrix", "large")]
+MODEL = (os.path.join(CRATE, "mutants", "model.py"), os.path.join(CRATE, "..", "..", "fuzz", "reader.py"))
+IMPORTED = re.compile(r"^from \.(\w+) import ", re.MULTILINE)
+
+
+class Unmade(Exception):
+    """What is missing can't be made."""
+
+
+def modules():
+    """The tables of the matrix in the order of its pages: a name a line in matrix/TABLES."""
+    return text_of(os.path.join(MATRIX, "TABLES")).split()
+
+
+def row_tables():
+    return sorted(name.removesuffix(".rows") for name in os.listdir(ROWS) if name.endswith(".rows")) if os.path.isdir(ROWS) else []
+
+
+def tables():
+    """The names of all tables: a table of rows has a slash before its own."""
+    return [f"rows/{name}" for name in row_tables()] + modules()
+
+
+def text_of(path):
+    with open(path, encoding="utf-8") as file:
+        return file.read()
+
+
+@functools.lru_cache(maxsize=None)
+def digest_of(path):
+    with open(path, "rb") as file:
+        return hashlib.sha256(file.read()).hexdigest()
+
+
+@functools.lru_cache(maxsize=None)
+def imports_of(module):
+    return IMPORTED.findall(text_of(os.path.join(MATRIX, f"{module}.py")))
+
+
+def sources_of(table):
+    """The files that a table is made of."""
+    found, waiting = set(), ["rows", "making"] if table.startswith("rows/") else [table, "story", "quick", "page", "making"]
+    while waiting:
+        module = waiting.pop()
+        if module not in found:
+            found.add(module)
+            waiting += imports_of(module)
+    own = [os.path.join(DATA, f"{table}.rows")] if table.startswith("rows/") else MODEL
+    return [*(os.path.join(MATRIX, f"{module}.py") for module in sorted(found)), *own]
+
+
+def key_of(table):
+    """What stands for a table's sources."""
+    return hashlib.sha256("".join(map(digest_of, sources_of(table))).encode()).hexdigest()
+
+
+def state():
+    """What is made, by tables."""
+    try:
+        return json.loads(text_of(STATE))
+    except (OSError, ValueError):
+        return {}
+
+
+def sizes_below(folders):
+    """The sizes of the files of some folders of data, by their paths below it."""
+    found = {}
+    for folder in folders:
+        try:
+            with os.scandir(os.path.join(DATA, folder)) as entries:
+                found.update({f"{folder}/{entry.name}": entry.stat().st_size for entry in entries if entry.is_file()})
+        except OSError:
+            pass
+    return found
+
+
+def stale(known):
+    """The tables that must be made, by what is known of those that are made."""
+    sizes = sizes_below({path.rpartition("/")[0] for one in known.values() for path in one["files"]})
+    return [table for table in tables() if table not in known or known[table]["key"] != key_of(table)
+            or any(sizes.get(path) != size for path, size in known[table]["files"].items())]
+
+
+def files():
+    """The files that are made, as paths."""
+    paths = [path for one in state().values() for path in one["files"]]
+    return [pathlib.Path(path) for path in [STATE, *PAGES, *(os.path.join(DATA, path) for path in paths)]]
+
+
+def ensure():
+    """Makes what isn't there."""
+    known = state()
+    if set(known) == set(tables()) and not stale(known) and all(map(os.path.exists, PAGES)):
+        return
+    ran = subprocess.run([sys.executable, os.path.join(MATRIX, "make"), "--needed"], stdout=subprocess.PIPE, text=True)
+    if ran.returncode:
+        raise Unmade(f"the scenarios of the tables can't be made: {ran.stdout.strip()}")
