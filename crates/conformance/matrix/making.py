@@ -8,7 +8,7 @@ import json
 import os
 
 from mutants import model
-from suite import made
+from suite import made, scenarios
 from suite.made import DATA, STATE
 
 from . import page, quick, rows
@@ -189,3 +189,21 @@ def write_pages(known):
     """Writes the lists of the scenarios and the gate's output."""
     write("matrix/README.md", listed(known, "matrix", page.LIST_HEAD).encode())
     write("large/README.md", listed(known, "large", page.LARGE_HEAD).encode())
+    write("../stdout", gate_output(known).encode())
+
+
+def gate_output(known):
+    """What the gate's program must write: a line for each scenario that it replays, and behind them the lines of stdout.end."""
+    hand = [(scenario.name, is_replayed_twice(scenario)) for scenario in scenarios.load_folder(scenarios.FOLDERS[0])]
+    made_ones = [(name, twice) for table in made.modules() for name, _, part, twice in known[table]["scenarios"] if part == "matrix"]
+    lines = []
+    for part, names in (("scenarios", hand), ("matrix", made_ones)):
+        lines += [f"{name} ok\n" for name, _ in names]
+        lines.append(f"{part}: {sum(twice for _, twice in names)} give the same in version 2\n")
+    return "".join(lines) + made.text_of(os.path.join(CRATE, "stdout.end"))
+
+
+def is_replayed_twice(scenario):
+    """Whether the gate's program replays a hand scenario in version 2 too."""
+    text, records = scenario.read(".trace"), scenario.read(".records")
+    return text.startswith(b"vreplay 1\n") and not records.startswith(b"fault trace ") and text.count(b"\nslot ") <= 16
