@@ -1,22 +1,9 @@
-"""Hand scenarios that are rows of a table: data/rows/SUBJECT.rows.
-
-    # ..              for readers
-    = PART            begins lines that rows share
-    - NAME            begins a scenario; with a subject before it, where it isn't the table's
-    + PART            the lines of that part
-    LINE > RECORD     a line of the trace, and the record that it has
-    LINE              a line without a record: one of the board, or of a trace that is refused
-    > LINE            the last line of a refused one
-    before:           (also after: and fails:) begins the lines of that file, up to the next row or part
-
-In a line `\\xff` is a byte and `{41*200}` two hundred times `41`; `16 * LINE` stands for sixteen such lines. A line that ends in
-`\\` has no line feed. `\\.` is nothing: it keeps a space at the end, an empty line, or what else would be read as a mark.
-"""
+"""Hand scenarios that are rows of a table: data/rows/README.md says how a table is read."""
 import re
 
 MARKS = re.compile(r"(?P<mark>[-=+]) (?P<word>\S+)$|(?P<file>before|after|fails):$")
 REPEATED = re.compile(r"(\d+) \* (.*)$", re.DOTALL)
-RUN = re.compile(r"\{([^*{}]*)\*(\d+)\}")
+RUN, RISING = re.compile(r"\{([^*{}]*)\*(\d+)\}"), re.compile(r"\{(\d+):(\d+),(\d+)\}")
 ESCAPED = re.compile(r"\\(?:x([0-9a-f]{2})|(\.))")
 
 
@@ -28,12 +15,16 @@ class Row:
     """A scenario, or a part of some: the lines of its files, by their endings."""
 
     def __init__(self):
-        self.lines = {"trace": [], "records": [], "before": [], "after": [], "fails": []}
+        self.lines = {"trace": [], "records": []}
         self.is_refused = False
 
     def take(self, part):
         for end, lines in part.lines.items():
-            self.lines[end] += lines
+            self.begin(end).extend(lines)
+
+    def begin(self, end):
+        """The lines so far of a file, which may be empty."""
+        return self.lines.setdefault(end, [])
 
     def put(self, end, line):
         if end != "trace":
@@ -50,7 +41,7 @@ class Row:
     def files(self):
         """The scenario's files by their endings."""
         self.lines["records"].append(f"status {int(self.is_refused)}\n".encode())
-        return {f".{end}": b"".join(lines) for end, lines in self.lines.items() if lines}
+        return {f".{end}": b"".join(lines) for end, lines in self.lines.items()}
 
 
 def repeated(line):
@@ -62,7 +53,12 @@ def spelled(line):
     """The bytes of a line, with its line feed unless it is cut."""
     end = "" if line.endswith("\\") else "\n"
     text = RUN.sub(lambda run: run[1] * int(run[2]), line.removesuffix("\\"))
+    text = RISING.sub(lambda one: rising(*map(int, one.groups())), text)
     return (ESCAPED.sub(lambda one: chr(int(one[1], 16)) if one[1] else "", text) + end).encode("latin-1")
+
+
+def rising(count, step, further):
+    return bytes((step * at + further * (at // 256)) % 256 for at in range(count)).hex()
 
 
 def read(text, subject):
@@ -72,8 +68,9 @@ def read(text, subject):
         if not line or line.startswith("# "):
             continue
         mark = MARKS.match(line)
-        if mark and mark["file"]:
+        if mark and mark["file"] and row:
             end = mark["file"]
+            row.begin(end)
         elif mark and mark["mark"] != "+":
             name = mark["word"] if mark["mark"] == "=" or "/" in mark["word"] else f"{subject}/{mark['word']}"
             among, row, end = parts if mark["mark"] == "=" else found, Row(), "trace"
