@@ -1,2 +1,3 @@
 pub mod Past
 pub mod Refusal
+pub mod WriteBack

@@ -1,5 +1,5 @@
-//! What tests use: an allocator that refuses a chosen request for memory, alone or with all later ones, and a file that records
-//! what a stop at any moment might have left of it.
+//! What tests use: an allocator that refuses a chosen request for memory, alone or with all later ones; and a file and an
+//! image that record what a stop at any moment might have left of them.
 //!
 //! A test hands `&heap` to the code under test, chooses the request, and asks afterwards whether it came. Other requests, and
 //! blocks that are given back, go to an inner allocator. `grow` and `shrink` are the trait's own, so each is a request too.
@@ -10,12 +10,19 @@ ghost use Rattle.std.specs.Prelude.{◌≡◌};
 use std::alloc::{AllocError, Allocator, Global};
 use std::cell::Cell;
 
+mod laws;
 mod memory_file;
 mod recorded_file;
 mod refusal;
+mod write_back_image;
 
+pub use crate::laws::{
+    a_cut_event_over_a_write_cache, a_cut_request_over_a_write_cache,
+    a_stop_between_events_over_a_write_cache, a_write_cache_may_lose_what_waits,
+};
 pub use crate::memory_file::MemoryFile;
 pub use crate::recorded_file::RecordedFile;
+pub use crate::write_back_image::{Moment, WriteBackFault, WriteBackImage};
 use refusal::Refusal;
 
 /// A heap that refuses a chosen request for memory. A `&` to it is an allocator that is `Copy`.

@@ -42,7 +42,7 @@ impl BackingFile for RecordedFile {
 
     ghost moment = { λ file. length file.past.items };
 
-    ghost left_since = { λ file. Since file.past.items file.file.bytes.items };
+    ghost left_since = { λ file. Since (λ v left. left ≡ v.items) (λ left. left ≡ file.file.bytes.items) file.past.items };
 
     ghost keeps = { λ file left synced may. may };
 
