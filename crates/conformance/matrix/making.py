@@ -7,7 +7,6 @@ import itertools
 import json
 import os
 
-from mutants import model
 from suite import made, scenarios
 from suite.made import DATA, STATE
 
@@ -16,7 +15,7 @@ from .story import Disagrees
 
 CRATE = made.CRATE
 SUMS, MATRIX_PAGE = os.path.join(CRATE, "matrix", "SUMS"), os.path.join(CRATE, "MATRIX.md")
-model.Memory = quick.Memory
+quick.use()
 
 # The stories that are made in this run, for processes that are forked off.
 STORIES = []
