@@ -62,8 +62,8 @@ CHECKS = {
     "in-process": in_one_process,
     "hosts in C": lambda: last_line("examples/embed/run", "--unproved"),
 }
-AFTER = {"scenarios": ["program"], "fuzz": ["program"], "broken": ["program"], "streams": ["program"], "in-process": ["library"],
-         "hosts in C": ["library"]}
+AFTER = {"scenarios": ["program", "matrix"], "fuzz": ["program"], "broken": ["program"], "streams": ["program"],
+         "in-process": ["library", "matrix"], "hosts in C": ["library"]}
 
 
 def can_build():

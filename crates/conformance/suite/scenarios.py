@@ -82,7 +82,7 @@ class Scenario:
 
     def is_called(self, word):
         """Whether a word names it: its name, its subject, its part, a pattern of names, or a feature."""
-        return word in (self.name, self.subject, self.part) or word in self.features or fnmatch.fnmatchcase(self.name, word)
+        return word in (self.name, self.subject, self.part) or word in trace.NAMED and word in self.features or fnmatch.fnmatchcase(self.name, word)
 
 
 LISTED = re.compile(r"- `([^`]*)`:? ?(.*)")

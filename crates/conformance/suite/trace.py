@@ -44,6 +44,11 @@ def bit_name(window, bit):
     return EVERY_FEATURE.get(bit) or FEATURES[window].get(bit) or f"bit_{bit}"
 
 
+# Every name that a scenario's features may have.
+NAMED = {"guests", "hosted", "ro", "input", "resize", "size", "restore", "vendor", "offer", "fails"} \
+    | {feature for fields in FIELDS.values() for _, _, feature in fields} | {bit_name(window, bit) for window in WINDOWS for bit in range(64)}
+
+
 @dataclasses.dataclass(frozen=True)
 class Event:
     """An event line, with its fields as text."""
