@@ -1,10 +1,12 @@
 -- A restore as an event: it has one outcome, and a slot that takes up a snapshot gives it.
-use Rattle.std.proofs.Common.{◌≡◌, ◌∙◌, inl, inr, ℕ, List, [], Result, Ok, Err, refl, sym, ap, subst}
-use Rattle.std.specs.Prelude.{IfErr, IsOkAnd, OnErr, OnOk}
+use Rattle.std.proofs.Common.{◌≡◌, ◌∙◌, inl, inr, ℕ, List, [], Option, Some, None, Result, Ok, Err, refl, sym, ap, subst}
+use Rattle.std.specs.Prelude.{IfErr, IsSome, OnErr, OnOk}
+use Rattle.mmio_window.specs.Window.{WindowState}
 use Rattle.sector_cache.specs.Sector.{extent_of}
 use Rattle.snapshot.specs.declared.fault.SnapshotFault.{SnapshotFault}
 use Rattle.snapshot.specs.declared.saved.SavedSlot.{SavedSlot}
-use Rattle.snapshot.specs.Reading.{snapshot_at}
+use Rattle.snapshot.specs.Spelling.{IsSnapshot}
+use Rattle.snapshot.proofs.OfSlot.{snapshot_once, snapshot_or_fault}
 use Rattle.board.specs.declared.event.EventKind.TheVariants.{Restore}
 use Rattle.board.specs.declared.reply.Reply.TheVariants.{BadState}
 use Rattle.board.specs.declared.saved.RestoreFault.{RestoreFault}
@@ -12,10 +14,10 @@ use Rattle.board.specs.declared.saved.RestoreFault.TheVariants.{Snapshot, OtherS
 use Rattle.board.specs.Image.{Health, sectors_of}
 use Rattle.board.specs.Outcome.{Outcome, does, replies}
 use Rattle.board.specs.Restoring.{IsRestoring, IsTakenUp, restore_reply, slot_in}
-use Rattle.board.specs.Saved.{IsCauseOf, IsRestored, Prevents, Suits, TakesUp}
+use Rattle.board.specs.Saved.{IsCauseOf, IsPrevented, IsRestored, Prevents, Suits, TakesUp}
 use Rattle.board.specs.Slot.{BoardSlot, SlotState, state_of}
 use Rattle.board.specs.World.{MayGive}
-use Rattle.board.proofs.Saving.{fault_not_read, none_some, same_read, same_window}
+use Rattle.board.proofs.Saving.{none_some, same_window}
 
 -- ---- there is at most one outcome
 
@@ -29,7 +31,7 @@ takes_once old saved pending one other a b =
 slot_once : (old : BoardSlot) (bytes : List ℕ) (one other : BoardSlot) → IsRestored old bytes one
     → IsRestored old bytes other → one ≡ other
 slot_once old bytes one other a b =
-    let same : (a.saved, a.pending) ≡ (b.saved, b.pending) = same_read _ _ _ a.read b.read in
+    let same : (a.saved, a.pending) ≡ (b.saved, b.pending) = snapshot_once _ _ _ _ _ a.read b.read in
     takes_once old b.saved b.pending one other (subst (λ (x : SavedSlot × List ℕ). TakesUp old x.0 x.1 one)
     same a.takes_up) b.takes_up
 
@@ -38,18 +40,78 @@ not_both : (old : BoardSlot) (saved : SavedSlot) (pending : List ℕ) (new : Boa
     → TakesUp old saved pending new → Prevents old saved why → ⊥
 not_both old saved pending new (Snapshot fault) takes prevents = prevents
 not_both old saved pending new OtherSlot takes prevents = prevents takes.suits
-not_both old saved pending new BadBlock takes prevents = none_some _ _ prevents takes.block
-not_both old saved pending new BadConsole takes prevents = none_some _ _ prevents takes.console
+not_both old saved pending new BadBlock takes prevents = none_some _ _ prevents.1 takes.block
+not_both old saved pending new BadConsole takes prevents = none_some _ _ prevents.1.1 takes.console
+
+not_prevented_too : (old : BoardSlot) (bytes : List ℕ) (new : BoardSlot) (why : RestoreFault)
+    → IsRestored old bytes new → IsPrevented old bytes why → ⊥
+not_prevented_too old bytes new why is cause =
+    let same : (is.saved, is.pending) ≡ (cause.saved, cause.pending) =
+    snapshot_once _ _ _ _ _ is.read cause.read in
+    not_both old cause.saved cause.pending new why
+    (subst (λ (x : SavedSlot × List ℕ). TakesUp old x.0 x.1 new) same is.takes_up) cause.prevents
 
 no_cause : (old : BoardSlot) (bytes : List ℕ) (new : BoardSlot) (why : RestoreFault)
     → IsRestored old bytes new → IsCauseOf old bytes why → ⊥
-no_cause old bytes new (Snapshot fault) is cause = fault_not_read _ _ fault cause is.read
-no_cause old bytes new OtherSlot is cause =
-    not_both old is.saved is.pending new OtherSlot is.takes_up (rw is.read at cause)
-no_cause old bytes new BadBlock is cause =
-    not_both old is.saved is.pending new BadBlock is.takes_up (rw is.read at cause)
-no_cause old bytes new BadConsole is cause =
-    not_both old is.saved is.pending new BadConsole is.takes_up (rw is.read at cause)
+no_cause old bytes new (Snapshot fault) is cause = snapshot_or_fault _ _ _ fault is.read cause
+no_cause old bytes new OtherSlot is cause = not_prevented_too old bytes new OtherSlot is cause
+no_cause old bytes new BadBlock is cause = not_prevented_too old bytes new BadBlock is cause
+no_cause old bytes new BadConsole is cause = not_prevented_too old bytes new BadConsole is cause
+
+-- ---- and one cause of a refusal
+
+some_none : (r : Option WindowState) → r ≡ None → IsSome r → ⊥
+some_none None e h = absurd cc
+some_none (Some w) e h = absurd cc
+
+prevents_once : (slot : BoardSlot) (saved : SavedSlot) (one other : RestoreFault)
+    → Prevents slot saved one → Prevents slot saved other → one ≡ other
+prevents_once slot saved (Snapshot fault) other a b = absurd a
+prevents_once slot saved one (Snapshot fault) a b = absurd b
+prevents_once slot saved OtherSlot OtherSlot a b = refl
+prevents_once slot saved OtherSlot BadBlock a b = absurd (a b.0)
+prevents_once slot saved OtherSlot BadConsole a b = absurd (a b.0)
+prevents_once slot saved BadBlock OtherSlot a b = absurd (b a.0)
+prevents_once slot saved BadBlock BadBlock a b = refl
+prevents_once slot saved BadBlock BadConsole a b = absurd (some_none _ a.1 b.1.0)
+prevents_once slot saved BadConsole OtherSlot a b = absurd (b a.0)
+prevents_once slot saved BadConsole BadBlock a b = absurd (some_none _ b.1 a.1.0)
+prevents_once slot saved BadConsole BadConsole a b = refl
+
+prevented_once : (slot : BoardSlot) (bytes : List ℕ) (one other : RestoreFault)
+    → IsPrevented slot bytes one → IsPrevented slot bytes other → one ≡ other
+prevented_once slot bytes one other a b =
+    let same : (a.saved, a.pending) ≡ (b.saved, b.pending) = snapshot_once _ _ _ _ _ a.read b.read in
+    prevents_once slot b.saved one other
+    (subst (λ (x : SavedSlot × List ℕ). Prevents slot x.0 one) same a.prevents) b.prevents
+
+-- what was saved prevents it, where the bytes are a snapshot
+prevented : (slot : BoardSlot) (bytes : List ℕ) (saved : SavedSlot) (pending : List ℕ) (why : RestoreFault)
+    → IsSnapshot bytes saved pending → IsCauseOf slot bytes why → IsPrevented slot bytes why
+prevented slot bytes saved pending (Snapshot fault) is cause = absurd (snapshot_or_fault _ _ _ fault is cause)
+prevented slot bytes saved pending OtherSlot is cause = cause
+prevented slot bytes saved pending BadBlock is cause = cause
+prevented slot bytes saved pending BadConsole is cause = cause
+
+same_fault : (r : Result (SavedSlot × List ℕ) SnapshotFault) (one other : SnapshotFault) → r ≡ Err one
+    → r ≡ Err other → one ≡ other
+same_fault r one other a b = cc
+
+-- where the one cause is what was saved, so is the other
+behind_prevented : (slot : BoardSlot) (bytes : List ℕ) (one other : RestoreFault)
+    → IsPrevented slot bytes one → IsCauseOf slot bytes other → one ≡ other
+behind_prevented slot bytes one other a cause =
+    prevented_once slot bytes one other a (prevented slot bytes a.saved a.pending other a.read cause)
+
+pub cause_once : (slot : BoardSlot) (bytes : List ℕ) (one other : RestoreFault)
+    → IsCauseOf slot bytes one → IsCauseOf slot bytes other → one ≡ other
+cause_once slot bytes (Snapshot one) (Snapshot other) a b = ap Snapshot (same_fault _ one other a b)
+cause_once slot bytes one OtherSlot a b = sym (behind_prevented slot bytes OtherSlot one b a)
+cause_once slot bytes one BadBlock a b = sym (behind_prevented slot bytes BadBlock one b a)
+cause_once slot bytes one BadConsole a b = sym (behind_prevented slot bytes BadConsole one b a)
+cause_once slot bytes OtherSlot other a b = behind_prevented slot bytes OtherSlot other a b
+cause_once slot bytes BadBlock other a b = behind_prevented slot bytes BadBlock other a b
+cause_once slot bytes BadConsole other a b = behind_prevented slot bytes BadConsole other a b
 
 -- what a guest can see of a slot whose disk has these bytes
 abbrev state_in : List ℕ → BoardSlot → SlotState
@@ -131,22 +193,24 @@ prevents_in : (image : List ℕ) (slot : BoardSlot) (saved : SavedSlot) (why : R
     → IsCounted image slot → Prevents slot saved why → Prevents (slot_in (state_of image slot)) saved why
 prevents_in image slot saved (Snapshot fault) counted h = h
 prevents_in image slot saved OtherSlot counted h = λ suits. h (suits_out image slot saved counted suits)
-prevents_in image slot saved BadBlock counted h = h
-prevents_in image slot saved BadConsole counted h = h
+prevents_in image slot saved BadBlock counted h = (suits_in image slot saved counted h.0, h.1)
+prevents_in image slot saved BadConsole counted h = (suits_in image slot saved counted h.0, h.1)
 
-found_in : (image : List ℕ) (slot : BoardSlot) (found : Result (SavedSlot × List ℕ) SnapshotFault)
-    (why : RestoreFault) → IsCounted image slot
-    → IsOkAnd found (λ x. Prevents slot x.0 why)
-    → IsOkAnd found (λ x. Prevents (slot_in (state_of image slot)) x.0 why)
-found_in image slot (Ok x) why counted h = prevents_in image slot x.0 why counted h
-found_in image slot (Err fault) why counted h = h
+prevented_in : (image : List ℕ) (slot : BoardSlot) (bytes : List ℕ) (why : RestoreFault) → IsCounted image slot
+    → IsPrevented slot bytes why → IsPrevented (slot_in (state_of image slot)) bytes why
+prevented_in image slot bytes why counted h = record {
+  saved = h.saved;
+  pending = h.pending;
+  read = h.read;
+  prevents = prevents_in image slot h.saved why counted h.prevents;
+}
 
 cause_in : (image : List ℕ) (slot : BoardSlot) (bytes : List ℕ) (why : RestoreFault) → IsCounted image slot
     → IsCauseOf slot bytes why → IsCauseOf (slot_in (state_of image slot)) bytes why
 cause_in image slot bytes (Snapshot fault) counted h = h
-cause_in image slot bytes OtherSlot counted h = found_in image slot (snapshot_at bytes) OtherSlot counted h
-cause_in image slot bytes BadBlock counted h = found_in image slot (snapshot_at bytes) BadBlock counted h
-cause_in image slot bytes BadConsole counted h = found_in image slot (snapshot_at bytes) BadConsole counted h
+cause_in image slot bytes OtherSlot counted h = prevented_in image slot bytes OtherSlot counted h
+cause_in image slot bytes BadBlock counted h = prevented_in image slot bytes BadBlock counted h
+cause_in image slot bytes BadConsole counted h = prevented_in image slot bytes BadConsole counted h
 
 -- A slot that takes up a snapshot, or doesn't, gives what comes of that event.
 pub restore_given : (A : Type 0) (image : List ℕ) (slot new : BoardSlot) (bytes : List ℕ)

@@ -12,7 +12,8 @@ use Rattle.mmio_window.proofs.Soundness.{IsSound-same_range}
 use Rattle.snapshot.specs.declared.fault.SnapshotFault.{SnapshotFault}
 use Rattle.snapshot.specs.declared.saved.SavedSlot.{SavedSlot}
 use Rattle.snapshot.specs.Reading.{snapshot_at}
-use Rattle.snapshot.specs.Spelling.{snapshot}
+use Rattle.snapshot.specs.Spelling.{IsSnapshot, snapshot}
+use Rattle.snapshot.proofs.OfSlot.{snapshot_once, snapshot_or_fault}
 use Rattle.board.specs.declared.saved.RestoreFault.{RestoreFault}
 use Rattle.board.specs.declared.saved.RestoreFault.TheVariants.{Snapshot, OtherSlot, BadBlock, BadConsole}
 use Rattle.board.specs.Saved.{IsAs, IsCauseOf, IsLike, IsRestored, IsSavedTo, IsSnapshotOf, OffersFeatures, Prevents, RestoresIt, Suits, TakesUp, saved_slot, snapshot_of}
@@ -33,11 +34,9 @@ is_snapshot : (slot : BoardSlot) (bytes : List ℕ)
     → window_restored slot.block.kind m (saved_window slot.block) ≡ Some slot.block)
     → ((m : Memory) → IsSound m slot.console → window_restored slot.console.kind m (saved_window slot.console)
     ≡ Some slot.console)
-    → bytes ≡ snapshot (saved_slot slot) slot.pending → snapshot_at bytes ≡ Ok (saved_slot slot, slot.pending)
-    → IsSnapshotOf bytes slot
-is_snapshot slot bytes sound block console spelled read = record {
+    → IsSnapshot bytes (saved_slot slot) slot.pending → IsSnapshotOf bytes slot
+is_snapshot slot bytes sound block console spelled = record {
   spelled = spelled;
-  read = read;
   offers = record { block = sound.block_offers; console = sound.console_offers };
   block = subst (λ (kind : DeviceKind). RestoresIt kind slot.memory slot.block) sound.block_kind
       (restores_it slot.memory slot.block sound.block_sound block);
@@ -53,13 +52,11 @@ pub saved_as : {V E : Type 0} (items : V → List ℕ) (result : Result V E) (sl
     → ((m : Memory) → IsSound m slot.block → window_restored slot.block.kind m saved.block ≡ Some slot.block)
     → ((m : Memory) → IsSound m slot.console → window_restored slot.console.kind m saved.console
     ≡ Some slot.console)
-    → IfOk result (λ v. items v ≡ snapshot saved (front ++ back))
-    → IfOk result (λ v. snapshot_at (items v) ≡ Ok (saved, front ++ back))
+    → IfOk result (λ v. IsSnapshot (items v) saved (front ++ back))
     → IfOk result (λ v. IsSnapshotOf (items v) slot)
-saved_as items (Ok v) slot saved front back sound is pending block console text again =
-    is_snapshot slot (items v) sound (rw is at block) (rw is at console)
-    (text ∙ rw (is, pending) refl) (again ∙ rw (is, pending) refl)
-saved_as items (Err why) slot saved front back sound is pending block console text again = tt
+saved_as items (Ok v) slot saved front back sound is pending block console text =
+    is_snapshot slot (items v) sound (rw is at block) (rw is at console) (rw (is, pending) at text)
+saved_as items (Err why) slot saved front back sound is pending block console text = tt
 
 -- the same in a buffer
 pub saved_to_as : {E : Type 0} (result : Result ℕ E) (slot : BoardSlot) (saved : SavedSlot)
@@ -72,12 +69,12 @@ pub saved_to_as : {E : Type 0} (result : Result ℕ E) (slot : BoardSlot) (saved
     → IfOk result (λ len. len ≡ length (snapshot saved (front ++ back)))
     → IfOk result (λ len. new ≡ snapshot saved (front ++ back) ++ drop len old)
     → (IsErr result ↔ (length old < length (snapshot saved (front ++ back))))
-    → snapshot_at (snapshot saved (front ++ back)) ≡ Ok (saved, front ++ back)
+    → IsSnapshot (snapshot saved (front ++ back)) saved (front ++ back)
     → IfOk result (IsSavedTo slot old new)
-saved_to_as (Ok len) slot saved front back old new sound is pending block console counted text short again =
+saved_to_as (Ok len) slot saved front back old new sound is pending block console counted text short whole =
     record {
-      snapshot = is_snapshot slot (snapshot_of slot) sound (rw is at block) (rw is at console) refl
-          (rw (is, pending) at again);
+      snapshot = is_snapshot slot (snapshot_of slot) sound (rw is at block) (rw is at console)
+          (rw (is, pending) at whole);
       len_is = rw (is, pending) at counted;
       room = elim (cases_lt (length old) (length (snapshot saved (front ++ back)))) [
         | inl less ↦ (let never = short.1 less in absurd cc)
@@ -85,17 +82,10 @@ saved_to_as (Ok len) slot saved front back old new sound is pending block consol
       ];
       text = rw (is, pending) at text;
     }
-saved_to_as (Err why) slot saved front back old new sound is pending block console counted text short again =
+saved_to_as (Err why) slot saved front back old new sound is pending block console counted text short whole =
     tt
 
 -- ---- what takes it up
-
-abbrev pub read_as : SavedSlot × List ℕ → Result (SavedSlot × List ℕ) SnapshotFault
-read_as x = Ok x
-
-pub same_read : (r : Result (SavedSlot × List ℕ) SnapshotFault) (x y : SavedSlot × List ℕ) → r ≡ read_as x
-    → r ≡ read_as y → x ≡ y
-same_read r x y a b = cc
 
 pub same_window : (r : Option WindowState) (w v : WindowState) → r ≡ Some w → r ≡ Some v → w ≡ v
 same_window r w v a b = cc
@@ -142,49 +132,49 @@ not_prevented slot old bytes (Snapshot fault) is like offers prevents = prevents
 not_prevented slot old bytes OtherSlot is like offers prevents =
     prevents (suits_it slot old bytes is like offers)
 not_prevented slot old bytes BadBlock is like offers prevents =
-    none_some _ _ prevents (is.block old.memory like.memory)
+    none_some _ _ prevents.1 (is.block old.memory like.memory)
 not_prevented slot old bytes BadConsole is like offers prevents =
-    none_some _ _ prevents (is.console old.memory like.memory)
+    none_some _ _ prevents.1.1 (is.console old.memory like.memory)
 
 -- The outcome of taking up what was read, for the slot whose snapshot it is.
 pub taken_up : (slot old new : BoardSlot) (bytes : List ℕ) (saved : SavedSlot) (pending : List ℕ)
     (result : Result (Unit {0}) RestoreFault)
     → IsSnapshotOf bytes slot → IsLike slot old → OffersFeatures old
-    → snapshot_at bytes ≡ Ok (saved, pending)
+    → IsSnapshot bytes saved pending
     → OnOk result (TakesUp old saved pending new) → IfErr result (Prevents old saved)
     → IsOk result × IsAs slot old new
 taken_up slot old new bytes saved pending (Ok done) is like offers read takes prevents =
-    (refl, as_saved slot old new bytes (saved, pending) is like (same_read _ _ _ read is.read) takes)
+    (refl, as_saved slot old new bytes (saved, pending) is like (snapshot_once _ _ _ _ _ read is.spelled) takes)
 taken_up slot old new bytes saved pending (Err why) is like offers read takes prevents =
-    let same : (saved, pending) ≡ (saved_slot slot, slot.pending) = same_read _ _ _ read is.read in
+    let same : (saved, pending) ≡ (saved_slot slot, slot.pending) =
+    snapshot_once _ _ _ _ _ read is.spelled in
     absurd (not_prevented slot old bytes why is like offers
     (subst (λ (x : SavedSlot × List ℕ). Prevents old x.0 why) same prevents))
 
 -- what was taken up, of the bytes
 pub restored_of : (old new : BoardSlot) (bytes : List ℕ) (saved : SavedSlot) (pending : List ℕ)
     (result : Result (Unit {0}) RestoreFault)
-    → snapshot_at bytes ≡ Ok (saved, pending) → OnOk result (TakesUp old saved pending new)
+    → IsSnapshot bytes saved pending → OnOk result (TakesUp old saved pending new)
     → OnOk result (IsRestored old bytes new)
 restored_of old new bytes saved pending (Ok done) read takes =
     record { saved = saved; pending = pending; read = read; takes_up = takes }
 restored_of old new bytes saved pending (Err why) read takes = tt
 
-pub fault_not_read : (r : Result (SavedSlot × List ℕ) SnapshotFault) (x : SavedSlot × List ℕ)
-    (fault : SnapshotFault) → r ≡ Err fault → r ≡ read_as x → ⊥
-fault_not_read r x fault a b = cc
-
 -- and no snapshot of a slot is refused as none
 pub not_refused : (slot : BoardSlot) (bytes : List ℕ) (fault : SnapshotFault) → IsSnapshotOf bytes slot
     → snapshot_at bytes ≡ Err fault → ⊥
-not_refused slot bytes fault is e = fault_not_read _ _ fault e is.read
+not_refused slot bytes fault is e = snapshot_or_fault _ _ _ fault is.spelled e
 
 -- why nothing was taken up, of the bytes
 pub cause_of : (old : BoardSlot) (bytes : List ℕ) (saved : SavedSlot) (pending : List ℕ)
     (result : Result (Unit {0}) RestoreFault)
-    → snapshot_at bytes ≡ Ok (saved, pending) → IfErr result (Prevents old saved)
+    → IsSnapshot bytes saved pending → IfErr result (Prevents old saved)
     → IfErr result (IsCauseOf old bytes)
 cause_of old bytes saved pending (Ok done) read prevents = tt
 cause_of old bytes saved pending (Err (Snapshot fault)) read prevents = absurd prevents
-cause_of old bytes saved pending (Err OtherSlot) read prevents = rw read prevents
-cause_of old bytes saved pending (Err BadBlock) read prevents = rw read prevents
-cause_of old bytes saved pending (Err BadConsole) read prevents = rw read prevents
+cause_of old bytes saved pending (Err OtherSlot) read prevents =
+    record { saved = saved; pending = pending; read = read; prevents = prevents }
+cause_of old bytes saved pending (Err BadBlock) read prevents =
+    record { saved = saved; pending = pending; read = read; prevents = prevents }
+cause_of old bytes saved pending (Err BadConsole) read prevents =
+    record { saved = saved; pending = pending; read = read; prevents = prevents }

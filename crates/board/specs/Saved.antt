@@ -1,5 +1,5 @@
 -- The snapshot of a slot, and what a slot becomes that takes one up.
-use Rattle.std.specs.Prelude.{◌≡◌, ◌≤◌, ◌++◌, ℕ, IsOkAnd, None, Some, Ok, Err, List, drop, length}
+use Rattle.std.specs.Prelude.{◌≡◌, ◌≤◌, ◌++◌, ℕ, IsSome, None, Some, Err, List, drop, length}
 use Rattle.guest_memory.specs.Memory.{Memory, SameRange}
 use Rattle.mmio_window.specs.declared.device_kind.DeviceKind.{DeviceKind}
 use Rattle.mmio_window.specs.declared.device_kind.DeviceKind.TheVariants.{Block, Console}
@@ -8,7 +8,7 @@ use Rattle.mmio_window.specs.Window.{WindowState}
 use Rattle.sector_cache.specs.Sector.{extent_of}
 use Rattle.snapshot.specs.declared.saved.SavedSlot.{SavedSlot}
 use Rattle.snapshot.specs.Reading.{snapshot_at}
-use Rattle.snapshot.specs.Spelling.{snapshot}
+use Rattle.snapshot.specs.Spelling.{IsSnapshot, snapshot}
 use Rattle.board.specs.declared.saved.RestoreFault.{RestoreFault}
 use Rattle.board.specs.declared.saved.RestoreFault.TheVariants.{Snapshot, OtherSlot, BadBlock, BadConsole}
 use Rattle.board.specs.Slot.{BoardSlot, block_features, console_features}
@@ -42,11 +42,10 @@ pub record OffersFeatures (slot : BoardSlot) : Type 0 where
   pub block : slot.block.negotiation.offered ≡ block_features slot.read_only
   pub console : slot.console.negotiation.offered ≡ console_features
 
--- The bytes are the snapshot of a slot that stands so on a board: they are spelled so and read back, its
--- windows are those of its two devices, and they are restored over each memory of its memory's range.
+-- The bytes are the snapshot of a slot that stands so on a board: they are spelled so, its windows are those
+-- of its two devices, and they are restored over each memory of its memory's range.
 pub record IsSnapshotOf (bytes : List ℕ) (slot : BoardSlot) : Type 0 where
-  pub spelled : bytes ≡ snapshot (saved_slot slot) slot.pending
-  pub read : snapshot_at bytes ≡ Ok (saved_slot slot, slot.pending)
+  pub spelled : IsSnapshot bytes (saved_slot slot) slot.pending
   pub offers : OffersFeatures slot
   pub block : RestoresIt Block slot.memory slot.block
   pub console : RestoresIt Console slot.memory slot.console
@@ -91,20 +90,31 @@ pub record TakesUp (old : BoardSlot) (saved : SavedSlot) (pending : List ℕ) (n
 pub record IsRestored (old : BoardSlot) (bytes : List ℕ) (new : BoardSlot) : Type 0 where
   pub saved : SavedSlot
   pub pending : List ℕ
-  pub read : snapshot_at bytes ≡ Ok (saved, pending)
+  pub read : IsSnapshot bytes saved pending
   pub takes_up : TakesUp old saved pending new
 
--- why a slot doesn't take up what was saved
+-- The one cause for which a slot doesn't take up what was saved: it is of another description; else its block
+-- window can't stand so; else its console window can't.
 abbrev pub Prevents : BoardSlot → SavedSlot → RestoreFault → Type 0
 Prevents slot saved (Snapshot fault) = ⊥
 Prevents slot saved OtherSlot = ¬ Suits saved slot
-Prevents slot saved BadBlock = window_restored Block slot.memory saved.block ≡ None
-Prevents slot saved BadConsole = window_restored Console slot.memory saved.console ≡ None
+Prevents slot saved BadBlock = Suits saved slot × (window_restored Block slot.memory saved.block ≡ None)
+Prevents slot saved BadConsole =
+    Suits saved slot × (IsSome (window_restored Block slot.memory saved.block)
+    × (window_restored Console slot.memory saved.console ≡ None))
 
--- why a slot doesn't take up these bytes
+-- The bytes are a snapshot, and this is why the slot doesn't take up what was saved.
+pub record IsPrevented (slot : BoardSlot) (bytes : List ℕ) (why : RestoreFault) : Type 0 where
+  pub saved : SavedSlot
+  pub pending : List ℕ
+  pub read : IsSnapshot bytes saved pending
+  pub prevents : Prevents slot saved why
+
+-- the one cause for which a slot doesn't take up these bytes: they are no snapshot, and this is their first
+-- fault, or what was saved prevents it
 abbrev pub IsCauseOf : BoardSlot → List ℕ → RestoreFault → Type 0
 IsCauseOf slot bytes (Snapshot fault) = snapshot_at bytes ≡ Err fault
-IsCauseOf slot bytes why = IsOkAnd (snapshot_at bytes) (λ found. Prevents slot found.0 why)
+IsCauseOf slot bytes why = IsPrevented slot bytes why
 
 -- ---- the round trip
 

@@ -4,7 +4,7 @@
 //! `slot` has one guest, of whose requests one is in flight at most; `access` is what an embedder reaches between events,
 //! `view` what somebody sees who only looks, `saved` a slot's snapshot, and `laws` has what holds of all calls, whatever their order. Nothing is shared between slots: there is no image.
 
-ghost use Rattle.std.specs.Prelude.{◌≡◌, ◌≢◌, ◌↔◌, ◌<◌, ℕ, List, Option, Some, None, length, map, IfOk, IfSome, IfNone, IsSome, IsSomeAnd, IfErr, IsErrAnd, OnOk};
+ghost use Rattle.std.specs.Prelude.{◌≡◌, ◌≢◌, ◌↔◌, ◌<◌, ℕ, List, [], Option, Some, None, length, map, IfOk, IfSome, IfNone, IsSome, IsSomeAnd, IfErr, IsErrAnd, OnOk};
 ghost use Rattle.std.specs.List.{slice_get};
 ghost use Rattle.std.specs.Option.{option_and_then};
 ghost use Rattle.block_device.specs.Operation.{LiesInside};
@@ -138,12 +138,14 @@ impl<A: Allocator> HostedBoard<A> {
         found.operation()
     }
 
-    /// Where the bytes of the operation in flight lie: runs of guest memory, or of a ZEROES of the guest's disk. There is
-    /// no answer for a slot that isn't there.
+    /// Where the bytes of the operation in flight lie: runs of guest memory, or of a ZEROES of the guest's disk. There
+    /// are none where nothing is in flight, and there is no answer for a slot that isn't there.
     pub fn runs(&self, slot: u8) -> Option<&[Segment]>
         ensures there { IsSome result ↔ (slot < length self.now) }
         ensures runs { IfSome result (λ runs. IsSomeAnd (slice_get self.now slot) (λ found.
             IfSome found.flight (λ here. runs.now ≡ here.runs))) }
+        ensures none { IfSome result (λ runs. IsSomeAnd (slice_get self.now slot) (λ found.
+            IfNone found.flight (runs.now ≡ []))) }
 
         // nothing that the host is told lies outside the guest's memory or its disk, whatever the guest has done since
         ensures inside { IfSome result (λ runs. IsSomeAnd (slice_get self.now slot) (λ found. IfSome found.flight (λ here.

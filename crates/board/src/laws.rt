@@ -21,7 +21,8 @@ ghost use Rattle.board.specs.Image.{Tells, bytes_of};
 ghost use Rattle.board.specs.Line.{Move, IsLine, IsNoted, IsQuiet, IsAlone, IsRun, RanOnBoth, SeesTheSame, events_of, own_events};
 ghost use Rattle.board.specs.Machine.{IsNext, RunsOnItsOwn};
 ghost use Rattle.board.specs.Outcome.{Outcome};
-ghost use Rattle.board.specs.Saved.{HasBytesOf, IsAs};
+ghost use Rattle.board.specs.declared.saved.RestoreFault.{RestoreFault};
+ghost use Rattle.board.specs.Saved.{HasBytesOf, IsAs, IsCauseOf};
 ghost use Rattle.board.specs.Slot.{BoardSlot, SlotState, KeepsBesideDisk, KeepsBesideTransmit, state_of};
 ghost use Rattle.board.specs.Task.{emergency_write};
 ghost use Rattle.board.specs.World.{BoardState, World, KeepsBoard, Step, identities_of, world_of};
@@ -128,6 +129,13 @@ pub fn one_outcome_within<A: Allocator>()
     ensures { (limit : ℕ) (old one other : Seat) (what : EventKind A) (reply reply' : Reply A) →
         IsNextWithin limit old what reply one → IsNextWithin limit old what reply' other →
         (reply ≡ reply') × (one ≡ other) }
+{}
+
+/// A restore is refused for one cause: the bytes' first fault where they are no snapshot, else another description, else the
+/// block window, else the console's.
+pub fn a_restore_is_refused_for_one_cause()
+    ensures { (slot : BoardSlot) (bytes : List ℕ) (one other : RestoreFault) →
+        IsCauseOf slot bytes one → IsCauseOf slot bytes other → one ≡ other }
 {}
 
 /// A slot that is as a saved one, with the bytes of its memory and disk put back, is in that one's state (`state`). A guest

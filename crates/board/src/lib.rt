@@ -48,10 +48,10 @@ pub use hosted::{
 };
 pub use laws::{
     a_cut_event_touches_no_other_disk, a_failed_event_keeps_the_rest, a_guest_alone_has_one_run,
-    a_restored_guest_goes_on, a_step_is_a_run, a_stop_between_events_loses_nothing,
-    each_guest_is_alone, identities_stay, nothing_else_is_seen, one_outcome, one_outcome_within,
-    refusals_are_noted, two_runs_are_one, want_of_memory_changes_nothing,
-    want_of_memory_keeps_the_rest,
+    a_restore_is_refused_for_one_cause, a_restored_guest_goes_on, a_step_is_a_run,
+    a_stop_between_events_loses_nothing, each_guest_is_alone, identities_stay,
+    nothing_else_is_seen, one_outcome, one_outcome_within, refusals_are_noted, two_runs_are_one,
+    want_of_memory_changes_nothing, want_of_memory_keeps_the_rest,
 };
 pub use mmio_window::{DeviceKind, Stage};
 pub use pause::{Pause, Service, Turn, Work};

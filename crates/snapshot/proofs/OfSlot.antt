@@ -1,5 +1,5 @@
 -- The same of a slot, and of the whole snapshot.
-use Rattle.std.proofs.Common.{◌≡◌, ℕ, zero, suc, ◌^◌, ◌<◌, ◌≤◌, Bool, true, false, ltb, List, [], ◌∷◌, ◌++◌, length, drop, Result, Ok, Err, refl, ap, subst, ◌∙◌, append_assoc, arith}
+use Rattle.std.proofs.Common.{◌≡◌, ℕ, zero, suc, ◌^◌, ◌<◌, ◌≤◌, Bool, true, false, ltb, List, [], ◌∷◌, ◌++◌, length, drop, Result, Ok, Err, refl, sym, ap, subst, ◌∙◌, append_assoc, arith}
 use Rattle.std.specs.Int.{w32, w64, to_le_bytes}
 use Rattle.std.proofs.lemmas.Bool.{ltb-false, le-ltb}
 use Rattle.snapshot.specs.declared.fault.Stop.{Stop}
@@ -7,7 +7,7 @@ use Rattle.snapshot.specs.declared.fault.Why.TheVariants.{Short, Magic, Version,
 use Rattle.snapshot.specs.declared.fault.SnapshotFault.{SnapshotFault}
 use Rattle.snapshot.specs.declared.saved.SavedSlot.{SavedSlot}
 use Rattle.snapshot.specs.Reading.{◌>>=◌, constant_at, flag_at, input_at, number_at, opening_at, placed, slot_at, snapshot_at, whole_at}
-use Rattle.snapshot.specs.Spelling.{SlotFits, flag, input, magic, opening, slot, snapshot}
+use Rattle.snapshot.specs.Spelling.{IsSnapshot, SlotFits, flag, input, magic, opening, slot, snapshot}
 use Rattle.snapshot.proofs.Exact.{Always, IsBytes, IsField, Takes, Takes-then, both_field, chosen, constant32, constant64, field16, field32, field64, guarded, identity_field, made_field, ok_is, refit, step}
 use Rattle.snapshot.proofs.OfWindow.{window_field}
 
@@ -115,11 +115,6 @@ input_again pending few =
 
 -- ---- the snapshot
 
-pub record IsRead (bytes : List ℕ) (x : SavedSlot) (pending : List ℕ) : Type 0 where
-  pub spelled : bytes ≡ snapshot x pending
-  pub fits : SlotFits x
-  pub few : length pending ≤ 4096
-
 behind_input : (x : SavedSlot) (found : SavedSlot × List ℕ) (r : Result (List ℕ) Stop)
     → (r >>= (λ p. Ok (x, p))) ≡ Ok found → (r ≡ Ok found.1) × (x ≡ found.0)
 behind_input x found (Ok p) e = (
@@ -129,7 +124,7 @@ behind_input x found (Ok p) e = (
 behind_input x found (Err d) e = absurd cc
 
 pub whole_found : (bytes : List ℕ) (x : SavedSlot × List ℕ) → IsBytes bytes → whole_at bytes ≡ Ok x
-    → IsRead bytes x.0 x.1
+    → IsSnapshot bytes x.0 x.1
 unfolding whole_at snapshot
 whole_found bytes x fits e =
     let version = step opening_at opening (λ n. n ≡ 1) bytes _ x opening_field fits e in
@@ -163,6 +158,11 @@ pub snapshot_again : (x : SavedSlot) (pending : List ℕ) → SlotFits x → len
     → snapshot_at (snapshot x pending) ≡ Ok (x, pending)
 snapshot_again x pending fits few = ap (placed (snapshot x pending)) (whole_again x pending fits few)
 
+-- what is spelled so is read
+pub snapshot_read : (bytes : List ℕ) (x : SavedSlot) (pending : List ℕ) → IsSnapshot bytes x pending
+    → snapshot_at bytes ≡ Ok (x, pending)
+snapshot_read bytes x pending is = ap snapshot_at is.spelled ∙ snapshot_again x pending is.fits is.few
+
 abbrev answered : SavedSlot × List ℕ → Result (SavedSlot × List ℕ) SnapshotFault
 answered x = Ok x
 
@@ -175,5 +175,22 @@ placed_ok bytes (Ok y) x e = ap Ok (answered_same y x e)
 placed_ok bytes (Err s) x e = absurd cc
 
 pub snapshot_found : (bytes : List ℕ) (x : SavedSlot × List ℕ) → IsBytes bytes → snapshot_at bytes ≡ Ok x
-    → IsRead bytes x.0 x.1
+    → IsSnapshot bytes x.0 x.1
 snapshot_found bytes x fits e = whole_found bytes x fits (placed_ok bytes (whole_at bytes) x e)
+
+-- bytes are the snapshot of one slot and one input
+pub snapshot_once : (bytes : List ℕ) (x y : SavedSlot) (pending other : List ℕ) → IsSnapshot bytes x pending
+    → IsSnapshot bytes y other → ◌≡◌ {A = SavedSlot × List ℕ} (x, pending) (y, other)
+snapshot_once bytes x y pending other a b =
+    answered_same (x, pending) (y, other)
+    (sym (snapshot_read bytes x pending a) ∙ snapshot_read bytes y other b)
+
+read_or_fault : (r : Result (SavedSlot × List ℕ) SnapshotFault) (x : SavedSlot × List ℕ) (fault : SnapshotFault)
+    → r ≡ answered x → r ≡ Err fault → ⊥
+read_or_fault r x fault a b = cc
+
+-- and no snapshot has a fault
+pub snapshot_or_fault : (bytes : List ℕ) (x : SavedSlot) (pending : List ℕ) (fault : SnapshotFault)
+    → IsSnapshot bytes x pending → snapshot_at bytes ≡ Err fault → ⊥
+snapshot_or_fault bytes x pending fault is e =
+    read_or_fault _ (x, pending) fault (snapshot_read bytes x pending is) e

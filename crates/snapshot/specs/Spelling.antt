@@ -108,6 +108,12 @@ SlotFits s =
     × (((length s.identity ≡ 20) × ((s.cols < 2 ^ 16) × (s.rows < 2 ^ 16)))
     × (WindowFits s.block × WindowFits s.console))
 
+-- The bytes are the snapshot of a slot with this pending input: they spell both, and each has the size of its field.
+pub record IsSnapshot (bytes : List ℕ) (saved : SavedSlot) (pending : List ℕ) : Type 0 where
+  pub spelled : bytes ≡ snapshot saved pending
+  pub fits : SlotFits saved
+  pub few : length pending ≤ 4096
+
 -- ---- writing
 
 -- a text was put behind what stood there, of at most so many bytes

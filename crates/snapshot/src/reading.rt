@@ -1,11 +1,11 @@
 //! Reading a snapshot from left to right.
 
-ghost use Rattle.std.specs.Prelude.{◌≡◌, IfOk, ℕ, List, Ok, ◌≤◌, length};
+ghost use Rattle.std.specs.Prelude.{IfOk, ℕ, List, Ok};
 ghost use Rattle.std.specs.Int.{w32, w64};
 ghost use Rattle.snapshot.specs.declared.saved.SavedSlot.{SavedSlot};
 ghost use Rattle.snapshot.specs.Reading.{Gives, Reads, constant_at, input_at, opening_at, snapshot_at, whole_at};
 ghost use Rattle.snapshot.specs.declared.fault.Why.{Why};
-ghost use Rattle.snapshot.specs.Spelling.{SlotFits, magic, snapshot};
+ghost use Rattle.snapshot.specs.Spelling.{IsSnapshot, magic};
 
 use crate::fault::{SnapshotFault, Stop, Why};
 use crate::reader::Reader;
@@ -22,12 +22,13 @@ const MOST_PENDING: usize = 4096;
 
 /// What a snapshot says, with the pending input. Else the first fault from left to right.
 pub fn read(bytes: &[u8]) -> Result<(SavedSlot, &[u8]), SnapshotFault>
-    ensures exact { Gives (λ x. (x.0, x.1.now)) result (snapshot_at bytes.now) }
-
     // what is read is spelled so, and what is spelled so is read
-    ensures spelled { IfOk result (λ x. (bytes.now ≡ snapshot x.0 x.1.now) × SlotFits x.0 × (length x.1.now ≤ 4096)) }
-    ensures only { (slot : SavedSlot) (pending : List ℕ) → SlotFits slot → length pending ≤ 4096 →
-        bytes.now ≡ snapshot slot pending → Gives {Y = SavedSlot × List ℕ} (λ x. (x.0, x.1.now)) result (Ok (slot, pending)) }
+    ensures spelled { IfOk result (λ x. IsSnapshot bytes.now x.0 x.1.now) }
+    ensures only { (slot : SavedSlot) (pending : List ℕ) → IsSnapshot bytes.now slot pending →
+        Gives {Y = SavedSlot × List ℕ} (λ x. (x.0, x.1.now)) result (Ok (slot, pending)) }
+
+    // and of other bytes the first fault is told
+    ensures exact { Gives (λ x. (x.0, x.1.now)) result (snapshot_at bytes.now) }
 {
     found(bytes)
 }

@@ -1,8 +1,7 @@
 //! Writing a snapshot: into new memory, or into a buffer that is lent.
 
-ghost use Rattle.std.specs.Prelude.{◌≡◌, ◌↔◌, ◌<◌, ◌≤◌, ◌+◌, ◌++◌, IfOk, IsErr, Ok, OnErr, drop, length};
-ghost use Rattle.snapshot.specs.Reading.{snapshot_at};
-ghost use Rattle.snapshot.specs.Spelling.{snapshot};
+ghost use Rattle.std.specs.Prelude.{◌≡◌, ◌↔◌, ◌<◌, ◌≤◌, ◌+◌, ◌++◌, IfOk, IsErr, OnErr, drop, length};
+ghost use Rattle.snapshot.specs.Spelling.{IsSnapshot, snapshot};
 
 use crate::fault::ShortBuffer;
 use crate::head::head_of;
@@ -17,10 +16,7 @@ pub fn write<A: Allocator>(
     back: &[u8],
 ) -> Result<Vec<u8, A>, AllocError>
     requires { length front.now + length back.now ≤ 4096 }
-    ensures text { IfOk result (λ bytes. bytes.items ≡ snapshot saved (front.now ++ back.now)) }
-
-    // and it reads back
-    ensures again { IfOk result (λ bytes. snapshot_at bytes.items ≡ Ok (saved, front.now ++ back.now)) }
+    ensures { IfOk result (λ bytes. IsSnapshot bytes.items saved (front.now ++ back.now)) }
 {
     let head = head_of(&saved, front.len() + back.len());
     let mut out = Vec::with_capacity(alloc, head.len() + front.len() + back.len())?;
@@ -52,9 +48,7 @@ pub fn write_into(
     ensures text { IfOk result (λ len. into.new ≡ snapshot saved.now (front.now ++ back.now) ++ drop len into.old) }
     ensures short { IsErr result ↔ (length into.old < length (snapshot saved.now (front.now ++ back.now))) }
     ensures kept { OnErr result (into.new ≡ into.old) }
-
-    // and it reads back
-    ensures again { snapshot_at (snapshot saved.now (front.now ++ back.now)) ≡ Ok (saved.now, front.now ++ back.now) }
+    ensures whole { IsSnapshot (snapshot saved.now (front.now ++ back.now)) saved.now (front.now ++ back.now) }
 {
     let head = head_of(saved, front.len() + back.len());
     let of_front = head.len() + front.len();

@@ -4,7 +4,7 @@
 //! completion, and everything else is done at once. `access` is what an embedder reaches between its events, and `saved` its
 //! snapshot.
 
-ghost use Rattle.std.specs.Prelude.{◌≡◌, ◌<◌, ℕ, List, Some, None, IfSome, IsSome, is_some, ◌&&◌};
+ghost use Rattle.std.specs.Prelude.{◌≡◌, ◌<◌, ℕ, List, [], Some, None, IfNone, IfSome, IsSome, is_some, ◌&&◌};
 ghost use Rattle.block_device.specs.Operation.{LiesInside};
 ghost use Rattle.board.specs.declared.event.EventKind.{EventKind};
 ghost use Rattle.board.specs.Image.{sectors_of};
@@ -170,15 +170,19 @@ impl<A: Allocator> HostedSlot<A> {
         }
     }
 
-    /// Where the bytes of the operation in flight lie.
+    /// Where the bytes of the operation in flight lie: no runs where nothing is.
     pub(crate) fn runs(&self) -> &[Segment]
         ensures runs { IfSome self.now.flight (λ here. result.now ≡ here.runs) }
+        ensures none { IfNone self.now.flight (result.now ≡ []) }
 
         // nothing that the host is told lies outside the guest's memory or its disk, whatever the guest has done since
         ensures inside { IfSome self.now.flight (λ here.
             LiesInside (sectors_of self.now.slot.extent) self.now.slot.memory here.flight.operation here.runs) }
     {
-        self.runs.as_slice()
+        match &self.flight {
+            Some(_) => self.runs.as_slice(),
+            None => &[],
+        }
     }
 
     /// Completes what is in flight by what came of it, and looks at the queue again.

@@ -1,8 +1,6 @@
-use Rattle.std.proofs.Common.{◌≡◌, ◌∙◌, ◌++◌, ap, arith, length-append, refl, sym}
-use Rattle.snapshot.specs.Reading.{snapshot_at}
+use Rattle.std.proofs.Common.{◌≡◌, ◌∙◌, ◌++◌, arith, length-append, refl, sym}
 use Rattle.snapshot.specs.Spelling.{snapshot}
 use Rattle.snapshot.proofs.Joining.{all_appended, snapshot_of_head}
-use Rattle.snapshot.proofs.OfSlot.{snapshot_again}
 use Rattle.snapshot.proofs.writing.write.Goals as goal
 
 -- what was written
@@ -17,11 +15,9 @@ text g c =
     ∙ sym (snapshot_of_head c.args.saved c.args.front.now c.args.back.now c.head_of-head.result.items _
     c.head_of-head.ensures.text refl)
 
-pub returns-clause-text : goal.returns-clause-text
-returns-clause-text g c = text g c
-
-pub returns-clause-again : goal.returns-clause-again
-returns-clause-again g c =
-    ap snapshot_at (text g c)
-    ∙ snapshot_again c.args.saved (c.args.front.now ++ c.args.back.now) c.head_of-head.ensures.fits
-    (omega (arith, length-append c.args.front.now c.args.back.now, c.requires))
+pub returns : goal.returns
+returns g c = record {
+  spelled = text g c;
+  fits = c.head_of-head.ensures.fits;
+  few = omega (arith, length-append c.args.front.now c.args.back.now, c.requires);
+}

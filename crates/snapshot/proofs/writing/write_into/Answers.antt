@@ -1,6 +1,5 @@
-use Rattle.std.proofs.Common.{◌≡◌, ◌+◌, ◌-◌, ◌++◌, arith, length, length-append, refl}
+use Rattle.std.proofs.Common.{◌≡◌, ◌+◌, ◌-◌, arith, length, length-append, refl}
 use Rattle.snapshot.proofs.Joining.{all_put, snapshot_len, snapshot_of_head}
-use Rattle.snapshot.proofs.OfSlot.{snapshot_again}
 use Rattle.snapshot.proofs.writing.write_into.Goals as goal
 
 pub returns-then-into-len-clause-short : goal.returns-then-into-len-clause-short
@@ -9,10 +8,12 @@ returns-then-into-len-clause-short c =
     c.head_of-head.ensures.text refl in
     (λ is. omega (arith, long, c.len.ensures.value, c.if-into-len.true), λ less. refl)
 
-pub returns-then-into-len-clause-again : goal.returns-then-into-len-clause-again
-returns-then-into-len-clause-again c =
-    snapshot_again c.args.saved.now (c.args.front.now ++ c.args.back.now) c.head_of-head.ensures.fits
-    (omega (arith, length-append c.args.front.now c.args.back.now, c.requires))
+pub returns-then-into-len-clause-whole : goal.returns-then-into-len-clause-whole
+returns-then-into-len-clause-whole c = record {
+  spelled = refl;
+  fits = c.head_of-head.ensures.fits;
+  few = omega (arith, length-append c.args.front.now c.args.back.now, c.requires);
+}
 
 pub returns-clause-len : goal.returns-clause-len
 returns-clause-len c =
@@ -56,7 +57,9 @@ returns-clause-short c =
           (omega (arith, long, c.len.ensures.value, c.if-into-len.false, less)),
     )
 
-pub returns-clause-again : goal.returns-clause-again
-returns-clause-again c =
-    snapshot_again c.args.saved.now (c.args.front.now ++ c.args.back.now) c.head_of-head.ensures.fits
-    (omega (arith, length-append c.args.front.now c.args.back.now, c.requires))
+pub returns-clause-whole : goal.returns-clause-whole
+returns-clause-whole c = record {
+  spelled = refl;
+  fits = c.head_of-head.ensures.fits;
+  few = omega (arith, length-append c.args.front.now c.args.back.now, c.requires);
+}

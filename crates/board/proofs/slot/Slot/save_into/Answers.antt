@@ -11,4 +11,4 @@ returns-clause-saved g c =
     c.self.view_is c.self.invariant)
     c.saved.ensures.value (c.pending.ensures ∙ ap (λ (slot : BoardSlot). slot.pending) c.self.view_is)
     c.saved.ensures.block c.saved.ensures.console c.write_into.ensures.len c.write_into.ensures.text
-    c.write_into.ensures.short c.write_into.ensures.again
+    c.write_into.ensures.short c.write_into.ensures.whole
