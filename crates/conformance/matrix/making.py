@@ -1,6 +1,7 @@
 """Makes the scenarios of tables, and the pages that follow from them."""
 import concurrent.futures
 import contextlib
+import gc
 import hashlib
 import importlib
 import itertools
@@ -108,6 +109,7 @@ def is_in_both(story):
 
 def make(names, known, jobs):
     """Makes tables; what the state then says, and what is wrong."""
+    gc.disable()
     wrong, modules = [], [name for name in names if not name.startswith("rows/")]
     for name in names:
         if name not in modules:

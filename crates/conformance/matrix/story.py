@@ -48,8 +48,7 @@ class Slot:
         return numbers if self.identity is None else f"{numbers} {self.identity.hex()}"
 
 
-@dataclasses.dataclass(frozen=True)
-class Said:
+class Said(typing.NamedTuple):
     """What the rules say of a record; None where they are not asked."""
 
     slot: int
@@ -58,9 +57,8 @@ class Said:
     words: typing.Optional[str]
 
     def is_met_by(self, record):
-        slot, reply, output, *words = record.split(" ")
-        pairs = ((f"{self.slot:x}", slot), (self.reply, reply), (self.output, output), (self.words, " ".join(words)))
-        return all(said is None or said == found for said, found in pairs)
+        slot, reply, output, words = record.split(" ", 3)
+        return slot == f"{self.slot:x}" and self.reply in (None, reply) and self.output in (None, output) and self.words in (None, words)
 
     def __str__(self):
         return " ".join("?" if one is None else one for one in (f"{self.slot:x}", self.reply, self.output, self.words))
