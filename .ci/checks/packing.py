@@ -139,7 +139,11 @@ def release():
     with tempfile.TemporaryDirectory() as folder:
         for name in ("libkalyubos.a", "libkalyubos.so", "vreplay", "vshow"):
             pathlib.Path(folder, name).write_text("stands for what is built\n")
-        return script(TOP / "packaging/release", "check", "--built", folder)
+        good, said = script(TOP / "packaging/release", "check", "--built", folder, "--level", "1")
+        number = spelled(re.search(VERSIONS["README.md"][0], (TOP / "README.md").read_text(encoding="utf-8"), re.MULTILINE)[1])
+        pathlib.Path(folder, "vreplay").write_text(f"stands for {number}-unproved\n")
+        is_packed, refused = script(TOP / "packaging/release", "dist", "--built", folder, "--out", folder)
+    return good and not is_packed, said + ([refused[-1]] if is_packed else [])
 
 
 CHECKS = {"version": version, "make run": make_run, "release": release}
