@@ -1,6 +1,6 @@
 //! Which slot of a description can't be had, and which region of its memory. No board is made.
 
-ghost use Rattle.std.specs.Prelude.{◌≡◌, ◌≢◌, ◌⊎◌, ℕ, IfErr, IfOk, IsErrOf, OnOk, map};
+ghost use Rattle.std.specs.Prelude.{◌≡◌, ◌≢◌, ◌↔◌, ◌⊎◌, ℕ, IfErr, IfOk, IsErrOf, OnOk, map};
 ghost use Rattle.board.specs.declared.fault.BoardFault.{BoardFault};
 ghost use Rattle.board.specs.Fault.{AreGood, AreGoodHosted, Refuses, RefusesHosted};
 ghost use Rattle.session.specs.Refusing.{AreOutlets};
@@ -27,11 +27,15 @@ pub extern "C" fn kalyubos_judge(
 ) -> u32
     ensures good { result ≡ 0 → AreSized slots.now × AreOutlets (map guest_of slots.now)
         × AreGood sectors (slots_of (map guest_of slots.now)) }
-    ensures size { result ≡ 17 → ¬ AreSized slots.now × (slot.new ≡ first_of_other_size slots.now) }
-    ensures outlet { result ≡ 16 →
-        ¬ AreOutlets (map guest_of slots.now) × (slot.new ≡ first_of_large_outlet slots.now) }
-    ensures fault { result ≢ 0 → result ≢ 5 → result ≢ 16 → result ≢ 17 → IsJudged (λ fault. (cache : ℕ) →
-        Refuses sectors (slots_of (map guest_of slots.now)) cache fault) result slot.old slot.new region.old region.new }
+    ensures size { (result ≡ 17) ↔ ¬ AreSized slots.now }
+    ensures place_of_size { result ≡ 17 → (slot.new ≡ first_of_other_size slots.now) × (region.new ≡ region.old) }
+    ensures outlet { AreSized slots.now → ((result ≡ 16) ↔ ¬ AreOutlets (map guest_of slots.now)) }
+    ensures place_of_outlet { result ≡ 16 → (slot.new ≡ first_of_large_outlet slots.now) × (region.new ≡ region.old) }
+    ensures fault { AreSized slots.now → AreOutlets (map guest_of slots.now) → result ≢ 0 → result ≢ 5 →
+        IsJudged (λ fault. (cache : ℕ) → Refuses sectors (slots_of (map guest_of slots.now)) cache fault)
+        result slot.old slot.new region.old region.new }
+    ensures memory { result ≡ 5 → AreSized slots.now × AreOutlets (map guest_of slots.now)
+        × (slot.new ≡ slot.old) × (region.new ≡ region.old) }
     ensures kept { result ≡ 0 → (slot.new ≡ slot.old) × (region.new ≡ region.old) }
 {
     let specs = match described(alloc, slots, slot) {
@@ -54,11 +58,15 @@ pub extern "C" fn kalyubos_judge_hosted(
 ) -> u32
     ensures good { result ≡ 0 → AreSized slots.now × AreOutlets (map guest_of slots.now)
         × AreGoodHosted (slots_of (map guest_of slots.now)) }
-    ensures size { result ≡ 17 → ¬ AreSized slots.now × (slot.new ≡ first_of_other_size slots.now) }
-    ensures outlet { result ≡ 16 →
-        ¬ AreOutlets (map guest_of slots.now) × (slot.new ≡ first_of_large_outlet slots.now) }
-    ensures fault { result ≢ 0 → result ≢ 5 → result ≢ 16 → result ≢ 17 →
-        IsJudged (RefusesHosted (slots_of (map guest_of slots.now))) result slot.old slot.new region.old region.new }
+    ensures size { (result ≡ 17) ↔ ¬ AreSized slots.now }
+    ensures place_of_size { result ≡ 17 → (slot.new ≡ first_of_other_size slots.now) × (region.new ≡ region.old) }
+    ensures outlet { AreSized slots.now → ((result ≡ 16) ↔ ¬ AreOutlets (map guest_of slots.now)) }
+    ensures place_of_outlet { result ≡ 16 → (slot.new ≡ first_of_large_outlet slots.now) × (region.new ≡ region.old) }
+    ensures fault { AreSized slots.now → AreOutlets (map guest_of slots.now) → result ≢ 0 → result ≢ 5 →
+        IsJudged (RefusesHosted (slots_of (map guest_of slots.now)))
+        result slot.old slot.new region.old region.new }
+    ensures memory { result ≡ 5 → AreSized slots.now × AreOutlets (map guest_of slots.now)
+        × (slot.new ≡ slot.old) × (region.new ≡ region.old) }
     ensures kept { result ≡ 0 → (slot.new ≡ slot.old) × (region.new ≡ region.old) }
 {
     let specs = match described(alloc, slots, slot) {
@@ -76,11 +84,13 @@ fn described(alloc: Global, slots: &[Slot], slot: &mut usize) -> Result<Vec<Slot
     ensures specs { IfOk result (λ specs. specs.items ≡ slots_of (map guest_of slots.now)) }
     ensures sized { OnOk result (AreSized slots.now) }
     ensures outlets { OnOk result (AreOutlets (map guest_of slots.now)) }
-    ensures kept { OnOk result (slot.new ≡ slot.old) }
     ensures number { IfErr result (λ number. (number ≡ 5) ⊎ (number ≡ 16) ⊎ (number ≡ 17)) }
-    ensures bad_size { IsErrOf result 17 → ¬ AreSized slots.now × (slot.new ≡ first_of_other_size slots.now) }
-    ensures bad_outlet { IsErrOf result 16 →
-        ¬ AreOutlets (map guest_of slots.now) × (slot.new ≡ first_of_large_outlet slots.now) }
+    ensures bad_size { IsErrOf result 17 ↔ ¬ AreSized slots.now }
+    ensures bad_outlet { AreSized slots.now → (IsErrOf result 16 ↔ ¬ AreOutlets (map guest_of slots.now)) }
+    ensures place_of_size { IsErrOf result 17 → slot.new ≡ first_of_other_size slots.now }
+    ensures place_of_outlet { IsErrOf result 16 → slot.new ≡ first_of_large_outlet slots.now }
+    ensures memory { IsErrOf result 5 → AreSized slots.now × AreOutlets (map guest_of slots.now) × (slot.new ≡ slot.old) }
+    ensures kept { OnOk result (slot.new ≡ slot.old) }
 {
     if !are_sized(slots) {
         *slot = sized(slots);
