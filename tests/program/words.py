@@ -190,7 +190,7 @@ TEXTS = [
     (f"vreplay 2\ncache 1\nslot 0 1000 0 9 rw 50 19 {NAMED}\n".encode(),
      "slot 0 (line 3): an extent passes the end of the image"),
     (b"vreplay 1\ncache 1\n" + b"slot 0 1000 0 0 rw 0 0\n" * 17,
-     "the trace's board: in version 1 it has sixteen slots at most, in later versions sixty-four"),
+     "the trace's board: after \"vreplay 1\" it has sixteen slots at most, after another first line sixty-four"),
     (b"vreplay 2\ncache 1\n", "the trace's board: a board needs a slot"),
 ]
 

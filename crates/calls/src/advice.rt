@@ -13,8 +13,8 @@ use std::alloc::Allocator;
 use std::fmt::{Display, Formatter};
 use std::{fmt, io};
 use trace::{
-    FaultKind, Field, TraceFault, VERSION_1, VERSION_2, VERSION_3, field_at_fault, fields_after,
-    first_word, line_of, version_of,
+    FaultKind, Field, Format, TraceFault, Version, field_at_fault, fields_after, first_word,
+    format_of, line_of,
 };
 
 /// One line for a person.
@@ -43,11 +43,11 @@ pub enum Advice<'a> {
     Unsaved(&'a str),
     /// Standard output that can't be written.
     Output,
-    /// A line of a trace that is refused, its text, and the trace's version.
-    Line(TraceFault, &'a [u8], u8),
+    /// A line of a trace that is refused, its text, and the trace's format.
+    Line(TraceFault, &'a [u8], Format),
     /// A board that is refused.
     Board(BoardFault),
-    /// A trace of version 1 with more slots than that has.
+    /// A trace of version 1 with more slots than that may have.
     ManySlots,
     /// How many calls of an image that was served in place failed, the first, and whose sector that was.
     Failed(&'a str, u64, FileFailure, Option<usize>),
@@ -108,12 +108,10 @@ impl<'a> Advice<'a> {
             ReplayFault::Read => Advice::Unread("the trace"),
             ReplayFault::Trace(fault) => match fault.kind {
                 FaultKind::NoMemory => Advice::Memory("the trace"),
-                _ => Advice::Line(fault, line_of(text, fault.line), version_in(text)),
+                _ => Advice::Line(fault, line_of(text, fault.line), format_in(text)),
             },
             ReplayFault::Board(fault) if fault.lacks_memory() => Advice::Memory("the board"),
-            ReplayFault::Board(BoardFault::TooManySlots) if version_in(text) == VERSION_1 => {
-                Advice::ManySlots
-            }
+            ReplayFault::Board(BoardFault::TooManySlots) if is_version_1(text) => Advice::ManySlots,
             ReplayFault::Board(fault) => Advice::Board(fault),
             ReplayFault::Run(_) | ReplayFault::NoMemory => Advice::Memory("the records"),
             ReplayFault::Write => Advice::Output,
@@ -160,11 +158,11 @@ impl Display for Advice<'_> {
             Advice::Unmade(name, error) => write!(f, "{name:?} can't be made: {error}"),
             Advice::Unsaved(name) => write!(f, "{name:?} can't be written whole"),
             Advice::Output => write!(f, "standard output can't be written"),
-            Advice::Line(fault, line, version) => write_line(f, *fault, line, *version),
+            Advice::Line(fault, line, format) => write_line(f, *fault, line, *format),
             Advice::Board(fault) => write_board(f, *fault),
             Advice::ManySlots => write!(
                 f,
-                "the trace's board: in version 1 it has sixteen slots at most, in later versions sixty-four"
+                "the trace's board: after \"vreplay 1\" it has sixteen slots at most, after another first line sixty-four"
             ),
             Advice::Failed(name, count, first, slot) => {
                 write!(f, "{name:?}: {count} failed of its calls, first ")?;
@@ -211,12 +209,16 @@ fn write_failure<W: fmt::Write>(
 /// How many words are shown.
 const SHOWN_WORDS: usize = 8;
 
-// The version that a text's first line names, and the second where it names none.
-fn version_in(text: &[u8]) -> u8 {
-    match version_of(line_of(text, 1)) {
-        Some(version) => version,
-        None => VERSION_2,
+// The format that a text's first line names, and the plain one in version 2 where it names none.
+fn format_in(text: &[u8]) -> Format {
+    match format_of(line_of(text, 1)) {
+        Some(format) => format,
+        None => Format::Plain(Version::Two),
     }
+}
+
+fn is_version_1(text: &[u8]) -> bool {
+    format_in(text) == Format::Plain(Version::One)
 }
 
 // How a call looks, and the words that were found.
@@ -234,25 +236,18 @@ fn write_line<W: fmt::Write>(
     f: &mut Formatter<W>,
     fault: TraceFault,
     line: &[u8],
-    version: u8,
+    format: Format,
 ) -> fmt::Result {
     let number = fault.line;
     write!(f, "line {number}: ")?;
     let wanted = match fault.kind {
         FaultKind::Cut => "each line ends with a line feed, and the first two are there",
-        FaultKind::Header => "the first line is \"vreplay 1\", \"vreplay 2\" or \"vreplay 3\"",
-        FaultKind::Word if number == 2 && version < VERSION_3 => {
-            "the second line is the cache's, as \"cache 8\""
-        }
-        FaultKind::Word if number == 2 => {
-            "the second line is the cache's, as \"cache 8\", or \"hosted\""
-        }
-        FaultKind::Word if version < VERSION_3 => "a line begins with slot, r, w, mr, mw, in or sz",
-        FaultKind::Word => "a line begins with slot, r, w, mr, mw, in, sz, st or io",
+        FaultKind::Header => "the first line is \"vreplay 1\", \"vreplay 2\" or \"kalyubos 1\"",
+        FaultKind::Word => words_for(format, number),
         FaultKind::Order => "slots stand before all events",
-        FaultKind::Fields => return write_fields(f, line, version),
+        FaultKind::Fields => return write_fields(f, line, format),
         kind => {
-            return match field_at_fault(version, line, kind) {
+            return match field_at_fault(format, line, kind) {
                 Some((field, bytes)) => write_field(f, field, bytes),
                 None => write!(f, "{kind}"),
             };
@@ -262,14 +257,24 @@ fn write_line<W: fmt::Write>(
     write!(f, "{wanted}; found {shown}")
 }
 
+// With which words a line of this number begins.
+fn words_for(format: Format, number: u64) -> &'static str {
+    match (format, number) {
+        (Format::Plain(_), 2) => "the second line is the cache's, as \"cache 8\"",
+        (Format::Extended, 2) => "the second line is the cache's, as \"cache 8\", or \"hosted\"",
+        (Format::Plain(_), _) => "a line begins with slot, r, w, mr, mw, in or sz",
+        (Format::Extended, _) => "a line begins with slot, r, w, mr, mw, in, sz, st or io",
+    }
+}
+
 // How many fields a line has, and how it was found.
-fn write_fields<W: fmt::Write>(f: &mut Formatter<W>, line: &[u8], version: u8) -> fmt::Result {
+fn write_fields<W: fmt::Write>(f: &mut Formatter<W>, line: &[u8], format: Format) -> fmt::Result {
     let shown = Shown(line);
     let Some(word) = first_word(line) else {
         return write!(f, "found {shown}");
     };
-    let count = fields_after(version, word).len();
-    let (word, example) = example_of(version, word);
+    let count = fields_after(format, word).len();
+    let (word, example) = example_of(format, word);
     if count == 0 {
         return write!(f, "{word} has no field after it; found {shown}");
     }

@@ -1,21 +1,13 @@
 //! How the lines of a trace and their fields are spelled, for people.
 
-use trace::{Field, VERSION_1, VERSION_3, Word};
+use trace::{Field, Format, Version, Word};
 
-/// A word, and fields after it as they look in a version.
-pub fn example_of(version: u8, word: Word) -> (&'static str, &'static str) {
+/// A word, and fields after it as they look in a format.
+pub fn example_of(format: Format, word: Word) -> (&'static str, &'static str) {
     match word {
         Word::Cache => ("cache", "8"),
         Word::Hosted => ("hosted", ""),
-        Word::Slot if version == VERSION_1 => ("slot", "80000000 1000 0 8 rw 50 19"),
-        Word::Slot if version < VERSION_3 => (
-            "slot",
-            "80000000 1000 0 8 rw 50 19 6469736b2d300000000000000000000000000000",
-        ),
-        Word::Slot => (
-            "slot",
-            "80000000+1000,100000000+1000 0 8 rw 50 19 6469736b2d300000000000000000000000000000",
-        ),
+        Word::Slot => ("slot", example_of_slot(format)),
         Word::Read => ("r", "0 b 070 4"),
         Word::Write => ("w", "0 b 070 4 0000000f"),
         Word::MemRead => ("mr", "0 80000ffe 2"),
@@ -24,6 +16,19 @@ pub fn example_of(version: u8, word: Word) -> (&'static str, &'static str) {
         Word::Resize => ("sz", "0 50 19"),
         Word::Restore => ("st", "0 4b414c59"),
         Word::Complete => ("io", "0 done"),
+    }
+}
+
+// The fields of a slot.
+fn example_of_slot(format: Format) -> &'static str {
+    match format {
+        Format::Plain(Version::One) => "80000000 1000 0 8 rw 50 19",
+        Format::Plain(Version::Two) => {
+            "80000000 1000 0 8 rw 50 19 6469736b2d300000000000000000000000000000"
+        }
+        Format::Extended => {
+            "80000000+1000,100000000+1000 0 8 rw 50 19 6469736b2d300000000000000000000000000000"
+        }
     }
 }
 

@@ -1,6 +1,6 @@
 pub mod Limiting
 pub mod Playing
-pub mod Versions
+pub mod Formats
 pub mod LastLines
 pub mod Gathering
 pub mod OneSlotLemmas

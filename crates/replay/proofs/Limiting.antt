@@ -10,6 +10,7 @@ use Rattle.std.proofs.lemmas.List.Edits.{map_over_more}
 use Rattle.board.specs.declared.spec.SlotSpec.{SlotSpec}
 use Rattle.board.specs.Fault.{AreGoodHosted, IsAccepted}
 use Rattle.guest_memory.specs.Faults.{AreGood, size_of}
+use Rattle.trace.specs.declared.format.Format.{Format}
 use Rattle.replay.specs.Limits.{IsSmallMemory, asked_of_board, most_memory, no_memory}
 
 -- ---- the loop that asks for no memory in place of a large one
@@ -25,15 +26,15 @@ one_more {X} f xs ys i d new below same is written =
 
 -- ---- what a board accepts
 
-module _ (version : ℕ) where
+module _ (format : Format) where
   -- a memory that isn't larger is asked for as it is
-  asked_small : (spec : SlotSpec) → IsSmallMemory version spec → asked_of_board version spec ≡ spec
-  asked_small spec small = rw (le-ltb (most_memory version) (size_of spec.regions) small) refl
+  asked_small : (spec : SlotSpec) → IsSmallMemory format spec → asked_of_board format spec ≡ spec
+  asked_small spec small = rw (le-ltb (most_memory format) (size_of spec.regions) small) refl
 
-  asked_large : (spec : SlotSpec) → most_memory version < size_of spec.regions
-      → (asked_of_board version spec).regions ≡ no_memory
+  asked_large : (spec : SlotSpec) → most_memory format < size_of spec.regions
+      → (asked_of_board format spec).regions ≡ no_memory
   asked_large spec large =
-      let test : nat_lt (most_memory version) (size_of spec.regions) ≡ true = grind (arith, large) in
+      let test : nat_lt (most_memory format) (size_of spec.regions) ≡ true = grind (arith, large) in
       rw test refl
 
   -- no board takes a region without a byte
@@ -43,26 +44,26 @@ module _ (version : ℕ) where
       let least = first.size.own.least in
       omega (arith, least)
 
-  small_or_none : (spec : SlotSpec) → AreGood (asked_of_board version spec).regions
-      → (most_memory version < size_of spec.regions) ⊎ (size_of spec.regions ≤ most_memory version)
-      → IsSmallMemory version spec
+  small_or_none : (spec : SlotSpec) → AreGood (asked_of_board format spec).regions
+      → (most_memory format < size_of spec.regions) ⊎ (size_of spec.regions ≤ most_memory format)
+      → IsSmallMemory format spec
   small_or_none spec good (inl large) = absurd (none_good (subst AreGood (asked_large spec large) good))
   small_or_none spec good (inr small) = small
 
   -- slots of which the board is asked for good memories
   pub all_small : (slots : List SlotSpec)
-      → ((i : ℕ) (spec : SlotSpec) → slice_get (map (asked_of_board version) slots) i ≡ Some spec
-      → AreGood spec.regions) → All (IsSmallMemory version) slots
+      → ((i : ℕ) (spec : SlotSpec) → slice_get (map (asked_of_board format) slots) i ≡ Some spec
+      → AreGood spec.regions) → All (IsSmallMemory format) slots
   all_small slots good = λ k d below.
-      let there : slice_get (map (asked_of_board version) slots) k
-      ≡ Some (asked_of_board version (get_or slots k d))
-      = slice_get-map (asked_of_board version) slots k
-      ∙ ap (option_map (asked_of_board version)) (slice_get-get_or slots k d below) in
-      small_or_none (get_or slots k d) (good k (asked_of_board version (get_or slots k d)) there)
-      (cases_lt (most_memory version) (size_of (get_or slots k d).regions))
+      let there : slice_get (map (asked_of_board format) slots) k
+      ≡ Some (asked_of_board format (get_or slots k d))
+      = slice_get-map (asked_of_board format) slots k
+      ∙ ap (option_map (asked_of_board format)) (slice_get-get_or slots k d below) in
+      small_or_none (get_or slots k d) (good k (asked_of_board format (get_or slots k d)) there)
+      (cases_lt (most_memory format) (size_of (get_or slots k d).regions))
 
-  pub all_asked : (slots : List SlotSpec) → All (IsSmallMemory version) slots
-      → map (asked_of_board version) slots ≡ slots
+  pub all_asked : (slots : List SlotSpec) → All (IsSmallMemory format) slots
+      → map (asked_of_board format) slots ≡ slots
   all_asked [] small = refl
   all_asked (spec ∷ slots) small =
       rw (
@@ -71,19 +72,19 @@ module _ (version : ℕ) where
       ) refl
 
 -- Slots that are asked for as a trace is, of which what was asked for is taken.
-module _ (version : ℕ) (Taken : List SlotSpec → Type 0)
+module _ (format : Format) (Taken : List SlotSpec → Type 0)
     (good : (slots : List SlotSpec) (i : ℕ) (spec : SlotSpec) → Taken slots
     → slice_get slots i ≡ Some spec → AreGood spec.regions) (slots asked : List SlotSpec)
-    (same : asked ≡ map (asked_of_board version) slots) where
-  taken_small : Taken asked → All (IsSmallMemory version) slots
-  taken_small taken = all_small version slots (λ i spec there. good (map (asked_of_board version) slots) i
+    (same : asked ≡ map (asked_of_board format) slots) where
+  taken_small : Taken asked → All (IsSmallMemory format) slots
+  taken_small taken = all_small format slots (λ i spec there. good (map (asked_of_board format) slots) i
       spec (subst Taken same taken) there)
 
   as_described : Taken asked → asked ≡ slots
-  as_described taken = same ∙ all_asked version slots (taken_small taken)
+  as_described taken = same ∙ all_asked format slots (taken_small taken)
 
   pub small_of : {V E : Type 0} (result : Result V E) → OnOk result (Taken asked)
-      → OnOk result (All (IsSmallMemory version) slots)
+      → OnOk result (All (IsSmallMemory format) slots)
   small_of (Ok v) taken = taken_small taken
   small_of (Err e) taken = tt
 
@@ -104,25 +105,25 @@ accepted_good : (sectors cache : ℕ) (slots : List SlotSpec) (i : ℕ) (spec : 
 accepted_good sectors cache slots i spec accepted there =
     (accepted.slots_good.each i spec (slice_get_within slots i spec there) there).memory
 
-module _ (version sectors cache : ℕ) (slots asked : List SlotSpec)
-    (same : asked ≡ map (asked_of_board version) slots) where
+module _ (format : Format) (sectors cache : ℕ) (slots asked : List SlotSpec)
+    (same : asked ≡ map (asked_of_board format) slots) where
   pub small_when : {V E : Type 0} (result : Result V E) → OnOk result (IsAccepted sectors asked cache)
-      → OnOk result (All (IsSmallMemory version) slots)
+      → OnOk result (All (IsSmallMemory format) slots)
   small_when result accepted =
-      small_of version (λ s. IsAccepted sectors s cache) (accepted_good sectors cache) slots asked
+      small_of format (λ s. IsAccepted sectors s cache) (accepted_good sectors cache) slots asked
       same result accepted
 
   pub accepted_when : {V E : Type 0} (result : Result V E) → OnOk result (IsAccepted sectors asked cache)
       → OnOk result (IsAccepted sectors slots cache)
   accepted_when result accepted =
-      taken_of version (λ s. IsAccepted sectors s cache) (accepted_good sectors cache) slots asked
+      taken_of format (λ s. IsAccepted sectors s cache) (accepted_good sectors cache) slots asked
       same result accepted
 
   pub made_when : {V E : Type 0} (Made : V → List SlotSpec → Type 0) (result : Result V E)
       → OnOk result (IsAccepted sectors asked cache) → IfOk result (λ v. Made v asked)
       → IfOk result (λ v. Made v slots)
   made_when Made result accepted made =
-      made_of version (λ s. IsAccepted sectors s cache) (accepted_good sectors cache) slots asked same Made
+      made_of format (λ s. IsAccepted sectors s cache) (accepted_good sectors cache) slots asked same Made
       result accepted made
 
 -- ---- where the host serves the disks
@@ -131,18 +132,19 @@ hosted_good : (slots : List SlotSpec) (i : ℕ) (spec : SlotSpec) → AreGoodHos
     → slice_get slots i ≡ Some spec → AreGood spec.regions
 hosted_good slots i spec good there = (good.each i spec (slice_get_within slots i spec there) there).memory
 
-module _ (version : ℕ) (slots asked : List SlotSpec) (same : asked ≡ map (asked_of_board version) slots) where
+module _ (format : Format) (slots asked : List SlotSpec)
+    (same : asked ≡ map (asked_of_board format) slots) where
   pub hosted_small_when : {V E : Type 0} (result : Result V E) → OnOk result (AreGoodHosted asked)
-      → OnOk result (All (IsSmallMemory version) slots)
+      → OnOk result (All (IsSmallMemory format) slots)
   hosted_small_when result accepted =
-      small_of version AreGoodHosted hosted_good slots asked same result accepted
+      small_of format AreGoodHosted hosted_good slots asked same result accepted
 
   pub hosted_accepted_when : {V E : Type 0} (result : Result V E) → OnOk result (AreGoodHosted asked)
       → OnOk result (AreGoodHosted slots)
   hosted_accepted_when result accepted =
-      taken_of version AreGoodHosted hosted_good slots asked same result accepted
+      taken_of format AreGoodHosted hosted_good slots asked same result accepted
 
   pub hosted_made_when : {V E : Type 0} (Made : V → List SlotSpec → Type 0) (result : Result V E)
       → OnOk result (AreGoodHosted asked) → IfOk result (λ v. Made v asked) → IfOk result (λ v. Made v slots)
   hosted_made_when Made result accepted made =
-      made_of version AreGoodHosted hosted_good slots asked same Made result accepted made
+      made_of format AreGoodHosted hosted_good slots asked same Made result accepted made

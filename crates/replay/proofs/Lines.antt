@@ -3,6 +3,7 @@ use Rattle.std.proofs.Common.{◌≡◌, ◌≢◌, ℕ, suc, ◌≤◌, List, [
 use Rattle.std.proofs.lemmas.List.{append_cancel_left, length-append}
 use Rattle.board.specs.declared.event.Event.{Event}
 use Rattle.trace.specs.declared.disks.Disks.TheVariants.{Cached}
+use Rattle.trace.specs.declared.format.Format.TheVariants.{Extended}
 use Rattle.trace.specs.declared.read.parsed_event.ParsedEvent.{ParsedEvent}
 use Rattle.trace.specs.Cuts.{fields_of, lines_of}
 use Rattle.trace.specs.Validating.{AreEventLines, AreLinesOf, HaveRoom, bytes_len, parsed_len}
@@ -12,7 +13,7 @@ use Rattle.replay.specs.Running.{HasRoomFor, RunsLine, RunsParsed}
 use Rattle.trace.specs.ParsedEvent.{parsed_fields}
 use Rattle.trace.specs.Text.{ended, event_fields, event_line, front_text, joined}
 use Rattle.trace.proofs.Entries.{cut_event}
-use Rattle.trace.proofs.EventLines.{alone, alone_fits, first_cut, unbroken}
+use Rattle.trace.proofs.EventLines.{alone, alone_fits, begins_at, first_cut, unbroken}
 use Rattle.trace.proofs.Printed.{text_is}
 use Rattle.trace.proofs.Saying.{meant}
 use Rattle.trace.proofs.Unique.{one_trace, same_event_fields}
@@ -23,26 +24,12 @@ use Rattle.trace.proofs.Unique.{one_trace, same_event_fields}
 pub one_text : {A : Type 0} (ds es : List (Event A)) (lines : List ℕ) → AreLinesOf ds lines
     → AreLinesOf es lines → ds ≡ es
 one_text ds es lines hd he =
-    let same = ap (λ (x : List ℕ). (front_text 3 (Cached 0) ++ joined [])
+    let same = ap (λ (x : List ℕ). (front_text Extended (Cached 0) ++ joined [])
     ++ x) (sym hd.spelled ∙ he.spelled) in
     ap (λ c. c.events) (one_trace (alone ds) (alone es) (alone_fits ds hd.fine) (alone_fits es he.fine)
     (sym (text_is (alone ds)) ∙ same ∙ text_is (alone es)))
 
 -- ---- the next line
-
-begins_at : {A : Type 0} (left : List (Event A)) (rest : List ℕ) → AreLinesOf left rest → length rest ≢ 0
-    → BeginsWithEvent A rest
-unfolding joined
-begins_at [] rest more some = absurd (some (ap length more.spelled))
-begins_at (e ∷ left) rest more some =
-    record {
-      event = e;
-      after = joined (map event_line left);
-      begins = record {
-        fine = more.fine 0 e (omega arith);
-        is = more.spelled ∙ append_assoc (event_line e) (10 ∷ []) (joined (map event_line left));
-      };
-    }
 
 -- what was taken off is the first of the events, and the others are left
 record IsNext {A : Type 0} (e : Event A) (left : List (Event A)) (parsed : ParsedEvent A)

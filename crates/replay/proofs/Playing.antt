@@ -1,5 +1,5 @@
 -- What comes of a text that is a trace's, once there is a board for it.
-use Rattle.std.proofs.Common.{◌≡◌, ◌∙◌, ℕ, ◌<◌, ◌≤◌, List, Option, Some, Result, Ok, Err, length, map, ap, subst, sym, inl, inr, arith}
+use Rattle.std.proofs.Common.{◌≡◌, ◌∙◌, ℕ, ◌<◌, List, Option, Some, Result, Ok, Err, length, map, ap, subst, sym, inl, inr}
 use Rattle.std.proofs.KnownBytes.{Keeps-refl}
 use Rattle.std.specs.Prelude.{All}
 use Rattle.sector_cache.specs.Disk.{Disk}
@@ -16,6 +16,9 @@ use Rattle.trace.specs.Validating.{AreLinesOf, IsValidated, Validation}
 use Rattle.replay.specs.declared.fault.ReplayFault.{ReplayFault}
 use Rattle.replay.specs.declared.fault.ReplayFault.TheVariants.{Read, Trace, Board, Run, Write, NoMemory}
 use Rattle.replay.specs.Limits.{IsSmallMemory, asked_of_board}
+use Rattle.trace.specs.declared.format.Format.{Format}
+use Rattle.trace.specs.declared.format.Format.TheVariants.{Plain, Extended}
+use Rattle.trace.specs.declared.format.Version.TheVariants.{One}
 use Rattle.trace.specs.Text.{disks_word}
 use Rattle.trace.specs.Words.{IsWordOf}
 use Rattle.replay.specs.Replay.{AcceptsBy, AfterRun, HasTooMany, Plays, RefusesBoard, RefusesBoardOf, RefusesBy, Replays, front}
@@ -35,7 +38,7 @@ replays disk input old new before after (Err NoMemory) plays = plays
 pub played : {A I : Type 0} (disk : I → Disk) (text : List ℕ) (old new : Option (List ℕ)) (before after : I)
     (outcome : Result (Unit {0}) ReplayFault) (j : Validation) (disks : Disks) (slots : List SlotSpec)
     → IsValidated A text j → j.disks ≡ disks → slots ≡ j.slots
-    → (¬ HasTooMany (front A j.version disks slots)) → All (IsSmallMemory j.version) slots
+    → (¬ HasTooMany (front A j.format disks slots)) → All (IsSmallMemory j.format) slots
     → AcceptsBy disks (disk before).sector_count slots
     → ((events : List (Event A)) → AreLinesOf events j.events
     → AfterRun disks disk slots events before after old new outcome)
@@ -48,11 +51,11 @@ played {A} {I} disk text old new before after outcome j disks slots is kind same
       trace = is.trace;
       read = is.read;
       few = λ many. few (record {
-        version = sym is.version ∙ many.version;
+        version = sym is.format ∙ many.version;
         many = subst (λ (s : List SlotSpec). 16 < length s) (sym described) many.many;
       });
-      small = subst (λ (v : ℕ). All (IsSmallMemory v) is.trace.slots) (sym is.version)
-          (subst (λ (s : List SlotSpec). All (IsSmallMemory j.version) s) described small);
+      small = subst (λ (v : Format). All (IsSmallMemory v) is.trace.slots) (sym is.format)
+          (subst (λ (s : List SlotSpec). All (IsSmallMemory j.format) s) described small);
       accepted = subst (λ (s : List SlotSpec). AcceptsBy is.trace.disks
           (disk before).sector_count s) described
           (subst (λ (d : Disks). AcceptsBy d (disk before).sector_count slots) placed accepted);
@@ -62,14 +65,15 @@ played {A} {I} disk text old new before after outcome j disks slots is kind same
           outcome) placed run);
     })
 
--- a trace whose disks the host serves is of version 3
+-- a trace whose disks the host serves is an extended one
 pub few_hosted : {A : Type 0} (text : List ℕ) (j : Validation) (slots : List SlotSpec) → IsValidated A text j
-    → j.disks ≡ Hosted → ¬ HasTooMany (front A j.version Hosted slots)
+    → j.disks ≡ Hosted → ¬ HasTooMany (front A j.format Hosted slots)
 few_hosted text j slots is kind many =
-    let three : 3 ≤ is.trace.version =
-    subst (λ (d : Disks). IsWordOf is.trace.version (disks_word d)) (is.disks
+    let extended : is.trace.format ≡ Extended =
+    subst (λ (d : Disks). IsWordOf is.trace.format (disks_word d)) (is.disks
     ∙ kind) is.read.printable.disks in
-    omega (arith, is.version, many.version)
+    let one : is.trace.format ≡ Plain One = is.format ∙ many.version in
+    absurd cc
 
 -- the same over an image
 pub played_over : {A I : Type 0} (disk : I → Disk) (text : List ℕ) (old new : Option (List ℕ))
@@ -77,7 +81,7 @@ pub played_over : {A I : Type 0} (disk : I → Disk) (text : List ℕ) (old new 
     (slots : List SlotSpec) (board : BoardState I)
     → IsValidated A text j → j.disks ≡ Cached capacity → slots ≡ j.slots
     → board ≡ record { slots = map opened slots; image = before }
-    → (¬ HasTooMany (front A j.version (Cached capacity) slots)) → All (IsSmallMemory j.version) slots
+    → (¬ HasTooMany (front A j.format (Cached capacity) slots)) → All (IsSmallMemory j.format) slots
     → IsAccepted (disk before).sector_count slots capacity
     → ((specs : List SlotSpec) (events : List (Event A)) → board.slots ≡ map opened specs
     → AreLinesOf events j.events
@@ -95,7 +99,7 @@ pub played_hosted : {A I : Type 0} (disk : I → Disk) (text : List ℕ) (old ne
     (before after : I) (outcome : Result (Unit {0}) ReplayFault) (j : Validation) (slots : List SlotSpec)
     (board : List HostedState)
     → IsValidated A text j → j.disks ≡ Hosted → slots ≡ j.slots → board ≡ map hosted_opened slots
-    → All (IsSmallMemory j.version) slots → AreGoodHosted slots
+    → All (IsSmallMemory j.format) slots → AreGoodHosted slots
     → ((specs : List SlotSpec) (events : List (Event A)) → board ≡ map hosted_opened specs
     → AreLinesOf events j.events → AfterRun Hosted disk specs events before after old new outcome)
     → Replays A disk (Some text) old new before after outcome
@@ -107,7 +111,7 @@ played_hosted disk text old new before after outcome j slots board is kind same 
 pub refused_board : {A I : Type 0} (disk : I → Disk) (text : List ℕ) (old : Option (List ℕ))
     (before after : I) (fault : BoardFault) (j : Validation) (disks : Disks) (slots : List SlotSpec)
     → IsValidated A text j → j.disks ≡ disks → slots ≡ j.slots → after ≡ before
-    → RefusesBoardOf (disk before).sector_count (front A j.version disks slots) fault
+    → RefusesBoardOf (disk before).sector_count (front A j.format disks slots) fault
     → RefusesBoard A disk (Some text) old old before after fault
 refused_board disk text old before after fault j disks slots is kind same image refused =
     let described : slots ≡ is.trace.slots = same ∙ sym is.slots in
@@ -120,22 +124,22 @@ refused_board disk text old before after fault j disks slots is kind same image 
       refused = elim refused [
         | inl many ↦ inl (
           record {
-            version = is.version ∙ many.0.version;
+            version = is.format ∙ many.0.version;
             many = subst (λ (s : List SlotSpec). 16 < length s) described many.0.many;
           },
           many.1,
         )
         | inr own ↦ inr (
           λ many. own.0 (record {
-            version = sym is.version ∙ many.version;
+            version = sym is.format ∙ many.version;
             many = subst (λ (s : List SlotSpec). 16 < length s) (sym described) many.many;
           }),
           subst (λ (s : List SlotSpec). RefusesBy is.trace.disks sectors
-              (map (asked_of_board is.trace.version) s) fault) described
-              (subst (λ (d : Disks). RefusesBy d sectors (map (asked_of_board is.trace.version) slots) fault)
+              (map (asked_of_board is.trace.format) s) fault) described
+              (subst (λ (d : Disks). RefusesBy d sectors (map (asked_of_board is.trace.format) slots) fault)
               placed
-              (subst (λ (v : ℕ). RefusesBy disks sectors (map (asked_of_board v) slots) fault)
-              (sym is.version) own.1)),
+              (subst (λ (v : Format). RefusesBy disks sectors (map (asked_of_board v) slots) fault)
+              (sym is.format) own.1)),
         )
       ];
     }

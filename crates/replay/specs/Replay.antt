@@ -1,5 +1,5 @@
 -- What a replay comes to: the trace that it read, the run on that trace's board, and what it wrote.
-use Rattle.std.specs.Prelude.{◌≡◌, ◌≢◌, ◌⊎◌, ℕ, ◌<◌, ◌≤◌, ⊤, All, List, [], ◌∷◌, length, map, take, Option, IfSome, Result, Ok, Err}
+use Rattle.std.specs.Prelude.{◌≡◌, ◌≢◌, ◌⊎◌, ℕ, ◌<◌, ⊤, All, List, [], ◌∷◌, length, map, take, Option, IfSome, Result, Ok, Err}
 use Rattle.std.specs.Io.KnownBytes.{Appends, IsAtEnd, Keeps}
 use Rattle.sector_cache.specs.Disk.{Disk}
 use Rattle.board.specs.declared.event.Event.{Event}
@@ -14,6 +14,9 @@ use Rattle.board.specs.Slot.{BoardSlot, opened}
 use Rattle.board.specs.World.{extents_of, seen}
 use Rattle.trace.specs.declared.disks.Disks.{Disks}
 use Rattle.trace.specs.declared.disks.Disks.TheVariants.{Cached, Hosted}
+use Rattle.trace.specs.declared.format.Format.{Format}
+use Rattle.trace.specs.declared.format.Format.TheVariants.{Plain, Extended}
+use Rattle.trace.specs.declared.format.Version.TheVariants.{One}
 use Rattle.trace.specs.declared.fault.FaultKind.TheVariants as kind
 use Rattle.trace.specs.declared.fault.TraceFault.{TraceFault}
 use Rattle.replay.specs.declared.fault.ReplayFault.{ReplayFault}
@@ -78,19 +81,19 @@ AfterRun disks disk slots events before after old new (Err NoMemory) =
 AfterRun disks disk slots events before after old new (Err _) = ⊥
 
 -- what a trace has before its events
-abbrev pub front : (A : Type 0) → ℕ → Disks → List SlotSpec → Content A
-front A version disks slots = record { version = version; disks = disks; slots = slots; events = [] }
+abbrev pub front : (A : Type 0) → Format → Disks → List SlotSpec → Content A
+front A format disks slots = record { format = format; disks = disks; slots = slots; events = [] }
 
 -- a trace of version 1 has at most sixteen slots, whatever a board may have
 pub record HasTooMany {A : Type 0} (trace : Content A) : Type 0 where
-  pub version : trace.version ≡ 1
+  pub version : trace.format ≡ Plain One
   pub many : 16 < length trace.slots
 
--- a trace that a later version takes as its own does: it hasn't too many slots, and where the later version
+-- a trace that another format takes as its own does: it hasn't too many slots, and where the extended format
 -- admits larger memories, none is too large for its own
-pub record IsAdmittedUntil {A : Type 0} (version : ℕ) (trace : Content A) : Type 0 where
+pub record IsAdmittedUntil {A : Type 0} (format : Format) (trace : Content A) : Type 0 where
   pub few : ¬ HasTooMany trace
-  pub small : trace.version < 3 → 3 ≤ version → All (IsSmallMemory trace.version) trace.slots
+  pub small : trace.format ≢ Extended → format ≡ Extended → All (IsSmallMemory trace.format) trace.slots
 
 -- which slots there may be on the board of a trace, and why it is refused, by where its disks are: over an
 -- image of so many sectors, or each on a disk of its own
@@ -108,7 +111,7 @@ abbrev pub RefusesBoardOf : {A : Type 0} → ℕ → Content A → BoardFault �
 RefusesBoardOf sectors trace fault =
     (HasTooMany trace × (fault ≡ TooManySlots))
     ⊎ ((¬ HasTooMany trace) × RefusesBy trace.disks sectors
-    (map (asked_of_board trace.version) trace.slots) fault)
+    (map (asked_of_board trace.format) trace.slots) fault)
 
 -- the trace was read, there is a board for it, and this came of its events
 pub record Plays {I : Type 0} (A : Type 0) (disk : I → Disk) (input old new : Option (List ℕ))
@@ -116,7 +119,7 @@ pub record Plays {I : Type 0} (A : Type 0) (disk : I → Disk) (input old new : 
   pub trace : Content A
   pub read : IfSome input (λ bytes. IsTraceOf bytes trace)
   pub few : ¬ HasTooMany trace
-  pub small : All (IsSmallMemory trace.version) trace.slots
+  pub small : All (IsSmallMemory trace.format) trace.slots
   pub accepted : AcceptsBy trace.disks (disk before).sector_count trace.slots
   pub ended : AfterRun trace.disks disk trace.slots trace.events before after old new outcome
 

@@ -2,7 +2,7 @@
 //!
 //! `replaying` has both passes over a text: `trace` validates it whole, and `runs` then
 //! runs it line by line, on a board over an image (`running`) or one whose disks the host serves (`hosted`). `input` gathers what a reader gives, `fault` says why a replay did not come to its end, `last_line` tells how a program ends
-//! after it, `limits` says which memories a trace may describe, and `laws` that the version of a trace says nothing of what
+//! after it, `limits` says which memories a trace may describe, and `laws` that the format of a trace says nothing of what
 //! comes of it.
 #![tactic(auto)]
 

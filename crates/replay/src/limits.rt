@@ -6,41 +6,40 @@ ghost use Rattle.replay.specs.Limits.{asked_of_board, most_memory};
 
 use board::SlotSpec;
 use guest_memory::{RegionSpec, Regions};
-use trace::VERSION_3;
+use trace::Format;
 
-/// The largest memory of a guest before version 3, in bytes.
-const MOST_MEMORY: u64 = 1 << 28;
+/// The largest memory of a guest in a plain trace, in bytes.
+const MOST_PLAIN_MEMORY: u64 = 1 << 28;
 
-/// The largest memory of a guest in version 3, all its regions together.
-const MOST_MEMORY_IN_VERSION_3: u64 = 1 << 32;
+/// The largest memory of a guest in an extended trace, all its regions together.
+const MOST_EXTENDED_MEMORY: u64 = 1 << 32;
 
-/// Asks for no memory where a guest's is larger than a trace of this version may describe, so that its board is refused
+/// Asks for no memory where a guest's is larger than a trace of this format may describe, so that its board is refused
 /// for that size.
-pub fn limit_memories(version: u8, slots: &mut [SlotSpec])
-    ensures { slots.new ≡ map (asked_of_board version) slots.old }
+pub fn limit_memories(format: Format, slots: &mut [SlotSpec])
+    ensures { slots.new ≡ map (asked_of_board format) slots.old }
 {
     for slot in slots.iter_mut() {
-        limit_memory(version, slot);
+        limit_memory(format, slot);
     }
 }
 
 // The same for one guest.
-fn limit_memory(version: u8, slot: &mut SlotSpec)
-    ensures { slot.new ≡ asked_of_board version slot.old }
+fn limit_memory(format: Format, slot: &mut SlotSpec)
+    ensures { slot.new ≡ asked_of_board format slot.old }
 {
-    if are_larger(slot.regions.as_slice(), most_memory(version)) {
+    if are_larger(slot.regions.as_slice(), most_memory(format)) {
         slot.regions = Regions::one(0, 0);
     }
 }
 
-// The largest memory of a guest in a version.
-fn most_memory(version: u8) -> u64
-    ensures { result ≡ most_memory version }
+// The largest memory of a guest in a format.
+fn most_memory(format: Format) -> u64
+    ensures { result ≡ most_memory format }
 {
-    if version < VERSION_3 {
-        MOST_MEMORY
-    } else {
-        MOST_MEMORY_IN_VERSION_3
+    match format {
+        Format::Plain(_) => MOST_PLAIN_MEMORY,
+        Format::Extended => MOST_EXTENDED_MEMORY,
     }
 }
 

@@ -22,7 +22,7 @@ use board::{Board, BoardFault, HostedBoard, SlotSpec};
 use sector_cache::{Image, Refused};
 use std::alloc::Allocator;
 use std::io::{Read, Write};
-use trace::{Disks, FaultKind, TraceFault, VERSION_1, Validated, validate};
+use trace::{Disks, FaultKind, Format, TraceFault, Validated, Version, validate};
 
 /// The fault where there is no memory for the input.
 const NO_ROOM: TraceFault = TraceFault {
@@ -103,7 +103,7 @@ fn replay_over<W: Write, I: Image, A: Allocator + Copy>(
 {
     match board_of(
         alloc,
-        validated.version,
+        validated.format,
         capacity,
         &mut validated.slots,
         image,
@@ -128,47 +128,47 @@ fn replay_hosted<W: Write, I: Image, A: Allocator + Copy>(
     ensures read { result.1 ≢ Err ReplayFault.Read }
     ensures whole { (done : ℕ) → result.1 ≢ Err (ReplayFault.Run done) }
 {
-    match hosted_board_of(alloc, validated.version, &mut validated.slots) {
+    match hosted_board_of(alloc, validated.format, &mut validated.slots) {
         Ok(board) => run_hosted(alloc, board, validated.events, room, writer, image),
         Err(why) => (image, Err(ReplayFault::Board(why))),
     }
 }
 
-// The board of a trace of this version, with this cache and these slots, over an image.
+// The board of a trace of this format, with this cache and these slots, over an image.
 fn board_of<I: Image, A: Allocator + Copy>(
     alloc: A,
-    version: u8,
+    format: Format,
     capacity: u32,
     slots: &mut [SlotSpec],
     image: I,
 ) -> Result<Board<I, A>, Refused<I, BoardFault>>
     ensures made { IfOk result (λ board. board ≡ record { slots = map opened slots.old; image = image }) }
-    ensures few { OnOk result (¬ HasTooMany (front A version (Disks.Cached capacity) slots.old)) }
-    ensures small { OnOk result (All (IsSmallMemory version) slots.old) }
+    ensures few { OnOk result (¬ HasTooMany (front A format (Disks.Cached capacity) slots.old)) }
+    ensures small { OnOk result (All (IsSmallMemory format) slots.old) }
     ensures accepted { OnOk result (IsAccepted (I.disk image).sector_count slots.old capacity) }
-    ensures fault { IfErr result (λ refused. RefusesBoardOf (I.disk image).sector_count (front A version (Disks.Cached capacity) slots.old) refused.why) }
+    ensures fault { IfErr result (λ refused. RefusesBoardOf (I.disk image).sector_count (front A format (Disks.Cached capacity) slots.old) refused.why) }
     ensures returned { IfErr result (λ refused. refused.image ≡ image) }
 {
-    if version == VERSION_1 && slots.len() > MOST_SLOTS_IN_VERSION_1 {
+    if format == Format::Plain(Version::One) && slots.len() > MOST_SLOTS_IN_VERSION_1 {
         let why = BoardFault::TooManySlots;
         return Err(Refused { image, why });
     }
-    limit_memories(version, slots);
+    limit_memories(format, slots);
     Board::new(alloc, slots, image, capacity)
 }
 
-// The board of a trace of this version whose disks the host serves, with these slots.
+// The board of a trace of this format whose disks the host serves, with these slots.
 fn hosted_board_of<A: Allocator + Copy>(
     alloc: A,
-    version: u8,
+    format: Format,
     slots: &mut [SlotSpec],
 ) -> Result<HostedBoard<A>, BoardFault>
     ensures made { IfOk result (λ board. board ≡ map hosted_opened slots.old) }
-    ensures small { OnOk result (All (IsSmallMemory version) slots.old) }
+    ensures small { OnOk result (All (IsSmallMemory format) slots.old) }
     ensures accepted { OnOk result (AreGoodHosted slots.old) }
-    ensures fault { IfErr result (RefusesHosted (map (asked_of_board version) slots.old)) }
+    ensures fault { IfErr result (RefusesHosted (map (asked_of_board format) slots.old)) }
 {
-    limit_memories(version, slots);
+    limit_memories(format, slots);
     HostedBoard::new(alloc, slots)
 }
 

@@ -85,7 +85,7 @@ fn watcher_of(
     text: &mut Text,
 ) -> Option<Watcher> {
     let mut trace = read_trace(alloc, front).ok()?;
-    limit_memories(trace.version, &mut trace.slots);
+    limit_memories(trace.format, &mut trace.slots);
     let board = Watched::new(alloc, trace.disks, &trace.slots, before)?;
     let watcher = Watcher::new(alloc, board).ok()?;
     watcher.say_board(&trace, text);

@@ -14,7 +14,7 @@ use guest_memory::RegionSpec;
 use mmio_window::Queue;
 use negotiation::{Features, Flags};
 use std::alloc::{AllocError, Global};
-use trace::{Disks, Trace};
+use trace::{Disks, Format, Trace, Version};
 
 /// The offset of QueueNotify (4.2.2).
 const QUEUE_NOTIFY: u16 = 0x050;
@@ -59,15 +59,18 @@ impl Watcher {
 
     /// Says the board of a trace, a line for each of the trace's.
     pub fn say_board(&self, trace: &Trace, text: &mut Text) {
-        text.say("1 version ");
-        text.count(u64::from(trace.version));
+        text.say(match trace.format {
+            Format::Plain(Version::One) => "1 version 1\n",
+            Format::Plain(Version::Two) => "1 version 2\n",
+            Format::Extended => "1 extended\n",
+        });
         match trace.disks {
             Disks::Cached { capacity } => {
-                text.say("\n2 cache of ");
+                text.say("2 cache of ");
                 text.counted(u64::from(capacity), "sector");
                 text.say("\n");
             }
-            Disks::Hosted => text.say("\n2 hosted: the host serves each guest's disk\n"),
+            Disks::Hosted => text.say("2 hosted: the host serves each guest's disk\n"),
         }
         for (number, slot) in trace.slots.iter().enumerate() {
             say_slot(text, number as u64, slot, trace.disks);

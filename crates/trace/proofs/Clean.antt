@@ -1,78 +1,92 @@
 -- Lines that are those of a trace pass every check.
-use Rattle.std.proofs.Common.{◌≡◌, ℕ, suc, ◌+◌, ◌-◌, ◌<◌, ◌≤◌, List, [], ◌∷◌, ◌++◌, All, length, get_or, drop, refl, sym, ap, subst, ◌∙◌, arith, inl, inr}
+use Rattle.std.proofs.Common.{◌≡◌, ℕ, suc, ◌+◌, ◌-◌, ◌<◌, ◌≤◌, List, [], ◌∷◌, ◌++◌, All, cond, eqb, length, get_or, drop, refl, sym, ap, subst, ◌∙◌, arith, inl, inr}
 use Rattle.std.proofs.lemmas.Bool.{cases_lt, cases_eq}
 use Rattle.std.proofs.lemmas.List.{length-append, get_or_append_left, get_or-append_right}
 use Rattle.std.proofs.lemmas.List.Elements.{All-get_or}
 use Rattle.trace.specs.declared.fault.FaultKind.{FaultKind}
 use Rattle.trace.specs.declared.fault.FaultKind.TheVariants as kind
+use Rattle.trace.specs.declared.format.Format.{Format}
+use Rattle.trace.specs.declared.format.Format.TheVariants.{Plain, Extended}
+use Rattle.trace.specs.declared.format.Version.TheVariants.{One, Two}
 use Rattle.trace.specs.declared.word.Word.{Word}
 use Rattle.trace.specs.declared.word.Word.TheVariants.{Slot}
 use Rattle.trace.specs.Cuts.{lines_of}
-use Rattle.trace.specs.Faults.{AllSay, AreAsMany, HasWord, IsEnded, IsHeader, IsOfVersion, MayStand, Passes, first_field, line_at, other_fields}
+use Rattle.trace.specs.Faults.{AllSay, AreAsMany, HasWord, IsEnded, IsHeader, IsOfFormat, MayStand, Passes, first_field, line_at, other_fields}
 use Rattle.trace.specs.Text.{header}
-use Rattle.trace.specs.Version.{IsVersion}
 use Rattle.trace.specs.Words.{spelled, shapes, IsWordOf}
 use Rattle.trace.proofs.Entries.{Entered, EnteredEvent, EnteredSecond, same_word}
 use Rattle.trace.proofs.Refused.{may_move}
 
--- a first line names one version
-pub same_version : (v w : ℕ) (text : List ℕ) → IsOfVersion text v → IsOfVersion text w → v ≡ w
-same_version v w text one other = omega (arith, ap (λ (xs : List ℕ). get_or xs 8 0) (sym one ∙ other))
+-- a header is one format's, by its ninth byte
+abbrev format_at : ℕ → Format
+format_at n = cond (eqb n 49) (Plain One) (cond (eqb n 50) (Plain Two) Extended)
 
--- what makes line k of a text of this version pass each check
-pub record Good (version : ℕ) (text : List ℕ) (k : ℕ) : Type 0 where
+named : (format : Format) → format_at (get_or (header format) 8 0) ≡ format
+named (Plain One) = refl
+named (Plain Two) = refl
+named Extended = refl
+
+pub same_header : (v w : Format) → header v ≡ header w → v ≡ w
+same_header v w e = sym (named v) ∙ ap (λ (xs : List ℕ). format_at (get_or xs 8 0)) e ∙ named w
+
+-- a first line names one format
+pub same_format : (v w : Format) (text : List ℕ) → IsOfFormat text v → IsOfFormat text w → v ≡ w
+same_format v w text one other = same_header v w (sym one ∙ other)
+
+-- what makes line k of a text of this format pass each check
+pub record Good (format : Format) (text : List ℕ) (k : ℕ) : Type 0 where
   pub ended : IsEnded text k
-  pub names : IsOfVersion text version
+  pub names : IsOfFormat text format
   pub first : k ≡ 1 → IsHeader (line_at text k)
-  pub word : 2 ≤ k → HasWord version k (line_at text k)
+  pub word : 2 ≤ k → HasWord format k (line_at text k)
   pub order : first_field (line_at text k) ≡ spelled Slot → (j : ℕ) → 3 ≤ j → j < k
       → first_field (line_at text j) ≡ spelled Slot
-  pub entry : 2 ≤ k → (word : Word) × Entered version (line_at text k) word
+  pub entry : 2 ≤ k → (word : Word) × Entered format (line_at text k) word
 
 -- the word of a line and its fields
-first_is : (version : ℕ) (l : List ℕ) (w : Word) → Entered version l w → first_field l ≡ spelled w
-first_is version l w e = ap (λ (fs : List (List ℕ)). get_or fs 0 []) e.cut
+first_is : (format : Format) (l : List ℕ) (w : Word) → Entered format l w → first_field l ≡ spelled w
+first_is format l w e = ap (λ (fs : List (List ℕ)). get_or fs 0 []) e.cut
 
-others_are : (version : ℕ) (l : List ℕ) (w : Word) (e : Entered version l w) → other_fields l ≡ e.fields
-others_are version l w e = ap (drop 1) e.cut
+others_are : (format : Format) (l : List ℕ) (w : Word) (e : Entered format l w) → other_fields l ≡ e.fields
+others_are format l w e = ap (drop 1) e.cut
 
-counted : (version : ℕ) (l : List ℕ) (v w : Word) → Entered version l v → first_field l ≡ spelled w
-    → AreAsMany version w (other_fields l)
-counted version l v w e is =
-    let same = same_word v w (sym (first_is version l v e) ∙ is) in
-    subst (λ (x : Word). AreAsMany version x (other_fields l)) same
-    (subst (AreAsMany version v) (sym (others_are version l v e)) e.count)
+counted : (format : Format) (l : List ℕ) (v w : Word) → Entered format l v → first_field l ≡ spelled w
+    → AreAsMany format w (other_fields l)
+counted format l v w e is =
+    let same = same_word v w (sym (first_is format l v e) ∙ is) in
+    subst (λ (x : Word). AreAsMany format x (other_fields l)) same
+    (subst (AreAsMany format v) (sym (others_are format l v e)) e.count)
 
-parsed : (version : ℕ) (l : List ℕ) (v w : Word) (fault : FaultKind) → Entered version l v
-    → first_field l ≡ spelled w → AllSay fault (shapes version w (other_fields l)) (other_fields l)
-parsed version l v w fault e is =
-    let same = same_word v w (sym (first_is version l v e) ∙ is) in
-    subst (λ (x : Word). AllSay fault (shapes version x (other_fields l)) (other_fields l)) same
-    (subst (λ (fs : List (List ℕ)). AllSay fault (shapes version v fs) fs)
-    (sym (others_are version l v e)) (e.say fault))
+parsed : (format : Format) (l : List ℕ) (v w : Word) (fault : FaultKind) → Entered format l v
+    → first_field l ≡ spelled w → AllSay fault (shapes format w (other_fields l)) (other_fields l)
+parsed format l v w fault e is =
+    let same = same_word v w (sym (first_is format l v e) ∙ is) in
+    subst (λ (x : Word). AllSay fault (shapes format x (other_fields l)) (other_fields l)) same
+    (subst (λ (fs : List (List ℕ)). AllSay fault (shapes format v fs) fs)
+    (sym (others_are format l v e)) (e.say fault))
 
-module _ (version : ℕ) (text : List ℕ) (k : ℕ) (g : Good version text k) where
-  good_parsed : (fault : FaultKind) → 2 ≤ k → (v : ℕ) → IsOfVersion text v → (w : Word)
+module _ (format : Format) (text : List ℕ) (k : ℕ) (g : Good format text k) where
+  good_parsed : (fault : FaultKind) → 2 ≤ k → (v : Format) → IsOfFormat text v → (w : Word)
       → first_field (line_at text k) ≡ spelled w
       → AllSay fault (shapes v w (other_fields (line_at text k))) (other_fields (line_at text k))
   good_parsed fault le v names w is =
       let e = g.entry le in
-      subst (λ (x : ℕ). AllSay fault (shapes x w (other_fields (line_at text k)))
-      (other_fields (line_at text k))) (same_version version v text g.names names)
-      (parsed version (line_at text k) e.0 w fault e.1 is)
+      subst (λ (x : Format). AllSay fault (shapes x w (other_fields (line_at text k)))
+      (other_fields (line_at text k))) (same_format format v text g.names names)
+      (parsed format (line_at text k) e.0 w fault e.1 is)
 
-  good_counted : 2 ≤ k → (v : ℕ) → IsOfVersion text v → (w : Word) → first_field (line_at text k) ≡ spelled w
-      → AreAsMany v w (other_fields (line_at text k))
+  good_counted : 2 ≤ k → (v : Format) → IsOfFormat text v → (w : Word)
+      → first_field (line_at text k) ≡ spelled w → AreAsMany v w (other_fields (line_at text k))
   good_counted le v names w is =
       let e = g.entry le in
-      subst (λ (x : ℕ). AreAsMany x w (other_fields (line_at text k)))
-      (same_version version v text g.names names) (counted version (line_at text k) e.0 w e.1 is)
+      subst (λ (x : Format). AreAsMany x w (other_fields (line_at text k)))
+      (same_format format v text g.names names) (counted format (line_at text k) e.0 w e.1 is)
 
   pub good_passes : (fault : FaultKind) → Passes text k fault
   good_passes kind.Cut = λ owed. g.ended
   good_passes kind.Header = λ end. g.first
-  good_passes kind.Word = λ end le v names. subst (λ (x : ℕ). HasWord x k (line_at text k))
-      (same_version version v text g.names names) (g.word le)
+  good_passes kind.Word = λ end le v names. subst (λ (x : Format). HasWord x k (line_at text k))
+      (same_format format v text g.names names) (g.word le)
   good_passes kind.Order = λ end. g.order
   good_passes kind.Fields = λ end. good_counted
   good_passes kind.Number = λ end. good_parsed kind.Number
@@ -80,19 +94,18 @@ module _ (version : ℕ) (text : List ℕ) (k : ℕ) (g : Good version text k) w
   good_passes kind.Bytes = λ end. good_parsed kind.Bytes
   good_passes kind.NoMemory = tt
 
-abbrev pub IsSlotLine : ℕ → List ℕ → Type 0
-IsSlotLine version l = Entered version l Slot
+abbrev pub IsSlotLine : Format → List ℕ → Type 0
+IsSlotLine format l = Entered format l Slot
 
 -- a text whose first lines are a header, where its disks are, slots and events, before at least one more part
-module _ (version : ℕ) (text k : List ℕ) (S E more : List (List ℕ))
-    (is : lines_of text ≡ (header version ∷ k ∷ (S ++ E)) ++ more) (some : 0 < length more)
-    (one_of : IsVersion version)
-    (second : EnteredSecond version k) (slots : All (IsSlotLine version) S)
-    (events : All (EnteredEvent version) E) where
+module _ (format : Format) (text k : List ℕ) (S E more : List (List ℕ))
+    (is : lines_of text ≡ (header format ∷ k ∷ (S ++ E)) ++ more) (some : 0 < length more)
+    (second : EnteredSecond format k) (slots : All (IsSlotLine format) S)
+    (events : All (EnteredEvent format) E) where
   total : length (lines_of text) ≡ 2 + (length S + length E) + length more
-  total = ap length is ∙ omega (arith, length-append (header version ∷ k ∷ (S ++ E)) more, length-append S E)
+  total = ap length is ∙ omega (arith, length-append (header format ∷ k ∷ (S ++ E)) more, length-append S E)
 
-  at_one : IsOfVersion text version
+  at_one : IsOfFormat text format
   at_one = ap (λ (ls : List (List ℕ)). get_or ls 0 []) is
 
   at_two : line_at text 2 ≡ k
@@ -102,7 +115,7 @@ module _ (version : ℕ) (text k : List ℕ) (S E more : List (List ℕ))
   at_later j le lt =
       let e : j - 1 ≡ suc (suc (j - 3)) = omega arith in
       ap (λ (ls : List (List ℕ)). get_or ls (j - 1) []) is
-      ∙ ap (λ (n : ℕ). get_or ((header version ∷ k ∷ (S ++ E)) ++ more) n []) e
+      ∙ ap (λ (n : ℕ). get_or ((header format ∷ k ∷ (S ++ E)) ++ more) n []) e
       ∙ get_or_append_left (S ++ E) more [] (j - 3) (omega (arith, length-append S E))
 
   at_slot : (j : ℕ) → 3 ≤ j → j < 3 + length S → line_at text j ≡ get_or S (j - 3) []
@@ -113,21 +126,21 @@ module _ (version : ℕ) (text k : List ℕ) (S E more : List (List ℕ))
   at_event j le lt = at_later j (omega arith) lt
       ∙ get_or-append_right S E (length S) (j - 3) [] refl (omega arith)
 
-  slot_there : (j : ℕ) → 3 ≤ j → j < 3 + length S → Entered version (line_at text j) Slot
-  slot_there j le lt = subst (λ (l : List ℕ). Entered version l Slot) (sym (at_slot j le lt))
-      (All-get_or (IsSlotLine version) S (j - 3) [] (omega arith) slots)
+  slot_there : (j : ℕ) → 3 ≤ j → j < 3 + length S → Entered format (line_at text j) Slot
+  slot_there j le lt = subst (λ (l : List ℕ). Entered format l Slot) (sym (at_slot j le lt))
+      (All-get_or (IsSlotLine format) S (j - 3) [] (omega arith) slots)
 
   event_there : (j : ℕ) → 3 + length S ≤ j → j < 3 + (length S + length E)
-      → EnteredEvent version (line_at text j)
-  event_there j le lt = subst (EnteredEvent version) (sym (at_event j le lt))
-      (All-get_or (EnteredEvent version) E (j - 3 - length S) [] (omega arith) events)
+      → EnteredEvent format (line_at text j)
+  event_there j le lt = subst (EnteredEvent format) (sym (at_event j le lt))
+      (All-get_or (EnteredEvent format) E (j - 3 - length S) [] (omega arith) events)
 
   -- a line after the first
-  good_entry : (j : ℕ) → 2 ≤ j → IsEnded text j → (word : Word) → MayStand j word → IsWordOf version word
-      → Entered version (line_at text j) word
+  good_entry : (j : ℕ) → 2 ≤ j → IsEnded text j → (word : Word) → MayStand j word → IsWordOf format word
+      → Entered format (line_at text j) word
       → (first_field (line_at text j) ≡ spelled Slot → (i : ℕ) → 3 ≤ i → i < j
       → first_field (line_at text i) ≡ spelled Slot)
-      → Good version text j
+      → Good format text j
   good_entry j late end word may of entry ordered = record {
     ended = end;
     names = at_one;
@@ -135,14 +148,14 @@ module _ (version : ℕ) (text k : List ℕ) (S E more : List (List ℕ))
     word = λ _. record {
       word = word;
       may = may;
-      of_version = of;
-      first = first_is version (line_at text j) word entry;
+      of_format = of;
+      first = first_is format (line_at text j) word entry;
     };
     order = ordered;
     entry = λ _. (word, entry);
   }
 
-  pub good : (j : ℕ) → 1 ≤ j → j < 3 + (length S + length E) → Good version text j
+  pub good : (j : ℕ) → 1 ≤ j → j < 3 + (length S + length E) → Good format text j
   good j le lt =
       let end : IsEnded text j = omega (arith, total) in
       elim (cases_lt j 3) [
@@ -152,41 +165,41 @@ module _ (version : ℕ) (text k : List ℕ) (S E more : List (List ℕ))
                   record {
                     ended = end;
                     names = at_one;
-                    first = λ _. (version, (one_of, ap (line_at text) one ∙ at_one));
+                    first = λ _. (format, ap (line_at text) one ∙ at_one);
                     word = λ two. absurd (omega arith);
                     order = λ _ i low high. absurd (omega arith);
                     entry = λ two. absurd (omega arith);
                   }
               | inr ne ↦
                   let two : j ≡ 2 = omega arith in
-                  let e : EnteredSecond version (line_at text j) =
-                  subst (EnteredSecond version) (sym (ap (line_at text) two ∙ at_two)) second in
+                  let e : EnteredSecond format (line_at text j) =
+                  subst (EnteredSecond format) (sym (ap (line_at text) two ∙ at_two)) second in
                   good_entry j (omega arith) end e.word
-                  (subst (λ (n : ℕ). MayStand n e.word) (sym two) e.may) e.of_version e.entry
+                  (subst (λ (n : ℕ). MayStand n e.word) (sym two) e.may) e.of_format e.entry
                   (λ _ i low high. absurd (omega arith))
             ]
         | inr late ↦
             elim (cases_lt j (3 + length S)) [
               | inl slot ↦
                   good_entry j (omega arith) end Slot late tt (slot_there j late slot)
-                  (λ _ i low high. first_is version (line_at text i) Slot (slot_there i low (omega arith)))
+                  (λ _ i low high. first_is format (line_at text i) Slot (slot_there i low (omega arith)))
               | inr event ↦
                   let e = event_there j event lt in
                   good_entry j (omega arith) end e.word (may_move e.word 3 j (omega arith) late e.may)
-                  e.of_version e.entry
+                  e.of_format e.entry
                   (λ is i low high. absurd (e.other (same_word e.word Slot
-                  (sym (first_is version (line_at text j) e.word e.entry) ∙ is))))
+                  (sym (first_is format (line_at text j) e.word e.entry) ∙ is))))
             ]
       ]
 
   -- where no event has come, every line from the third on is a slot's
   pub only_slots : length E ≡ 0 → (j : ℕ) → 3 ≤ j → j < 3 + (length S + length E)
       → first_field (line_at text j) ≡ spelled Slot
-  only_slots none j le lt = first_is version (line_at text j) Slot (slot_there j le (omega arith))
+  only_slots none j le lt = first_is format (line_at text j) Slot (slot_there j le (omega arith))
 
   -- where one has come, there is a line that isn't a slot's
   pub one_event : 0 < length E → first_field (line_at text (3 + length S)) ≡ spelled Slot → ⊥
   one_event some is =
       let e = event_there (3 + length S) (omega arith) (omega arith) in
-      e.other (same_word e.word Slot (sym (first_is version (line_at text (3 + length S)) e.word e.entry)
+      e.other (same_word e.word Slot (sym (first_is format (line_at text (3 + length S)) e.word e.entry)
       ∙ is))

@@ -1,8 +1,6 @@
 -- The line of a slot, of an event and of the disks: its word, and fields that say what they have to.
-use Rattle.std.proofs.Common.{◌≡◌, ◌≢◌, ◌==◌, ℕ, suc, ◌+◌, ◌*◌, ◌^◌, ◌<◌, ◌≤◌, Bool, true, false, nat_lt, cond, eqb, if◌then◌else◌, length, List, [], ◌∷◌, ◌++◌, All, drop, get_or, map, refl, sym, ap, subst, ◌∙◌, arith, MatchBool}
+use Rattle.std.proofs.Common.{◌≡◌, ◌≢◌, ℕ, suc, ◌+◌, ◌*◌, ◌^◌, ◌<◌, ◌≤◌, Bool, true, false, cond, eqb, length, List, [], ◌∷◌, ◌++◌, All, drop, get_or, map, refl, sym, ap, subst, ◌∙◌, arith, MatchBool}
 use Rattle.std.specs.Prelude.{⊤}
-use Rattle.std.specs.List.{flat_map}
-use Rattle.std.proofs.lemmas.Bool.{ltb-true}
 use Rattle.block_device.specs.declared.operation.Verdict.{Verdict}
 use Rattle.block_device.specs.declared.operation.Verdict.TheVariants.{Done, Failed}
 use Rattle.mmio_window.specs.declared.device_kind.DeviceKind.{DeviceKind}
@@ -13,23 +11,25 @@ use Rattle.board.specs.declared.event.EventKind.TheVariants as what
 use Rattle.board.specs.declared.spec.SlotSpec.{SlotSpec}
 use Rattle.trace.specs.declared.disks.Disks.{Disks}
 use Rattle.trace.specs.declared.disks.Disks.TheVariants as disks
+use Rattle.trace.specs.declared.format.Format.{Format}
+use Rattle.trace.specs.declared.format.Format.TheVariants.{Plain, Extended}
+use Rattle.trace.specs.declared.format.Version.TheVariants.{One, Two}
 use Rattle.trace.specs.declared.fault.FaultKind.{FaultKind}
 use Rattle.guest_memory.specs.declared.spec.RegionSpec.{RegionSpec}
 use Rattle.trace.specs.declared.table.Field.{Field}
 use Rattle.trace.specs.declared.table.Field.TheVariants.{Identity}
-use Rattle.trace.specs.declared.table.Field.TheVariants as field
 use Rattle.trace.specs.declared.word.Word.{Word}
 use Rattle.trace.specs.declared.word.Word.TheVariants.{Cache, Hosted, Slot, Read, Write, MemRead, MemWrite, Input, Resize, Restore, Complete}
 use Rattle.trace.specs.Cuts.{fields_of}
 use Rattle.trace.specs.Faults.{AllSay, AreAsMany, MayStand, order, fault_of}
-use Rattle.trace.specs.Printable.{DisksInRange, KindInRange, IsPrintableKind, SlotInRange}
+use Rattle.trace.specs.Printable.{DisksInRange, KindInRange, IsPrintableKind, IsPrintableMemory, SlotInRange}
 use Rattle.trace.specs.Refusals.{IsFine, IsFineSlot}
 use Rattle.hexadecimal.specs.Spelling.{num, fixed, bytes}
 use Rattle.trace.specs.Spelling.{window, mode, verdict, width_digit, region_text, regions_text}
-use Rattle.trace.specs.Text.{line, disks_fields, disks_line, disks_word, memory_fields, region_fields, slot_fields, slot_line, event_fields, event_line, what_fields, word_for}
-use Rattle.trace.specs.Version.{since_version_2}
+use Rattle.trace.specs.Text.{line, disks_fields, disks_line, disks_word, memory_fields, slot_fields, slot_line, event_fields, event_line, what_fields, word_for}
+use Rattle.trace.specs.Format.{unless_version_1}
 use Rattle.hexadecimal.specs.Fields.{IsBytesField, IsFixed}
-use Rattle.trace.specs.Words.{RegionInRange, Shape, Num, Offset, Window, Width, Value, Mode, Verdict as ByVerdict, Bytes, Says, behind_memory, memory_in, shape_of, shapes, spelled, width_among, IsWidth, IsWordOf}
+use Rattle.trace.specs.Words.{RegionInRange, Shape, Num, Offset, Window, Width, Value, Mode, Verdict as ByVerdict, Bytes, Identity as ByIdentity, Says, behind_memory, memory_in, shape_of, shapes, spelled, width_among, IsWidth, IsWordOf}
 use Rattle.hexadecimal.proofs.ByteFields.{AreBytes}
 use Rattle.trace.proofs.Signs.{bytes_digits}
 use Rattle.trace.proofs.Signs.{Above, AllAbove, above_append, above_tested, above_num, above_fixed, fields_of-line, above_line}
@@ -163,104 +163,100 @@ a_verdict Failed = ((Failed, refl), above_tested 32 (verdict Failed) refl)
 -- ---- lines
 
 -- the line has the word, and after it fields that pass each check
-pub record Entered (version : ℕ) (l : List ℕ) (word : Word) : Type 0 where
+pub record Entered (format : Format) (l : List ℕ) (word : Word) : Type 0 where
   pub fields : List (List ℕ)
   pub cut : fields_of l ≡ spelled word ∷ fields
-  pub count : AreAsMany version word fields
-  pub say : (fault : FaultKind) → AllSay fault (shapes version word fields) fields
+  pub count : AreAsMany format word fields
+  pub say : (fault : FaultKind) → AllSay fault (shapes format word fields) fields
   pub unbroken : Above 10 l
 
-module _ (version : ℕ) (word : Word) (fs : List (List ℕ))
-    (stand : EachStands (shapes version word fs) fs) where
+module _ (format : Format) (word : Word) (fs : List (List ℕ))
+    (stand : EachStands (shapes format word fs) fs) where
   above : AllAbove 32 (spelled word ∷ fs)
-  above = (above_word word, all_above (shapes version word fs) fs stand)
+  above = (above_word word, all_above (shapes format word fs) fs stand)
 
   -- the fields of a line that was made of them
   cut_line : fields_of (line (spelled word ∷ fs)) ≡ spelled word ∷ fs
   cut_line = fields_of-line (spelled word) fs above
 
-  entered : Entered version (line (spelled word ∷ fs)) word
+  entered : Entered format (line (spelled word ∷ fs)) word
   entered = record {
     fields = fs;
     cut = cut_line;
-    count = as_many (shapes version word fs) fs stand;
-    say = all_say (shapes version word fs) fs stand;
+    count = as_many (shapes format word fs) fs stand;
+    say = all_say (shapes format word fs) fs stand;
     unbroken = above_line (spelled word) fs above;
   }
 
 -- ---- the second line
 
-pub record EnteredSecond (version : ℕ) (l : List ℕ) : Type 0 where
+pub record EnteredSecond (format : Format) (l : List ℕ) : Type 0 where
   pub word : Word
   pub may : MayStand 2 word
-  pub of_version : IsWordOf version word
-  pub entry : Entered version l word
+  pub of_format : IsWordOf format word
+  pub entry : Entered format l word
 
-pub entered_disks : (version : ℕ) (d : Disks) → DisksInRange d → IsWordOf version (disks_word d)
-    → EnteredSecond version (disks_line d)
+pub entered_disks : (format : Format) (d : Disks) → DisksInRange d → IsWordOf format (disks_word d)
+    → EnteredSecond format (disks_line d)
 unfolding disks_line
-entered_disks version (disks.Cached n) lt of = record {
+entered_disks format (disks.Cached n) lt of = record {
   word = Cache;
   may = refl;
-  of_version = of;
-  entry = entered version Cache (num n ∷ []) (a_number 32 n lt, tt);
+  of_format = of;
+  entry = entered format Cache (num n ∷ []) (a_number 32 n lt, tt);
 }
-entered_disks version disks.Hosted lt of =
-    record { word = Hosted; may = refl; of_version = of; entry = entered version Hosted [] tt }
+entered_disks format disks.Hosted lt of =
+    record { word = Hosted; may = refl; of_format = of; entry = entered format Hosted [] tt }
 
 pub cut_disks : (d : Disks) → DisksInRange d → fields_of (disks_line d) ≡ disks_fields d
 unfolding disks_line
-cut_disks (disks.Cached n) lt = cut_line 3 Cache (num n ∷ []) (a_number 32 n lt, tt)
-cut_disks disks.Hosted lt = cut_line 3 Hosted [] tt
+cut_disks (disks.Cached n) lt = cut_line Extended Cache (num n ∷ []) (a_number 32 n lt, tt)
+cut_disks disks.Hosted lt = cut_line Extended Hosted [] tt
 
 -- ---- the line of a slot
 
--- the identity, where a version has it
-last_field : (none : Bool) (width : List ℕ) (s : SlotSpec) → SlotInRange s
-    → EachStands (map (shape_of width) (if none then [] else Identity ∷ []))
-    (if none then [] else bytes s.identity ∷ [])
-last_field true width s h = tt
-last_field false width s h =
+-- the identity, where a format has it
+an_identity : (s : SlotSpec) → SlotInRange s → Stands ByIdentity (bytes s.identity)
+an_identity s h =
     let is : IsBytesField (bytes s.identity) s.identity = record { fits = h.identity; spelled = refl } in
-    (((s.identity, record { bytes_are = is; twenty = h.twenty }), bytes_digits s.identity h.identity), tt)
+    ((s.identity, record { bytes_are = is; twenty = h.twenty }), bytes_digits s.identity h.identity)
+
+last_field : (format : Format) (width : List ℕ) (s : SlotSpec) → SlotInRange s
+    → EachStands (map (shape_of width) (unless_version_1 format (Identity ∷ [])))
+    (unless_version_1 format (bytes s.identity ∷ []))
+last_field (Plain One) width s h = tt
+last_field (Plain Two) width s h = (an_identity s h, tt)
+last_field Extended width s h = (an_identity s h, tt)
 
 -- its memory: one region by two fields, or all regions by one
-abbrev memory_row : Bool → List Field
-memory_row one = if one then field.Base ∷ field.Size ∷ [] else field.Regions ∷ []
-
-abbrev pub memory_texts : Bool → List RegionSpec → List (List ℕ)
-memory_texts one regions = if one then flat_map region_fields regions else regions_text regions ∷ []
-
-memory_stands : (one : Bool) (width : List ℕ) (regions : List RegionSpec) → All RegionInRange regions
-    → length regions ≤ 8 → 1 ≤ length regions → (one ≡ true → length regions ≡ 1)
-    → EachStands (map (shape_of width) (memory_row one)) (memory_texts one regions)
-memory_stands false width regions fits few some single = (
+memory_stands : (format : Format) (width : List ℕ) (regions : List RegionSpec) → All RegionInRange regions
+    → length regions ≤ 8 → IsPrintableMemory format (length regions)
+    → EachStands (map (shape_of width) (memory_in format)) (memory_fields format regions)
+memory_stands Extended width regions fits few some = (
   ((regions, record { some = some; few = few; fits = fits; spelled = refl }), above_regions regions),
   tt,
 )
-memory_stands true width [] fits few some single = absurd (omega (arith, some))
-memory_stands true width (r ∷ []) fits few some single = let h = fits 0 r (omega arith) in
+memory_stands (Plain version) width [] fits few one = absurd (omega (arith, one))
+memory_stands (Plain version) width (r ∷ []) fits few one = let h = fits 0 r (omega arith) in
     (a_number 64 r.base h.base, (a_number 64 r.len h.len, tt))
-memory_stands true width (r ∷ (s ∷ rs)) fits few some single = absurd (omega (arith, single refl))
+memory_stands (Plain version) width (r ∷ (s ∷ rs)) fits few one = absurd (omega (arith, one))
 
 -- what stands behind it
-abbrev pub behind : ℕ → SlotSpec → List (List ℕ)
-behind version s = num s.extent.start ∷ num s.extent.count ∷ mode s.read_only ∷ num s.cols ∷ num s.rows
-    ∷ since_version_2 version (bytes s.identity ∷ [])
+abbrev pub behind : Format → SlotSpec → List (List ℕ)
+behind format s = num s.extent.start ∷ num s.extent.count ∷ mode s.read_only ∷ num s.cols ∷ num s.rows
+    ∷ unless_version_1 format (bytes s.identity ∷ [])
 
-abbrev slot_rest : ℕ → SlotSpec → List (List ℕ)
-slot_rest version s = memory_fields version s.regions ++ behind version s
+abbrev slot_rest : Format → SlotSpec → List (List ℕ)
+slot_rest format s = memory_fields format s.regions ++ behind format s
 
-slot_stands : (version : ℕ) (s : SlotSpec) → IsFineSlot version s
-    → EachStands (shapes version Slot (slot_rest version s)) (slot_rest version s)
-slot_stands version s h =
-    let width = width_among (slot_rest version s) in
-    let memory = h.printable.memory in
+slot_stands : (format : Format) (s : SlotSpec) → IsFineSlot format s
+    → EachStands (shapes format Slot (slot_rest format s)) (slot_rest format s)
+slot_stands format s h =
+    let width = width_among (slot_rest format s) in
     let fits = h.fits in
-    stand_both (shape_of width) (memory_in version) (behind_memory version) (memory_fields version s.regions)
-    (behind version s)
-    (memory_stands (nat_lt version 3) width s.regions fits.regions fits.few memory.some
-    (λ e. memory.one (ltb-true version 3 e))) (
+    stand_both (shape_of width) (memory_in format) (behind_memory format) (memory_fields format s.regions)
+    (behind format s)
+    (memory_stands format width s.regions fits.regions fits.few h.printable.memory) (
       a_number 64 s.extent.start fits.start,
       (
         a_number 64 s.extent.count fits.count,
@@ -268,31 +264,31 @@ slot_stands version s h =
           a_mode s.read_only,
           (
             a_number 16 s.cols fits.cols,
-            (a_number 16 s.rows fits.rows, last_field (version == 1) width s fits),
+            (a_number 16 s.rows fits.rows, last_field format width s fits),
           ),
         ),
       ),
     )
 
-pub entered_slot : (version : ℕ) (s : SlotSpec) → IsFineSlot version s
-    → Entered version (slot_line version s) Slot
+pub entered_slot : (format : Format) (s : SlotSpec) → IsFineSlot format s
+    → Entered format (slot_line format s) Slot
 unfolding slot_line
-entered_slot version s h = entered version Slot (slot_rest version s) (slot_stands version s h)
+entered_slot format s h = entered format Slot (slot_rest format s) (slot_stands format s h)
 
-pub cut_slot : (version : ℕ) (s : SlotSpec) → IsFineSlot version s
-    → fields_of (slot_line version s) ≡ slot_fields version s
+pub cut_slot : (format : Format) (s : SlotSpec) → IsFineSlot format s
+    → fields_of (slot_line format s) ≡ slot_fields format s
 unfolding slot_line
-cut_slot version s h = cut_line version Slot (slot_rest version s) (slot_stands version s h)
+cut_slot format s h = cut_line format Slot (slot_rest format s) (slot_stands format s h)
 
 -- ---- the line of an event
 
 -- it has another word than a slot's
-pub record EnteredEvent (version : ℕ) (l : List ℕ) : Type 0 where
+pub record EnteredEvent (format : Format) (l : List ℕ) : Type 0 where
   pub word : Word
   pub may : MayStand 3 word
-  pub of_version : IsWordOf version word
+  pub of_format : IsWordOf format word
   pub other : word ≢ Slot
-  pub entry : Entered version l word
+  pub entry : Entered format l word
 
 may_be_late : {A : Type 0} (w : EventKind A) → MayStand 3 (word_for w)
 may_be_late (what.Read kind offset width) = omega arith
@@ -311,13 +307,13 @@ word_first : {A : Type 0} (slot : ℕ) (w : EventKind A)
 word_first slot (what.Read kind offset width) = refl
 word_first slot w = refl
 
-event_stands : {A : Type 0} (version slot : ℕ) (w : EventKind A) → slot < 2 ^ 8 → KindInRange w
-    → IsPrintableKind w → EachStands (shapes version (word_for w) (event_rest slot w)) (event_rest slot w)
-event_stands version slot (what.Read kind offset width) lt range fine = (
+event_stands : {A : Type 0} (format : Format) (slot : ℕ) (w : EventKind A) → slot < 2 ^ 8 → KindInRange w
+    → IsPrintableKind w → EachStands (shapes format (word_for w) (event_rest slot w)) (event_rest slot w)
+event_stands format slot (what.Read kind offset width) lt range fine = (
   a_number 8 slot lt,
   (a_window kind, (an_offset offset fine.three_digits, (a_width width fine.wide, tt))),
 )
-event_stands version slot (what.Write kind offset width value) lt range fine =
+event_stands format slot (what.Write kind offset width value) lt range fine =
     let access = fine.access in (
       a_number 8 slot lt,
       (
@@ -328,36 +324,36 @@ event_stands version slot (what.Write kind offset width value) lt range fine =
         ),
       ),
     )
-event_stands version slot (what.MemRead addr len) lt range fine =
+event_stands format slot (what.MemRead addr len) lt range fine =
     (a_number 8 slot lt, (a_number 64 addr range.from, (a_number 32 len range.size, tt)))
-event_stands version slot (what.MemWrite addr bs) lt range fine =
+event_stands format slot (what.MemWrite addr bs) lt range fine =
     (a_number 8 slot lt, (a_number 64 addr range.from, (some_bytes bs range.each, tt)))
-event_stands version slot (what.Input bs) lt range fine =
+event_stands format slot (what.Input bs) lt range fine =
     (a_number 8 slot lt, (some_bytes bs range.each, tt))
-event_stands version slot (what.Resize cols rows) lt range fine =
+event_stands format slot (what.Resize cols rows) lt range fine =
     (a_number 8 slot lt, (a_number 16 cols range.across, (a_number 16 rows range.down, tt)))
-event_stands version slot (what.Restore bs) lt range fine =
+event_stands format slot (what.Restore bs) lt range fine =
     (a_number 8 slot lt, (some_bytes bs range.each, tt))
-event_stands version slot (what.Complete came) lt range fine =
+event_stands format slot (what.Complete came) lt range fine =
     (a_number 8 slot lt, (a_verdict came, tt))
 
-pub entered_event : {A : Type 0} (version : ℕ) (e : Event A) → IsFine e → IsWordOf version (word_for e.what)
-    → EnteredEvent version (event_line e)
+pub entered_event : {A : Type 0} (format : Format) (e : Event A) → IsFine e
+    → IsWordOf format (word_for e.what) → EnteredEvent format (event_line e)
 unfolding event_line
-entered_event version e h of =
-    let stand = event_stands version e.slot e.what h.fits.slot h.fits.what h.printable in
+entered_event format e h of =
+    let stand = event_stands format e.slot e.what h.fits.slot h.fits.what h.printable in
     record {
       word = word_for e.what;
       may = may_be_late e.what;
-      of_version = of;
+      of_format = of;
       other = no_slot e.what;
-      entry = subst (λ (fs : List (List ℕ)). Entered version (line fs) (word_for e.what))
-          (word_first e.slot e.what) (entered version (word_for e.what) (event_rest e.slot e.what) stand);
+      entry = subst (λ (fs : List (List ℕ)). Entered format (line fs) (word_for e.what))
+          (word_first e.slot e.what) (entered format (word_for e.what) (event_rest e.slot e.what) stand);
     }
 
 pub cut_event : {A : Type 0} (e : Event A) → IsFine e → fields_of (event_line e) ≡ event_fields e
 unfolding event_line
 cut_event e h =
-    let stand = event_stands 3 e.slot e.what h.fits.slot h.fits.what h.printable in
+    let stand = event_stands Extended e.slot e.what h.fits.slot h.fits.what h.printable in
     subst (λ (fs : List (List ℕ)). fields_of (line fs) ≡ fs) (word_first e.slot e.what)
-    (cut_line 3 (word_for e.what) (event_rest e.slot e.what) stand)
+    (cut_line Extended (word_for e.what) (event_rest e.slot e.what) stand)

@@ -3,12 +3,13 @@ use Rattle.std.proofs.Common.{◌≡◌, ◌≢◌, ℕ, ◌+◌, ◌<◌, ◌�
 use Rattle.std.proofs.lemmas.Bool.{cases_eq}
 use Rattle.trace.specs.declared.fault.FaultKind.{FaultKind}
 use Rattle.trace.specs.declared.fault.FaultKind.TheVariants as kind
+use Rattle.trace.specs.declared.format.Format.{Format}
 use Rattle.trace.specs.declared.word.Word.{Word}
 use Rattle.trace.specs.declared.word.Word.TheVariants.{Slot}
-use Rattle.trace.specs.Faults.{AllSay, AreAsMany, MayStand, IsCleanBefore, IsEnded, IsFault, IsOfVersion, IsOwed, Passes, first_field, line_at, order, other_fields}
+use Rattle.trace.specs.Faults.{AllSay, AreAsMany, MayStand, IsCleanBefore, IsEnded, IsFault, IsOfFormat, IsOwed, Passes, first_field, line_at, order, other_fields}
 use Rattle.trace.specs.Refusals.{RefusesFields}
 use Rattle.trace.specs.Words.{IsWordOf, spelled, shapes}
-use Rattle.trace.proofs.Clean.{same_version}
+use Rattle.trace.proofs.Clean.{same_format}
 use Rattle.trace.proofs.Entries.{same_word}
 use Rattle.trace.proofs.FaultKinds.{same_kind}
 
@@ -57,74 +58,74 @@ module _ (text : List ℕ) (k : ℕ) (late : 2 ≤ k) (clean : IsCleanBefore tex
       then_passes text k kind.Header (λ _ one. absurd (omega arith))
       (then_passes text k kind.Cut (λ owed. end) (none_before text k))
 
-  -- none of the words of its version that may stand begins it
-  pub word_fault : (version : ℕ) → IsOfVersion text version
-      → ((w : Word) → MayStand k w → IsWordOf version w → first_field (line_at text k) ≡ spelled w → ⊥)
+  -- none of the words of its format that may stand begins it
+  pub word_fault : (format : Format) → IsOfFormat text format
+      → ((w : Word) → MayStand k w → IsWordOf format w → first_field (line_at text k) ≡ spelled w → ⊥)
       → IsFault text k kind.Word
-  word_fault version names none = fault_at kind.Word before_word (λ p.
-      let has = p end late version names in none has.word has.may has.of_version has.first)
+  word_fault format names none = fault_at kind.Word before_word (λ p.
+      let has = p end late format names in none has.word has.may has.of_format has.first)
 
   -- a slot, where there is a line before it that isn't one
   pub order_fault : 3 ≤ k → first_field (line_at text k) ≡ spelled Slot → (j : ℕ) → 3 ≤ j → j < k
       → (first_field (line_at text j) ≡ spelled Slot → ⊥) → IsFault text k kind.Order
   order_fault third is j le lt other =
       let passes : Passes text k kind.Word = λ _ _ _ _.
-      record { word = Slot; may = third; of_version = tt; first = is } in
+      record { word = Slot; may = third; of_format = tt; first = is } in
       fault_at kind.Order (then_passes text k kind.Word passes before_word) (λ p. other (p end is j le lt))
 
-  module _ (version : ℕ) (names : IsOfVersion text version) (w : Word) (may : MayStand k w)
-      (of : IsWordOf version w) (is : first_field (line_at text k) ≡ spelled w)
+  module _ (format : Format) (names : IsOfFormat text format) (w : Word) (may : MayStand k w)
+      (of : IsWordOf format w) (is : first_field (line_at text k) ≡ spelled w)
       (ordered : Passes text k kind.Order) where
     word_passes : Passes text k kind.Word
     word_passes _ _ u other =
         record {
           word = w;
           may = may;
-          of_version = subst (λ (x : ℕ). IsWordOf x w) (same_version version u text names other) of;
+          of_format = subst (λ (x : Format). IsWordOf x w) (same_format format u text names other) of;
           first = is;
         }
 
-    fields_pass : AreAsMany version w (other_fields (line_at text k)) → Passes text k kind.Fields
+    fields_pass : AreAsMany format w (other_fields (line_at text k)) → Passes text k kind.Fields
     fields_pass same = λ _ _ u other v first.
-        subst (λ (x : ℕ). AreAsMany x v (other_fields (line_at text k)))
-        (same_version version u text names other)
-        (subst (λ (x : Word). AreAsMany version x (other_fields (line_at text k)))
+        subst (λ (x : Format). AreAsMany x v (other_fields (line_at text k)))
+        (same_format format u text names other)
+        (subst (λ (x : Word). AreAsMany format x (other_fields (line_at text k)))
         (same_word w v (sym is ∙ first)) same)
 
     say_pass : (fault : FaultKind)
-        → AllSay fault (shapes version w (other_fields (line_at text k))) (other_fields (line_at text k))
-        → (u : ℕ) → IsOfVersion text u → (v : Word) → first_field (line_at text k) ≡ spelled v
+        → AllSay fault (shapes format w (other_fields (line_at text k))) (other_fields (line_at text k))
+        → (u : Format) → IsOfFormat text u → (v : Word) → first_field (line_at text k) ≡ spelled v
         → AllSay fault (shapes u v (other_fields (line_at text k))) (other_fields (line_at text k))
     say_pass fault all u other v first =
-        subst (λ (x : ℕ). AllSay fault (shapes x v (other_fields (line_at text k)))
-        (other_fields (line_at text k))) (same_version version u text names other)
-        (subst (λ (x : Word). AllSay fault (shapes version x (other_fields (line_at text k)))
+        subst (λ (x : Format). AllSay fault (shapes x v (other_fields (line_at text k)))
+        (other_fields (line_at text k))) (same_format format u text names other)
+        (subst (λ (x : Word). AllSay fault (shapes format x (other_fields (line_at text k)))
         (other_fields (line_at text k))) (same_word w v (sym is ∙ first)) all)
 
     before_fields : PassesBefore text k 5
     before_fields =
         then_passes text k kind.Order ordered (then_passes text k kind.Word word_passes before_word)
 
-    before_number : AreAsMany version w (other_fields (line_at text k)) → PassesBefore text k 6
+    before_number : AreAsMany format w (other_fields (line_at text k)) → PassesBefore text k 6
     before_number same = then_passes text k kind.Fields (fields_pass same) before_fields
 
-    before_choice : AreAsMany version w (other_fields (line_at text k))
-        → AllSay kind.Number (shapes version w (other_fields (line_at text k)))
+    before_choice : AreAsMany format w (other_fields (line_at text k))
+        → AllSay kind.Number (shapes format w (other_fields (line_at text k)))
         (other_fields (line_at text k))
         → PassesBefore text k 7
     before_choice same numbers =
         then_passes text k kind.Number (λ _ _. say_pass kind.Number numbers) (before_number same)
 
     -- its fields are refused
-    pub fields_fault : (fault : FaultKind) → RefusesFields version w (other_fields (line_at text k)) fault
+    pub fields_fault : (fault : FaultKind) → RefusesFields format w (other_fields (line_at text k)) fault
         → fault ≢ kind.NoMemory → IsFault text k fault
     fields_fault kind.Fields h some = fault_at kind.Fields before_fields (λ p.
-        h (p end late version names w is))
+        h (p end late format names w is))
     fields_fault kind.Number h some = fault_at kind.Number (before_number h.0) (λ p.
-        h.1 (p end late version names w is))
+        h.1 (p end late format names w is))
     fields_fault kind.Choice h some = fault_at kind.Choice (before_choice h.0 h.1) (λ p.
-        h.2 (p end late version names w is))
+        h.2 (p end late format names w is))
     fields_fault kind.Bytes h some =
         fault_at kind.Bytes (then_passes text k kind.Choice (λ _ _. say_pass kind.Choice h.2)
-        (before_choice h.0 h.1)) (λ p. h.3 (p end late version names w is))
+        (before_choice h.0 h.1)) (λ p. h.3 (p end late format names w is))
     fields_fault fault h some = absurd h

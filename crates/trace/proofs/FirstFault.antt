@@ -10,6 +10,7 @@ use Rattle.trace.specs.declared.fault.FaultKind.TheVariants as kind
 use Rattle.trace.specs.Refusals.{RefusesFields}
 use Rattle.trace.specs.Faults.{AllSay, IsAtFault, fault_of, first_field, order, other_fields}
 use Rattle.trace.specs.declared.table.Field.{Field}
+use Rattle.trace.specs.declared.format.Format.{Format}
 use Rattle.trace.specs.declared.word.Word.{Word}
 use Rattle.trace.specs.Cuts.{fields_of}
 use Rattle.trace.specs.Words.{AllRight, AreRight, Says, Shape, Num, fields_in, shape_of, shapes, spelled, width_among}
@@ -108,45 +109,45 @@ module _ (kind : FaultKind) (width : List ℕ) where
       (passes, subst (λ (os : List Field). AllSay kind (map (shape_of width) os) more) rest later)
 
 -- the fields after the word of a line
-module _ (kind : FaultKind) (version : ℕ) (line : List ℕ) (row : List Field) (width : List ℕ) (first : List ℕ)
-    (fields : List (List ℕ)) (word : Word) where
+module _ (kind : FaultKind) (format : Format) (line : List ℕ) (row : List Field) (width : List ℕ)
+    (first : List ℕ) (fields : List (List ℕ)) (word : Word) where
   row_is : (w : Word) → first_field line ≡ spelled word → fields_of line ≡ first ∷ fields
-      → width ≡ slice_index_or fields 3 [] → row ≡ fields_in version word → first_field line ≡ spelled w
-      → (map (shape_of width) row ≡ shapes version w (other_fields line)) × (fields ≡ other_fields line)
+      → width ≡ slice_index_or fields 3 [] → row ≡ fields_in format word → first_field line ≡ spelled w
+      → (map (shape_of width) row ≡ shapes format w (other_fields line)) × (fields ≡ other_fields line)
   row_is w is cut by table parsed =
       let same : w ≡ word = same_word w word (sym parsed ∙ is) in
       let others : fields ≡ other_fields line = sym (ap (drop 1) cut) in (
         ap (λ (x : List ℕ). map (shape_of x) row) (by
             ∙ ap (λ (fs : List (List ℕ)). slice_index_or fs 3 []) others)
             ∙ ap (λ (fs : List Field). map (shape_of (width_among (other_fields line))) fs) table
-            ∙ ap (λ (v : Word). shapes version v (other_fields line)) (sym same),
+            ∙ ap (λ (v : Word). shapes format v (other_fields line)) (sym same),
         others,
       )
 
   pub some_in : (found : Option (Field × Bor (List ℕ))) → first_field line ≡ spelled word
-      → fields_of line ≡ first ∷ fields → width ≡ slice_index_or fields 3 [] → row ≡ fields_in version word
+      → fields_of line ≡ first ∷ fields → width ≡ slice_index_or fields 3 [] → row ≡ fields_in format word
       → IfSome found (λ f. IsAtFault kind (map (shape_of width) row) fields (shape_of width f.0) f.1.now)
       → IfSome found (λ f. (w : Word) → first_field line ≡ spelled w
-      → IsAtFault kind (shapes version w (other_fields line)) (other_fields line)
+      → IsAtFault kind (shapes format w (other_fields line)) (other_fields line)
       (shape_of (width_among (other_fields line)) f.0) f.1.now)
   some_in None is cut by table found = tt
   some_in (Some f) is cut by table found = λ w parsed.
       let same = row_is w is cut by table parsed in
       let wide : width ≡ width_among (other_fields line) = by
       ∙ ap (λ (fs : List (List ℕ)). slice_index_or fs 3 []) same.1 in
-      subst (λ (x : List ℕ). IsAtFault kind (shapes version w (other_fields line)) (other_fields line)
+      subst (λ (x : List ℕ). IsAtFault kind (shapes format w (other_fields line)) (other_fields line)
       (shape_of x f.0) f.1.now) wide
-      (subst (λ (fs : List (List ℕ)). IsAtFault kind (shapes version w (other_fields line)) fs
+      (subst (λ (fs : List (List ℕ)). IsAtFault kind (shapes format w (other_fields line)) fs
       (shape_of width f.0) f.1.now) same.1
       (subst (λ (ss : List Shape). IsAtFault kind ss fields (shape_of width f.0) f.1.now) same.0 found))
 
   pub none_in : first_field line ≡ spelled word → fields_of line ≡ first ∷ fields
-      → width ≡ slice_index_or fields 3 [] → row ≡ fields_in version word
+      → width ≡ slice_index_or fields 3 [] → row ≡ fields_in format word
       → AllSay kind (map (shape_of width) row) fields → (w : Word) → first_field line ≡ spelled w
-      → AllSay kind (shapes version w (other_fields line)) (other_fields line)
+      → AllSay kind (shapes format w (other_fields line)) (other_fields line)
   none_in is cut by table say = λ w parsed.
       let same = row_is w is cut by table parsed in
-      subst (λ (fs : List (List ℕ)). AllSay kind (shapes version w (other_fields line)) fs) same.1
+      subst (λ (fs : List (List ℕ)). AllSay kind (shapes format w (other_fields line)) fs) same.1
       (subst (λ (ss : List Shape). AllSay kind ss fields) same.0 say)
 
 -- ---- from the checks of the fields to their fault
@@ -203,25 +204,25 @@ all_right (s ∷ ss) (f ∷ fs) many n c b =
     (one_right s f n.0 c.0 b.0, all_right ss fs (omega (arith, many)) n.1 c.1 b.1)
 
 -- the fields after a word, which aren't right
-module _ (version : ℕ) (word : Word) (row : List Field) (width : List ℕ) (fields : List (List ℕ))
-    (by : width ≡ slice_index_or fields 3 []) (table : row ≡ fields_in version word) where
-  shapes_are : map (shape_of width) row ≡ shapes version word fields
+module _ (format : Format) (word : Word) (row : List Field) (width : List ℕ) (fields : List (List ℕ))
+    (by : width ≡ slice_index_or fields 3 []) (table : row ≡ fields_in format word) where
+  shapes_are : map (shape_of width) row ≡ shapes format word fields
   shapes_are = ap (λ (x : List ℕ). map (shape_of x) row) by
       ∙ ap (λ (fs : List Field). map (shape_of (width_among fields)) fs) table
 
   all_of : (kind : FaultKind) → AllSay kind (map (shape_of width) row) fields
-      → AllSay kind (shapes version word fields) fields
+      → AllSay kind (shapes format word fields) fields
   all_of kind h = subst (λ (ss : List Shape). AllSay kind ss fields) shapes_are h
 
-  pub bytes_refused : ¬ AreRight version word fields → length fields ≡ length row
+  pub bytes_refused : ¬ AreRight format word fields → length fields ≡ length row
       → AllSay kind.Number (map (shape_of width) row) fields
-      → AllSay kind.Choice (map (shape_of width) row) fields → RefusesFields version word fields kind.Bytes
+      → AllSay kind.Choice (map (shape_of width) row) fields → RefusesFields format word fields kind.Bytes
   bytes_refused wrong many numbers choices =
-      let counted : length row ≡ length (shapes version word fields) = sym (rw length-map refl)
+      let counted : length row ≡ length (shapes format word fields) = sym (rw length-map refl)
       ∙ ap length shapes_are in (
         many ∙ counted,
         all_of kind.Number numbers,
         all_of kind.Choice choices,
-        λ all. wrong (all_right (shapes version word fields) fields (many
+        λ all. wrong (all_right (shapes format word fields) fields (many
             ∙ counted) (all_of kind.Number numbers) (all_of kind.Choice choices) all),
       )

@@ -4,10 +4,10 @@ use Rattle.std.proofs.lemmas.List.{append_assoc, append-nil}
 use Rattle.trace.specs.declared.fault.FaultKind.{FaultKind}
 use Rattle.trace.specs.declared.fault.FaultKind.TheVariants as kind
 use Rattle.trace.specs.Cuts.{lines_of}
-use Rattle.trace.specs.Faults.{IsCleanBefore, IsEnded, IsFault, IsHeader, IsOfVersion, Passes, first_field, line_at, other_fields}
+use Rattle.trace.specs.Faults.{IsCleanBefore, IsEnded, IsFault, IsHeader, IsOfFormat, Passes, first_field, line_at, other_fields}
 use Rattle.trace.specs.Refusals.{RefusesDisks, RefusesFields, RefusesHead, RefusesSecond}
 use Rattle.trace.specs.Text.{header, joined}
-use Rattle.trace.specs.Version.{IsVersion}
+use Rattle.trace.specs.declared.format.Format.{Format}
 use Rattle.trace.proofs.Clean.{Good, good_passes}
 use Rattle.trace.proofs.Faulty.{cut_fault, fields_fault, header_fault, word_fault}
 use Rattle.trace.proofs.Signs.{above_header, lines_of-joined}
@@ -27,23 +27,23 @@ head_fault text kind.Header h =
 head_fault text fault h = absurd h
 
 -- after a good first line
-module _ (version : ℕ) (text rest : List ℕ) (one_of : IsVersion version)
-    (whole : text ≡ header version ++ 10 ∷ rest) where
-  pub headed : lines_of text ≡ header version ∷ lines_of rest
+module _ (format : Format) (text rest : List ℕ)
+    (whole : text ≡ header format ++ 10 ∷ rest) where
+  pub headed : lines_of text ≡ header format ∷ lines_of rest
   unfolding joined
-  headed = ap lines_of (whole ∙ sym (ap (λ (xs : List ℕ). xs ++ rest) (append-nil (header version ++ 10 ∷ []))
-      ∙ append_assoc (header version) (10 ∷ []) rest))
-      ∙ lines_of-joined (header version ∷ []) rest (above_header version, tt)
+  headed = ap lines_of (whole ∙ sym (ap (λ (xs : List ℕ). xs ++ rest) (append-nil (header format ++ 10 ∷ []))
+      ∙ append_assoc (header format) (10 ∷ []) rest))
+      ∙ lines_of-joined (header format ∷ []) rest (above_header format, tt)
 
-  names_it : IsOfVersion text version
+  names_it : IsOfFormat text format
   names_it = ap (λ (ls : List (List ℕ)). get_or ls 0 []) headed
 
-  good_head : Good version text 1
+  good_head : Good format text 1
   good_head =
       record {
         ended = omega (arith, ap length headed, some_lines rest);
         names = names_it;
-        first = λ _. (version, (one_of, names_it));
+        first = λ _. (format, names_it);
         word = λ two. absurd (omega arith);
         order = λ _ j low high. absurd (omega arith);
         entry = λ two. absurd (omega arith);
@@ -51,21 +51,21 @@ module _ (version : ℕ) (text rest : List ℕ) (one_of : IsVersion version)
 
   pub head_clean : IsCleanBefore text 2
   head_clean j le lt fault = let one : 1 ≡ j = omega arith in
-      subst (λ (k : ℕ). Passes text k fault) one (good_passes version text 1 good_head fault)
+      subst (λ (k : ℕ). Passes text k fault) one (good_passes format text 1 good_head fault)
 
   at_two : line_at text 2 ≡ get_or (lines_of rest) 0 []
   at_two = ap (λ (ls : List (List ℕ)). get_or ls 1 []) headed
 
-  fields_of_second : (fault : FaultKind) → RefusesDisks version rest fault → fault ≢ kind.NoMemory
+  fields_of_second : (fault : FaultKind) → RefusesDisks format rest fault → fault ≢ kind.NoMemory
       → IsFault text 2 fault
   fields_of_second fault h known =
       let here : line_at text 2 ≡ h.line = at_two ∙ ap (λ (ls : List (List ℕ)). get_or ls 0 []) h.cut in
       let end : IsEnded text 2 = omega (arith, ap length headed, ap length h.cut, some_lines h.rest) in
-      fields_fault text 2 (omega arith) head_clean end version names_it h.word h.may h.of_version
+      fields_fault text 2 (omega arith) head_clean end format names_it h.word h.may h.of_format
       (ap first_field here ∙ h.first) (λ _ _ j low high. absurd (omega arith)) fault
-      (subst (λ (l : List ℕ). RefusesFields version h.word (other_fields l) fault) (sym here) h.refused) known
+      (subst (λ (l : List ℕ). RefusesFields format h.word (other_fields l) fault) (sym here) h.refused) known
 
-  pub second_fault : (fault : FaultKind) → RefusesSecond version rest fault → fault ≢ kind.NoMemory
+  pub second_fault : (fault : FaultKind) → RefusesSecond format rest fault → fault ≢ kind.NoMemory
       → IsFault text 2 fault
   second_fault kind.Cut h known =
       cut_fault text 2 (omega arith) head_clean (inl (omega arith))
@@ -73,6 +73,6 @@ module _ (version : ℕ) (text rest : List ℕ) (one_of : IsVersion version)
   second_fault kind.Word h known =
       let here : line_at text 2 ≡ h.line = at_two ∙ ap (λ (ls : List (List ℕ)). get_or ls 0 []) h.cut in
       let end : IsEnded text 2 = omega (arith, ap length headed, ap length h.cut, some_lines h.rest) in
-      word_fault text 2 (omega arith) head_clean end version names_it
+      word_fault text 2 (omega arith) head_clean end format names_it
       (λ w may of is. h.other w may of (sym (ap first_field here) ∙ is))
   second_fault fault h known = fields_of_second fault h known

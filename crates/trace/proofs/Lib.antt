@@ -1,4 +1,4 @@
-pub mod Versions
+pub mod Formats
 pub mod Cutting
 pub mod RegionFields
 pub mod Signs

@@ -3,7 +3,7 @@ use Rattle.std.proofs.Common.{◌≡◌, ◌↔◌, ℕ, ◌+◌, ◌<◌, Bool,
 use Rattle.std.proofs.lemmas.List.{append-nil, append_assoc, map_more}
 use Rattle.trace.specs.declared.disks.Disks.{Disks}
 use Rattle.trace.specs.Printable.{IsPrintable, IsPrintableKind, IsPrintableSlot}
-use Rattle.trace.specs.Version.{IsVersion}
+use Rattle.trace.specs.declared.format.Format.{Format}
 use Rattle.trace.specs.Words.{IsWordOf}
 use Rattle.trace.specs.Text.{Content, disks_line, disks_word, ended, event_line, front_text, header, joined, line, slot_line, text, trace_lines, word_for}
 use Rattle.trace.proofs.Signs.{joined_push}
@@ -61,35 +61,34 @@ joined_append [] ys = refl
 joined_append (x ∷ xs) ys = ap (λ (t : List ℕ). ended x ++ t) (joined_append xs ys)
     ∙ sym (append_assoc (ended x) (joined xs) (joined ys))
 
-front_is : (version : ℕ) (disks : Disks) → joined (header version ∷ disks_line disks ∷ [])
-    ≡ front_text version disks
+front_is : (format : Format) (disks : Disks) → joined (header format ∷ disks_line disks ∷ [])
+    ≡ front_text format disks
 unfolding joined
-front_is version disks = ap (λ (t : List ℕ). ended (header version)
+front_is format disks = ap (λ (t : List ℕ). ended (header format)
     ++ t) (append-nil (ended (disks_line disks)))
 
 -- the text, in its three parts
 pub text_is : {A : Type 0} (c : Content A)
-    → (front_text c.version c.disks ++ joined (map (slot_line c.version) c.slots))
+    → (front_text c.format c.disks ++ joined (map (slot_line c.format) c.slots))
     ++ joined (map event_line c.events) ≡ text c
 unfolding trace_lines
 text_is c =
-    sym (joined_append (header c.version ∷ disks_line c.disks ∷ map (slot_line c.version) c.slots)
+    sym (joined_append (header c.format ∷ disks_line c.disks ∷ map (slot_line c.format) c.slots)
     (map event_line c.events)
     ∙ ap (λ (t : List ℕ). t ++ joined (map event_line c.events))
-    (joined_append (header c.version ∷ disks_line c.disks ∷ []) (map (slot_line c.version) c.slots)
-    ∙ ap (λ (t : List ℕ). t ++ joined (map (slot_line c.version) c.slots)) (front_is c.version c.disks)))
+    (joined_append (header c.format ∷ disks_line c.disks ∷ []) (map (slot_line c.format) c.slots)
+    ∙ ap (λ (t : List ℕ). t ++ joined (map (slot_line c.format) c.slots)) (front_is c.format c.disks)))
 
 -- a trace has a text where four tests say so, of which the first three passed
 pub printable_when : {A : Type 0} (t : Content A) (front slots lines words : Bool) → IsTrue front
-    ↔ (IsVersion t.version × IsWordOf t.version (disks_word t.disks))
-    → IsTrue slots ↔ All (IsPrintableSlot t.version) t.slots → IsTrue lines
+    ↔ IsWordOf t.format (disks_word t.disks)
+    → IsTrue slots ↔ All (IsPrintableSlot t.format) t.slots → IsTrue lines
     ↔ All (λ e. IsPrintableKind e.what) t.events → IsTrue words
-    ↔ All (λ e. IsWordOf t.version (word_for e.what)) t.events
+    ↔ All (λ e. IsWordOf t.format (word_for e.what)) t.events
     → front ≡ true → slots ≡ true → lines ≡ true → IsTrue words ↔ IsPrintable t
 printable_when t front slots lines words f s l w a b c = (
-  λ h. let both = f.0 a in record {
-    version = both.0;
-    disks = both.1;
+  λ h. record {
+    disks = f.0 a;
     slots = s.0 b;
     events = l.0 c;
     words = w.0 h;

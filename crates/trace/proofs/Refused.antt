@@ -2,6 +2,7 @@
 use Rattle.std.proofs.Common.{◌≡◌, ℕ, ◌≤◌, ◌⊎◌, [], ◌∷◌, Bool, true, List, get_or, drop, sym, ap, subst, arith, inl, inr}
 use Rattle.trace.specs.declared.fault.FaultKind.{FaultKind}
 use Rattle.trace.specs.declared.fault.FaultKind.TheVariants as kind
+use Rattle.trace.specs.declared.format.Format.{Format}
 use Rattle.trace.specs.declared.word.Word.{Word}
 use Rattle.trace.specs.declared.word.Word.TheVariants.{Cache, Hosted, Slot}
 use Rattle.trace.specs.Cuts.{fields_of}
@@ -29,26 +30,26 @@ may_move w j k late le h =
 
 -- ---- a line that is refused
 
-after : (version : ℕ) (begun : Bool) (line : List ℕ) (word : Word) (fault : FaultKind)
-    (fields : List (List ℕ)) → MayStand 3 word → IsWordOf version word
+after : (format : Format) (begun : Bool) (line : List ℕ) (word : Word) (fault : FaultKind)
+    (fields : List (List ℕ)) → MayStand 3 word → IsWordOf format word
     → fields_of line ≡ spelled word ∷ fields → (begun ≡ true → word ≡ Slot → ⊥)
-    → RefusesFields version word fields fault → RefusesAfterWord version begun line fault
-after version begun line word fault fields may of is ordered h =
+    → RefusesFields format word fields fault → RefusesAfterWord format begun line fault
+after format begun line word fault fields may of is ordered h =
     let rest : other_fields line ≡ fields = ap (drop 1) is in
     record {
       word = word;
       may = may;
-      of_version = of;
+      of_format = of;
       first = ap (λ (fs : List (List ℕ)). get_or fs 0 []) is;
       ordered = ordered;
-      refused = subst (λ (fs : List (List ℕ)). RefusesFields version word fs fault) (sym rest) h;
+      refused = subst (λ (fs : List (List ℕ)). RefusesFields format word fs fault) (sym rest) h;
     }
 
-pub refused_after : (version : ℕ) (begun : Bool) (line : List ℕ) (word : Word) (fault : FaultKind)
-    (fields : List (List ℕ)) → MayStand 3 word → IsWordOf version word
+pub refused_after : (format : Format) (begun : Bool) (line : List ℕ) (word : Word) (fault : FaultKind)
+    (fields : List (List ℕ)) → MayStand 3 word → IsWordOf format word
     → fields_of line ≡ spelled word ∷ fields → (begun ≡ true → word ≡ Slot → ⊥)
-    → RefusesFields version word fields fault → RefusesLine version begun line fault
-refused_after version begun line word kind.Word fields may of is ordered h = absurd h
-refused_after version begun line word kind.Order fields may of is ordered h = absurd h
-refused_after version begun line word fault fields may of is ordered h =
-    after version begun line word fault fields may of is ordered h
+    → RefusesFields format word fields fault → RefusesLine format begun line fault
+refused_after format begun line word kind.Word fields may of is ordered h = absurd h
+refused_after format begun line word kind.Order fields may of is ordered h = absurd h
+refused_after format begun line word fault fields may of is ordered h =
+    after format begun line word fault fields may of is ordered h

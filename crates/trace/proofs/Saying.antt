@@ -3,6 +3,7 @@ use Rattle.std.proofs.Common.{◌≡◌, ℕ, ◌/◌, List, ◌∷◌, ◌++◌
 use Rattle.board.specs.declared.event.Event.{Event}
 use Rattle.board.specs.declared.event.EventKind.{EventKind}
 use Rattle.board.specs.declared.event.EventKind.TheVariants as event
+use Rattle.trace.specs.declared.format.Format.TheVariants.{Extended}
 use Rattle.trace.specs.declared.read.parsed_event.ParsedEvent.{ParsedEvent}
 use Rattle.trace.specs.Cuts.{fields_of, lines_of}
 use Rattle.trace.specs.Events.{TakesEvent}
@@ -102,10 +103,10 @@ unbroken_parsed : {A : Type 0} (s : ParsedEvent A) → IsFineParsed s → IsInEa
 unfolding parsed_line event_line
 unbroken_parsed s h each =
     let it = meant s h in
-    let of : IsWordOf 3 (word_for it.event.what) =
-    subst (λ (w : Word). IsWordOf 3 w) (sym it.word) (each 3) in
+    let of : IsWordOf Extended (word_for it.event.what) =
+    subst (λ (w : Word). IsWordOf Extended w) (sym it.word) (each Extended) in
     subst (λ (fs : List (List ℕ)). Above 10 (line fs)) it.fields_are
-    (entered_event 3 it.event it.fine of).entry.unbroken
+    (entered_event Extended it.event it.fine of).entry.unbroken
 
 -- the line was taken off a text
 pub taken_parsed : {A : Type 0} (s : ParsedEvent A) (text after : List ℕ) → IsFineParsed s

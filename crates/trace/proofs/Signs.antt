@@ -1,12 +1,15 @@
 -- No field has a space in it, and no line a line feed: so cutting a text gives its lines, and cutting a
 -- line its fields.
-use Rattle.std.proofs.Common.{◌≡◌, ℕ, ◌+◌, ◌<◌, ◌≤◌, ltb, codes, Bool, true, false, List, [], ◌∷◌, ◌++◌, All, refl, sym, ap, ◌∙◌, arith}
+use Rattle.std.proofs.Common.{◌≡◌, ℕ, ◌+◌, ◌<◌, ◌≤◌, ltb, Bool, true, false, List, [], ◌∷◌, ◌++◌, All, length, refl, sym, ap, ◌∙◌, arith}
 use Rattle.std.specs.List.{AllByRecursion, slice_split, join_with_byte, flat_map, list_all}
 use Rattle.std.proofs.lemmas.Bool.{ltb-true, ne_eqb, and_parts}
 use Rattle.std.proofs.lemmas.List.{append_assoc, append-nil}
 use Rattle.std.proofs.lemmas.List.Elements.{All-from_recursion, recursion_from_All}
 use Rattle.hex.specs.Hex.{encode_lower}
 use Rattle.std.proofs.lemmas.List.Splits.{slice_split_at, slice_split_none, join_with_byte-slice_split}
+use Rattle.trace.specs.declared.format.Format.{Format}
+use Rattle.trace.specs.declared.format.Format.TheVariants.{Plain, Extended}
+use Rattle.trace.specs.declared.format.Version.TheVariants.{One, Two}
 use Rattle.trace.specs.Cuts.{fields_of, lines_of, is_space, is_line_feed}
 use Rattle.hexadecimal.specs.Fields.{IsDigit}
 use Rattle.hexadecimal.specs.Spelling.{num, fixed, bytes}
@@ -93,9 +96,15 @@ above_line f (g ∷ fs) h =
 
 -- ---- lines
 
-pub above_header : (version : ℕ) → Above 10 (header version)
-above_header version = above_append 10 (codes "vreplay ") ((48 + version) ∷ [])
-    (above_tested 10 (codes "vreplay ") refl) (omega arith, tt)
+pub above_header : (format : Format) → Above 10 (header format)
+above_header (Plain One) = above_tested 10 (header (Plain One)) refl
+above_header (Plain Two) = above_tested 10 (header (Plain Two)) refl
+above_header Extended = above_tested 10 (header Extended) refl
+
+pub long_header : (format : Format) → 9 ≤ length (header format)
+long_header (Plain One) = omega arith
+long_header (Plain Two) = omega arith
+long_header Extended = omega arith
 
 pub lines_of-joined : (ls : List (List ℕ)) (rest : List ℕ) → AllAbove 10 ls
     → lines_of (joined ls ++ rest) ≡ ls ++ lines_of rest

@@ -10,10 +10,11 @@ use Rattle.trace.specs.declared.disks.Disks.{Disks}
 use Rattle.trace.specs.declared.fault.FaultKind.{FaultKind}
 use Rattle.trace.specs.declared.fault.FaultKind.TheVariants as kind
 use Rattle.trace.specs.declared.read.parsed_event.ParsedEvent.{ParsedEvent}
+use Rattle.trace.specs.declared.format.Format.{Format}
 use Rattle.trace.specs.declared.word.Word.{Word}
 use Rattle.trace.specs.declared.word.Word.TheVariants.{Slot}
 use Rattle.trace.specs.Cuts.{fields_of, lines_of, is_line_feed}
-use Rattle.trace.specs.Faults.{IsCleanBefore, IsEnded, IsFault, IsOfVersion, Passes, line_at}
+use Rattle.trace.specs.Faults.{IsCleanBefore, IsEnded, IsFault, IsOfFormat, Passes, line_at}
 use Rattle.trace.specs.Printable.{InRange, IsPrintable, EventInRange, IsPrintableKind, IsPrintableSlot, SlotInRange}
 use Rattle.trace.specs.ParsedEvent.{parsed_fields}
 use Rattle.trace.specs.Words.{IsWordOf}
@@ -23,50 +24,50 @@ use Rattle.trace.proofs.Clean.{Good, IsSlotLine, good, good_passes, only_slots, 
 use Rattle.trace.proofs.Entries.{EnteredEvent, entered_disks, entered_event, entered_slot, same_word}
 use Rattle.trace.proofs.Faulty.{cut_fault, fields_fault, order_fault, word_fault}
 use Rattle.trace.proofs.Refused.{may_move}
-use Rattle.trace.proofs.Signs.{AllAbove, above_header, above_lines, joined_push, line-fields_of, lines_of-joined}
+use Rattle.trace.proofs.Signs.{AllAbove, above_header, above_lines, joined_push, line-fields_of, lines_of-joined, long_header}
 
 -- what has a text
 pub record Fits {A : Type 0} (c : Content A) : Type 0 where
   pub range : InRange c
   pub printable : IsPrintable c
 
-slot_lines : (version : ℕ) (slots : List SlotSpec) → All SlotInRange slots
-    → All (IsPrintableSlot version) slots → All (IsSlotLine version) (map (slot_line version) slots)
-slot_lines version slots h fine =
-    All-map (IsSlotLine version) (slot_line version) slots
-    (λ k d lt. entered_slot version (get_or slots k d) (record { fits = h k d lt; printable = fine k d lt }))
+slot_lines : (format : Format) (slots : List SlotSpec) → All SlotInRange slots
+    → All (IsPrintableSlot format) slots → All (IsSlotLine format) (map (slot_line format) slots)
+slot_lines format slots h fine =
+    All-map (IsSlotLine format) (slot_line format) slots
+    (λ k d lt. entered_slot format (get_or slots k d) (record { fits = h k d lt; printable = fine k d lt }))
 
-event_lines : {A : Type 0} (version : ℕ) (events : List (Event A)) → All EventInRange events
-    → All (λ e. IsPrintableKind e.what) events → All (λ e. IsWordOf version (word_for e.what)) events
-    → All (EnteredEvent version) (map event_line events)
-event_lines version events range fine words =
-    All-map (EnteredEvent version) event_line events
-    (λ k d lt. entered_event version (get_or events k d)
+event_lines : {A : Type 0} (format : Format) (events : List (Event A)) → All EventInRange events
+    → All (λ e. IsPrintableKind e.what) events → All (λ e. IsWordOf format (word_for e.what)) events
+    → All (EnteredEvent format) (map event_line events)
+event_lines format events range fine words =
+    All-map (EnteredEvent format) event_line events
+    (λ k d lt. entered_event format (get_or events k d)
     (record { fits = range k d lt; printable = fine k d lt }) (words k d lt))
 
-unbroken_slots : (version : ℕ) (ls : List (List ℕ)) → All (IsSlotLine version) ls → AllAbove 10 ls
-unbroken_slots version [] h = tt
-unbroken_slots version (l ∷ ls) h = let first = h 0 l (omega arith) in
-    (first.unbroken, unbroken_slots version ls (λ k d lt. h (suc k) d (omega arith)))
+unbroken_slots : (format : Format) (ls : List (List ℕ)) → All (IsSlotLine format) ls → AllAbove 10 ls
+unbroken_slots format [] h = tt
+unbroken_slots format (l ∷ ls) h = let first = h 0 l (omega arith) in
+    (first.unbroken, unbroken_slots format ls (λ k d lt. h (suc k) d (omega arith)))
 
-unbroken_events : (version : ℕ) (ls : List (List ℕ)) → All (EnteredEvent version) ls → AllAbove 10 ls
-unbroken_events version [] h = tt
-unbroken_events version (l ∷ ls) h = let first = h 0 l (omega arith) in
-    (first.entry.unbroken, unbroken_events version ls (λ k d lt. h (suc k) d (omega arith)))
+unbroken_events : (format : Format) (ls : List (List ℕ)) → All (EnteredEvent format) ls → AllAbove 10 ls
+unbroken_events format [] h = tt
+unbroken_events format (l ∷ ls) h = let first = h 0 l (omega arith) in
+    (first.entry.unbroken, unbroken_events format ls (λ k d lt. h (suc k) d (omega arith)))
 
 -- no line of a trace has a line feed in it
 pub unbroken : {A : Type 0} (c : Content A) → Fits c → AllAbove 10 (trace_lines c)
 unfolding trace_lines
 unbroken c h =
-    let second = entered_disks c.version c.disks h.range.disks h.printable.disks in (
-      above_header c.version,
+    let second = entered_disks c.format c.disks h.range.disks h.printable.disks in (
+      above_header c.format,
       (
         second.entry.unbroken,
-        above_lines (map (slot_line c.version) c.slots)
-            (map event_line c.events) (unbroken_slots c.version (map (slot_line c.version) c.slots)
-            (slot_lines c.version c.slots h.range.slots h.printable.slots))
-            (unbroken_events c.version (map event_line c.events)
-            (event_lines c.version c.events h.range.events h.printable.events h.printable.words)),
+        above_lines (map (slot_line c.format) c.slots)
+            (map event_line c.events) (unbroken_slots c.format (map (slot_line c.format) c.slots)
+            (slot_lines c.format c.slots h.range.slots h.printable.slots))
+            (unbroken_events c.format (map event_line c.events)
+            (event_lines c.format c.events h.range.events h.printable.events h.printable.words)),
       ),
     )
 
@@ -81,49 +82,49 @@ pub record Sofar {A : Type 0} (text : List ℕ) (c : Content A) (k : ℕ) (rest 
   pub count : k ≡ 3 + (length c.slots + length c.events)
 
 module _ {A : Type 0} (text : List ℕ) (c : Content A) (k : ℕ) (rest : List ℕ) (s : Sofar text c k rest) where
-  pub parts : lines_of text ≡ (header c.version ∷ disks_line c.disks ∷ (map (slot_line c.version) c.slots
+  pub parts : lines_of text ≡ (header c.format ∷ disks_line c.disks ∷ (map (slot_line c.format) c.slots
       ++ map event_line c.events)) ++ lines_of rest
   unfolding trace_lines
   parts = ap lines_of s.spelled ∙ lines_of-joined (trace_lines c) rest (unbroken c s.fits)
 
-  slots_len : length (map (slot_line c.version) c.slots) ≡ length c.slots
-  slots_len = length-map c.slots (slot_line c.version)
+  slots_len : length (map (slot_line c.format) c.slots) ≡ length c.slots
+  slots_len = length-map c.slots (slot_line c.format)
 
   events_len : length (map event_line c.events) ≡ length c.events
   events_len = length-map c.events event_line
 
-  good_before : (j : ℕ) → 1 ≤ j → j < k → Good c.version text j
+  good_before : (j : ℕ) → 1 ≤ j → j < k → Good c.format text j
   good_before j le lt =
       let count = s.count in
-      good c.version text (disks_line c.disks) (map (slot_line c.version) c.slots) (map event_line c.events)
-      (lines_of rest) parts (some_lines rest) s.fits.printable.version
-      (entered_disks c.version c.disks s.fits.range.disks s.fits.printable.disks)
-      (slot_lines c.version c.slots s.fits.range.slots s.fits.printable.slots)
-      (event_lines c.version c.events s.fits.range.events s.fits.printable.events s.fits.printable.words)
+      good c.format text (disks_line c.disks) (map (slot_line c.format) c.slots) (map event_line c.events)
+      (lines_of rest) parts (some_lines rest)
+      (entered_disks c.format c.disks s.fits.range.disks s.fits.printable.disks)
+      (slot_lines c.format c.slots s.fits.range.slots s.fits.printable.slots)
+      (event_lines c.format c.events s.fits.range.events s.fits.printable.events s.fits.printable.words)
       j le (omega (arith, slots_len, events_len))
 
   pub clean : IsCleanBefore text k
-  clean j le lt fault = good_passes c.version text j (good_before j le lt) fault
+  clean j le lt fault = good_passes c.format text j (good_before j le lt) fault
 
-  names_it : IsOfVersion text c.version
+  names_it : IsOfFormat text c.format
   names_it = ap (λ (ls : List (List ℕ)). get_or ls 0 []) parts
 
   -- the line that comes next, and whether it is ended
   pub next_is : line_at text k ≡ get_or (lines_of rest) 0 []
   next_is =
       let count = s.count in
-      let front : length (header c.version ∷ disks_line c.disks ∷ (map (slot_line c.version) c.slots
+      let front : length (header c.format ∷ disks_line c.disks ∷ (map (slot_line c.format) c.slots
       ++ map event_line c.events))
       ≡ k - 1 = omega (
         arith,
         slots_len,
         events_len,
-        length-append (map (slot_line c.version) c.slots)
+        length-append (map (slot_line c.format) c.slots)
             (map event_line c.events),
       ) in
       let none : k - 1 - (k - 1) ≡ 0 = omega arith in
       ap (λ (ls : List (List ℕ)). get_or ls (k - 1) []) parts
-      ∙ get_or-append_right (header c.version ∷ disks_line c.disks ∷ (map (slot_line c.version) c.slots
+      ∙ get_or-append_right (header c.format ∷ disks_line c.disks ∷ (map (slot_line c.format) c.slots
       ++ map event_line c.events)) (lines_of rest) (k - 1) (k - 1) [] front (omega arith)
       ∙ ap (λ (n : ℕ). get_or (lines_of rest) n []) none
 
@@ -135,9 +136,9 @@ module _ {A : Type 0} (text : List ℕ) (c : Content A) (k : ℕ) (rest : List �
         ap length parts,
         slots_len,
         events_len,
-        length-append (map (slot_line c.version) c.slots)
+        length-append (map (slot_line c.format) c.slots)
             (map event_line c.events),
-        length-append (header c.version ∷ disks_line c.disks ∷ (map (slot_line c.version) c.slots
+        length-append (header c.format ∷ disks_line c.disks ∷ (map (slot_line c.format) c.slots
             ++ map event_line c.events)) (lines_of rest),
       )
 
@@ -151,60 +152,60 @@ module _ {A : Type 0} (text : List ℕ) (c : Content A) (k : ℕ) (rest : List �
 
   -- an ended line that has this word and fields
   ordered : (begun : Bool) (fault : FaultKind) → IsEnded text k → (begun ≡ false → length c.events ≡ 0)
-      → RefusesAfterWord c.version begun (line_at text k) fault → Passes text k kind.Order
+      → RefusesAfterWord c.format begun (line_at text k) fault → Passes text k kind.Order
   ordered begun fault end none r = λ _ slot j low high.
       let count = s.count in
       elim (cases_Bool begun) [
         | inl so ↦ absurd (r.ordered so (same_word r.word Slot (sym r.first ∙ slot)))
         | inr not_yet ↦
-            only_slots c.version text (disks_line c.disks) (map (slot_line c.version) c.slots)
-            (map event_line c.events) (lines_of rest) parts (some_lines rest) s.fits.printable.version
-            (entered_disks c.version c.disks s.fits.range.disks s.fits.printable.disks)
-            (slot_lines c.version c.slots s.fits.range.slots s.fits.printable.slots)
-            (event_lines c.version c.events s.fits.range.events s.fits.printable.events
+            only_slots c.format text (disks_line c.disks) (map (slot_line c.format) c.slots)
+            (map event_line c.events) (lines_of rest) parts (some_lines rest)
+            (entered_disks c.format c.disks s.fits.range.disks s.fits.printable.disks)
+            (slot_lines c.format c.slots s.fits.range.slots s.fits.printable.slots)
+            (event_lines c.format c.events s.fits.range.events s.fits.printable.events
             s.fits.printable.words) (events_len
             ∙ none not_yet) j low (omega (arith, slots_len, events_len))
       ]
 
   fault_after : (begun : Bool) (fault : FaultKind) → IsEnded text k → 2 ≤ k
-      → (begun ≡ false → length c.events ≡ 0) → RefusesAfterWord c.version begun (line_at text k) fault
+      → (begun ≡ false → length c.events ≡ 0) → RefusesAfterWord c.format begun (line_at text k) fault
       → fault ≢ kind.NoMemory → IsFault text k fault
   fault_after begun fault end late none r known =
       let count = s.count in
-      fields_fault text k late clean end c.version names_it r.word
-      (may_move r.word 3 k (omega arith) (omega arith) r.may) r.of_version r.first
+      fields_fault text k late clean end c.format names_it r.word
+      (may_move r.word 3 k (omega arith) (omega arith) r.may) r.of_format r.first
       (ordered begun fault end none r) fault r.refused known
 
   refused : (begun : Bool) (fault : FaultKind) → IsEnded text k → 2 ≤ k → (begun ≡ true → 0 < length c.events)
-      → (begun ≡ false → length c.events ≡ 0) → RefusesLine c.version begun (line_at text k) fault
+      → (begun ≡ false → length c.events ≡ 0) → RefusesLine c.format begun (line_at text k) fault
       → fault ≢ kind.NoMemory → IsFault text k fault
   refused begun kind.Word end late some none h known =
       let count = s.count in
-      word_fault text k late clean end c.version names_it
+      word_fault text k late clean end c.format names_it
       (λ w may of is. h w (may_move w k 3 (omega arith) (omega arith) may) of is)
   refused begun kind.Order end late some none h known =
       let count = s.count in
       let begins = some h.0 in
-      order_fault text k late clean end (omega arith) h.1 (3 + length (map (slot_line c.version) c.slots))
+      order_fault text k late clean end (omega arith) h.1 (3 + length (map (slot_line c.format) c.slots))
       (omega arith) (omega (arith, slots_len))
-      (one_event c.version text (disks_line c.disks) (map (slot_line c.version) c.slots)
-      (map event_line c.events) (lines_of rest) parts (some_lines rest) s.fits.printable.version
-      (entered_disks c.version c.disks s.fits.range.disks s.fits.printable.disks)
-      (slot_lines c.version c.slots s.fits.range.slots s.fits.printable.slots)
-      (event_lines c.version c.events s.fits.range.events s.fits.printable.events s.fits.printable.words)
+      (one_event c.format text (disks_line c.disks) (map (slot_line c.format) c.slots)
+      (map event_line c.events) (lines_of rest) parts (some_lines rest)
+      (entered_disks c.format c.disks s.fits.range.disks s.fits.printable.disks)
+      (slot_lines c.format c.slots s.fits.range.slots s.fits.printable.slots)
+      (event_lines c.format c.events s.fits.range.events s.fits.printable.events s.fits.printable.words)
       (omega (arith, events_len)))
   refused begun fault end late some none h known = fault_after begun fault end late none h known
 
   -- the next line is refused
   pub is_refused : (begun : Bool) (l after : List ℕ) (fault : FaultKind) → lines_of rest ≡ l ∷ lines_of after
       → (begun ≡ true → 0 < length c.events) → (begun ≡ false → length c.events ≡ 0)
-      → RefusesLine c.version begun l fault → fault ≢ kind.NoMemory → IsFault text k fault
+      → RefusesLine c.format begun l fault → fault ≢ kind.NoMemory → IsFault text k fault
   is_refused begun l after fault is some none h known =
       let count = s.count in
       let here : line_at text k ≡ l = next_is ∙ ap (λ (ls : List (List ℕ)). get_or ls 0 []) is in
       let end : IsEnded text k = omega (arith, lines_left, ap length is, some_lines after) in
       refused begun fault end (omega arith) some none
-      (subst (λ (x : List ℕ). RefusesLine c.version begun x fault) (sym here) h) known
+      (subst (λ (x : List ℕ). RefusesLine c.format begun x fault) (sym here) h) known
 
 -- where nothing is left, the whole text was read
 pub all_read : {A : Type 0} (whole : List ℕ) (c : Content A) (k : ℕ) (rest : List ℕ) → Sofar whole c k rest
@@ -215,12 +216,12 @@ all_read whole c k rest so none = so.spelled ∙ ap (λ (xs : List ℕ). text c 
 -- ---- one line more
 
 pub push_slot : {A : Type 0} (c : Content A) (s : SlotSpec) → length c.events ≡ 0
-    → trace_lines (record c { slots = c.slots ++ s ∷ [] }) ≡ trace_lines c ++ slot_line c.version s ∷ []
+    → trace_lines (record c { slots = c.slots ++ s ∷ [] }) ≡ trace_lines c ++ slot_line c.format s ∷ []
 unfolding trace_lines
 push_slot c s none =
     let empty = nil_from_length c.events none in
     let e : map event_line c.events ≡ [] = ap (map event_line) empty in
-    let v = c.version in
+    let v = c.format in
     ap (λ (ls : List (List ℕ)). (header v ∷ disks_line c.disks ∷ map (slot_line v) (c.slots ++ s ∷ []))
     ++ ls) e
     ∙ append-nil (header v ∷ disks_line c.disks ∷ map (slot_line v) (c.slots ++ s ∷ []))
@@ -234,9 +235,9 @@ pub push_event : {A : Type 0} (c : Content A) (e : Event A)
     → trace_lines (record c { events = c.events ++ e ∷ [] }) ≡ trace_lines c ++ event_line e ∷ []
 unfolding trace_lines
 push_event c e =
-    ap (λ (ls : List (List ℕ)). (header c.version ∷ disks_line c.disks ∷ map (slot_line c.version) c.slots)
+    ap (λ (ls : List (List ℕ)). (header c.format ∷ disks_line c.disks ∷ map (slot_line c.format) c.slots)
     ++ ls) (map_push event_line c.events e)
-    ∙ sym (append_assoc (header c.version ∷ disks_line c.disks ∷ map (slot_line c.version) c.slots)
+    ∙ sym (append_assoc (header c.format ∷ disks_line c.disks ∷ map (slot_line c.format) c.slots)
     (map event_line c.events) (event_line e ∷ []))
 
 -- a line taken off the rest goes to the end of what was read
@@ -261,7 +262,7 @@ line_read text c d k rest l after fields so cut is lines fits more =
       count = omega arith;
     }
 
-fits_slot : {A : Type 0} (c : Content A) (s : SlotSpec) → Fits c → IsFineSlot c.version s
+fits_slot : {A : Type 0} (c : Content A) (s : SlotSpec) → Fits c → IsFineSlot c.format s
     → Fits (with_slot c s)
 fits_slot c s h fine =
     let range = h.range in
@@ -273,24 +274,23 @@ fits_slot c s h fine =
         events = range.events;
       };
       printable = record {
-        version = printable.version;
         disks = printable.disks;
-        slots = All-push (IsPrintableSlot c.version) c.slots s printable.slots fine.printable;
+        slots = All-push (IsPrintableSlot c.format) c.slots s printable.slots fine.printable;
         events = printable.events;
         words = printable.words;
       };
     }
 
 pub slot_read : {A : Type 0} (text : List ℕ) (c : Content A) (k : ℕ) (rest l after : List ℕ) (s : SlotSpec)
-    → Sofar text c k rest → rest ≡ l ++ 10 ∷ after → fields_of l ≡ slot_fields c.version s
-    → IsFineSlot c.version s → length c.events ≡ 0 → Sofar text (with_slot c s) (k + 1) after
+    → Sofar text c k rest → rest ≡ l ++ 10 ∷ after → fields_of l ≡ slot_fields c.format s
+    → IsFineSlot c.format s → length c.events ≡ 0 → Sofar text (with_slot c s) (k + 1) after
 unfolding slot_line
 slot_read text c k rest l after s so cut is fine none =
-    line_read text c (with_slot c s) k rest l after (slot_fields c.version s) so cut is (push_slot c s none)
+    line_read text c (with_slot c s) k rest l after (slot_fields c.format s) so cut is (push_slot c s none)
     (fits_slot c s so.fits fine) (omega (arith, length_push c.slots s))
 
 fits_event : {A : Type 0} (c : Content A) (e : Event A) → Fits c → IsFine e
-    → IsWordOf c.version (word_for e.what) → Fits (with_event c e)
+    → IsWordOf c.format (word_for e.what) → Fits (with_event c e)
 fits_event c e h fine of =
     let range = h.range in
     let printable = h.printable in
@@ -301,17 +301,16 @@ fits_event c e h fine of =
         events = All-push EventInRange c.events e range.events fine.fits;
       };
       printable = record {
-        version = printable.version;
         disks = printable.disks;
         slots = printable.slots;
         events = All-push (λ x. IsPrintableKind x.what) c.events e printable.events fine.printable;
-        words = All-push (λ x. IsWordOf c.version (word_for x.what)) c.events e printable.words of;
+        words = All-push (λ x. IsWordOf c.format (word_for x.what)) c.events e printable.words of;
       };
     }
 
 pub event_read : {A : Type 0} (text : List ℕ) (c : Content A) (k : ℕ) (rest l after : List ℕ) (e : Event A)
     → Sofar text c k rest → rest ≡ l ++ 10 ∷ after → fields_of l ≡ event_fields e → IsFine e
-    → IsWordOf c.version (word_for e.what) → Sofar text (with_event c e) (k + 1) after
+    → IsWordOf c.format (word_for e.what) → Sofar text (with_event c e) (k + 1) after
 unfolding event_line
 event_read text c k rest l after e so cut is fine of =
     line_read text c (with_event c e) k rest l after (event_fields e) so cut is (push_event c e)
@@ -322,18 +321,18 @@ two_lines : (a b rest : List ℕ) → ((a ++ 10 ∷ []) ++ ((b ++ 10 ∷ []) ++ 
 two_lines a b rest = simp (append_assoc, append-nil)
 
 -- the first two lines
-pub begun_so : {A : Type 0} (text : List ℕ) (version : ℕ) (disks : Disks) (rest : List ℕ)
-    → IsHead text version disks rest
-    → Sofar {A = A} text (record { version = version; disks = disks; slots = []; events = [] }) 3 rest
+pub begun_so : {A : Type 0} (text : List ℕ) (format : Format) (disks : Disks) (rest : List ℕ)
+    → IsHead text format disks rest
+    → Sofar {A = A} text (record { format = format; disks = disks; slots = []; events = [] }) 3 rest
 unfolding trace_lines joined disks_line
-begun_so text version disks rest h =
-    let first = h.version_is in
+begun_so text format disks rest h =
+    let first = h.format_is in
     let second = h.disks_are in
     let e = line-fields_of second.line (disks_fields disks) second.fields in
     record {
-      spelled = first.ended ∙ ap (λ (m : List ℕ). header version ++ 10 ∷ m) (second.ended
+      spelled = first.ended ∙ ap (λ (m : List ℕ). header format ++ 10 ∷ m) (second.ended
           ∙ ap (λ (x : List ℕ). x ++ 10 ∷ rest) e)
-          ∙ sym (two_lines (header version) (line (disks_fields disks)) rest);
+          ∙ sym (two_lines (header format) (line (disks_fields disks)) rest);
       fits = record {
         range = record {
           disks = second.fits;
@@ -341,9 +340,8 @@ begun_so text version disks rest h =
           events = λ k d lt. absurd (omega arith);
         };
         printable = record {
-          version = first.one_of;
-          disks = second.of_version;
-          slots = All-nil (IsPrintableSlot version);
+          disks = second.of_format;
+          slots = All-nil (IsPrintableSlot format);
           events = λ k d lt. absurd (omega arith);
           words = λ k d lt. absurd (omega arith);
         };
@@ -364,28 +362,28 @@ entry_read text c d k rest l after so cut (inl adds) =
 entry_read text c d k rest l after so cut (inr adds) =
     subst (λ x. Sofar text x (k + 1) after) (sym adds.added)
     (event_read text c k rest l after adds.event so cut adds.parsed.fields adds.parsed.fine
-    adds.parsed.of_version)
+    adds.parsed.of_format)
 
 -- the line of an event that was said is that of the event
-pub says_event : {A : Type 0} (version : ℕ) (l : List ℕ) (parsed : ParsedEvent A) (e : Event A)
-    → fields_of l ≡ parsed_fields parsed → IsWordOf version (word_for parsed.event.what)
+pub says_event : {A : Type 0} (format : Format) (l : List ℕ) (parsed : ParsedEvent A) (e : Event A)
+    → fields_of l ≡ parsed_fields parsed → IsWordOf format (word_for parsed.event.what)
     → event_fields e ≡ parsed_fields parsed → word_for e.what ≡ word_for parsed.event.what → IsFine e
-    → SaysEvent version l e
-says_event version l parsed e is of same word fine = record {
+    → SaysEvent format l e
+says_event format l parsed e is of same word fine = record {
   fields = is ∙ sym same;
   fine = fine;
-  of_version = subst (λ (w : Word). IsWordOf version w) (sym word) of;
+  of_format = subst (λ (w : Word). IsWordOf format w) (sym word) of;
 }
 
 -- what a line says was added
 pub parsed_added : {A : Type 0} (old : Content A) (l : List ℕ) (parsed : ParsedEvent A)
     (events : List (Event A)) → fields_of l ≡ parsed_fields parsed
-    → IsWordOf old.version (word_for parsed.event.what) → AddsParsed parsed old.events events
+    → IsWordOf old.format (word_for parsed.event.what) → AddsParsed parsed old.events events
     → AddsLine old l (record old { events = events })
 parsed_added old l parsed events is of adds =
     inr (record {
       event = adds.event;
-      parsed = says_event old.version l parsed adds.event is of adds.fields adds.word adds.fine;
+      parsed = says_event old.format l parsed adds.event is of adds.fields adds.word adds.fine;
       added = ap (λ es. record old { events = es }) adds.added;
     })
 
@@ -406,15 +404,16 @@ unfolding trace_lines joined
 numbered text c k rest so =
     let count = so.count in
     let others : List (List ℕ) =
-    disks_line c.disks ∷ (map (slot_line c.version) c.slots ++ map event_line c.events) in
+    disks_line c.disks ∷ (map (slot_line c.format) c.slots ++ map event_line c.events) in
     omega (
       arith,
       ap length so.spelled,
       length-append (joined (trace_lines c)) rest,
-      length-append (ended (header c.version)) (joined others),
-      length-append (header c.version) (10 ∷ []),
+      length-append (ended (header c.format)) (joined others),
+      length-append (header c.format) (10 ∷ []),
+      long_header c.format,
       length_joined others,
-      length-append (map (slot_line c.version) c.slots) (map event_line c.events),
-      length-map c.slots (slot_line c.version),
+      length-append (map (slot_line c.format) c.slots) (map event_line c.events),
+      length-map c.slots (slot_line c.format),
       length-map c.events event_line,
     )

@@ -1,9 +1,9 @@
 -- A text belongs to one trace, and the text of a trace has no fault.
-use Rattle.std.proofs.Common.{◌≡◌, ℕ, suc, ◌+◌, ◌*◌, ◌-◌, ◌^◌, ◌<◌, ◌≤◌, Bool, true, false, nat_lt, List, [], ◌∷◌, ◌++◌, All, length, get_or, drop, map, Result, Ok, refl, sym, ap, subst, ◌∙◌, arith, inl, inr}
+use Rattle.std.proofs.Common.{◌≡◌, ℕ, suc, ◌+◌, ◌*◌, ◌-◌, ◌^◌, ◌<◌, ◌≤◌, Bool, true, false, List, [], ◌∷◌, ◌++◌, All, length, get_or, drop, map, Result, Ok, refl, sym, ap, subst, ◌∙◌, arith, inl, inr}
 use Rattle.std.proofs.lemmas.List.{append_cancel_right, append-nil, get_or_past}
 use Rattle.std.specs.List.{flat_map}
 use Rattle.std.specs.Prelude.{⊤}
-use Rattle.std.proofs.lemmas.Bool.{cases_eq, cases_lt, cases_order, ltb-true}
+use Rattle.std.proofs.lemmas.Bool.{cases_eq, cases_lt, cases_order}
 use Rattle.hex.specs.Hex.{decode_of, encode_lower, lower_digits}
 use Rattle.hex.proofs.HexLemmas.{decode_of-encode_lower, length-encode_with}
 use Rattle.hex.specs.declared.error.FromHexError.{FromHexError}
@@ -18,26 +18,29 @@ use Rattle.board.specs.declared.spec.SlotSpec.{SlotSpec}
 use Rattle.guest_memory.specs.declared.spec.RegionSpec.{RegionSpec}
 use Rattle.trace.specs.declared.disks.Disks.{Disks}
 use Rattle.trace.specs.declared.disks.Disks.TheVariants as kept
+use Rattle.trace.specs.declared.format.Format.{Format}
+use Rattle.trace.specs.declared.format.Format.TheVariants.{Plain, Extended}
+use Rattle.trace.specs.declared.format.Version.TheVariants.{One, Two}
 use Rattle.trace.specs.declared.fault.FaultKind.{FaultKind}
 use Rattle.trace.specs.declared.fault.FaultKind.TheVariants as kind
 use Rattle.trace.specs.declared.word.Word.TheVariants.{Slot}
 use Rattle.trace.specs.Cuts.{fields_of, lines_of, parts}
 use Rattle.trace.specs.Faults.{IsCleanBefore, IsEnded, IsFault, Passes, line_at, order}
-use Rattle.trace.specs.Printable.{IsPrintableKind, IsWriteAccess, KindInRange}
+use Rattle.trace.specs.Printable.{IsPrintableKind, IsPrintableMemory, IsWriteAccess, KindInRange}
 use Rattle.trace.specs.Refusals.{IsFine, IsFineSlot}
-use Rattle.trace.specs.Version.{IsVersion}
 use Rattle.hexadecimal.specs.Spelling.{bytes, fixed}
 use Rattle.trace.specs.Spelling.{mode, region_text, verdict, window}
 use Rattle.trace.specs.Text.{Content, disks_fields, disks_line, event_fields, event_line, memory_fields, region_fields, slot_fields, slot_line, text, trace_lines, what_fields, word_for}
 use Rattle.trace.specs.Words.{spelled}
 use Rattle.hexadecimal.proofs.ByteFields.{AreBytes, is_bytes}
 use Rattle.trace.proofs.FaultKinds.{same_kind}
-use Rattle.trace.proofs.Entries.{behind, cut_disks, cut_event, cut_slot, entered_event, entered_slot, fits_digits, memory_texts, same_word}
+use Rattle.trace.proofs.Entries.{behind, cut_disks, cut_event, cut_slot, entered_event, entered_slot, fits_digits, same_word}
+use Rattle.trace.proofs.Clean.{same_header}
 use Rattle.hexadecimal.proofs.Numbers.{same_fixed, same_num}
 use Rattle.trace.proofs.RegionFields.{region_parts, regions_parts}
 use Rattle.trace.proofs.Signs.{lines_of-joined}
 use Rattle.trace.proofs.Sofar.{Fits, Sofar, clean, lines_left, next_is, unbroken}
-use Rattle.trace.proofs.Versions.{word_of_3}
+use Rattle.trace.proofs.Formats.{word_of_extended}
 
 -- ---- fields
 
@@ -111,7 +114,7 @@ same_halves (x ∷ xs) (y ∷ ys) ls rs e h =
     let both = same_halves xs ys ls rs (omega (arith, e)) tail in
     (ap (λ (z : List ℕ). z ∷ xs) head ∙ ap (λ (zs : List (List ℕ)). y ∷ zs) both.0, both.1)
 
--- the memories of slots of one version: one region by its two fields
+-- the memories of slots of one format: one region by its two fields
 same_single : (rs ss : List RegionSpec) → length rs ≡ 1 → length ss ≡ 1
     → flat_map region_fields rs ≡ flat_map region_fields ss → rs ≡ ss
 same_single [] ss hr hs e = absurd (omega (arith, hr))
@@ -137,55 +140,45 @@ same_each : (rs ss : List RegionSpec) → map region_text rs ≡ map region_text
 same_each rs ss e =
     same_list (λ _. ⊤) region_text (λ r s _ _. same_region r s) rs ss (λ k d lt. tt) (λ k d lt. tt) e
 
-same_texts : (one : Bool) (rs ss : List RegionSpec) → 1 ≤ length rs → 1 ≤ length ss
-    → (one ≡ true → length rs ≡ 1) → (one ≡ true → length ss ≡ 1)
-    → memory_texts one rs ≡ memory_texts one ss → rs ≡ ss
-same_texts false rs ss hr hs or os e =
+same_memory : (format : Format) (rs ss : List RegionSpec) → IsPrintableMemory format (length rs)
+    → IsPrintableMemory format (length ss) → memory_fields format rs ≡ memory_fields format ss → rs ≡ ss
+same_memory Extended rs ss hr hs e =
     same_each rs ss (sym (regions_parts rs hr) ∙ ap (parts 44) (same_at e 0) ∙ regions_parts ss hs)
-same_texts true rs ss hr hs or os e = same_single rs ss (or refl) (os refl) e
+same_memory (Plain version) rs ss hr hs e = same_single rs ss hr hs e
 
-equally_long : (one : Bool) (rs ss : List RegionSpec) → 1 ≤ length rs → 1 ≤ length ss
-    → (one ≡ true → length rs ≡ 1) → (one ≡ true → length ss ≡ 1)
-    → length (memory_texts one rs) ≡ length (memory_texts one ss)
-equally_long false rs ss hr hs or os = refl
-equally_long true [] ss hr hs or os = absurd (omega (arith, hr))
-equally_long true (r ∷ rs) [] hr hs or os = absurd (omega (arith, hs))
-equally_long true (r ∷ (q ∷ rs)) (s ∷ ss) hr hs or os = absurd (omega (arith, or refl))
-equally_long true (r ∷ []) (s ∷ (q ∷ ss)) hr hs or os = absurd (omega (arith, os refl))
-equally_long true (r ∷ []) (s ∷ []) hr hs or os = refl
+equally_long : (format : Format) (rs ss : List RegionSpec) → IsPrintableMemory format (length rs)
+    → IsPrintableMemory format (length ss)
+    → length (memory_fields format rs) ≡ length (memory_fields format ss)
+equally_long Extended rs ss hr hs = refl
+equally_long (Plain version) [] ss hr hs = absurd (omega (arith, hr))
+equally_long (Plain version) (r ∷ rs) [] hr hs = absurd (omega (arith, hs))
+equally_long (Plain version) (r ∷ (q ∷ rs)) (s ∷ ss) hr hs = absurd (omega (arith, hr))
+equally_long (Plain version) (r ∷ []) (s ∷ (q ∷ ss)) hr hs = absurd (omega (arith, hs))
+equally_long (Plain version) (r ∷ []) (s ∷ []) hr hs = refl
 
--- the identities of slots of one version
-same_identity : (version : ℕ) (s t : SlotSpec) → IsVersion version → IsFineSlot version s
-    → IsFineSlot version t → behind version s ≡ behind version t → s.identity ≡ t.identity
-same_identity version s t one_of fs ft e =
-    let same = same_bytes s.identity t.identity fs.fits.identity ft.fits.identity in
-    elim one_of [
-      | inl one ↦ fs.printable.identity one ∙ sym (ft.printable.identity one)
-      | inr more ↦ elim more [
-        | inl two ↦ same (same_at (subst (λ (v : ℕ). behind v s ≡ behind v t) two e) 5)
-        | inr three ↦ same (same_at (subst (λ (v : ℕ). behind v s ≡ behind v t) three e) 5)
-      ]
-    ]
+-- the identities of slots of one format
+same_identity : (format : Format) (s t : SlotSpec) → IsFineSlot format s
+    → IsFineSlot format t → behind format s ≡ behind format t → s.identity ≡ t.identity
+same_identity (Plain One) s t fs ft e = fs.printable.identity refl ∙ sym (ft.printable.identity refl)
+same_identity (Plain Two) s t fs ft e =
+    same_bytes s.identity t.identity fs.fits.identity ft.fits.identity (same_at e 5)
+same_identity Extended s t fs ft e =
+    same_bytes s.identity t.identity fs.fits.identity ft.fits.identity (same_at e 5)
 
-same_slot_fields : (version : ℕ) (s t : SlotSpec) → IsVersion version → IsFineSlot version s
-    → IsFineSlot version t → slot_fields version s ≡ slot_fields version t → s ≡ t
+same_slot_fields : (format : Format) (s t : SlotSpec) → IsFineSlot format s
+    → IsFineSlot format t → slot_fields format s ≡ slot_fields format t → s ≡ t
 unfolding made_slot
-same_slot_fields version s t one_of fs ft e =
-    let one = nat_lt version 3 in
-    let single_s : one ≡ true → length s.regions ≡ 1 = λ h. fs.printable.memory.one (ltb-true version 3 h) in
-    let single_t : one ≡ true → length t.regions ≡ 1 = λ h. ft.printable.memory.one (ltb-true version 3 h) in
-    let long = equally_long one s.regions t.regions fs.printable.memory.some ft.printable.memory.some
-    single_s single_t in
-    let halves = same_halves (memory_fields version s.regions) (memory_fields version t.regions)
-    (behind version s) (behind version t) long (ap (drop 1) e) in
-    let regions = same_texts one s.regions t.regions fs.printable.memory.some ft.printable.memory.some
-    single_s single_t halves.0 in
+same_slot_fields format s t fs ft e =
+    let long = equally_long format s.regions t.regions fs.printable.memory ft.printable.memory in
+    let halves = same_halves (memory_fields format s.regions) (memory_fields format t.regions)
+    (behind format s) (behind format t) long (ap (drop 1) e) in
+    let regions = same_memory format s.regions t.regions fs.printable.memory ft.printable.memory halves.0 in
     let start = same_num s.extent.start t.extent.start (same_at halves.1 0) in
     let count = same_num s.extent.count t.extent.count (same_at halves.1 1) in
     let read_only = same_mode s.read_only t.read_only (same_at halves.1 2) in
     let cols = same_num s.cols t.cols (same_at halves.1 3) in
     let rows = same_num s.rows t.rows (same_at halves.1 4) in
-    let identity = same_identity version s t one_of fs ft halves.1 in
+    let identity = same_identity format s t fs ft halves.1 in
     ap (λ (x : List RegionSpec). made_slot x s.extent.start s.extent.count s.read_only s.cols s.rows
     s.identity) regions
     ∙ ap (λ (x : ℕ). made_slot t.regions x s.extent.count s.read_only s.cols s.rows s.identity) start
@@ -250,22 +243,22 @@ same_event_fields d e fd fe h =
     ap (λ (n : ℕ). record { slot = n; what = d.what }) both.0
     ∙ ap (λ w. record { slot = e.slot; what = w }) both.1
 
-same_slot_line : (version : ℕ) (s t : SlotSpec) → IsVersion version → IsFineSlot version s
-    → IsFineSlot version t → slot_line version s ≡ slot_line version t → s ≡ t
-same_slot_line version s t one_of fs ft e =
-    same_slot_fields version s t one_of fs ft (sym (cut_slot version s fs) ∙ ap fields_of e
-    ∙ cut_slot version t ft)
+same_slot_line : (format : Format) (s t : SlotSpec) → IsFineSlot format s
+    → IsFineSlot format t → slot_line format s ≡ slot_line format t → s ≡ t
+same_slot_line format s t fs ft e =
+    same_slot_fields format s t fs ft (sym (cut_slot format s fs) ∙ ap fields_of e
+    ∙ cut_slot format t ft)
 
 same_event_line : {A : Type 0} (d e : Event A) → IsFine d → IsFine e → event_line d ≡ event_line e → d ≡ e
 same_event_line d e hd he h =
     same_event_fields d e hd he (sym (cut_event d hd) ∙ ap fields_of h ∙ cut_event e he)
 
 -- a slot's line is no event's
-other_line : {A : Type 0} (version : ℕ) (s : SlotSpec) (e : Event A) → IsFineSlot version s → IsFine e
-    → slot_line version s ≡ event_line e → ⊥
-other_line version s e hs he h =
-    let event = entered_event 3 e he (word_of_3 (word_for e.what)) in
-    let slot = entered_slot version s hs in
+other_line : {A : Type 0} (format : Format) (s : SlotSpec) (e : Event A) → IsFineSlot format s → IsFine e
+    → slot_line format s ≡ event_line e → ⊥
+other_line format s e hs he h =
+    let event = entered_event Extended e he (word_of_extended (word_for e.what)) in
+    let slot = entered_slot format s hs in
     let words : spelled Slot ≡ spelled event.word =
     same_at (sym slot.cut ∙ ap fields_of h ∙ event.entry.cut) 0 in
     event.other (sym (same_word Slot event.word words))
@@ -279,25 +272,25 @@ same_events : {A : Type 0} (ds es : List (Event A)) → AllFine ds → AllFine e
     → map event_line ds ≡ map event_line es → ds ≡ es
 same_events ds es hd he e = same_list IsFine event_line same_event_line ds es hd he e
 
-module _ {A : Type 0} (version : ℕ) (one_of : IsVersion version) where
-  same_parts : (ss ts : List SlotSpec) (ds es : List (Event A)) → All (IsFineSlot version) ss
-      → All (IsFineSlot version) ts → AllFine ds → AllFine es
-      → map (slot_line version) ss ++ map event_line ds ≡ map (slot_line version) ts ++ map event_line es
+module _ {A : Type 0} (format : Format) where
+  same_parts : (ss ts : List SlotSpec) (ds es : List (Event A)) → All (IsFineSlot format) ss
+      → All (IsFineSlot format) ts → AllFine ds → AllFine es
+      → map (slot_line format) ss ++ map event_line ds ≡ map (slot_line format) ts ++ map event_line es
       → (ss ≡ ts) × (ds ≡ es)
   same_parts [] [] ds es hs ht hd he e = (refl, same_events ds es hd he e)
   same_parts [] (t ∷ ts) [] es hs ht hd he e = absurd cc
   same_parts [] (t ∷ ts) (d ∷ ds) es hs ht hd he e =
-      let first : event_line d ≡ slot_line version t = cc in
-      absurd (other_line version t d (ht 0 t (omega arith)) (hd 0 d (omega arith)) (sym first))
+      let first : event_line d ≡ slot_line format t = cc in
+      absurd (other_line format t d (ht 0 t (omega arith)) (hd 0 d (omega arith)) (sym first))
   same_parts (s ∷ ss) [] ds [] hs ht hd he e = absurd cc
   same_parts (s ∷ ss) [] ds (x ∷ es) hs ht hd he e =
-      let first : slot_line version s ≡ event_line x = cc in
-      absurd (other_line version s x (hs 0 s (omega arith)) (he 0 x (omega arith)) first)
+      let first : slot_line format s ≡ event_line x = cc in
+      absurd (other_line format s x (hs 0 s (omega arith)) (he 0 x (omega arith)) first)
   same_parts (s ∷ ss) (t ∷ ts) ds es hs ht hd he e =
-      let first : slot_line version s ≡ slot_line version t = cc in
-      let rest : map (slot_line version) ss ++ map event_line ds ≡ map (slot_line version) ts
+      let first : slot_line format s ≡ slot_line format t = cc in
+      let rest : map (slot_line format) ss ++ map event_line ds ≡ map (slot_line format) ts
       ++ map event_line es = cc in
-      let a = same_slot_line version s t one_of (hs 0 s (omega arith)) (ht 0 t (omega arith)) first in
+      let a = same_slot_line format s t (hs 0 s (omega arith)) (ht 0 t (omega arith)) first in
       let b = same_parts ss ts ds es (λ k d lt. hs (suc k) d (omega arith))
       (λ k d lt. ht (suc k) d (omega arith)) hd he rest in
       (let c = b.0 in cc, b.1)
@@ -305,7 +298,7 @@ module _ {A : Type 0} (version : ℕ) (one_of : IsVersion version) where
 all_fine : {A : Type 0} (c : Content A) → Fits c → AllFine c.events
 all_fine c h = λ k d lt. record { fits = h.range.events k d lt; printable = h.printable.events k d lt }
 
-all_fine_slots : {A : Type 0} (c : Content A) → Fits c → All (IsFineSlot c.version) c.slots
+all_fine_slots : {A : Type 0} (c : Content A) → Fits c → All (IsFineSlot c.format) c.slots
 all_fine_slots c h = λ k d lt. record { fits = h.range.slots k d lt; printable = h.printable.slots k d lt }
 
 lines_of_text : {A : Type 0} (c : Content A) → Fits c → lines_of (text c) ≡ trace_lines c ++ lines_of []
@@ -322,27 +315,26 @@ same_disks c d e = absurd (omega (arith, ap length e))
 same_lines : {A : Type 0} (c d : Content A) → Fits c → Fits d → trace_lines c ≡ trace_lines d → c ≡ d
 unfolding trace_lines
 same_lines c d hc hd e =
-    let version : c.version ≡ d.version =
-    omega (arith, ap (λ (ls : List (List ℕ)). get_or (get_or ls 0 []) 8 0) e) in
+    let format : c.format ≡ d.format = same_header c.format d.format (same_at e 0) in
     let seconds : disks_line c.disks ≡ disks_line d.disks = same_at e 1 in
     let disks = same_disks c.disks d.disks (sym (cut_disks c.disks hc.range.disks) ∙ ap fields_of seconds
     ∙ cut_disks d.disks hd.range.disks) in
-    let fine : All (IsFineSlot c.version) d.slots =
-    subst (λ (v : ℕ). All (IsFineSlot v) d.slots) (sym version) (all_fine_slots d hd) in
-    let lines : map (slot_line c.version) c.slots
-    ++ map event_line c.events ≡ map (slot_line c.version) d.slots ++ map event_line d.events =
-    ap (drop 2) e ∙ ap (λ (v : ℕ). map (slot_line v) d.slots ++ map event_line d.events) (sym version) in
-    let parts = same_parts c.version hc.printable.version c.slots d.slots c.events d.events
+    let fine : All (IsFineSlot c.format) d.slots =
+    subst (λ (v : Format). All (IsFineSlot v) d.slots) (sym format) (all_fine_slots d hd) in
+    let lines : map (slot_line c.format) c.slots
+    ++ map event_line c.events ≡ map (slot_line c.format) d.slots ++ map event_line d.events =
+    ap (drop 2) e ∙ ap (λ (v : Format). map (slot_line v) d.slots ++ map event_line d.events) (sym format) in
+    let parts = same_parts c.format c.slots d.slots c.events d.events
     (all_fine_slots c hc) fine (all_fine c hc) (all_fine d hd) lines in
-    ap (λ (n : ℕ). record { version = n; disks = c.disks; slots = c.slots; events = c.events }) version
-    ∙ ap (λ (k : Disks). record { version = d.version; disks = k; slots = c.slots; events = c.events }) disks
+    ap (λ (f : Format). record { format = f; disks = c.disks; slots = c.slots; events = c.events }) format
+    ∙ ap (λ (k : Disks). record { format = d.format; disks = k; slots = c.slots; events = c.events }) disks
     ∙ ap (λ (ss : List SlotSpec). record {
-      version = d.version;
+      format = d.format;
       disks = d.disks;
       slots = ss;
       events = c.events;
     }) parts.0
-    ∙ ap (λ es. record { version = d.version; disks = d.disks; slots = d.slots; events = es }) parts.1
+    ∙ ap (λ es. record { format = d.format; disks = d.disks; slots = d.slots; events = es }) parts.1
 
 -- a text belongs to one trace
 pub one_trace : {A : Type 0} (c d : Content A) → Fits c → Fits d → text c ≡ text d → c ≡ d

@@ -6,6 +6,7 @@ use Rattle.std.proofs.lemmas.List.Elements.{All-nil, All-push, All-weaker}
 use Rattle.board.specs.declared.event.Event.{Event}
 use Rattle.board.specs.declared.spec.SlotSpec.{SlotSpec}
 use Rattle.trace.specs.declared.disks.Disks.{Disks}
+use Rattle.trace.specs.declared.format.Format.{Format}
 use Rattle.trace.specs.declared.fault.FaultKind.{FaultKind}
 use Rattle.trace.specs.declared.fault.FaultKind.TheVariants as kind
 use Rattle.trace.specs.declared.fault.TraceFault.{TraceFault}
@@ -26,7 +27,7 @@ use Rattle.trace.proofs.Unique.{no_fault, one_trace, text_clean}
 -- a line that says an event was validated, and this is kept of how many bytes it spells
 counted_as : (A : Type 0) (begun : Bool) (line after : List ℕ) (longest longest_line : ℕ) (s : ParsedEvent A)
     (old new : Validation) → fields_of line ≡ parsed_fields s → IsFineParsed s
-    → IsWordOf old.version (word_for s.event.what)
+    → IsWordOf old.format (word_for s.event.what)
     → parsed_len s ≤ longest → old.longest ≤ longest → (1 ≤ old.longest_line → 1 ≤ longest_line)
     → new ≡ record old { longest = longest; longest_line = longest_line }
     → ValidatesLine A begun line after old new
@@ -35,7 +36,7 @@ counted_as A begun line after longest longest_line s old new is fine of fits lon
     let len = it.len in
     inr (record {
       event = it.event;
-      parsed = says_event old.version line s it.event is of it.fields_are it.word it.fine;
+      parsed = says_event old.format line s it.event is of it.fields_are it.word it.fine;
       fits = rw e (omega arith);
       longer = rw e longer;
       numbered = rw e numbered;
@@ -45,7 +46,7 @@ counted_as A begun line after longest longest_line s old new is fine of fits lon
 -- the same, by whether it spells the most so far
 pub event_validated : (A : Type 0) (begun : Bool) (line after : List ℕ) (n : ℕ) (s : ParsedEvent A)
     (old new : Validation) → fields_of line ≡ parsed_fields s → IsFineParsed s
-    → IsWordOf old.version (word_for s.event.what) → 1 ≤ n
+    → IsWordOf old.format (word_for s.event.what) → 1 ≤ n
     → new ≡ (if nat_lt old.longest (parsed_len s) then record old {
       longest = parsed_len s;
       longest_line = n;
@@ -62,7 +63,7 @@ event_validated A begun line after n s old new is fine of numbered counted =
           (λ h. h) (rw same at counted)
     ]
 
--- the same of the first line of what is left, which says an event in each version
+-- the same of the first line of what is left, which says an event in each format
 pub first_event_validated : {A : Type 0} (rest after : List ℕ) (n : ℕ) (s : ParsedEvent A)
     (old new : Validation) → rest ≡ parsed_line s ++ 10 ∷ after → IsFineParsed s
     → IsInEach (word_for s.event.what) → 1 ≤ n
@@ -75,7 +76,7 @@ first_event_validated {A = A} rest after n s old new ended fine each numbered co
   line = parsed_line s;
   ended = ended;
   validated = event_validated A (begun_before old rest) (parsed_line s) after n s old new (cut_parsed s fine)
-      fine (each old.version) numbered counted;
+      fine (each old.format) numbered counted;
 }
 
 -- the lines so far are those of a trace, of which this is kept
@@ -83,7 +84,7 @@ pub record ValidatedSofar (A : Type 0) (whole : List ℕ) (j : Validation) (k : 
     (rest : List ℕ) : Type 0 where
   pub trace : Content A
   pub so : Sofar whole trace k rest
-  pub version : trace.version ≡ j.version
+  pub format : trace.format ≡ j.format
   pub disks : trace.disks ≡ j.disks
   pub slots : trace.slots ≡ j.slots
   pub lines : j.events ≡ joined (map event_line trace.events) ++ rest
@@ -91,10 +92,10 @@ pub record ValidatedSofar (A : Type 0) (whole : List ℕ) (j : Validation) (k : 
   pub numbered : 1 ≤ j.longest_line
 
 -- the first two lines
-pub validated_first : (A : Type 0) (whole : List ℕ) (version : ℕ) (disks : Disks) (rest : List ℕ)
-    → Sofar {A = A} whole (record { version = version; disks = disks; slots = []; events = [] }) 3 rest
+pub validated_first : (A : Type 0) (whole : List ℕ) (format : Format) (disks : Disks) (rest : List ℕ)
+    → Sofar {A = A} whole (record { format = format; disks = disks; slots = []; events = [] }) 3 rest
     → ValidatedSofar A whole (record {
-      version = version;
+      format = format;
       disks = disks;
       slots = [];
       events = rest;
@@ -102,10 +103,10 @@ pub validated_first : (A : Type 0) (whole : List ℕ) (version : ℕ) (disks : D
       longest_line = 1;
     }) 3 rest
 unfolding joined
-validated_first A whole version disks rest so = record {
-  trace = record { version = version; disks = disks; slots = []; events = [] };
+validated_first A whole format disks rest so = record {
+  trace = record { format = format; disks = disks; slots = []; events = [] };
   so = so;
-  version = refl;
+  format = refl;
   disks = refl;
   slots = refl;
   lines = refl;
@@ -143,19 +144,19 @@ module _ (A : Type 0) (whole : List ℕ) (j : Validation) (k : ℕ) (rest : List
 -- one line more
 slot_more : (A : Type 0) (whole : List ℕ) (j : Validation) (k : ℕ) (rest l after : List ℕ) (begun : Bool)
     (slot : SlotSpec) → ValidatedSofar A whole j k rest → rest ≡ l ++ 10 ∷ after
-    → begun ≡ not (length j.events == length rest) → SaysSlot j.version begun l slot
+    → begun ≡ not (length j.events == length rest) → SaysSlot j.format begun l slot
     → ValidatedSofar A whole (record j { slots = j.slots ++ slot ∷ []; events = after }) (k + 1) after
 slot_more A whole j k rest l after begun slot s cut test parsed =
     let same : (length j.events == length rest) ≡ true =
     elim (cases_Bool (length j.events == length rest))
     [ inl same ↦ same | inr other ↦ absurd (parsed.early (test ∙ ap not other)) ] in
     let none = no_events A whole j k rest s (eqb-true (length j.events) (length rest) same) in
-    let is = subst (λ (v : ℕ). fields_of l ≡ slot_fields v slot) (sym s.version) parsed.fields in
-    let fine = subst (λ (v : ℕ). IsFineSlot v slot) (sym s.version) parsed.fine in
+    let is = subst (λ (v : Format). fields_of l ≡ slot_fields v slot) (sym s.format) parsed.fields in
+    let fine = subst (λ (v : Format). IsFineSlot v slot) (sym s.format) parsed.fine in
     record {
       trace = with_slot s.trace slot;
       so = slot_read whole s.trace k rest l after slot s.so cut is fine none;
-      version = s.version;
+      format = s.format;
       disks = s.disks;
       slots = ap (λ (ss : List SlotSpec). ss ++ slot ∷ []) s.slots;
       lines = no_lines s.trace.events after none;
@@ -165,7 +166,7 @@ slot_more A whole j k rest l after begun slot s cut test parsed =
 
 event_more : (A : Type 0) (whole : List ℕ) (j : Validation) (k longest longest_line : ℕ)
     (rest l after : List ℕ) (event : Event A) → ValidatedSofar A whole j k rest → rest ≡ l ++ 10 ∷ after
-    → SaysEvent j.version l event → bytes_len event.what ≤ longest → j.longest ≤ longest → 1 ≤ longest_line
+    → SaysEvent j.format l event → bytes_len event.what ≤ longest → j.longest ≤ longest → 1 ≤ longest_line
     → ValidatedSofar A whole (record j { longest = longest; longest_line = longest_line }) (k + 1) after
 unfolding event_line
 event_more A whole j k longest longest_line rest l after event s cut parsed fits longer numbered =
@@ -173,8 +174,8 @@ event_more A whole j k longest longest_line rest l after event s cut parsed fits
     record {
       trace = with_event s.trace event;
       so = event_read whole s.trace k rest l after event s.so cut parsed.fields parsed.fine
-          (subst (λ (v : ℕ). IsWordOf v (word_for event.what)) (sym s.version) parsed.of_version);
-      version = s.version;
+          (subst (λ (v : Format). IsWordOf v (word_for event.what)) (sym s.format) parsed.of_format);
+      format = s.format;
       disks = s.disks;
       slots = s.slots;
       lines = taken j.events (map event_line es) (map event_line (es ++ event ∷ [])) rest l after s.lines cut
@@ -242,7 +243,7 @@ not_false false e = absurd cc
 -- the next line is refused
 pub is_refused_now : (A : Type 0) (whole : List ℕ) (j : Validation) (k : ℕ) (rest l after : List ℕ)
     (begun : Bool) (fault : FaultKind) → ValidatedSofar A whole j k rest → lines_of rest ≡ l ∷ lines_of after
-    → begun ≡ not (length j.events == length rest) → RefusesLine j.version begun l fault
+    → begun ≡ not (length j.events == length rest) → RefusesLine j.format begun l fault
     → fault ≢ kind.NoMemory → IsFault whole k fault
 is_refused_now A whole j k rest l after begun fault s cut test h known =
     is_refused whole s.trace k rest s.so begun l after fault cut
@@ -251,7 +252,7 @@ is_refused_now A whole j k rest l after begun fault s cut test h known =
     (λ no'. no_events A whole j k rest s
     (eqb-true (length j.events) (length rest)
     (not_false (length j.events == length rest) (sym test ∙ no'))))
-    (subst (λ (v : ℕ). RefusesLine v begun l fault) (sym s.version) h) known
+    (subst (λ (v : Format). RefusesLine v begun l fault) (sym s.format) h) known
 
 -- the same, or it isn't ended
 pub first_refused : (A : Type 0) (whole : List ℕ) (j : Validation) (k : ℕ) (rest : List ℕ) (fault : FaultKind)
@@ -277,7 +278,7 @@ validated_whole A whole j k rest s none =
         printable = s.so.fits.printable;
         only = λ u ru pu e. one_trace u t (record { range = ru; printable = pu }) s.so.fits (sym e ∙ found);
       };
-      version = s.version;
+      format = s.format;
       disks = s.disks;
       slots = s.slots;
       lines_of = record {

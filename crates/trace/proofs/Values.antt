@@ -1,10 +1,12 @@
 -- The values of a line's fields, read one after another.
-use Rattle.std.proofs.Common.{◌≡◌, ◌≢◌, ◌==◌, ℕ, Bool, true, false, nat_lt, if◌then◌else◌, ◌+◌, ◌^◌, ◌<◌, ◌≤◌, List, [], ◌∷◌, ◌++◌, length, get_or, map, take, drop, slice_index_or, refl, sym, ap, subst, ◌∙◌, arith}
+use Rattle.std.proofs.Common.{◌≡◌, ◌≢◌, ℕ, ◌+◌, ◌^◌, ◌<◌, ◌≤◌, List, [], ◌∷◌, ◌++◌, length, get_or, map, take, drop, slice_index_or, refl, sym, ap, subst, ◌∙◌, arith}
 use Rattle.std.proofs.lemmas.List.{append-nil, append_assoc, drop_all, drop_more, length-map, map-append, map_more, take_all}
 use Rattle.mmio_window.specs.declared.device_kind.DeviceKind.{DeviceKind}
+use Rattle.trace.specs.declared.format.Format.{Format}
+use Rattle.trace.specs.declared.format.Format.TheVariants.{Plain, Extended}
+use Rattle.trace.specs.declared.format.Version.TheVariants.{One, Two}
 use Rattle.trace.specs.declared.table.Field.{Field}
-use Rattle.trace.specs.declared.table.Field.TheVariants as field
-use Rattle.trace.specs.declared.table.Field.TheVariants.{Identity, Sectors}
+use Rattle.trace.specs.declared.table.Field.TheVariants.{Sectors}
 use Rattle.trace.specs.declared.value.FieldValue.{FieldValue}
 use Rattle.trace.specs.declared.value.FieldValue.TheVariants as value
 use Rattle.trace.specs.declared.word.Word.{Word}
@@ -91,45 +93,38 @@ module _ (f : Field → Shape) (row : List Field) (vs : List FieldValue) (i : �
 
 -- ---- over the table
 
--- the fields of a slot, where its memory is one region and where its identity is left out
-abbrev slot_row : Bool → Bool → List Field
-slot_row one none =
-    (if one then field.Base ∷ field.Size ∷ [] else field.Regions ∷ [])
-    ++ (field.Start ∷ field.Count ∷ field.Mode ∷ field.Columns ∷ field.Rows
-    ∷ (if none then [] else Identity ∷ []))
+-- a slot has at most eight fields
+slot_row_few : (format : Format) → length (fields_in format Slot) ≤ 8
+slot_row_few (Plain One) = omega arith
+slot_row_few (Plain Two) = omega arith
+slot_row_few Extended = omega arith
 
-slot_row_few : (one none : Bool) → length (slot_row one none) ≤ 8
-slot_row_few false false = omega arith
-slot_row_few false true = omega arith
-slot_row_few true false = omega arith
-slot_row_few true true = omega arith
+-- none of them is read by a width
+slot_row_alike : (format : Format) (v w : List ℕ)
+    → map (shape_of v) (fields_in format Slot) ≡ map (shape_of w) (fields_in format Slot)
+slot_row_alike (Plain One) v w = refl
+slot_row_alike (Plain Two) v w = refl
+slot_row_alike Extended v w = refl
 
-slot_row_alike : (one none : Bool) (v w : List ℕ)
-    → map (shape_of v) (slot_row one none) ≡ map (shape_of w) (slot_row one none)
-slot_row_alike false false v w = refl
-slot_row_alike false true v w = refl
-slot_row_alike true false v w = refl
-slot_row_alike true true v w = refl
-
-pub at_most_eight : (version : ℕ) (word : Word) → length (fields_in version word) ≤ 8
-at_most_eight version Slot = slot_row_few (nat_lt version 3) (version == 1)
-at_most_eight version word = omega arith
+pub at_most_eight : (format : Format) (word : Word) → length (fields_in format word) ≤ 8
+at_most_eight format Slot = slot_row_few format
+at_most_eight format word = omega arith
 
 -- only a write's shapes depend on a width
-pub shapes_by : (version : ℕ) (word : Word) (width : List ℕ) (fields : List (List ℕ))
-    → (word ≡ Write → width ≡ width_among fields) → map (shape_of width) (fields_in version word)
-    ≡ shapes version word fields
-shapes_by version Slot width fields same =
-    slot_row_alike (nat_lt version 3) (version == 1) width (width_among fields)
-shapes_by version Write width fields same =
+pub shapes_by : (format : Format) (word : Word) (width : List ℕ) (fields : List (List ℕ))
+    → (word ≡ Write → width ≡ width_among fields) → map (shape_of width) (fields_in format word)
+    ≡ shapes format word fields
+shapes_by format Slot width fields same =
+    slot_row_alike format width (width_among fields)
+shapes_by format Write width fields same =
     ap (λ (by : List ℕ). Num 8 ∷ Window ∷ Offset ∷ Width ∷ Value by ∷ []) (same refl)
-shapes_by version word width fields same = refl
+shapes_by format word width fields same = refl
 
--- the fields of an event are the same in each version
-pub same_right : (version other : ℕ) (word : Word) (fields : List (List ℕ)) → word ≢ Slot
-    → AreRight version word fields → AreRight other word fields
-same_right version other Slot fields event h = absurd (event refl)
-same_right version other word fields event h = h
+-- the fields of an event are the same in each format
+pub same_right : (format other : Format) (word : Word) (fields : List (List ℕ)) → word ≢ Slot
+    → AreRight format word fields → AreRight other word fields
+same_right format other Slot fields event h = absurd (event refl)
+same_right format other word fields event h = h
 
 -- ---- a write
 
@@ -145,7 +140,7 @@ pub record IsWrite (vs : List FieldValue) : Type 0 where
   pub small : slot < 2 ^ 8
   pub fine : IsWriteAccess offset width val
 
-pub written : (vs : List FieldValue) → AreOf (shapes 3 Write (map value_text vs)) vs → IsWrite vs
+pub written : (vs : List FieldValue) → AreOf (shapes Extended Write (map value_text vs)) vs → IsWrite vs
 written vs h =
     let t0 = h.2.1.1 in
     let t1 = t0.2.1.1 in

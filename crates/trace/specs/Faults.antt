@@ -2,11 +2,11 @@
 use Rattle.std.specs.Prelude.{◌≡◌, ◌≢◌, ◌==◌, ℕ, MatchBool, ◌-◌, ◌<◌, ◌≤◌, ◌⊎◌, ⊤, List, [], ◌∷◌, ◌++◌, length, drop, slice_index_or}
 use Rattle.trace.specs.declared.fault.FaultKind.{FaultKind}
 use Rattle.trace.specs.declared.fault.FaultKind.TheVariants as kind
+use Rattle.trace.specs.declared.format.Format.{Format}
 use Rattle.trace.specs.declared.word.Word.{Word}
 use Rattle.trace.specs.declared.word.Word.TheVariants.{Cache, Hosted, Slot}
 use Rattle.trace.specs.Cuts.{lines_of, fields_of}
 use Rattle.trace.specs.Text.{header}
-use Rattle.trace.specs.Version.{IsVersion}
 use Rattle.trace.specs.Words.{IsWordOf, Shape, Num, Regions, Offset, Window, Width, Value, Mode, Verdict, Bytes, Identity, Says, spelled, shapes}
 
 -- line k of a text, numbered from 1; a text ends before line k where nothing stands there
@@ -21,12 +21,12 @@ IsEnded text k = k < length (lines_of text)
 abbrev pub IsOwed : List ℕ → ℕ → Type 0
 IsOwed text k = (k ≤ 2) ⊎ (line_at text k ≢ [])
 
--- a first line, and that of a text of this version
+-- a first line, and that of a text of this format
 abbrev pub IsHeader : List ℕ → Type 0
-IsHeader line = (version : ℕ) × (IsVersion version × (line ≡ header version))
+IsHeader line = (format : Format) × (line ≡ header format)
 
-abbrev pub IsOfVersion : List ℕ → ℕ → Type 0
-IsOfVersion text version = line_at text 1 ≡ header version
+abbrev pub IsOfFormat : List ℕ → Format → Type 0
+IsOfFormat text format = line_at text 1 ≡ header format
 
 -- the first field of a line, and those after it
 abbrev pub first_field : List ℕ → List ℕ
@@ -41,11 +41,11 @@ MayStand k Cache = k ≡ 2
 MayStand k Hosted = k ≡ 2
 MayStand k _ = 3 ≤ k
 
--- the line begins with a word of a version that may stand in line k
-pub record HasWord (version k : ℕ) (line : List ℕ) : Type 0 where
+-- the line begins with a word of a format that may stand in line k
+pub record HasWord (format : Format) (k : ℕ) (line : List ℕ) : Type 0 where
   pub word : Word
   pub may : MayStand k word
-  pub of_version : IsWordOf version word
+  pub of_format : IsWordOf format word
   pub first : first_field line ≡ spelled word
 
 -- the kind of fault that a field of a shape is where it says no value
@@ -61,9 +61,9 @@ fault_of Verdict = kind.Choice
 fault_of Bytes = kind.Bytes
 fault_of Identity = kind.Bytes
 
--- the fields are as many as the word has in a version
-abbrev pub AreAsMany : ℕ → Word → List (List ℕ) → Type 0
-AreAsMany version word fields = length fields ≡ length (shapes version word fields)
+-- the fields are as many as the word has in a format
+abbrev pub AreAsMany : Format → Word → List (List ℕ) → Type 0
+AreAsMany format word fields = length fields ≡ length (shapes format word fields)
 
 -- the order in which a line is checked
 abbrev pub order : FaultKind → ℕ
@@ -102,16 +102,17 @@ pub record IsAtFault (fault : FaultKind) (shapes : List Shape) (fields : List (L
 abbrev pub Passes : List ℕ → ℕ → FaultKind → Type 0
 Passes text k kind.Cut = IsOwed text k → IsEnded text k
 Passes text k kind.Header = IsEnded text k → k ≡ 1 → IsHeader (line_at text k)
-Passes text k kind.Word = IsEnded text k → 2 ≤ k → (version : ℕ) → IsOfVersion text version
-    → HasWord version k (line_at text k)
+Passes text k kind.Word = IsEnded text k → 2 ≤ k → (format : Format) → IsOfFormat text format
+    → HasWord format k (line_at text k)
 Passes text k kind.Order = IsEnded text k → first_field (line_at text k) ≡ spelled Slot → (j : ℕ) → 3 ≤ j
     → j < k → first_field (line_at text j) ≡ spelled Slot
-Passes text k kind.Fields = IsEnded text k → 2 ≤ k → (version : ℕ) → IsOfVersion text version → (word : Word)
-    → first_field (line_at text k) ≡ spelled word → AreAsMany version word (other_fields (line_at text k))
+Passes text k kind.Fields = IsEnded text k → 2 ≤ k → (format : Format) → IsOfFormat text format
+    → (word : Word) → first_field (line_at text k) ≡ spelled word
+    → AreAsMany format word (other_fields (line_at text k))
 Passes text k kind.NoMemory = ⊤
-Passes text k fault = IsEnded text k → 2 ≤ k → (version : ℕ) → IsOfVersion text version → (word : Word)
+Passes text k fault = IsEnded text k → 2 ≤ k → (format : Format) → IsOfFormat text format → (word : Word)
     → first_field (line_at text k) ≡ spelled word
-    → AllSay fault (shapes version word (other_fields (line_at text k))) (other_fields (line_at text k))
+    → AllSay fault (shapes format word (other_fields (line_at text k))) (other_fields (line_at text k))
 
 -- each line before line k passes every check
 abbrev pub IsCleanBefore : List ℕ → ℕ → Type 0

@@ -1,6 +1,6 @@
 pub mod Spelling
 pub mod Cuts
-pub mod Version
+pub mod Format
 pub mod Words
 pub mod Text
 pub mod Values

@@ -48,7 +48,7 @@ pub record IsFineParsed {A : Type 0} (s : ParsedEvent A) : Type 0 where
   pub slot : s.event.slot < 2 ^ 8
   pub what : IsFineWhat s.event.what s.bytes.now
 
--- the text's first line says this event, whose word every version has, and this follows it
+-- the text's first line says this event, whose word every format has, and this follows it
 pub record IsTaken {A : Type 0} (text : List ℕ) (s : ParsedEvent A) (after : List ℕ) : Type 0 where
   pub line : text ≡ parsed_line s ++ 10 ∷ after
   pub fine : IsFineParsed s

@@ -6,8 +6,11 @@ use Rattle.board.specs.declared.event.EventKind.TheVariants.{Read, Write, MemRea
 use Rattle.board.specs.declared.spec.SlotSpec.{SlotSpec}
 use Rattle.trace.specs.declared.disks.Disks.{Disks}
 use Rattle.trace.specs.declared.disks.Disks.TheVariants.{Cached, Hosted}
+use Rattle.trace.specs.declared.format.Format.{Format}
+use Rattle.trace.specs.declared.format.Format.TheVariants.{Plain, Extended}
+use Rattle.trace.specs.declared.format.Version.TheVariants.{One}
 use Rattle.trace.specs.Text.{Content, disks_word, word_for}
-use Rattle.trace.specs.Version.{IsVersion, identity_in_version_1}
+use Rattle.trace.specs.Format.{identity_in_version_1}
 use Rattle.trace.specs.Words.{IsWidth, IsWordOf, RegionInRange}
 
 -- an access to a register that has a spelling: its offset has three digits, and its width is 1, 2 or 4
@@ -31,24 +34,22 @@ IsPrintableKind (Resize cols rows) = ⊤
 IsPrintableKind (Restore bs) = ⊤
 IsPrintableKind (Complete verdict) = ⊤
 
--- a memory of so many regions that has a spelling in a version: before version 3 there is one
-pub record IsPrintableMemory (version count : ℕ) : Type 0 where
-  pub some : 1 ≤ count
-  pub one : version < 3 → count ≡ 1
+-- a memory of so many regions that has a spelling in a format: in a plain one there is one
+abbrev pub IsPrintableMemory : Format → ℕ → Type 0
+IsPrintableMemory (Plain version) count = count ≡ 1
+IsPrintableMemory Extended count = 1 ≤ count
 
--- a slot that has a line in a version: version 1 leaves its identity out
-pub record IsPrintableSlot (version : ℕ) (s : SlotSpec) : Type 0 where
-  pub memory : IsPrintableMemory version (length s.regions)
-  pub identity : version ≡ 1 → s.identity ≡ identity_in_version_1
+-- a slot that has a line in a format: version 1 leaves its identity out
+pub record IsPrintableSlot (format : Format) (s : SlotSpec) : Type 0 where
+  pub memory : IsPrintableMemory format (length s.regions)
+  pub identity : format ≡ Plain One → s.identity ≡ identity_in_version_1
 
--- a trace that has a text: there is such a version, each of its slots and events has a line, and each line's
--- word is of that version
+-- a trace that has a text: each of its slots and events has a line, and each line's word is of its format
 pub record IsPrintable {A : Type 0} (t : Content A) : Type 0 where
-  pub version : IsVersion t.version
-  pub disks : IsWordOf t.version (disks_word t.disks)
-  pub slots : All (IsPrintableSlot t.version) t.slots
+  pub disks : IsWordOf t.format (disks_word t.disks)
+  pub slots : All (IsPrintableSlot t.format) t.slots
   pub events : All (λ e. IsPrintableKind e.what) t.events
-  pub words : All (λ e. IsWordOf t.version (word_for e.what)) t.events
+  pub words : All (λ e. IsWordOf t.format (word_for e.what)) t.events
 
 -- What the integers of a trace give by themselves, for a clause that speaks of every trace: in a clause
 -- a number has no upper bound.

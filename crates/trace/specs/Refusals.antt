@@ -9,7 +9,7 @@ use Rattle.trace.specs.Cuts.{lines_of, fields_of}
 use Rattle.trace.specs.Faults.{AllSay, AreAsMany, IsHeader, MayStand, first_field, other_fields}
 use Rattle.trace.specs.Text.{Content, header, disks_fields, disks_word, slot_fields, event_fields, word_for}
 use Rattle.trace.specs.Printable.{SlotInRange}
-use Rattle.trace.specs.Version.{IsVersion}
+use Rattle.trace.specs.declared.format.Format.{Format}
 use Rattle.board.specs.declared.spec.SlotSpec.{SlotSpec}
 use Rattle.trace.specs.declared.read.entry.Entry.{Entry}
 use Rattle.trace.specs.declared.read.entry.Entry.TheVariants as entry
@@ -25,49 +25,50 @@ pub record IsFine {A : Type 0} (e : Event A) : Type 0 where
   pub printable : IsPrintableKind e.what
 
 -- the fields after a word fail this check, and pass those before it
-abbrev pub RefusesFields : ℕ → Word → List (List ℕ) → FaultKind → Type 0
-RefusesFields version word fields kind.Fields = ¬ AreAsMany version word fields
-RefusesFields version word fields kind.Number = AreAsMany version word fields
-    × (¬ AllSay kind.Number (shapes version word fields) fields)
-RefusesFields version word fields kind.Choice =
-    AreAsMany version word fields × AllSay kind.Number (shapes version word fields) fields
-    × (¬ AllSay kind.Choice (shapes version word fields) fields)
-RefusesFields version word fields kind.Bytes =
-    AreAsMany version word fields × AllSay kind.Number (shapes version word fields) fields
-    × AllSay kind.Choice (shapes version word fields) fields
-    × (¬ AllSay kind.Bytes (shapes version word fields) fields)
-RefusesFields version word fields _ = ⊥
+abbrev pub RefusesFields : Format → Word → List (List ℕ) → FaultKind → Type 0
+RefusesFields format word fields kind.Fields = ¬ AreAsMany format word fields
+RefusesFields format word fields kind.Number = AreAsMany format word fields
+    × (¬ AllSay kind.Number (shapes format word fields) fields)
+RefusesFields format word fields kind.Choice =
+    AreAsMany format word fields × AllSay kind.Number (shapes format word fields) fields
+    × (¬ AllSay kind.Choice (shapes format word fields) fields)
+RefusesFields format word fields kind.Bytes =
+    AreAsMany format word fields × AllSay kind.Number (shapes format word fields) fields
+    × AllSay kind.Choice (shapes format word fields) fields
+    × (¬ AllSay kind.Bytes (shapes format word fields) fields)
+RefusesFields format word fields _ = ⊥
 
--- a line after the second is refused, where events may have begun before it: it has no word of the version,
+-- a line after the second is refused, where events may have begun before it: it has no word of the format,
 -- or is a slot after an event, or its fields are refused
-pub record RefusesAfterWord (version : ℕ) (begun : Bool) (line : List ℕ) (fault : FaultKind) : Type 0 where
+pub record RefusesAfterWord (format : Format) (begun : Bool) (line : List ℕ)
+    (fault : FaultKind) : Type 0 where
   pub word : Word
   pub may : MayStand 3 word
-  pub of_version : IsWordOf version word
+  pub of_format : IsWordOf format word
   pub first : first_field line ≡ spelled word
   pub ordered : begun ≡ true → word ≡ Slot → ⊥
-  pub refused : RefusesFields version word (other_fields line) fault
+  pub refused : RefusesFields format word (other_fields line) fault
 
-abbrev pub RefusesLine : ℕ → Bool → List ℕ → FaultKind → Type 0
-RefusesLine version begun line kind.Word = (word : Word) → MayStand 3 word → IsWordOf version word
+abbrev pub RefusesLine : Format → Bool → List ℕ → FaultKind → Type 0
+RefusesLine format begun line kind.Word = (word : Word) → MayStand 3 word → IsWordOf format word
     → ¬ (first_field line ≡ spelled word)
-RefusesLine version begun line kind.Order = (begun ≡ true) × (first_field line ≡ spelled Slot)
-RefusesLine version begun line fault = RefusesAfterWord version begun line fault
+RefusesLine format begun line kind.Order = (begun ≡ true) × (first_field line ≡ spelled Slot)
+RefusesLine format begun line fault = RefusesAfterWord format begun line fault
 
 -- the fields of what was read
-abbrev pub entry_fields : {A : Type 0} → ℕ → Entry A → List (List ℕ)
-entry_fields version (entry.Slot s) = slot_fields version s
-entry_fields version (entry.Event s) = parsed_fields s
+abbrev pub entry_fields : {A : Type 0} → Format → Entry A → List (List ℕ)
+entry_fields format (entry.Slot s) = slot_fields format s
+entry_fields format (entry.Event s) = parsed_fields s
 
 -- a slot that its integers admit and that has a line
-pub record IsFineSlot (version : ℕ) (s : SlotSpec) : Type 0 where
+pub record IsFineSlot (format : Format) (s : SlotSpec) : Type 0 where
   pub fits : SlotInRange s
-  pub printable : IsPrintableSlot version s
+  pub printable : IsPrintableSlot format s
 
--- what was read has a line whose word is of the version, and a slot comes before every event
-abbrev pub IsFineEntry : {A : Type 0} → ℕ → Bool → Entry A → Type 0
-IsFineEntry version begun (entry.Slot s) = IsFineSlot version s × (begun ≡ true → ⊥)
-IsFineEntry version begun (entry.Event s) = IsFineParsed s × IsWordOf version (word_for s.event.what)
+-- what was read has a line whose word is of the format, and a slot comes before every event
+abbrev pub IsFineEntry : {A : Type 0} → Format → Bool → Entry A → Type 0
+IsFineEntry format begun (entry.Slot s) = IsFineSlot format s × (begun ≡ true → ⊥)
+IsFineEntry format begun (entry.Event s) = IsFineParsed s × IsWordOf format (word_for s.event.what)
 
 -- the first line is cut off, or isn't the header
 pub record IsOtherHead (text : List ℕ) : Type 0 where
@@ -81,48 +82,47 @@ RefusesHead text kind.Cut = lines_of text ≡ text ∷ []
 RefusesHead text kind.Header = IsOtherHead text
 RefusesHead text _ = ⊥
 
--- a text whose first line is the header of this version
-pub record IsFirst (text : List ℕ) (version : ℕ) (rest : List ℕ) : Type 0 where
-  pub one_of : IsVersion version
-  pub ended : text ≡ header version ++ 10 ∷ rest
+-- a text whose first line is the header of this format
+pub record IsFirst (text : List ℕ) (format : Format) (rest : List ℕ) : Type 0 where
+  pub ended : text ≡ header format ++ 10 ∷ rest
 
--- in a version, a text whose first line says where the disks are
-pub record IsSecond (version : ℕ) (text : List ℕ) (disks : Disks) (rest : List ℕ) : Type 0 where
+-- in a format, a text whose first line says where the disks are
+pub record IsSecond (format : Format) (text : List ℕ) (disks : Disks) (rest : List ℕ) : Type 0 where
   pub fits : DisksInRange disks
-  pub of_version : IsWordOf version (disks_word disks)
+  pub of_format : IsWordOf format (disks_word disks)
   pub line : List ℕ
   pub ended : text ≡ line ++ 10 ∷ rest
   pub fields : fields_of line ≡ disks_fields disks
 
--- a text whose first two lines say the version and where the disks are
-pub record IsHead (text : List ℕ) (version : ℕ) (disks : Disks) (rest : List ℕ) : Type 0 where
+-- a text whose first two lines say the format and where the disks are
+pub record IsHead (text : List ℕ) (format : Format) (disks : Disks) (rest : List ℕ) : Type 0 where
   pub second : List ℕ
-  pub version_is : IsFirst text version second
-  pub disks_are : IsSecond version second disks rest
+  pub format_is : IsFirst text format second
+  pub disks_are : IsSecond format second disks rest
 
--- a text whose first line is ended and begins with no word of the version that may stand in line 2
-pub record IsOtherWord (version : ℕ) (text : List ℕ) : Type 0 where
+-- a text whose first line is ended and begins with no word of the format that may stand in line 2
+pub record IsOtherWord (format : Format) (text : List ℕ) : Type 0 where
   pub line : List ℕ
   pub rest : List ℕ
   pub cut : lines_of text ≡ line ∷ lines_of rest
-  pub other : (word : Word) → MayStand 2 word → IsWordOf version word → ¬ (first_field line ≡ spelled word)
+  pub other : (word : Word) → MayStand 2 word → IsWordOf format word → ¬ (first_field line ≡ spelled word)
 
 -- a text whose first line has such a word, but for its fields
-pub record RefusesDisks (version : ℕ) (text : List ℕ) (fault : FaultKind) : Type 0 where
+pub record RefusesDisks (format : Format) (text : List ℕ) (fault : FaultKind) : Type 0 where
   pub line : List ℕ
   pub rest : List ℕ
   pub cut : lines_of text ≡ line ∷ lines_of rest
   pub word : Word
   pub may : MayStand 2 word
-  pub of_version : IsWordOf version word
+  pub of_format : IsWordOf format word
   pub first : first_field line ≡ spelled word
-  pub refused : RefusesFields version word (other_fields line) fault
+  pub refused : RefusesFields format word (other_fields line) fault
 
 -- the second line, at the front of a text, is refused
-abbrev pub RefusesSecond : ℕ → List ℕ → FaultKind → Type 0
-RefusesSecond version text kind.Cut = lines_of text ≡ text ∷ []
-RefusesSecond version text kind.Word = IsOtherWord version text
-RefusesSecond version text fault = RefusesDisks version text fault
+abbrev pub RefusesSecond : Format → List ℕ → FaultKind → Type 0
+RefusesSecond format text kind.Cut = lines_of text ≡ text ∷ []
+RefusesSecond format text kind.Word = IsOtherWord format text
+RefusesSecond format text fault = RefusesDisks format text fault
 
 -- whether an event was read
 abbrev pub has_begun : {A : Type 0} → Content A → Bool
@@ -136,26 +136,26 @@ abbrev pub with_event : {A : Type 0} → Content A → Event A → Content A
 with_event c e = record c { events = c.events ++ e ∷ [] }
 
 -- the line is that of a slot, before all events
-pub record SaysSlot (version : ℕ) (begun : Bool) (line : List ℕ) (s : SlotSpec) : Type 0 where
-  pub fields : fields_of line ≡ slot_fields version s
-  pub fine : IsFineSlot version s
+pub record SaysSlot (format : Format) (begun : Bool) (line : List ℕ) (s : SlotSpec) : Type 0 where
+  pub fields : fields_of line ≡ slot_fields format s
+  pub fine : IsFineSlot format s
   pub early : begun ≡ true → ⊥
 
--- the line is that of an event, whose word is of the version
-pub record SaysEvent {A : Type 0} (version : ℕ) (line : List ℕ) (e : Event A) : Type 0 where
+-- the line is that of an event, whose word is of the format
+pub record SaysEvent {A : Type 0} (format : Format) (line : List ℕ) (e : Event A) : Type 0 where
   pub fields : fields_of line ≡ event_fields e
   pub fine : IsFine e
-  pub of_version : IsWordOf version (word_for e.what)
+  pub of_format : IsWordOf format (word_for e.what)
 
 -- the new trace is the old one with the slot that the line says, or with the event
 pub record AddsSlot {A : Type 0} (old : Content A) (line : List ℕ) (new : Content A) : Type 0 where
   pub slot : SlotSpec
-  pub parsed : SaysSlot old.version (has_begun old) line slot
+  pub parsed : SaysSlot old.format (has_begun old) line slot
   pub added : new ≡ with_slot old slot
 
 pub record AddsEvent {A : Type 0} (old : Content A) (line : List ℕ) (new : Content A) : Type 0 where
   pub event : Event A
-  pub parsed : SaysEvent old.version line event
+  pub parsed : SaysEvent old.format line event
   pub added : new ≡ with_event old event
 
 abbrev pub AddsLine : {A : Type 0} → Content A → List ℕ → Content A → Type 0

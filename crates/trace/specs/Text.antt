@@ -10,31 +10,36 @@ use Rattle.guest_memory.specs.declared.spec.RegionSpec.{RegionSpec}
 use Rattle.block_device.specs.declared.operation.Verdict.{Verdict}
 use Rattle.trace.specs.declared.disks.Disks.{Disks}
 use Rattle.trace.specs.declared.disks.Disks.TheVariants as disks
+use Rattle.trace.specs.declared.format.Format.{Format}
+use Rattle.trace.specs.declared.format.Format.TheVariants.{Plain, Extended}
+use Rattle.trace.specs.declared.format.Version.TheVariants.{One, Two}
 use Rattle.trace.specs.declared.trace.Trace.{Trace}
 use Rattle.trace.specs.declared.word.Word.{Word}
 use Rattle.trace.specs.declared.word.Word.TheVariants.{Cache, Hosted, Slot, Read, Write, MemRead, MemWrite, Input, Resize, Restore, Complete}
 use Rattle.hexadecimal.specs.Spelling.{num, fixed, bytes}
 use Rattle.trace.specs.Spelling.{window, width_digit, mode, verdict, regions_text}
-use Rattle.trace.specs.Version.{since_version_2, until_version_3}
+use Rattle.trace.specs.Format.{unless_version_1}
 use Rattle.trace.specs.Words.{spelled}
 
 -- a trace without where it lies in memory
 pub record Content (A : Type 0) : Type 0 where
-  pub version : ℕ
+  pub format : Format
   pub disks : Disks
   pub slots : List SlotSpec
   pub events : List (Event A)
 
 abbrev pub content : {A : Type 0} → Trace A → Content A
-content t = record { version = t.version; disks = t.disks; slots = t.slots.items; events = t.events.items }
+content t = record { format = t.format; disks = t.disks; slots = t.slots.items; events = t.events.items }
 
 -- a line of fields: a space stands between two of them
 abbrev pub line : List (List ℕ) → List ℕ
 line fields = join_with_byte 32 fields
 
--- the first line, which names the format and by one digit its version (48 is `0`)
-abbrev pub header : ℕ → List ℕ
-header version = codes "vreplay " ++ (48 + version) ∷ []
+-- the first line, which names the format
+abbrev pub header : Format → List ℕ
+header (Plain One) = codes "vreplay 1"
+header (Plain Two) = codes "vreplay 2"
+header Extended = codes "kalyubos 1"
 
 -- the second line: the capacity of the cache before the image, or that the host has the disks
 abbrev pub disks_word : Disks → Word
@@ -45,20 +50,20 @@ abbrev pub disks_fields : Disks → List (List ℕ)
 disks_fields (disks.Cached capacity) = spelled Cache ∷ num capacity ∷ []
 disks_fields disks.Hosted = spelled Hosted ∷ []
 
--- the memory of a slot, in a version: its region by two fields, or all its regions by one
+-- the memory of a slot, in a format: its region by two fields, or all its regions by one
 abbrev pub region_fields : RegionSpec → List (List ℕ)
 region_fields region = num region.base ∷ num region.len ∷ []
 
-abbrev pub memory_fields : ℕ → List RegionSpec → List (List ℕ)
-memory_fields version regions =
-    until_version_3 version (flat_map region_fields regions) (regions_text regions ∷ [])
+abbrev pub memory_fields : Format → List RegionSpec → List (List ℕ)
+memory_fields (Plain version) regions = flat_map region_fields regions
+memory_fields Extended regions = regions_text regions ∷ []
 
--- a slot, in a version
-abbrev pub slot_fields : ℕ → SlotSpec → List (List ℕ)
-slot_fields version s =
-    spelled Slot ∷ (memory_fields version s.regions
+-- a slot, in a format
+abbrev pub slot_fields : Format → SlotSpec → List (List ℕ)
+slot_fields format s =
+    spelled Slot ∷ (memory_fields format s.regions
     ++ (num s.extent.start ∷ num s.extent.count ∷ mode s.read_only ∷ num s.cols ∷ num s.rows
-    ∷ since_version_2 version (bytes s.identity ∷ [])))
+    ∷ unless_version_1 format (bytes s.identity ∷ [])))
 
 -- a read and a write of a register, a read and a write of memory
 abbrev pub read_fields : ℕ → DeviceKind → ℕ → ℕ → List (List ℕ)
@@ -116,8 +121,8 @@ abbrev pub event_fields : {A : Type 0} → Event A → List (List ℕ)
 event_fields e = what_fields e.slot e.what
 
 -- the line of a slot, and that of an event
-unfoldable pub slot_line : ℕ → SlotSpec → List ℕ
-slot_line version s = line (slot_fields version s)
+unfoldable pub slot_line : Format → SlotSpec → List ℕ
+slot_line format s = line (slot_fields format s)
 
 unfoldable pub event_line : {A : Type 0} → Event A → List ℕ
 event_line e = line (event_fields e)
@@ -127,7 +132,7 @@ disks_line d = line (disks_fields d)
 
 -- the lines of a trace: the header, where its disks are, the slots, the events
 unfoldable pub trace_lines : {A : Type 0} → Content A → List (List ℕ)
-trace_lines t = header t.version ∷ disks_line t.disks ∷ map (slot_line t.version) t.slots
+trace_lines t = header t.format ∷ disks_line t.disks ∷ map (slot_line t.format) t.slots
     ++ map event_line t.events
 
 -- lines as a text, each ended by a line feed
@@ -142,9 +147,9 @@ abbrev pub text : {A : Type 0} → Content A → List ℕ
 text t = joined (trace_lines t)
 
 -- its first two lines
-abbrev pub front_text : ℕ → Disks → List ℕ
-front_text version d = ended (header version) ++ ended (disks_line d)
+abbrev pub front_text : Format → Disks → List ℕ
+front_text format d = ended (header format) ++ ended (disks_line d)
 
--- the same trace as one of a version
-abbrev pub as_version : {A : Type 0} → ℕ → Content A → Content A
-as_version version t = record t { version = version }
+-- the same trace as one of a format
+abbrev pub as_format : {A : Type 0} → Format → Content A → Content A
+as_format format t = record t { format = format }

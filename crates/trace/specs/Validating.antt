@@ -5,6 +5,7 @@ use Rattle.board.specs.declared.event.EventKind.{EventKind}
 use Rattle.board.specs.declared.event.EventKind.TheVariants as event
 use Rattle.board.specs.declared.spec.SlotSpec.{SlotSpec}
 use Rattle.trace.specs.declared.disks.Disks.{Disks}
+use Rattle.trace.specs.declared.format.Format.{Format}
 use Rattle.trace.specs.declared.fault.FaultKind.{FaultKind}
 use Rattle.trace.specs.declared.fault.FaultKind.TheVariants as kind
 use Rattle.trace.specs.Cuts.{lines_of}
@@ -41,7 +42,7 @@ pub record AreEventLines (A : Type 0) (room : ℕ) (lines : List ℕ) : Type 0 w
 
 -- what was validated, without where it lies in memory
 pub record Validation : Type 0 where
-  pub version : ℕ
+  pub format : Format
   pub disks : Disks
   pub slots : List SlotSpec
   pub events : List ℕ
@@ -50,7 +51,7 @@ pub record Validation : Type 0 where
 
 abbrev pub validation : {A : Type 0} → Validated A → Validation
 validation j = record {
-  version = j.version;
+  format = j.format;
   disks = j.disks;
   slots = j.slots.items;
   events = j.events.now;
@@ -60,13 +61,13 @@ validation j = record {
 
 -- the trace without its events
 abbrev pub kept : (A : Type 0) → Validation → Content A
-kept A j = record { version = j.version; disks = j.disks; slots = j.slots; events = [] }
+kept A j = record { format = j.format; disks = j.disks; slots = j.slots; events = [] }
 
 -- the text is that of one trace, of which this is kept
 pub record IsValidated (A : Type 0) (text : List ℕ) (j : Validation) : Type 0 where
   pub trace : Content A
   pub read : IsTraceOf text trace
-  pub version : trace.version ≡ j.version
+  pub format : trace.format ≡ j.format
   pub disks : trace.disks ≡ j.disks
   pub slots : trace.slots ≡ j.slots
   pub lines_of : AreLinesOf trace.events j.events
@@ -77,12 +78,12 @@ pub record IsValidated (A : Type 0) (text : List ℕ) (j : Validation) : Type 0 
 -- bytes are counted
 pub record ValidatesSlot (begun : Bool) (line after : List ℕ) (old new : Validation) : Type 0 where
   pub slot : SlotSpec
-  pub parsed : SaysSlot old.version begun line slot
+  pub parsed : SaysSlot old.format begun line slot
   pub is : new ≡ record old { slots = old.slots ++ slot ∷ []; events = after }
 
 pub record ValidatesEvent (A : Type 0) (line : List ℕ) (old new : Validation) : Type 0 where
   pub event : Event A
-  pub parsed : SaysEvent old.version line event
+  pub parsed : SaysEvent old.format line event
   pub fits : bytes_len event.what ≤ new.longest
   pub longer : old.longest ≤ new.longest
   pub numbered : 1 ≤ old.longest_line → 1 ≤ new.longest_line
@@ -107,7 +108,7 @@ pub record RefusesNext (j : Validation) (rest : List ℕ) (fault : FaultKind) : 
   pub line : List ℕ
   pub after : List ℕ
   pub cut : lines_of rest ≡ line ∷ lines_of after
-  pub refused : RefusesLine j.version (begun_before j rest) line fault
+  pub refused : RefusesLine j.format (begun_before j rest) line fault
 
 pub record IsCutOff (rest : List ℕ) (fault : FaultKind) : Type 0 where
   pub last : lines_of rest ≡ rest ∷ []

@@ -3,13 +3,15 @@ use Rattle.std.specs.Prelude.{◌≡◌, ℕ, ◌*◌, ◌^◌, ◌<◌, ◌≤�
 use Rattle.guest_memory.specs.declared.spec.RegionSpec.{RegionSpec}
 use Rattle.mmio_window.specs.declared.device_kind.DeviceKind.{DeviceKind}
 use Rattle.block_device.specs.declared.operation.Verdict as operation
+use Rattle.trace.specs.declared.format.Format.{Format}
+use Rattle.trace.specs.declared.format.Format.TheVariants.{Plain, Extended}
 use Rattle.trace.specs.declared.table.Field.{Field}
 use Rattle.trace.specs.declared.table.Field.TheVariants as field
 use Rattle.trace.specs.declared.word.Word.{Word}
 use Rattle.trace.specs.declared.word.Word.TheVariants.{Cache, Hosted, Slot, Read, Write, MemRead, MemWrite, Input, Resize, Restore, Complete}
 use Rattle.hexadecimal.specs.Fields.{IsBytesField, IsFixed, SpellsBytes, SpellsNumber}
 use Rattle.trace.specs.Spelling.{window, width_digit, mode, verdict, region_text, regions_text}
-use Rattle.trace.specs.Version.{since_version_2, until_version_3}
+use Rattle.trace.specs.Format.{IsExtended, unless_version_1}
 
 -- how many bytes a register access may have
 abbrev pub IsWidth : ℕ → Type 0
@@ -84,40 +86,41 @@ spelled Resize = codes "sz"
 spelled Restore = codes "st"
 spelled Complete = codes "io"
 
--- the words of a version: hosted disks, restores and completions have theirs from version 3 on, and the
+-- the words of a format: the extended one alone has those of hosted disks, restores and completions, and the
 -- others are in each
-abbrev pub IsWordOf : ℕ → Word → Type 0
-IsWordOf version Hosted = 3 ≤ version
-IsWordOf version Restore = 3 ≤ version
-IsWordOf version Complete = 3 ≤ version
-IsWordOf version _ = ⊤
+abbrev pub IsWordOf : Format → Word → Type 0
+IsWordOf format Hosted = IsExtended format
+IsWordOf format Restore = IsExtended format
+IsWordOf format Complete = IsExtended format
+IsWordOf format _ = ⊤
 
 abbrev pub IsInEach : Word → Type 0
-IsInEach word = (version : ℕ) → IsWordOf version word
+IsInEach word = (format : Format) → IsWordOf format word
 
--- a slot's memory, in a version: base and size of its one region, or all its regions
-abbrev pub memory_in : ℕ → List Field
-memory_in version = until_version_3 version (field.Base ∷ field.Size ∷ []) (field.Regions ∷ [])
+-- a slot's memory, in a format: base and size of its one region, or all its regions
+abbrev pub memory_in : Format → List Field
+memory_in (Plain version) = field.Base ∷ field.Size ∷ []
+memory_in Extended = field.Regions ∷ []
 
 -- what stands behind that
-abbrev pub behind_memory : ℕ → List Field
-behind_memory version =
+abbrev pub behind_memory : Format → List Field
+behind_memory format =
     field.Start ∷ field.Count ∷ field.Mode ∷ field.Columns ∷ field.Rows
-    ∷ since_version_2 version (field.Identity ∷ [])
+    ∷ unless_version_1 format (field.Identity ∷ [])
 
--- the fields after each word, in a version
-abbrev pub fields_in : ℕ → Word → List Field
-fields_in version Cache = field.Sectors ∷ []
-fields_in version Hosted = []
-fields_in version Slot = memory_in version ++ behind_memory version
-fields_in version Read = field.Slot ∷ field.Window ∷ field.Offset ∷ field.Width ∷ []
-fields_in version Write = field.Slot ∷ field.Window ∷ field.Offset ∷ field.Width ∷ field.Value ∷ []
-fields_in version MemRead = field.Slot ∷ field.Address ∷ field.Length ∷ []
-fields_in version MemWrite = field.Slot ∷ field.Address ∷ field.Bytes ∷ []
-fields_in version Input = field.Slot ∷ field.Bytes ∷ []
-fields_in version Resize = field.Slot ∷ field.Columns ∷ field.Rows ∷ []
-fields_in version Restore = field.Slot ∷ field.Bytes ∷ []
-fields_in version Complete = field.Slot ∷ field.Verdict ∷ []
+-- the fields after each word, in a format
+abbrev pub fields_in : Format → Word → List Field
+fields_in format Cache = field.Sectors ∷ []
+fields_in format Hosted = []
+fields_in format Slot = memory_in format ++ behind_memory format
+fields_in format Read = field.Slot ∷ field.Window ∷ field.Offset ∷ field.Width ∷ []
+fields_in format Write = field.Slot ∷ field.Window ∷ field.Offset ∷ field.Width ∷ field.Value ∷ []
+fields_in format MemRead = field.Slot ∷ field.Address ∷ field.Length ∷ []
+fields_in format MemWrite = field.Slot ∷ field.Address ∷ field.Bytes ∷ []
+fields_in format Input = field.Slot ∷ field.Bytes ∷ []
+fields_in format Resize = field.Slot ∷ field.Columns ∷ field.Rows ∷ []
+fields_in format Restore = field.Slot ∷ field.Bytes ∷ []
+fields_in format Complete = field.Slot ∷ field.Verdict ∷ []
 
 -- of the fields of a line, the one by which a value is read
 abbrev pub width_among : List (List ℕ) → List ℕ
@@ -145,9 +148,9 @@ shape_of width field.Length = Num 32
 shape_of width field.Bytes = Bytes
 shape_of width field.Verdict = Verdict
 
--- the shapes of the fields after a word, in a version, where these are the fields
-abbrev pub shapes : ℕ → Word → List (List ℕ) → List Shape
-shapes version word fields = map (shape_of (width_among fields)) (fields_in version word)
+-- the shapes of the fields after a word, in a format, where these are the fields
+abbrev pub shapes : Format → Word → List (List ℕ) → List Shape
+shapes format word fields = map (shape_of (width_among fields)) (fields_in format word)
 
 -- the fields are as many as the shapes, and each says a value of its own
 abbrev pub AllRight : List Shape → List (List ℕ) → Type 0
@@ -156,6 +159,6 @@ AllRight [] (field ∷ fields) = ⊥
 AllRight (shape ∷ more) [] = ⊥
 AllRight (shape ∷ more) (field ∷ fields) = Says shape field × AllRight more fields
 
--- the fields are those that a word has in a version
-abbrev pub AreRight : ℕ → Word → List (List ℕ) → Type 0
-AreRight version word fields = AllRight (shapes version word fields) fields
+-- the fields are those that a word has in a format
+abbrev pub AreRight : Format → Word → List (List ℕ) → Type 0
+AreRight format word fields = AllRight (shapes format word fields) fields

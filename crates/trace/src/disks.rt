@@ -10,7 +10,7 @@ use crate::word::Word;
 pub enum Disks {
     /// On the one image of all guests, behind a cache of so many sectors.
     Cached { capacity: u32 },
-    /// With the host, which serves each guest's own disk. Only version 3 has this.
+    /// With the host, which serves each guest's own disk. Only the extended format has this.
     Hosted,
 }
 

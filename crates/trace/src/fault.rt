@@ -17,10 +17,10 @@ pub enum FaultKind {
     /// The text ends before the line's line feed, or where the first or the second line is owed.
     #[error("the text is cut off")]
     Cut,
-    /// The first line is none of `vreplay 1`, `vreplay 2` and `vreplay 3`.
+    /// The first line is none of `vreplay 1`, `vreplay 2` and `kalyubos 1`.
     #[error("the first line is another one")]
     Header,
-    /// The first field isn't a word of the version that may stand there.
+    /// The first field isn't a word of the format that may stand there.
     #[error("no word that may stand here")]
     Word,
     /// A slot after an event.

@@ -3,12 +3,13 @@
 //! A trace says which board there is and what its guests do. It is ASCII text of lines, and each trace has
 //! one text. `read` has the way from a text to its trace, `print` the way back and the text of records, and
 //! `round_trip` goes both ways. `word` says what a line is, `table` which fields it has, `value` what one says, and
-//! `version` what the first line says. How numbers and bytes are spelled is `hexadecimal`'s.
+//! `format` what the first line says. How numbers and bytes are spelled is `hexadecimal`'s.
 //! `disks` is where the guests' disks are. `fault` has what is answered for a text that isn't a trace, and `laws` says that a text has one meaning or one fault.
 #![tactic(auto)]
 
 mod disks;
 mod fault;
+mod format;
 mod laws;
 mod no_memory;
 mod print;
@@ -17,12 +18,12 @@ mod round_trip;
 mod table;
 mod trace;
 mod value;
-mod version;
 mod word;
 
 pub use disks::Disks;
 pub use fault::{FaultKind, TraceFault};
-pub use laws::{a_trace_has_no_fault, one_fault, one_trace};
+pub use format::{Format, Version, format_of};
+pub use laws::{a_trace_has_no_fault, lines_begin_with_an_event, one_fault, one_trace};
 pub use no_memory::NoMemory;
 pub use print::{
     Buffer, is_printable, print_records, print_trace, put_asked, put_fields, put_line, put_read,
@@ -31,10 +32,9 @@ pub use print::{
 pub use read::{
     ParsedEvent, Validated, event_of_line, field_at_fault, first_word, line_of, read_bytes,
     read_trace, spelled_len, take_event, take_input, take_mem_write, take_read, take_write,
-    validate,
+    unrefused_line_begins, validate,
 };
 pub use round_trip::read_back;
 pub use table::{Field, fields_after};
-pub use trace::{Trace, to_version};
-pub use version::{VERSION_1, VERSION_2, VERSION_3, version_of};
+pub use trace::{Trace, to_version_2};
 pub use word::Word;

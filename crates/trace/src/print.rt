@@ -7,7 +7,6 @@ ghost use Rattle.std.specs.Prelude.{◌≡◌, ◌*◌, ◌^◌, ◌<◌, ◌↔
 ghost use Rattle.trace.specs.Printable.{InRange, IsAccess, IsPrintable, IsPrintableKind, IsPrintableMemory, IsPrintableSlot};
 ghost use Rattle.trace.specs.Spelling.{field_text};
 ghost use Rattle.trace.specs.Text.{content, disks_word, text as text_of, ended, event_fields, event_line, front_text, joined, slot_line, word_for};
-ghost use Rattle.trace.specs.Version.{IsVersion};
 ghost use Rattle.trace.specs.Words.{IsWidth, IsWordOf, fields_in, spelled};
 
 mod asked;
@@ -19,6 +18,7 @@ mod regions;
 mod write;
 
 use crate::disks::{Disks, word_of_disks};
+use crate::format::{Format, Version, header_of, identity_in_version_1};
 use crate::no_memory::NoMemory;
 pub use crate::print::asked::put_asked;
 pub use crate::print::buffer::Buffer;
@@ -27,58 +27,54 @@ use crate::print::range::in_range;
 pub use crate::print::records::{print_records, put_fields, put_line, put_read};
 pub use crate::print::write::write_whole;
 use crate::trace::Trace;
-use crate::version::{VERSION_1, VERSION_2, VERSION_3, header_of, identity_in_version_1};
 use crate::word::{Word, is_word_of, word_for};
 use board::{Event, EventKind, SlotSpec};
 use guest_memory::RegionSpec;
 use std::alloc::{AllocError, Allocator};
 
-/// Whether the trace has a text: its version is 1, 2 or 3, in version 1 each slot has the identity of that version, each
-/// memory has a region, only version 3 has several, hosted disks, restores and completions, the offset of each register access has three digits, its width is 1, 2 or 4, and a value that
-/// is written is within that width. Each trace that was read has one.
+/// Whether the trace has a text. In each, the offset of a register access has three digits, its width is 1, 2 or 4, and a value
+/// that is written is within that width. In a plain trace, each memory has one region, the disks are on the image, there is no
+/// Restore and no Complete, and in version 1 each slot has the identity of that version. In an extended one, each memory has a
+/// region. Each trace that was read has a text.
 pub fn is_printable<A: Allocator>(trace: &Trace<A>) -> bool
     ensures { IsTrue result ↔ IsPrintable (content trace.now) }
 {
-    has_front(trace.version, trace.disks)
-        && slots_have_lines(trace.version, &trace.slots)
+    disks_have_line(trace.format, trace.disks)
+        && slots_have_lines(trace.format, &trace.slots)
         && events_have_lines(&trace.events)
-        && events_have_words(trace.version, &trace.events)
+        && events_have_words(trace.format, &trace.events)
 }
 
-// Whether there is such a version.
-fn is_version(version: u8) -> bool
-    ensures { IsTrue result ↔ IsVersion version }
+// Whether a format has the word that says where the disks are.
+fn disks_have_line(format: Format, disks: Disks) -> bool
+    ensures { IsTrue result ↔ IsWordOf format (disks_word disks) }
 {
-    version == VERSION_1 || version == VERSION_2 || version == VERSION_3
+    is_word_of(format, word_of_disks(disks))
 }
 
-// Whether there is such a version, and it has the word that says where the disks are.
-fn has_front(version: u8, disks: Disks) -> bool
-    ensures { IsTrue result ↔ (IsVersion version × IsWordOf version (disks_word disks)) }
+// Whether each slot has a line in a format.
+fn slots_have_lines(format: Format, slots: &[SlotSpec]) -> bool
+    ensures { IsTrue result ↔ All (IsPrintableSlot format) slots.now }
 {
-    is_version(version) && is_word_of(version, word_of_disks(disks))
+    slots.iter().all(|slot| slot_has_line(format, slot))
 }
 
-// Whether each slot has a line in a version.
-fn slots_have_lines(version: u8, slots: &[SlotSpec]) -> bool
-    ensures { IsTrue result ↔ All (IsPrintableSlot version) slots.now }
+// Whether a slot has a line in a format.
+fn slot_has_line(format: Format, slot: &SlotSpec) -> bool
+    ensures { IsTrue result ↔ IsPrintableSlot format slot.now }
 {
-    slots.iter().all(|slot| slot_has_line(version, slot))
+    has_memory(format, slot.regions.as_slice().len())
+        && (format != Format::Plain(Version::One) || slot.identity == identity_in_version_1())
 }
 
-// Whether a slot has a line in a version.
-fn slot_has_line(version: u8, slot: &SlotSpec) -> bool
-    ensures { IsTrue result ↔ IsPrintableSlot version slot.now }
+// Whether a memory of so many regions has a spelling in a format.
+fn has_memory(format: Format, count: usize) -> bool
+    ensures { IsTrue result ↔ IsPrintableMemory format count }
 {
-    has_memory(version, slot.regions.as_slice().len())
-        && (version != VERSION_1 || slot.identity == identity_in_version_1())
-}
-
-// Whether a memory of so many regions has a spelling in a version.
-fn has_memory(version: u8, count: usize) -> bool
-    ensures { IsTrue result ↔ IsPrintableMemory version count }
-{
-    count == 1 || count > 1 && version >= VERSION_3
+    match format {
+        Format::Plain(_) => count == 1,
+        Format::Extended => count >= 1,
+    }
 }
 
 // Whether each event has a line.
@@ -88,18 +84,18 @@ fn events_have_lines<A: Allocator>(events: &[Event<A>]) -> bool
     events.iter().all(|event| has_line(&event.what))
 }
 
-// Whether the version has the word of each event.
-fn events_have_words<A: Allocator>(version: u8, events: &[Event<A>]) -> bool
-    ensures { IsTrue result ↔ All (λ event. IsWordOf version (word_for event.what)) events.now }
+// Whether the format has the word of each event.
+fn events_have_words<A: Allocator>(format: Format, events: &[Event<A>]) -> bool
+    ensures { IsTrue result ↔ All (λ event. IsWordOf format (word_for event.what)) events.now }
 {
-    events.iter().all(|event| has_word(version, event))
+    events.iter().all(|event| has_word(format, event))
 }
 
-// Whether the version has the word of an event.
-fn has_word<A: Allocator>(version: u8, event: &Event<A>) -> bool
-    ensures { IsTrue result ↔ IsWordOf version (word_for event.now.what) }
+// Whether the format has the word of an event.
+fn has_word<A: Allocator>(format: Format, event: &Event<A>) -> bool
+    ensures { IsTrue result ↔ IsWordOf format (word_for event.now.what) }
 {
-    is_word_of(version, word_for(&event.what))
+    is_word_of(format, word_for(&event.what))
 }
 
 // Whether what an event does has a line.
@@ -151,8 +147,8 @@ pub fn print_trace<A: Allocator>(alloc: A, trace: &Trace<A>) -> Result<Vec<u8, A
 {
     in_range(trace);
     let mut out = Vec::new(alloc);
-    push_front(&mut out, trace.version, trace.disks)?;
-    push_slots(&mut out, trace.version, &trace.slots)?;
+    push_front(&mut out, trace.format, trace.disks)?;
+    push_slots(&mut out, trace.format, &trace.slots)?;
     push_events(&mut out, &trace.events)?;
     Ok(out)
 }
@@ -160,14 +156,14 @@ pub fn print_trace<A: Allocator>(alloc: A, trace: &Trace<A>) -> Result<Vec<u8, A
 // Appends the lines of the slots.
 fn push_slots<A: Allocator>(
     out: &mut Vec<u8, A>,
-    version: u8,
+    format: Format,
     slots: &[SlotSpec],
 ) -> Result<(), AllocError>
-    requires { All (IsPrintableSlot version) slots.now }
-    ensures { OnOk result (out.new.items ≡ out.old.items ++ joined (map (slot_line version) slots.now)) }
+    requires { All (IsPrintableSlot format) slots.now }
+    ensures { OnOk result (out.new.items ≡ out.old.items ++ joined (map (slot_line format) slots.now)) }
 {
     for slot in slots {
-        push_slot(out, version, slot)?;
+        push_slot(out, format, slot)?;
     }
     Ok(())
 }
@@ -187,30 +183,29 @@ fn push_events<A: Allocator>(out: &mut Vec<u8, A>, events: &[Event<A>]) -> Resul
 #[tactic(auto, unfolding(crate::specs::Text::disks_line))]
 fn push_front<A: Allocator>(
     out: &mut Vec<u8, A>,
-    version: u8,
+    format: Format,
     disks: Disks,
 ) -> Result<(), AllocError>
-    requires { IsVersion version }
-    ensures { OnOk result (out.new.items ≡ out.old.items ++ front_text version disks) }
+    ensures { OnOk result (out.new.items ≡ out.old.items ++ front_text format disks) }
 {
-    out.extend_from_slice(header_of(version))?;
+    out.extend_from_slice(header_of(format))?;
     out.push(b'\n')?;
     let mut fields = LineFields::default();
     if let Disks::Cached { capacity } = disks {
         fields.sectors = capacity;
     }
-    push_line(out, version, word_of_disks(disks), &fields)
+    push_line(out, format, word_of_disks(disks), &fields)
 }
 
 // Appends the line of a slot.
-#[tactic(auto, using(crate::proofs::Versions::map_since_version_2), unfolding(crate::specs::Text::slot_line))]
+#[tactic(auto, using(crate::proofs::Formats::map_unless_version_1), unfolding(crate::specs::Text::slot_line))]
 fn push_slot<A: Allocator>(
     out: &mut Vec<u8, A>,
-    version: u8,
+    format: Format,
     slot: &SlotSpec,
 ) -> Result<(), AllocError>
-    requires { IsPrintableSlot version slot.now }
-    ensures { OnOk result (out.new.items ≡ out.old.items ++ ended (slot_line version slot.now)) }
+    requires { IsPrintableSlot format slot.now }
+    ensures { OnOk result (out.new.items ≡ out.old.items ++ ended (slot_line format slot.now)) }
 {
     let regions = slot.regions.as_slice();
     let RegionSpec { base, len } = regions[0];
@@ -226,24 +221,24 @@ fn push_slot<A: Allocator>(
         identity: slot.identity,
         ..LineFields::default()
     };
-    push_line(out, version, Word::Slot, &fields)
+    push_line(out, format, Word::Slot, &fields)
 }
 
-// Appends the line of an event, which is the same in each version that has its word.
+// Appends the line of an event, which is the same in each format that has its word.
 #[tactic(auto, unfolding(crate::specs::Text::event_line))]
 fn push_event<A: Allocator>(out: &mut Vec<u8, A>, event: &Event<A>) -> Result<(), AllocError>
     requires { IsPrintableKind event.now.what }
     ensures { OnOk result (out.new.items ≡ out.old.items ++ ended (event_line event.now)) }
 {
     let (word, fields) = event_says(event);
-    push_line(out, VERSION_3, word, &fields)
+    push_line(out, Format::Extended, word, &fields)
 }
 
 // The word of an event, and what the fields after it say.
 #[tactic(auto, using(crate::proofs::Widths::num_width))]
 fn event_says<A: Allocator>(event: &Event<A>) -> (Word, LineFields<'_>)
     requires { IsPrintableKind event.now.what }
-    ensures { spelled result.0 ∷ map (field_text result.1) (fields_in 3 result.0) ≡ event_fields event.now }
+    ensures { spelled result.0 ∷ map (field_text result.1) (fields_in Format.Extended result.0) ≡ event_fields event.now }
 {
     let mut fields = LineFields {
         slot: event.slot,

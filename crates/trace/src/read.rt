@@ -11,7 +11,6 @@ ghost use Rattle.trace.specs.Text.{Content, content, text as text_of};
 ghost use Rattle.trace.specs.Printable.{InRange, IsPrintable};
 ghost use Rattle.trace.specs.Refusals.{RefusesHead, IsFirst, IsHead, IsSecond, RefusesSecond, AddsLine, AddsParsed, RefusesLine, has_begun};
 ghost use Rattle.trace.specs.ParsedEvent.{IsFineParsed};
-ghost use Rattle.trace.specs.Version.{IsVersion};
 
 mod at_fault;
 mod choice;
@@ -32,70 +31,70 @@ mod values;
 
 use crate::disks::Disks;
 use crate::fault::{FaultKind, TraceFault};
+use crate::format::{Format, format_of};
 use crate::read::at_fault::fault_in;
 pub use crate::read::at_fault::{field_at_fault, first_word};
 pub use crate::read::cut::line_of;
 use crate::read::cut::{take_field, take_line};
 use crate::read::entry::{Entry, entry_of};
 pub use crate::read::event_line::event_of_line;
-pub use crate::read::events::take_event;
+pub use crate::read::events::{take_event, unrefused_line_begins};
 use crate::read::fields::disks_of;
 pub use crate::read::parsed_event::ParsedEvent;
 pub use crate::read::trusting::{take_input, take_mem_write, take_read, take_write};
 pub use crate::read::validating::{Validated, validate};
 use crate::trace::Trace;
-use crate::version::version_of;
 use crate::word::second_word;
 use board::Event;
 pub use hexadecimal::{read_bytes, spelled_len};
 use std::alloc::{AllocError, Allocator};
 
-/// The version and where the disks are, from the first two lines, and what follows these.
-pub(crate) fn after_head(text: &[u8]) -> Result<(u8, Disks, &[u8]), TraceFault>
+/// The format and where the disks are, from the first two lines, and what follows these.
+pub(crate) fn after_head(text: &[u8]) -> Result<(Format, Disks, &[u8]), TraceFault>
     ensures ok { IfOk result (λ x. IsHead text.now x.0 x.1 x.2.now) }
     ensures fault { IfErr result (λ e. e.kind ≢ FaultKind.NoMemory → IsFault text.now e.line e.kind) }
     ensures numbered { IfErr result (λ e. 1 ≤ e.line) }
     ensures clean { IfErr result (λ e. IsCleanBefore text.now e.line) }
 {
-    let (version, rest) = match after_header(text) {
+    let (format, rest) = match after_header(text) {
         Ok(found) => found,
         Err(kind) => return Err(TraceFault { line: 1, kind }),
     };
-    match after_disks(version, rest) {
-        Ok((disks, rest)) => Ok((version, disks, rest)),
+    match after_disks(format, rest) {
+        Ok((disks, rest)) => Ok((format, disks, rest)),
         Err(kind) => Err(TraceFault { line: 2, kind }),
     }
 }
 
-// The version that the first line names, and what follows it.
-fn after_header(text: &[u8]) -> Result<(u8, &[u8]), FaultKind>
+// The format that the first line names, and what follows it.
+fn after_header(text: &[u8]) -> Result<(Format, &[u8]), FaultKind>
     ensures ok { IfOk result (λ x. IsFirst text.now x.0 x.1.now) }
     ensures err { IfErr result (λ fault. RefusesHead text.now fault) }
 {
     let Some((line, rest)) = take_line(text) else {
         return Err(FaultKind::Cut);
     };
-    let Some(version) = version_of(line) else {
+    let Some(format) = format_of(line) else {
         return Err(FaultKind::Header);
     };
-    Ok((version, rest))
+    Ok((format, rest))
 }
 
-// Where the disks are in a trace of a version, from the second line, and what follows it.
-fn after_disks(version: u8, rest: &[u8]) -> Result<(Disks, &[u8]), FaultKind>
-    ensures ok { IfOk result (λ x. IsSecond version rest.now x.0 x.1.now) }
-    ensures err { IfErr result (λ fault. RefusesSecond version rest.now fault) }
+// Where the disks are in a trace of a format, from the second line, and what follows it.
+fn after_disks(format: Format, rest: &[u8]) -> Result<(Disks, &[u8]), FaultKind>
+    ensures ok { IfOk result (λ x. IsSecond format rest.now x.0 x.1.now) }
+    ensures err { IfErr result (λ fault. RefusesSecond format rest.now fault) }
 {
     let Some((line, after)) = take_line(rest) else {
         return Err(FaultKind::Cut);
     };
     let (first, others) = take_field(line);
-    let Some(word) = second_word(version, first) else {
+    let Some(word) = second_word(format, first) else {
         return Err(FaultKind::Word);
     };
-    match disks_of(version, word, others) {
+    match disks_of(format, word, others) {
         Some(disks) => Ok((disks, after)),
-        None => Err(fault_in(version, word, others)),
+        None => Err(fault_in(format, word, others)),
     }
 }
 
@@ -118,8 +117,8 @@ pub fn read_trace<A: Allocator + Copy>(alloc: A, text: &[u8]) -> Result<Trace<A>
     ensures numbered { IfErr result (λ e. 1 ≤ e.line) }
     ensures clean { IfErr result (λ e. IsCleanBefore text.now e.line) }
 {
-    let (version, disks, mut rest) = after_head(text)?;
-    let mut trace = Trace::new(alloc, version, disks);
+    let (format, disks, mut rest) = after_head(text)?;
+    let mut trace = Trace::new(alloc, format, disks);
     let mut line = 3;
     while !rest.is_empty() {
         let Some((this, after)) = take_line(rest) else {
@@ -141,13 +140,12 @@ fn add_line<A: Allocator + Copy>(
     trace: &mut Trace<A>,
     line: &[u8],
 ) -> Result<(), FaultKind>
-    requires { IsVersion trace.old.version }
     ensures ok { OnOk result (AddsLine (content trace.old) line.now (content trace.new)) }
     ensures err { IfErr result (λ fault. fault ≢ FaultKind.NoMemory →
-        RefusesLine trace.old.version (has_begun (content trace.old)) line.now fault) }
+        RefusesLine trace.old.format (has_begun (content trace.old)) line.now fault) }
 {
     let begun = !trace.events.is_empty();
-    match entry_of(alloc, trace.version, line, begun) {
+    match entry_of(alloc, trace.format, line, begun) {
         Ok(Entry::Slot(slot)) => match trace.slots.push(slot) {
             Ok(()) => Ok(()),
             Err(_) => Err(FaultKind::NoMemory),

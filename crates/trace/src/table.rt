@@ -3,7 +3,7 @@
 ghost use Rattle.std.specs.Prelude.{◌≡◌};
 ghost use Rattle.trace.specs.Words.{fields_in};
 
-use crate::version::{VERSION_1, VERSION_3};
+use crate::format::{Format, Version};
 use crate::word::Word;
 
 /// What a field after the first one says.
@@ -38,19 +38,21 @@ pub enum Field {
     Verdict,
 }
 
-/// The fields after a word in a version, in their order.
-pub fn fields_after(version: u8, word: Word) -> &'static [Field]
-    ensures { result.now ≡ fields_in version word }
+/// The fields after a word in a format, in their order.
+pub fn fields_after(format: Format, word: Word) -> &'static [Field]
+    ensures { result.now ≡ fields_in format word }
 {
     use Field::*;
     match word {
         Word::Cache => &[Sectors],
         Word::Hosted => &[],
-        Word::Slot if version == VERSION_1 => &[Base, Size, Start, Count, Mode, Columns, Rows],
-        Word::Slot if version < VERSION_3 => {
-            &[Base, Size, Start, Count, Mode, Columns, Rows, Identity]
-        }
-        Word::Slot => &[Regions, Start, Count, Mode, Columns, Rows, Identity],
+        Word::Slot => match format {
+            Format::Plain(Version::One) => &[Base, Size, Start, Count, Mode, Columns, Rows],
+            Format::Plain(Version::Two) => {
+                &[Base, Size, Start, Count, Mode, Columns, Rows, Identity]
+            }
+            Format::Extended => &[Regions, Start, Count, Mode, Columns, Rows, Identity],
+        },
         Word::Read => &[Slot, Window, Offset, Width],
         Word::Write => &[Slot, Window, Offset, Width, Value],
         Word::MemRead => &[Slot, Address, Length],

@@ -1,11 +1,11 @@
 //! What a trace is made of.
 
-ghost use Rattle.std.specs.Prelude.{◌≡◌, ◌≤◌, []};
-ghost use Rattle.trace.specs.Text.{as_version, content};
+ghost use Rattle.std.specs.Prelude.{◌≡◌, ◌≢◌, []};
 ghost use Rattle.trace.specs.Printable.{IsPrintable};
-ghost use Rattle.trace.specs.Version.{IsVersion};
+ghost use Rattle.trace.specs.Text.{as_format, content};
 
 use crate::disks::Disks;
+use crate::format::{Format, Version};
 use board::{Event, SlotSpec};
 use std::alloc::{Allocator, Global};
 
@@ -13,8 +13,8 @@ use std::alloc::{Allocator, Global};
 #[derive(Drop)]
 #[derive_where(Debug)]
 pub struct Trace<A: Allocator = Global> {
-    /// The version of its text: 1, 2 or 3.
-    pub version: u8,
+    /// How it is written.
+    pub format: Format,
     /// Where the guests' disks are.
     pub disks: Disks,
     /// The slots, numbered from 0 in their order.
@@ -25,11 +25,11 @@ pub struct Trace<A: Allocator = Global> {
 
 impl<A: Allocator + Copy> Trace<A> {
     /// A trace with no slot and no event. This takes no memory.
-    pub fn new(alloc: A, version: u8, disks: Disks) -> Trace<A>
-        ensures { content result ≡ record { version = version; disks = disks; slots = []; events = [] } }
+    pub fn new(alloc: A, format: Format, disks: Disks) -> Trace<A>
+        ensures { content result ≡ record { format = format; disks = disks; slots = []; events = [] } }
     {
         Trace {
-            version,
+            format,
             disks,
             slots: Vec::new(alloc),
             events: Vec::new(alloc),
@@ -37,12 +37,15 @@ impl<A: Allocator + Copy> Trace<A> {
     }
 }
 
-/// The same trace in another version. In a later one it has a text where it had one before; from version 2 on each
-/// slot's line says the identity that the slot has. This takes no memory.
-#[tactic(auto, using(crate::proofs::Versions::fits_later))]
-pub fn to_version<A: Allocator>(trace: Trace<A>, version: u8) -> Trace<A>
-    ensures same { content result ≡ as_version version (content trace) }
-    ensures printable { IsVersion version → trace.version ≤ version → IsPrintable (content trace) → IsPrintable (content result) }
+/// The same trace in version 2 of the plain format, where each slot's line says the identity that the slot has. A plain trace
+/// that had a text has one then. This takes no memory.
+#[tactic(auto, using(crate::proofs::Formats::fits_format))]
+pub fn to_version_2<A: Allocator>(trace: Trace<A>) -> Trace<A>
+    ensures same { content result ≡ as_format (Format.Plain Version.Two) (content trace) }
+    ensures printable { trace.format ≢ Format.Extended → IsPrintable (content trace) → IsPrintable (content result) }
 {
-    Trace { version, ..trace }
+    Trace {
+        format: Format::Plain(Version::Two),
+        ..trace
+    }
 }

@@ -6,7 +6,7 @@ ghost use Rattle.trace.specs.Text.{word_for};
 ghost use Rattle.trace.specs.Words.{IsWordOf, spelled};
 ghost use Rattle.trace.specs.declared.word.Word.{Word};
 
-use crate::version::VERSION_3;
+use crate::format::Format;
 use board::EventKind;
 use std::alloc::Allocator;
 
@@ -27,7 +27,7 @@ pub enum Word {
     Complete,
 }
 
-/// The word that a field is in some version.
+/// The word that a field is in some format.
 pub(crate) fn word_of(field: &[u8]) -> Option<Word>
     ensures some { IfSome result (λ word. field.now ≡ spelled word) }
     ensures none { IfNone result ((word : Word) → field.now ≢ spelled word) }
@@ -48,25 +48,25 @@ pub(crate) fn word_of(field: &[u8]) -> Option<Word>
     }
 }
 
-/// The word of a version that a field is.
-pub(crate) fn word_in(version: u8, field: &[u8]) -> Option<Word>
+/// The word of a format that a field is.
+pub(crate) fn word_in(format: Format, field: &[u8]) -> Option<Word>
     ensures some { IfSome result (λ word. field.now ≡ spelled word) }
-    ensures of_version { IfSome result (IsWordOf version) }
-    ensures none { IfNone result ((word : Word) → IsWordOf version word → field.now ≢ spelled word) }
+    ensures of_format { IfSome result (IsWordOf format) }
+    ensures none { IfNone result ((word : Word) → IsWordOf format word → field.now ≢ spelled word) }
 {
     let word = word_of(field)?;
-    if !is_word_of(version, word) {
+    if !is_word_of(format, word) {
         return None;
     }
     Some(word)
 }
 
-/// Whether a version has the word.
-pub(crate) fn is_word_of(version: u8, word: Word) -> bool
-    ensures { IsTrue result ↔ IsWordOf version word }
+/// Whether a format has the word.
+pub(crate) fn is_word_of(format: Format, word: Word) -> bool
+    ensures { IsTrue result ↔ IsWordOf format word }
 {
     match word {
-        Word::Hosted | Word::Restore | Word::Complete => version >= VERSION_3,
+        Word::Hosted | Word::Restore | Word::Complete => format == Format::Extended,
         _ => true,
     }
 }
@@ -106,14 +106,14 @@ pub(crate) fn spelling_of(word: Word) -> &'static [u8]
     }
 }
 
-/// The word of the second line that a field is in a version.
-pub(crate) fn second_word(version: u8, field: &[u8]) -> Option<Word>
+/// The word of the second line that a field is in a format.
+pub(crate) fn second_word(format: Format, field: &[u8]) -> Option<Word>
     ensures some { IfSome result (λ word. field.now ≡ spelled word) }
     ensures may { IfSome result (λ word. MayStand 2 word) }
-    ensures of_version { IfSome result (IsWordOf version) }
-    ensures none { IfNone result ((word : Word) → MayStand 2 word → IsWordOf version word → field.now ≢ spelled word) }
+    ensures of_format { IfSome result (IsWordOf format) }
+    ensures none { IfNone result ((word : Word) → MayStand 2 word → IsWordOf format word → field.now ≢ spelled word) }
 {
-    match word_in(version, field)? {
+    match word_in(format, field)? {
         Word::Cache => Some(Word::Cache),
         Word::Hosted => Some(Word::Hosted),
         _ => None,

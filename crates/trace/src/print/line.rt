@@ -5,6 +5,7 @@ ghost use Rattle.trace.specs.Spelling.{field_text};
 ghost use Rattle.trace.specs.Text.{ended, line};
 ghost use Rattle.trace.specs.Words.{fields_in, spelled};
 
+use crate::format::Format;
 use crate::print::regions::push_regions;
 use crate::table::{Field, fields_after};
 use crate::word::{Word, spelling_of};
@@ -64,17 +65,17 @@ impl Default for LineFields<'_> {
     }
 }
 
-/// Appends the line of a word in a version.
+/// Appends the line of a word in a format.
 pub(crate) fn push_line<A: Allocator>(
     out: &mut Vec<u8, A>,
-    version: u8,
+    format: Format,
     word: Word,
     fields: &LineFields<'_>,
 ) -> Result<(), AllocError>
-    ensures { OnOk result (out.new.items ≡ out.old.items ++ ended (line (spelled word ∷ map (field_text fields.now) (fields_in version word)))) }
+    ensures { OnOk result (out.new.items ≡ out.old.items ++ ended (line (spelled word ∷ map (field_text fields.now) (fields_in format word)))) }
 {
     out.extend_from_slice(spelling_of(word))?;
-    let row = fields_after(version, word);
+    let row = fields_after(format, word);
     for field in row {
         out.push(b' ')?;
         push_field(out, *field, fields)?;

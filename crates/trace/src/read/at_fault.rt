@@ -9,24 +9,25 @@ ghost use Rattle.trace.specs.Words.{AreRight, shape_of, shapes, spelled, width_a
 ghost use Rattle.trace.specs.declared.word.Word.{Word};
 
 use crate::fault::FaultKind;
+use crate::format::Format;
 use crate::read::cut::{nth_field, take_field};
 use crate::read::values::says;
 use crate::table::{Field, fields_after};
 use crate::word::{Word, word_of};
 
 /// The first field of a line that has a fault of this kind, and the bytes that stand there.
-pub fn field_at_fault(version: u8, line: &[u8], kind: FaultKind) -> Option<(Field, &[u8])>
+pub fn field_at_fault(format: Format, line: &[u8], kind: FaultKind) -> Option<(Field, &[u8])>
     ensures some { IfSome result (λ found. (word : Word) → first_field line.now ≡ spelled word →
-        IsAtFault kind (shapes version word (other_fields line.now)) (other_fields line.now) (shape_of (width_among (other_fields line.now)) found.0) found.1.now) }
+        IsAtFault kind (shapes format word (other_fields line.now)) (other_fields line.now) (shape_of (width_among (other_fields line.now)) found.0) found.1.now) }
     ensures none { IsNone result → (word : Word) → first_field line.now ≡ spelled word →
-        AllSay kind (shapes version word (other_fields line.now)) (other_fields line.now) }
+        AllSay kind (shapes format word (other_fields line.now)) (other_fields line.now) }
 {
     let word = first_word(line)?;
     let (_, rest) = take_field(line);
-    first_at_fault(fields_after(version, word), rest, nth_field(rest, 3), kind)
+    first_at_fault(fields_after(format, word), rest, nth_field(rest, 3), kind)
 }
 
-/// The word that a line begins with, in some version.
+/// The word that a line begins with, in some format.
 pub fn first_word(line: &[u8]) -> Option<Word>
     ensures some { IfSome result (λ word. first_field line.now ≡ spelled word) }
     ensures none { IsNone result → (word : Word) → first_field line.now ≢ spelled word }
@@ -35,12 +36,12 @@ pub fn first_word(line: &[u8]) -> Option<Word>
     word_of(first)
 }
 
-/// The fault of the fields that are left after a word, in a version.
-pub(crate) fn fault_in(version: u8, word: Word, rest: Option<&[u8]>) -> FaultKind
-    requires { ¬ AreRight version word (fields_left (option_copied rest)) }
-    ensures { RefusesFields version word (fields_left (option_copied rest.entry)) result }
+/// The fault of the fields that are left after a word, in a format.
+pub(crate) fn fault_in(format: Format, word: Word, rest: Option<&[u8]>) -> FaultKind
+    requires { ¬ AreRight format word (fields_left (option_copied rest)) }
+    ensures { RefusesFields format word (fields_left (option_copied rest.entry)) result }
 {
-    let fields = fields_after(version, word);
+    let fields = fields_after(format, word);
     let width = nth_field(rest, 3);
     if !are_as_many(fields, rest) {
         FaultKind::Fields

@@ -5,9 +5,9 @@
 ghost use Rattle.std.specs.Prelude.{◌≡◌, IfOk, IfErr};
 ghost use Rattle.trace.specs.Cuts.{fields_of};
 ghost use Rattle.trace.specs.Refusals.{RefusesLine, IsFineEntry, entry_fields};
-ghost use Rattle.trace.specs.Version.{IsVersion};
 
 use crate::fault::FaultKind;
+use crate::format::Format;
 use crate::read::at_fault::fault_in;
 use crate::read::cut::take_field;
 use crate::read::fields::{event_of, slot_of};
@@ -23,32 +23,31 @@ pub(crate) enum Entry<'a, A: Allocator> {
     Event(ParsedEvent<'a, A>),
 }
 
-/// The slot or the event that a line is in a version, where events may have `begun` before it.
+/// The slot or the event that a line is in a format, where events may have `begun` before it.
 pub(crate) fn entry_of<A: Allocator>(
     alloc: A,
-    version: u8,
+    format: Format,
     line: &[u8],
     begun: bool,
 ) -> Result<Entry<'_, A>, FaultKind>
-    requires { IsVersion version }
-    ensures ok { IfOk result (λ entry. fields_of line.now ≡ entry_fields version entry) }
-    ensures fine { IfOk result (IsFineEntry version begun) }
-    ensures err { IfErr result (λ fault. RefusesLine version begun line.now fault) }
+    ensures ok { IfOk result (λ entry. fields_of line.now ≡ entry_fields format entry) }
+    ensures fine { IfOk result (IsFineEntry format begun) }
+    ensures err { IfErr result (λ fault. RefusesLine format begun line.now fault) }
 {
     let (first, rest) = take_field(line);
-    let Some(word) = word_in(version, first) else {
+    let Some(word) = word_in(format, first) else {
         return Err(FaultKind::Word);
     };
     match word {
         Word::Cache | Word::Hosted => Err(FaultKind::Word),
         Word::Slot if begun => Err(FaultKind::Order),
-        Word::Slot => match slot_of(version, rest) {
+        Word::Slot => match slot_of(format, rest) {
             Some(slot) => Ok(Entry::Slot(slot)),
-            None => Err(fault_in(version, word, rest)),
+            None => Err(fault_in(format, word, rest)),
         },
         _ => match event_of(alloc, word, rest) {
             Some(parsed) => Ok(Entry::Event(parsed)),
-            None => Err(fault_in(version, word, rest)),
+            None => Err(fault_in(format, word, rest)),
         },
     }
 }

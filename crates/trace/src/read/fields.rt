@@ -13,31 +13,32 @@ ghost use Rattle.hexadecimal.specs.Spelling.{bytes as bytes_field};
 ghost use Rattle.trace.specs.Spelling.{value_text};
 ghost use Rattle.trace.specs.Text.{disks_fields, disks_word, memory_fields, slot_fields, word_for};
 ghost use Rattle.trace.specs.Values.{AreOf};
-ghost use Rattle.trace.specs.Version.{IsVersion, identity_in_version_1, since_version_2};
+ghost use Rattle.trace.specs.declared.format.Format.{Format};
+ghost use Rattle.trace.specs.Format.{identity_in_version_1, unless_version_1};
 ghost use Rattle.trace.specs.Words.{AreRight, Identity as ByIdentity, Mode as ByMode, Num, RegionInRange, shapes, spelled};
 
 use crate::disks::Disks;
+use crate::format::{Format, Version, identity_in_version_1};
 use crate::read::parsed_event::ParsedEvent;
 use crate::read::regions::regions_of;
 use crate::read::values::values_of;
 use crate::value::FieldValue::{
     self, Identity, Mode, Number, Offset, Spelled, Value, Verdict, Width, Window,
 };
-use crate::version::{VERSION_1, VERSION_3, identity_in_version_1};
 use crate::word::Word;
 use board::{Bytes, EventKind, Extent, SlotSpec};
 use guest_memory::Regions;
 use std::alloc::Allocator;
 
 /// Where the disks are that a word of the second line and the fields after it say.
-pub(crate) fn disks_of(version: u8, word: Word, rest: Option<&[u8]>) -> Option<Disks>
+pub(crate) fn disks_of(format: Format, word: Word, rest: Option<&[u8]>) -> Option<Disks>
     requires { MayStand 2 word }
     ensures fields { IfSome result (λ disks. disks_fields disks ≡ spelled word ∷ fields_left (option_copied rest.entry)) }
     ensures word { IfSome result (λ disks. disks_word disks ≡ word) }
     ensures fits { IfSome result DisksInRange }
-    ensures none { IfNone result (¬ AreRight version word (fields_left (option_copied rest.entry))) }
+    ensures none { IfNone result (¬ AreRight format word (fields_left (option_copied rest.entry))) }
 {
-    let values = values_of(version, word, rest)?;
+    let values = values_of(format, word, rest)?;
     match (word, values.as_slice()) {
         (Word::Cache, &[Number(sectors)]) => {
             let capacity = sectors as u32;
@@ -48,7 +49,7 @@ pub(crate) fn disks_of(version: u8, word: Word, rest: Option<&[u8]>) -> Option<D
     }
 }
 
-/// The event that the fields after a word say. They are the same in each version that has it.
+/// The event that the fields after a word say. They are the same in each format that has it.
 pub(crate) fn event_of<A: Allocator>(
     alloc: A,
     word: Word,
@@ -59,9 +60,9 @@ pub(crate) fn event_of<A: Allocator>(
     ensures fields { IfSome result (λ e. parsed_fields e ≡ spelled word ∷ fields_left (option_copied rest.entry)) }
     ensures word { IfSome result (λ e. word_for e.event.what ≡ word) }
     ensures fine { IfSome result IsFineParsed }
-    ensures none { IfNone result ((version : ℕ) → ¬ AreRight version word (fields_left (option_copied rest.entry))) }
+    ensures none { IfNone result ((format : Format) → ¬ AreRight format word (fields_left (option_copied rest.entry))) }
 {
-    let values = values_of(VERSION_3, word, rest)?;
+    let values = values_of(Format::Extended, word, rest)?;
     Some(parsed_of(alloc, word, &values))
 }
 
@@ -73,7 +74,7 @@ fn parsed_of<'a, A: Allocator>(
 ) -> ParsedEvent<'a, A>
     requires late { MayStand 3 word }
     requires not_slot { word ≢ Word.Slot }
-    requires values { AreOf (shapes 3 word (map value_text values.now)) values.now }
+    requires values { AreOf (shapes Format.Extended word (map value_text values.now)) values.now }
     ensures fields { parsed_fields result ≡ spelled word ∷ map value_text values.now }
     ensures word { word_for result.event.what ≡ word }
     ensures fine { IsFineParsed result }
@@ -128,7 +129,7 @@ fn parsed_of<'a, A: Allocator>(
 // What those of a read of a register say.
 #[tactic(auto, using(crate::proofs::Widths::num_width))]
 fn read_of<'a, A: Allocator>(values: &[FieldValue<'a>]) -> ParsedEvent<'a, A>
-    requires { AreOf (shapes 3 Word.Read (map value_text values.now)) values.now }
+    requires { AreOf (shapes Format.Extended Word.Read (map value_text values.now)) values.now }
     ensures fields { parsed_fields result ≡ spelled Word.Read ∷ map value_text values.now }
     ensures word { word_for result.event.what ≡ Word.Read }
     ensures fine { IsFineParsed result }
@@ -146,7 +147,7 @@ fn read_of<'a, A: Allocator>(values: &[FieldValue<'a>]) -> ParsedEvent<'a, A>
 
 // What those of a write say, whose value is read by the width before it.
 fn write_of<'a, A: Allocator>(values: &[FieldValue<'a>]) -> ParsedEvent<'a, A>
-    requires { AreOf (shapes 3 Word.Write (map value_text values.now)) values.now }
+    requires { AreOf (shapes Format.Extended Word.Write (map value_text values.now)) values.now }
     ensures fields { parsed_fields result ≡ spelled Word.Write ∷ map value_text values.now }
     ensures word { word_for result.event.what ≡ Word.Write }
     ensures fine { IsFineParsed result }
@@ -170,15 +171,14 @@ fn write_of<'a, A: Allocator>(values: &[FieldValue<'a>]) -> ParsedEvent<'a, A>
     ParsedEvent::plain(slot as u8, what)
 }
 
-/// The slot that the fields after its word say in a version. The first of them say its memory.
-pub(crate) fn slot_of(version: u8, rest: Option<&[u8]>) -> Option<SlotSpec>
-    requires { IsVersion version }
-    ensures fields { IfSome result (λ s. slot_fields version s ≡ spelled Word.Slot ∷ fields_left (option_copied rest.entry)) }
-    ensures fine { IfSome result (IsFineSlot version) }
-    ensures none { IfNone result (¬ AreRight version Word.Slot (fields_left (option_copied rest.entry))) }
+/// The slot that the fields after its word say in a format. The first of them say its memory.
+pub(crate) fn slot_of(format: Format, rest: Option<&[u8]>) -> Option<SlotSpec>
+    ensures fields { IfSome result (λ s. slot_fields format s ≡ spelled Word.Slot ∷ fields_left (option_copied rest.entry)) }
+    ensures fine { IfSome result (IsFineSlot format) }
+    ensures none { IfNone result (¬ AreRight format Word.Slot (fields_left (option_copied rest.entry))) }
 {
-    let values = values_of(version, Word::Slot, rest)?;
-    let (regions, others) = memory_of(version, values.as_slice());
+    let values = values_of(format, Word::Slot, rest)?;
+    let (regions, others) = memory_of(format, values.as_slice());
     let &[
         Number(start),
         Number(count),
@@ -190,7 +190,7 @@ pub(crate) fn slot_of(version: u8, rest: Option<&[u8]>) -> Option<SlotSpec>
     else {
         unreachable!()
     };
-    let identity = last_identity(version, last);
+    let identity = last_identity(format, last);
     let extent = Extent { start, count };
     Some(SlotSpec {
         regions,
@@ -203,43 +203,40 @@ pub(crate) fn slot_of(version: u8, rest: Option<&[u8]>) -> Option<SlotSpec>
 }
 
 // The regions that the first values of a slot say, and the values behind them.
-fn memory_of<'a, 'b>(version: u8, values: &'b [FieldValue<'a>]) -> (Regions, &'b [FieldValue<'a>])
-    requires { AreOf (shapes version Word.Slot (map value_text values.now)) values.now }
-    ensures fields { map value_text values.now ≡ memory_fields version result.0 ++ map value_text result.1.now }
-    ensures others { AreOf (Num 64 ∷ Num 64 ∷ ByMode ∷ Num 16 ∷ Num 16 ∷ since_version_2 version (ByIdentity ∷ [])) result.1.now }
+fn memory_of<'a, 'b>(
+    format: Format,
+    values: &'b [FieldValue<'a>],
+) -> (Regions, &'b [FieldValue<'a>])
+    requires { AreOf (shapes format Word.Slot (map value_text values.now)) values.now }
+    ensures fields { map value_text values.now ≡ memory_fields format result.0 ++ map value_text result.1.now }
+    ensures others { AreOf (Num 64 ∷ Num 64 ∷ ByMode ∷ Num 16 ∷ Num 16 ∷ unless_version_1 format (ByIdentity ∷ [])) result.1.now }
     ensures fits { All RegionInRange result.0 }
     ensures few { length result.0 ≤ 8 }
-    ensures printable { IsPrintableMemory version (length result.0) }
+    ensures printable { IsPrintableMemory format (length result.0) }
 {
-    if version < VERSION_3 {
-        let &[Number(base), Number(len), ref others @ ..] = values else {
-            unreachable!()
-        };
-        return (Regions::one(base, len), others);
-    }
-    let &[Spelled(field), ref others @ ..] = values else {
-        unreachable!()
-    };
-    match regions_of(field) {
-        Some(regions) => (regions, others),
-        None => unreachable!(),
+    match (format, values) {
+        (Format::Plain(_), &[Number(base), Number(len), ref others @ ..]) => {
+            (Regions::one(base, len), others)
+        }
+        (Format::Extended, &[Spelled(field), ref others @ ..]) => match regions_of(field) {
+            Some(regions) => (regions, others),
+            None => unreachable!(),
+        },
+        _ => unreachable!(),
     }
 }
 
-// The identity that is a slot's last value from version 2 on, and that of each slot in version 1.
-fn last_identity(version: u8, last: &[FieldValue<'_>]) -> [u8; 20]
-    requires version { IsVersion version }
-    requires values { AreOf (since_version_2 version (ByIdentity ∷ [])) last.now }
-    ensures last { since_version_2 version (bytes_field result ∷ []) ≡ map value_text last.now }
+// The identity that is a slot's last value, and in version 1 that of each slot.
+fn last_identity(format: Format, last: &[FieldValue<'_>]) -> [u8; 20]
+    requires values { AreOf (unless_version_1 format (ByIdentity ∷ [])) last.now }
+    ensures last { unless_version_1 format (bytes_field result ∷ []) ≡ map value_text last.now }
     ensures range { All (λ b. b < 2 ^ 8) result }
     ensures twenty { length result ≡ 20 }
-    ensures left_out { version ≡ 1 → result ≡ identity_in_version_1 }
+    ensures left_out { format ≡ Format.Plain Version.One → result ≡ identity_in_version_1 }
 {
-    if version == VERSION_1 {
-        return identity_in_version_1();
+    match (format, last) {
+        (Format::Plain(Version::One), _) => identity_in_version_1(),
+        (_, &[Identity(identity)]) => identity,
+        _ => unreachable!(),
     }
-    let &[Identity(identity)] = last else {
-        unreachable!()
-    };
-    identity
 }

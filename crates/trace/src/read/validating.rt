@@ -4,10 +4,10 @@ ghost use Rattle.std.specs.Prelude.{◌≡◌, ◌≢◌, ◌≤◌, nat_lt, if�
 ghost use Rattle.trace.specs.Validating.{IsValidated, ValidatesFirst, ValidatesLine, RefusesFirst, validation};
 ghost use Rattle.trace.specs.Refusals.{RefusesLine};
 ghost use Rattle.trace.specs.Reading.{IsTraceFault};
-ghost use Rattle.trace.specs.Version.{IsVersion};
 
 use crate::disks::Disks;
 use crate::fault::{FaultKind, TraceFault};
+use crate::format::Format;
 use crate::read::after_head;
 use crate::read::cut::take_line;
 use crate::read::entry::{Entry, entry_of};
@@ -18,7 +18,7 @@ use std::alloc::{Allocator, Global};
 /// What is kept of a text that is a trace's.
 #[derive(Drop)]
 pub struct Validated<'a, A: Allocator = Global> {
-    pub version: u8,
+    pub format: Format,
     pub disks: Disks,
     pub slots: Vec<SlotSpec, A>,
     /// The lines of its events.
@@ -33,9 +33,9 @@ pub fn validate<A: Allocator + Copy>(alloc: A, text: &[u8]) -> Result<Validated<
     ensures ok { IfOk result (λ j. IsValidated A text.now (validation j)) }
     ensures fault { IfErr result (λ e. IsTraceFault A text.now e) }
 {
-    let (version, disks, mut rest) = after_head(text)?;
+    let (format, disks, mut rest) = after_head(text)?;
     let mut validated = Validated {
-        version,
+        format,
         disks,
         slots: Vec::new(alloc),
         events: rest,
@@ -67,7 +67,6 @@ impl<'a, A: Allocator + Copy> Validated<'a, A> {
 
     // Validates the first line of what is left of the text, and answers what follows it.
     fn validate_first(&mut self, alloc: A, line: u64, text: &'a [u8]) -> Result<&'a [u8], FaultKind>
-        requires version { IsVersion self.old.version }
         requires numbered { 1 ≤ line }
         ensures ok { IfOk result (λ after. ValidatesFirst A text.now after.now (validation self.old) (validation self.new)) }
         ensures err { IfErr result (λ fault. fault ≢ FaultKind.NoMemory → RefusesFirst (validation self.old) text.now fault) }
@@ -94,13 +93,12 @@ impl<'a, A: Allocator + Copy> Validated<'a, A> {
         this: &[u8],
         after: &'a [u8],
     ) -> Result<(), FaultKind>
-        requires version { IsVersion self.old.version }
         requires numbered { 1 ≤ line }
         ensures ok { OnOk result (ValidatesLine A begun this.now after.now (validation self.old) (validation self.new)) }
         ensures err { IfErr result (λ fault. fault ≢ FaultKind.NoMemory →
-            RefusesLine self.old.version begun this.now fault) }
+            RefusesLine self.old.format begun this.now fault) }
     {
-        match entry_of(alloc, self.version, this, begun) {
+        match entry_of(alloc, self.format, this, begun) {
             Ok(Entry::Slot(slot)) => {
                 if self.slots.push(slot).is_err() {
                     return Err(FaultKind::NoMemory);

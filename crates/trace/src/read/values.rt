@@ -7,6 +7,7 @@ ghost use Rattle.trace.specs.Values.{SayValues, SaysValue};
 ghost use Rattle.trace.specs.Words.{AllRight, AreRight, Says, Value as ByWidth, shape_of, shapes, width_among};
 ghost use Rattle.trace.specs.declared.word.Word.{Word};
 
+use crate::format::Format;
 use crate::read::choice::{mode_of, verdict_of, width_of, window_of};
 use crate::read::cut::{at_end, next_field, nth_field};
 use crate::read::identity::identity_of;
@@ -24,13 +25,13 @@ use hexadecimal::{are_bytes, fixed_number, number, number_u8, number_u16, number
 /// The values of a line.
 pub(crate) type Values<'a> = ArrayVec<FieldValue<'a>, MOST_FIELDS>;
 
-/// The values that the fields after a word say in a version, in the table's order. There are none where the fields aren't
+/// The values that the fields after a word say in a format, in the table's order. There are none where the fields aren't
 /// as many, or one says no value of its own.
-pub(crate) fn values_of(version: u8, word: Word, rest: Option<&[u8]>) -> Option<Values<'_>>
-    ensures some { IfSome result (λ values. SayValues (shapes version word (fields_left (option_copied rest.entry))) (fields_left (option_copied rest.entry)) values.items) }
-    ensures none { IfNone result (¬ AreRight version word (fields_left (option_copied rest.entry))) }
+pub(crate) fn values_of(format: Format, word: Word, rest: Option<&[u8]>) -> Option<Values<'_>>
+    ensures some { IfSome result (λ values. SayValues (shapes format word (fields_left (option_copied rest.entry))) (fields_left (option_copied rest.entry)) values.items) }
+    ensures none { IfNone result (¬ AreRight format word (fields_left (option_copied rest.entry))) }
 {
-    values_in(fields_after(version, word), width_for(word, rest), rest)
+    values_in(fields_after(format, word), width_for(word, rest), rest)
 }
 
 // The field by which a value of the word's line is read, where it has one.

@@ -4,5 +4,5 @@ use Rattle.replay.proofs.limits.limit_memories.Given as goal
 
 -- the slots so far are limited, and the others are as they were
 abbrev pub invariant-loop-slot : goal.invariant-loop-slot
-invariant-loop-slot l = l.slots ≡ map (asked_of_board l.version) (take l.slot-index l.initial.slots)
+invariant-loop-slot l = l.slots ≡ map (asked_of_board l.format) (take l.slot-index l.initial.slots)
     ++ drop l.slot-index l.initial.slots

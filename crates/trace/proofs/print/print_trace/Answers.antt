@@ -9,7 +9,7 @@ returns-clause-text g c =
     c.in_ok-push_events.ensures
     ∙ ap (λ es. c.push_slots.new.out.items ++ joined (map event_line es)) c.deref-2.ensures.value
     ∙ ap (λ (xs : List ℕ). xs ++ joined (map event_line t.events.items)) (c.in_ok-push_slots.ensures
-    ∙ ap (λ ss. c.push_front.new.out.items ++ joined (map (slot_line t.version) ss)) c.deref.ensures.value
-    ∙ ap (λ (xs : List ℕ). xs ++ joined (map (slot_line t.version) t.slots.items)) (c.in_ok-push_front.ensures
-    ∙ ap (λ (xs : List ℕ). xs ++ front_text t.version t.disks) c.new-out.ensures.items))
+    ∙ ap (λ ss. c.push_front.new.out.items ++ joined (map (slot_line t.format) ss)) c.deref.ensures.value
+    ∙ ap (λ (xs : List ℕ). xs ++ joined (map (slot_line t.format) t.slots.items)) (c.in_ok-push_front.ensures
+    ∙ ap (λ (xs : List ℕ). xs ++ front_text t.format t.disks) c.new-out.ensures.items))
     ∙ text_is (content t)

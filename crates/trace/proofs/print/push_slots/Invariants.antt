@@ -5,4 +5,4 @@ use Rattle.trace.proofs.print.push_slots.Given as goal
 -- the lines so far
 abbrev pub invariant-loop-slot : goal.invariant-loop-slot
 invariant-loop-slot g l = l.out.items ≡ l.initial.out.items
-    ++ joined (map (slot_line l.version) (take l.slot-index l.slots))
+    ++ joined (map (slot_line l.format) (take l.slot-index l.slots))

@@ -8,18 +8,18 @@ use Rattle.trace.proofs.Sofar.{Sofar, all_read, begun_so, clean, entry_read, is_
 use Rattle.trace.proofs.Unique.{no_fault, one_trace}
 use Rattle.trace.proofs.read.read_trace.Goals as goal
 
-pub returns-in_err-version-clause-none : goal.returns-in_err-version-clause-none
-returns-in_err-version-clause-none g c =
+pub returns-in_err-format-clause-none : goal.returns-in_err-format-clause-none
+returns-in_err-format-clause-none g c =
     let p = err_from_is_err_and c.from_residual.result c.from_residual.ensures.1 in
     rw (p.1, p.2) (λ known u range printable is.
     no_fault c.args.text.now u _ _ (record { range = range; printable = printable }) is
-    (c.in_err-version.ensures.fault known))
+    (c.in_err-format.ensures.fault known))
 
 pub loop-rest-init : goal.loop-rest-init
 loop-rest-init g c =
-    subst (λ x. Sofar c.args.text.now x 3 c.in_ok-version.rest.now) (sym c.new-trace.ensures)
-    (begun_so c.args.text.now c.in_ok-version.version c.in_ok-version.disks c.in_ok-version.rest.now
-    c.in_ok-version.ensures.ok)
+    subst (λ x. Sofar c.args.text.now x 3 c.in_ok-format.rest.now) (sym c.new-trace.ensures)
+    (begun_so c.args.text.now c.in_ok-format.format c.in_ok-format.disks c.in_ok-format.rest.now
+    c.in_ok-format.ensures.ok)
 
 pub returns-in_default-clause-fault : goal.returns-in_default-clause-fault
 returns-in_default-clause-fault g c known =

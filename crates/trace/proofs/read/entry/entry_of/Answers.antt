@@ -10,7 +10,7 @@ not_begun begun is other = absurd cc
 pub returns-in-Slot-2-clause-err : goal.returns-in-Slot-2-clause-err
 returns-in-Slot-2-clause-err g c =
     let fields = fields_left (option_copied c.take_field.result.1) in
-    refused_after c.args.version c.args.begun c.args.line.now c.in-Some.word c.fault_in.result fields
-    (rw c.in-Slot-2.is (omega arith)) c.in-Some.ensures.of_version
+    refused_after c.args.format c.args.begun c.args.line.now c.in-Some.word c.fault_in.result fields
+    (rw c.in-Slot-2.is (omega arith)) c.in-Some.ensures.of_format
     (c.take_field.ensures ∙ ap (λ (first : List ℕ). first ∷ fields) c.in-Some.ensures.some)
     (λ begun slot. not_begun c.args.begun c.if-begun.false begun) c.fault_in.ensures

@@ -1,4 +1,5 @@
 use Rattle.std.specs.Option.{option_copied}
+use Rattle.trace.specs.declared.format.Format.TheVariants.{Extended}
 use Rattle.trace.specs.Cuts.{fields_left}
 use Rattle.trace.proofs.Values.{same_right}
 use Rattle.trace.proofs.read.fields.event_of.Goals as goal
@@ -6,5 +7,6 @@ use Rattle.trace.proofs.read.fields.event_of.Goals as goal
 pub returns-in_err-values-clause-none : goal.returns-in_err-values-clause-none
 returns-in_err-values-clause-none g c =
     rw c.from_residual.ensures
-    (λ version right. c.in_err-values.ensures.none
-    (same_right version 3 c.args.word (fields_left (option_copied c.args.rest)) c.requires.not_slot right))
+    (λ format right. c.in_err-values.ensures.none
+    (same_right format Extended c.args.word (fields_left (option_copied c.args.rest)) c.requires.not_slot
+    right))

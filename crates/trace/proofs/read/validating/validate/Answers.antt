@@ -6,18 +6,18 @@ use Rattle.trace.proofs.Validations.{ValidatedSofar, fault_later, first_more, fi
 use Rattle.trace.proofs.Sofar.{begun_so, numbered}
 use Rattle.trace.proofs.read.validating.validate.Goals as goal
 
-pub returns-in_err-version-clause-fault : goal.returns-in_err-version-clause-fault
-returns-in_err-version-clause-fault g c =
-    let head = c.in_err-version.ensures in
+pub returns-in_err-format-clause-fault : goal.returns-in_err-format-clause-fault
+returns-in_err-format-clause-fault g c =
+    let head = c.in_err-format.ensures in
     let p = err_from_is_err_and c.from_residual.result c.from_residual.ensures.1 in
     rw (p.1, p.2) (is_fault g.row.A.Denot c.args.text.now _ head.fault head.numbered head.clean)
 
 pub loop-rest-init : goal.loop-rest-init
 loop-rest-init g c =
-    let head = c.in_ok-version in
+    let head = c.in_ok-format in
     subst (λ (slots : List SlotSpec). ValidatedSofar g.row.A.Denot c.args.text.now
     (record {
-      version = head.version;
+      format = head.format;
       disks = head.disks;
       slots = slots;
       events = head.rest.now;
@@ -25,8 +25,8 @@ loop-rest-init g c =
       longest_line = 1;
     }) 3 head.rest.now)
     (sym c.new.ensures.items)
-    (validated_first g.row.A.Denot c.args.text.now head.version head.disks head.rest.now
-    (begun_so c.args.text.now head.version head.disks head.rest.now head.ensures.ok))
+    (validated_first g.row.A.Denot c.args.text.now head.format head.disks head.rest.now
+    (begun_so c.args.text.now head.format head.disks head.rest.now head.ensures.ok))
 
 pub returns-in-Err-clause-fault : goal.returns-in-Err-clause-fault
 returns-in-Err-clause-fault g c =

@@ -1,0 +1,75 @@
+-- What the formats of a trace have in common.
+use Rattle.std.proofs.Common.{◌≡◌, ◌≢◌, ℕ, ◌≤◌, List, [], get_or, map, refl, arith}
+use Rattle.board.specs.declared.spec.SlotSpec.{SlotSpec}
+use Rattle.trace.specs.declared.format.Format.{Format}
+use Rattle.trace.specs.declared.format.Format.TheVariants.{Plain, Extended}
+use Rattle.trace.specs.declared.format.Version.TheVariants.{One, Two}
+use Rattle.trace.specs.declared.word.Word.{Word}
+use Rattle.trace.specs.declared.word.Word.TheVariants.{Hosted, Restore, Complete}
+use Rattle.trace.specs.Format.{GoesInto, unless_version_1}
+use Rattle.trace.specs.Printable.{IsPrintable, IsPrintableMemory, IsPrintableSlot}
+use Rattle.trace.specs.Text.{Content, as_format, disks_word, word_for}
+use Rattle.trace.specs.Words.{IsWordOf}
+
+-- each of what all but version 1 have
+pub map_unless_version_1 : {X Y : Type 0} (f : X → Y) (format : Format) (xs : List X)
+    → map f (unless_version_1 format xs) ≡ unless_version_1 format (map f xs)
+map_unless_version_1 f (Plain One) xs = refl
+map_unless_version_1 f (Plain Two) xs = refl
+map_unless_version_1 f Extended xs = refl
+
+-- the extended format has every word
+pub word_of_extended : (word : Word) → IsWordOf Extended word
+word_of_extended Hosted = refl
+word_of_extended Restore = refl
+word_of_extended Complete = refl
+word_of_extended word = tt
+
+-- ---- from one format into another
+
+pub first_is_1 : (old new : Format) → GoesInto old new → new ≡ Plain One → old ≡ Plain One
+first_is_1 old (Plain One) goes is = goes
+first_is_1 old (Plain Two) goes is = absurd cc
+first_is_1 old Extended goes is = absurd cc
+
+goes_extended : (old new : Format) → GoesInto old new → old ≡ Extended → new ≡ Extended
+goes_extended old (Plain One) goes is = absurd cc
+goes_extended old (Plain Two) goes is = absurd (goes is)
+goes_extended old Extended goes is = refl
+
+word_goes : (old new : Format) (word : Word) → GoesInto old new → IsWordOf old word → IsWordOf new word
+word_goes old new Hosted goes h = goes_extended old new goes h
+word_goes old new Restore goes h = goes_extended old new goes h
+word_goes old new Complete goes h = goes_extended old new goes h
+word_goes old new word goes h = tt
+
+some_regions : (format : Format) (count : ℕ) → IsPrintableMemory format count → 1 ≤ count
+some_regions (Plain version) count h = omega (arith, h)
+some_regions Extended count h = h
+
+one_region : (format : Format) (count : ℕ) → format ≢ Extended → IsPrintableMemory format count → count ≡ 1
+one_region (Plain version) count plain h = h
+one_region Extended count plain h = absurd (plain refl)
+
+memory_goes : (old new : Format) (count : ℕ) → GoesInto old new → IsPrintableMemory old count
+    → IsPrintableMemory new count
+memory_goes old (Plain One) count goes h = one_region old count (λ is. absurd cc) h
+memory_goes old (Plain Two) count goes h = one_region old count goes h
+memory_goes old Extended count goes h = some_regions old count h
+
+slot_goes : (old new : Format) (s : SlotSpec) → GoesInto old new → IsPrintableSlot old s
+    → IsPrintableSlot new s
+slot_goes old new s goes h = record {
+  memory = memory_goes old new _ goes h.memory;
+  identity = λ is. h.identity (first_is_1 old new goes is);
+}
+
+-- a trace that has a text has one in a format into which its own goes
+pub fits_format : {A : Type 0} (format : Format) (t : Content A) → GoesInto t.format format → IsPrintable t
+    → IsPrintable (as_format format t)
+fits_format format t goes h = record {
+  disks = word_goes t.format format (disks_word t.disks) goes h.disks;
+  slots = λ k d lt. slot_goes t.format format (get_or t.slots k d) goes (h.slots k d lt);
+  events = h.events;
+  words = λ k d lt. word_goes t.format format (word_for (get_or t.events k d).what) goes (h.words k d lt);
+}
