@@ -66,8 +66,11 @@ class Event:
         return int(self.fields[1], 16)
 
     def in_words(self):
-        """What the event is, for a reader."""
-        return f"guest {self.slot} " + getattr(self, "say_" + self.word)(*self.fields[2:])
+        """What the event is, for a reader; a scenario may be about a line that is none."""
+        try:
+            return f"guest {self.slot} " + getattr(self, "say_" + self.word)(*self.fields[2:])
+        except (KeyError, ValueError):
+            return "no event"
 
     def say_r(self, window, offset, width):
         return f"reads {width} bytes of {place(window, offset)}"
