@@ -3,6 +3,7 @@
 What make run, make prove, make library, make vshow and the gate share. A crate counts as proved as long as the sources that it
 and the crates below it were proved from stay.
 """
+import functools
 import hashlib
 import os
 import pathlib
@@ -188,12 +189,12 @@ def prove(crate, what, verb, words, log):
 PARTS = ("src", "specs", "proofs")
 
 
-def sources(crate, parts=PARTS):
-    """A sum of all that the crate and those below it are proved from, or of these parts of it."""
+def sources(crate, parts=PARTS, own=None):
+    """A sum of all that the crate and those below it are proved from, or of these parts of it. `own` gives each crate's own sum."""
     found, used = hashlib.sha256((TOP / "KIT").read_bytes()), uses()
     for name in order(crate):
         found.update(repr((name, used[name])).encode())
-        found.update(own_sources(name, parts).encode())
+        found.update((own or own_sources)(name, parts).encode())
     return found.hexdigest()
 
 
@@ -264,12 +265,13 @@ def note_checked(crates):
         checked(crate).write_text(f"{own_sources(crate)} {sources(crate)}\n", encoding="utf-8")
 
 
-def was_checked(crate):
-    """How the crate stands to what was proved last."""
-    if not checked(crate).exists():
-        return NEVER
-    own, whole = checked(crate).read_text(encoding="utf-8").split()
-    return PROVED if whole == sources(crate) else BELOW if own == own_sources(crate) else CHANGED
+def were_checked():
+    """How each crate stands to what was proved last."""
+    own, found = functools.cache(own_sources), {}
+    for crate in uses():
+        there = checked(crate).read_text(encoding="utf-8").split() if checked(crate).exists() else None
+        found[crate] = NEVER if not there else PROVED if there[1] == sources(crate, own=own) else BELOW if there[0] == own(crate, PARTS) else CHANGED
+    return found
 
 
 def is_proved(crate):

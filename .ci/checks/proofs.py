@@ -8,9 +8,8 @@ from .common import TOP, called
 
 def proofs():
     """rt check of each crate that changed, lowest first; and which crates above weren't proved again."""
-    crates = list(proving.uses())
-    changed = [crate for crate in sorted(crates, key=lambda crate: len(proving.order(crate))) if proving.was_checked(crate) == proving.CHANGED]
-    said = []
+    states, said = proving.were_checked(), []
+    changed = sorted((crate for crate in states if states[crate] == proving.CHANGED), key=lambda crate: len(proving.order(crate)))
     for crate in changed:
         before = proving.sources(crate)
         ran = called("rt", "check", cwd=TOP / "crates" / crate, env={"RT_JOBS": "1", **os.environ})
@@ -19,14 +18,14 @@ def proofs():
         if proving.sources(crate) == before:
             proving.note_checked(proving.order(crate))
         said.append(f"{crate} is proved")
-    if not said and all(proving.was_checked(crate) == proving.NEVER for crate in crates):
+    if set(states.values()) == {proving.NEVER}:
         return True, ["none made: none was made in this checkout before"]
     return True, said or ["no crate differs from what was proved in this checkout"]
 
 
 def summary():
     """What was proved in this checkout, in plain words."""
-    states = {crate: proving.was_checked(crate) for crate in proving.uses()}
+    states = proving.were_checked()
     named = {state: [crate for crate in states if states[crate] == state] for state in set(states.values())}
     if set(named) == {proving.NEVER}:
         yield "No crate was ever proved in this checkout, so none was proved now: a first proof of all takes an hour, by make test."
@@ -35,8 +34,7 @@ def summary():
                          (proving.NEVER, "Never proved in this checkout")):
         if state in named:
             yield f"{words}: {', '.join(named[state])}."
-    if set(named) != {proving.PROVED}:
-        yield "make test proves all."
+    yield "make test proves all." if set(named) != {proving.PROVED} else "Each crate is as it was proved in this checkout."
 
 
 CHECKS = {"proofs": proofs}
