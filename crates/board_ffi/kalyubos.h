@@ -479,9 +479,9 @@ uint32_t kalyubos_save(struct kalyubos *board, uint8_t slot, uint8_t *into, size
  * the slot that was saved, or the answer is OTHER_SLOT. That its regions are the same is the host's to see. The console's size
  * is the snapshot's. `pending` is what then waits.
  *
- * Each snapshot that kalyubos_save wrote of such a slot is taken. Of other bytes BAD_SNAPSHOT, OTHER_SLOT or BAD_STATE says
- * what is wrong, or they are taken as they spell: there is no checksum. A snapshot that was changed on its way harms its
- * own guest alone. BUSY as kalyubos_saved_len.
+ * Each snapshot that kalyubos_save wrote of such a slot is taken. Of other bytes the first of BAD_SNAPSHOT, OTHER_SLOT and
+ * BAD_STATE that holds is answered, or they are taken as they spell: there is no checksum. A snapshot that was changed on its
+ * way harms its own guest alone. BUSY as kalyubos_saved_len.
  *
  * Before it the host puts back the guest's memory and its disk, those of an image by the board that it makes. Behind it the
  * host sets both lines by `pending`, makes a write again that was answered NO_ROOM, and starts the guest's CPUs.

@@ -87,6 +87,10 @@ static void check_refusals(void)
         is_refused(bytes, LEN, rows[i].answer);
     }
     memcpy(bytes, fresh, LEN);
+    bytes[12] = 1;
+    bytes[69] = 0x10;
+    is_refused(bytes, LEN, KALYUBOS_OTHER_SLOT); /* the description is judged before the state */
+    memcpy(bytes, fresh, LEN);
     bytes[LEN] = 0;
     is_refused(bytes, LEN + 1, KALYUBOS_BAD_SNAPSHOT);
     for (size_t count = 0; count < LEN; count++)
