@@ -16,6 +16,8 @@ from .story import Disagrees
 
 CRATE = made.CRATE
 SUMS, MATRIX_PAGE = os.path.join(CRATE, "matrix", "SUMS"), os.path.join(CRATE, "MATRIX.md")
+# The last lines of the gate's output, which an archive of the suite hasn't.
+STDOUT_END = os.path.join(CRATE, "stdout.end")
 quick.use()
 
 # The stories that are made in this run, for processes that are forked off.
@@ -190,7 +192,8 @@ def write_pages(known):
     """Writes the lists of the scenarios and the gate's output."""
     write("matrix/README.md", listed(known, "matrix", page.LIST_HEAD).encode())
     write("large/README.md", listed(known, "large", page.LARGE_HEAD).encode())
-    write("../stdout", gate_output(known).encode())
+    if os.path.exists(STDOUT_END):
+        write("../stdout", gate_output(known).encode())
 
 
 def gate_output(known):
@@ -201,7 +204,7 @@ def gate_output(known):
     for part, names in (("scenarios", hand), ("matrix", made_ones)):
         lines += [f"{name} ok\n" for name, _ in names]
         lines.append(f"{part}: {sum(twice for _, twice in names)} give the same in version 2\n")
-    return "".join(lines) + made.text_of(os.path.join(CRATE, "stdout.end"))
+    return "".join(lines) + made.text_of(STDOUT_END)
 
 
 def is_replayed_twice(scenario):
