@@ -1,7 +1,7 @@
 //! The rows of a file, one after another.
 
 use crate::calls::chains::Chains;
-use crate::calls::guests::Guests;
+use crate::calls::guests::{Guests, Stops};
 use crate::calls::memory::Memory;
 use crate::calls::rings::Rings;
 use crate::calls::row::{Row, row_of};
@@ -46,6 +46,7 @@ fn check_subject<R: AllocGlobal, W: Write>(
         "guests" => check_guests(rt, file, rows, out),
         "memory" => check_made(rt, file, rows, Memory::new(alloc), out),
         "rings" => check_made(rt, file, rows, Rings::new(alloc), out),
+        "stops" => check_made(rt, file, rows, Ok(Stops::new(alloc)), out),
         "wants" => check_made(rt, file, rows, Wants::new(alloc), out),
         "windows" => check_made(rt, file, rows, Windows::new(alloc), out),
         _ => {

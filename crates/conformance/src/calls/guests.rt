@@ -4,6 +4,7 @@ mod boards;
 mod runs;
 mod sessions;
 mod snapshots;
+mod stops;
 
 use crate::calls::answer::{put_number, put_word};
 use crate::calls::memory::regions_of;
@@ -14,6 +15,7 @@ use linked_list_allocator::LocalHeap;
 use sector_cache::ScriptedImage;
 use session::{Budget, GuestSpec, Session};
 use std::alloc::{AllocError, Allocator, Global};
+pub(crate) use stops::Stops;
 use test_support::RefusingHeap;
 use trace::event_of_line;
 

@@ -139,8 +139,8 @@ impl<'h, B: Allocator> Guests<'h, B> {
     }
 }
 
-// What `new` promises isn't needed here, and is dear to prove of this image and this heap.
-fn board_of<I: Image, A: Allocator + Copy>(
+/// Makes a board. What `new` promises isn't needed here, and is dear to prove of an image and a heap.
+pub(super) fn board_of<I: Image, A: Allocator + Copy>(
     heap: A,
     slots: &[SlotSpec],
     image: I,
@@ -149,8 +149,12 @@ fn board_of<I: Image, A: Allocator + Copy>(
     Board::new(heap, slots, image, cache)
 }
 
-// The lines of records, without the last one's end.
-fn put_records<A: Allocator>(alloc: A, records: &[Record<A>], answer: &mut String) -> Answered
+/// The lines of records, without the last one's end.
+pub(super) fn put_records<A: Allocator>(
+    alloc: A,
+    records: &[Record<A>],
+    answer: &mut String,
+) -> Answered
     requires { All HasInterruptWords records.now }
 {
     let Ok(bytes) = print_records(alloc, records) else {
