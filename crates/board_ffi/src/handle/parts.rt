@@ -17,7 +17,7 @@ impl<T, A: Allocator> Model for Parts<T, A> {
 }
 
 impl<T, A: Allocator> Parts<T, A> {
-    pub fn of(b: Box<T, A>) -> Parts<T, A>
+    pub(super) fn of(b: Box<T, A>) -> Parts<T, A>
     where
         T: Drop,
         ensures { result.value ≡ b.value }
@@ -33,8 +33,8 @@ impl<T, A: Allocator> Parts<T, A> {
         unsafe { Box::from_raw(alloc, ptr) }
     }
 
-    /// Drops the value, and gives its memory back.
-    pub fn end(self)
+    /// Drops the value, and gives its memory back. No body can leave that out: a `Parts` can't be forgotten.
+    pub(super) fn end(self)
     where
         T: Drop,
     {
