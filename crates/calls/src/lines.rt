@@ -1,9 +1,14 @@
 //! How the lines of a trace and their fields are spelled, for people.
 
+ghost use Rattle.std.specs.Prelude.{◌≡◌};
+ghost use Rattle.trace.specs.Words.{spelled};
+
 use trace::{Field, Format, Version, Word};
 
 /// A word, and fields after it as they look in a format.
-pub fn example_of(format: Format, word: Word) -> (&'static str, &'static str) {
+pub fn example_of(format: Format, word: Word) -> (&'static str, &'static str)
+    ensures word { result.0.now ≡ spelled word }
+{
     match word {
         Word::Cache => ("cache", "8"),
         Word::Hosted => ("hosted", ""),

@@ -1,6 +1,7 @@
 //! The files that a call names: opened, and read.
 
-ghost use Rattle.std.specs.Prelude.{◌≡◌, true, false};
+ghost use Rattle.std.specs.Prelude.{◌≡◌, ◌⊎◌, IfErr, true, false};
+ghost use Rattle.replay.specs.declared.fault.ReplayFault.{ReplayFault};
 ghost use Rattle.std.specs.Fs.{asks_append, asks_create, asks_create_new, asks_read, asks_truncate, asks_write};
 
 use crate::advice::{Advice, refuse};
@@ -16,7 +17,9 @@ pub fn image_in<A: Allocator, R: Eprint + Files>(
     rt: &R,
     alloc: A,
     path: &str,
-) -> Result<MemoryImage<A>, ReplayFault> {
+) -> Result<MemoryImage<A>, ReplayFault>
+    ensures fault { IfErr result (λ fault. (fault ≡ ReplayFault.Read) ⊎ (fault ≡ ReplayFault.NoMemory)) }
+{
     let read = read_image(alloc, &mut open(rt, path, false)?);
     match read {
         Ok(image) => Ok(image),
@@ -31,7 +34,9 @@ pub fn text_in<A: Allocator, R: Eprint + Files>(
     rt: &R,
     alloc: A,
     path: &str,
-) -> Result<Vec<u8, A>, ReplayFault> {
+) -> Result<Vec<u8, A>, ReplayFault>
+    ensures fault { IfErr result (λ fault. (fault ≡ ReplayFault.Read) ⊎ (fault ≡ ReplayFault.NoMemory)) }
+{
     let gathered = gather(alloc, &mut open(rt, path, false)?);
     match gathered {
         Ok(text) => Ok(text),
@@ -40,7 +45,9 @@ pub fn text_in<A: Allocator, R: Eprint + Files>(
 }
 
 /// Opens a file that is there, to be read and perhaps to be written too.
-pub fn open<R: Eprint + Files>(rt: &R, path: &str, writes: bool) -> Result<R::File, ReplayFault> {
+pub fn open<R: Eprint + Files>(rt: &R, path: &str, writes: bool) -> Result<R::File, ReplayFault>
+    ensures fault { IfErr result (λ fault. fault ≡ ReplayFault.Read) }
+{
     match access(writes).open(rt, path) {
         Ok(file) => Ok(file),
         Err(error) => refuse(rt, ReplayFault::Read, Advice::Unopened(path, error)),
