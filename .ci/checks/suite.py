@@ -36,8 +36,8 @@ def no_device():
     return not wrong, wrong or [f"{len(tries)} calls end by a sentence and a status"]
 
 
-# The scenarios that tables make are made by the first check, so that no two others make them at once.
-AFTER = {name: ["matrix"] for name in ("rules", "against", "no device", "helps", "release")}
+# The scenarios that tables make, and their pages, are made by the first check, so that no two others make them at once.
+AFTER = {name: ["matrix"] for name in ("links", "named", "words", "rules", "against", "no device", "helps", "release")}
 CHECKS = {
     "matrix": lambda: script(TOP / "crates/conformance/matrix/make"),
     "rules": lambda: script(TOP / "crates/conformance/check-rules"),
