@@ -32,6 +32,11 @@ def run(checks, after=None, jobs=1):
     return failed
 
 
+def with_needed(names, after):
+    """These checks and those that they stand on."""
+    return {*names, *(it for name in names for it in after.get(name, ()))}
+
+
 def untried(broken):
     """Stands for a check that can't be made."""
     return lambda: (False, [f"not tried: {', '.join(broken)} failed"])
