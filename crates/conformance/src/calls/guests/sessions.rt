@@ -21,6 +21,7 @@ impl<'h, B: Allocator> Guests<'h, B> {
             "go_on" => self.go_on(words, answer),
             "take" => self.take(words, answer),
             "see" => self.see(words, answer),
+            "lend" => self.lend(words, answer),
             "end" => self.end(answer),
             "requests" => put_number(answer, self.heap.requests()),
             _ => self.event(words.whole(), answer),
@@ -134,6 +135,19 @@ impl<'h, B: Allocator> Guests<'h, B> {
         )
     }
 
+    /// Puts bytes into a slot's memory where it is lent.
+    fn lend(&mut self, words: &mut Words<'_>, answer: &mut String) -> Answered {
+        let Some(session) = &mut self.session else {
+            return Err(Stuck::Conditions);
+        };
+        let (slot, addr) = (words.u8(), words.u64());
+        let bytes = words.bytes(self.alloc)?;
+        if !put_lent(session, slot, addr, &bytes) {
+            return Err(Stuck::Conditions);
+        }
+        put_word(answer, "ok")
+    }
+
     /// Ends the session and keeps its image: `ok` where that is as it was.
     fn end(&mut self, answer: &mut String) -> Answered {
         let Some(session) = self.session.take() else {
@@ -143,6 +157,22 @@ impl<'h, B: Allocator> Guests<'h, B> {
         let same = self.left.as_slice() == self.image.as_slice();
         put_word(answer, if same { "ok" } else { "another image" })
     }
+}
+
+// Puts bytes at the front of what is lent of a slot's memory, and answers whether they find room there.
+fn put_lent<A: Allocator>(session: &mut Session<A>, slot: u8, addr: u64, bytes: &[u8]) -> bool {
+    let Ok(memory) = session.memory(slot) else {
+        return false;
+    };
+    if !memory.holds(addr, 1) {
+        return false;
+    }
+    let room = session.memory_mut(slot, addr);
+    if room.len() < bytes.len() {
+        return false;
+    }
+    room[..bytes.len()].copy_from_slice(bytes);
+    true
 }
 
 // What waits of a slot's output, in two parts.
