@@ -8,7 +8,7 @@ use crate::calls::subject::{Answered, Stuck, Subject};
 use crate::calls::words::Words;
 use board::{Board, SlotSpec};
 use std::alloc::Global;
-use test_support::WriteBackImage;
+use test_support::{Moment, WriteBackImage};
 
 /// A board over a write cache, and what the next one is asked for.
 #[derive(Drop)]
@@ -81,19 +81,11 @@ impl Stops {
             return Err(Stuck::Conditions);
         };
         let image = board.image();
-        if !within {
-            return put_left(answer, image.bytes(), image.waiting());
+        if within {
+            put_moments(answer, image.past(), self.before)
+        } else {
+            put_left(answer, image.bytes(), image.waiting())
         }
-        if image.past().len() == self.before {
-            return put_word(answer, "-");
-        }
-        for (at, moment) in image.past().iter().skip(self.before).enumerate() {
-            if at > 0 {
-                put_word(answer, " ")?;
-            }
-            put_left(answer, &moment.bytes, &moment.waiting)?;
-        }
-        Ok(())
     }
 
     // Whether there was no memory to record a moment.
@@ -117,6 +109,20 @@ impl Subject for Stops {
             _ => self.event(words.whole(), answer),
         }
     }
+}
+
+// What a stop leaves at each moment from this one on, or that there is none.
+fn put_moments(answer: &mut String, past: &[Moment], from: usize) -> Answered {
+    if past.len() == from {
+        return put_word(answer, "-");
+    }
+    for (at, moment) in past.iter().enumerate() {
+        if at >= from {
+            put_word(answer, if at > from { " " } else { "" })?;
+            put_left(answer, &moment.bytes, &moment.waiting)?;
+        }
+    }
+    Ok(())
 }
 
 // The first byte of each sector, or ?? for one in which any bytes may stand.
