@@ -46,7 +46,7 @@ static void store(struct guest *guest, uint16_t offset, uint32_t value)
     struct kalyubos_pending pending;
     uint32_t answer = kalyubos_write(&guest->board, 0, KALYUBOS_BLOCK, offset, 4, value, &pending);
     if (answer == KALYUBOS_IO)
-        file_disk_begin(&guest->disk);
+        need(file_disk_begin(&guest->disk), "a step");
     else
         need(answer == KALYUBOS_DONE, "a store");
 }
@@ -109,7 +109,7 @@ static void *read_as_guest(void *user)
         if (!file_disk_go_on(&guest->disk, &failed))
             continue;
         if (kalyubos_completed(&guest->board, 0, failed, &pending) == KALYUBOS_IO)
-            file_disk_begin(&guest->disk);
+            need(file_disk_begin(&guest->disk), "a step");
         store(guest, 0x64, 1);
         bool more = false;
         for (; (uint16_t)done != used(guest); done++) {
@@ -135,7 +135,7 @@ static void power_on(struct guest *guest, const char *path, uint32_t block)
     size_t len;
     need(kalyubos_create_hosted(&guest->board, &slot, 1) == KALYUBOS_DONE, "create_hosted");
     need(kalyubos_memory(&guest->board, 0, MEMORY, &guest->memory, &len) == KALYUBOS_DONE, "memory");
-    const char *wrong = file_disk_open(&guest->disk, &guest->board, 0, path, slot.count * SECTOR, way);
+    const char *wrong = file_disk_open(&guest->disk, &guest->board, 0, path, slot.count * SECTOR, true, way);
     need(wrong == NULL, wrong);
     need(guest->disk.way == way, "no io_uring");
 }
@@ -165,5 +165,7 @@ int main(int words_len, char **words)
         bytes += (double)guests[i].blocks * guests[i].block;
     }
     printf("%.0f\n", bytes / 1e6 / (now() - start));
+    for (int i = 0; i < GUESTS; i++)
+        file_disk_close(&guests[i].disk);
     return 0;
 }

@@ -52,11 +52,11 @@ static uint32_t load(struct guest *guest, uint8_t window, uint16_t offset)
 static void go_on(struct guest *guest)
 {
     bool failed;
-    if (!file_disk_go_on(&guest->disk, &failed))
-        return;
-    uint32_t answer = kalyubos_completed(&guest->board, 0, failed, &guest->lines);
-    if (answer == KALYUBOS_IO)
-        file_disk_begin(&guest->disk);
+    uint32_t answer = KALYUBOS_DONE;
+    while (file_disk_go_on(&guest->disk, &failed) &&
+           (answer = kalyubos_completed(&guest->board, 0, failed, &guest->lines)) == KALYUBOS_IO &&
+           !file_disk_begin(&guest->disk)) /* the kernel doesn't take it: it has failed */
+        continue;
     need(answer == KALYUBOS_DONE || answer == KALYUBOS_IO, "a completion");
 }
 
@@ -77,8 +77,8 @@ static void store(struct guest *guest, uint8_t window, uint16_t offset, uint32_t
     uint32_t answer;
     while ((answer = kalyubos_write(&guest->board, 0, window, offset, 4, value, &guest->lines)) == KALYUBOS_BUSY)
         wait_for_disk(guest);
-    if (answer == KALYUBOS_IO)
-        file_disk_begin(&guest->disk);
+    if (answer == KALYUBOS_IO && !file_disk_begin(&guest->disk))
+        go_on(guest);
     need(answer == KALYUBOS_DONE || answer == KALYUBOS_IO, "a store");
 }
 
@@ -197,7 +197,7 @@ static void power_on(struct guest *guest, unsigned number, bool threads)
     need(file >= 0 && write(file, content, sizeof content) == DISK_LEN && close(file) == 0, "a file");
     need(kalyubos_create_hosted(&guest->board, &slot, 1) == KALYUBOS_DONE, "create_hosted");
     need(kalyubos_memory(&guest->board, 0, MEMORY, &guest->memory, &len) == KALYUBOS_DONE, "memory");
-    const char *wrong = file_disk_open(&guest->disk, &guest->board, 0, guest->path, DISK_LEN,
+    const char *wrong = file_disk_open(&guest->disk, &guest->board, 0, guest->path, DISK_LEN, false,
                                        threads ? &file_thread : &file_ring);
     need(wrong == NULL, wrong);
 }
@@ -208,6 +208,7 @@ static void power_off(struct guest *guest)
     size_t taken;
     FILE *file = fopen(guest->path, "rb");
     need(kalyubos_take_output(&guest->board, 0, said, sizeof said, &taken) == KALYUBOS_DONE, "take_output");
+    file_disk_close(&guest->disk);
     need(kalyubos_destroy(&guest->board) == KALYUBOS_DONE, "destroy");
     printf("guest %u said \"%.*s\"; its file:", guest->number, (int)taken, (const char *)said);
     for (long sector = 0; sector < 6; sector++) {

@@ -82,7 +82,7 @@ static void open_disk(struct guest *guest)
     size_t len = strlen(DISKS[guest->slot]);
     const char *wrong = "can't be written";
     if (file >= 0 && ftruncate(file, DISK_LEN) == 0 && write(file, DISKS[guest->slot], len) == (ssize_t)len)
-        wrong = file_disk_open(&guest->disk, &board, guest->slot, path, DISK_LEN, &file_thread);
+        wrong = file_disk_open(&guest->disk, &board, guest->slot, path, DISK_LEN, false, &file_thread);
     if (wrong != NULL) {
         fprintf(stderr, "%s: %s\n", path, wrong);
         exit(1);
@@ -97,7 +97,8 @@ static void look_at_disk(struct guest *guest)
     struct pollfd wake = { .fd = guest->disk.ready, .events = POLLIN };
     struct kalyubos_pending pending;
     bool failed;
-    if (!guest->in_flight || poll(&wake, 1, 1) <= 0 || !file_disk_go_on(&guest->disk, &failed))
+    bool can_go_on = guest->in_flight && (guest->disk.is_refused || poll(&wake, 1, 1) > 0);
+    if (!can_go_on || !file_disk_go_on(&guest->disk, &failed))
         return;
     uint32_t answer = kalyubos_completed(&board, guest->slot, failed, &pending);
     guest->in_flight = answer == KALYUBOS_IO;
@@ -222,7 +223,8 @@ static void create(struct guest *guests, bool hosted)
 int main(int words_len, char **words)
 {
     static struct guest guests[GUESTS];
-    create(guests, words_len == 2 && strcmp(words[1], "hosted") == 0);
+    bool hosted = words_len == 2 && strcmp(words[1], "hosted") == 0;
+    create(guests, hosted);
     for (uint8_t slot = 0; slot < GUESTS; slot++)
         power_on(&guests[slot], slot);
 
@@ -237,6 +239,8 @@ int main(int words_len, char **words)
     for (unsigned i = 0; i < GUESTS; i++) {
         report(&guests[i]);
         cpu_must(uc_close(guests[i].cpu), "uc_close");
+        if (hosted)
+            file_disk_close(&guests[i].disk);
     }
     must(kalyubos_destroy(&board), "destroy");
     return 0;

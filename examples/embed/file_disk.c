@@ -35,8 +35,8 @@ static void copy(struct file_disk *disk, uint64_t len, bool into_buffer)
     }
 }
 
-/* Submits the next step, by what is done. */
-static void go_further(struct file_disk *disk)
+/* Submits the next step, by what is done, and answers whether the kernel takes it. */
+static bool go_further(struct file_disk *disk)
 {
     uint64_t at, left = disk->len - disk->done;
     struct file_step step = { disk->asked.kind, disk->asked.start + disk->done, MIN(left, FILE_BUFFER) };
@@ -51,10 +51,16 @@ static void go_further(struct file_disk *disk)
         copy(disk, step.len, true);
     }
     disk->step = step;
-    disk->way->submit(disk);
+    return disk->way->submit(disk);
 }
 
 /* ---- a thread: steps go to it through a pipe, and what they came to comes back through another */
+
+struct worker {
+    pthread_t thread;
+    const struct file_disk *disk;
+    int steps[2], results[2];
+};
 
 static ssize_t call_kernel(const struct file_disk *disk, const struct file_step *step)
 {
@@ -71,71 +77,129 @@ static ssize_t call_kernel(const struct file_disk *disk, const struct file_step 
     return pwrite(disk->file, disk->buffer, step->len, step->at);
 }
 
-/* Signals are for the host's other threads, so that they interrupt no call of this one. */
+/* Signals are for the host's other threads, so that they interrupt no call of this one. It ends once no more steps come. */
 static void *work(void *user)
 {
-    const struct file_disk *disk = user;
+    const struct worker *worker = user;
     struct file_step step;
+    ssize_t got;
     sigset_t all;
     sigfillset(&all);
     pthread_sigmask(SIG_BLOCK, &all, NULL);
-    while (read(disk->steps[0], &step, sizeof step) == sizeof step) {
-        int32_t result = (int32_t)call_kernel(disk, &step);
-        if (write(disk->results[1], &result, sizeof result) != sizeof result)
-            break;
+    while ((got = read(worker->steps[0], &step, sizeof step)) != 0) {
+        if (got != sizeof step)
+            continue;
+        int32_t result = (int32_t)call_kernel(worker->disk, &step);
+        while (write(worker->results[1], &result, sizeof result) != sizeof result)
+            continue; /* a pipe always has room for one result */
     }
     return NULL;
 }
 
-static bool open_thread(struct file_disk *disk)
+static void close_pipe(const int pipe[2])
 {
-    pthread_t thread;
-    if (pipe2(disk->steps, O_CLOEXEC) != 0 || pipe2(disk->results, O_CLOEXEC | O_NONBLOCK) != 0)
-        return false;
-    disk->ready = disk->results[0];
-    return pthread_create(&thread, NULL, work, disk) == 0 && pthread_detach(thread) == 0;
+    for (int end = 0; end < 2; end++)
+        if (pipe[end] >= 0)
+            close(pipe[end]);
 }
 
-static void submit(struct file_disk *disk)
+static bool open_worker(struct file_disk *disk)
 {
-    if (write(disk->steps[1], &disk->step, sizeof disk->step) != sizeof disk->step)
-        abort(); /* a pipe always has room for one step */
+    struct worker *worker = malloc(sizeof *worker);
+    if (worker == NULL)
+        return false;
+    *worker = (struct worker){ .disk = disk, .steps = { -1, -1 }, .results = { -1, -1 } };
+    if (pipe2(worker->steps, O_CLOEXEC) == 0 && pipe2(worker->results, O_CLOEXEC | O_NONBLOCK) == 0 &&
+        (errno = pthread_create(&worker->thread, NULL, work, worker)) == 0) {
+        disk->kept = worker;
+        disk->ready = worker->results[0];
+        return true;
+    }
+    int why = errno;
+    close_pipe(worker->steps);
+    close_pipe(worker->results);
+    free(worker);
+    errno = why;
+    return false;
+}
+
+static bool submit(struct file_disk *disk)
+{
+    const struct worker *worker = disk->kept;
+    return write(worker->steps[1], &disk->step, sizeof disk->step) == sizeof disk->step;
 }
 
 static bool has_result(struct file_disk *disk, int32_t *result)
 {
-    return read(disk->ready, result, sizeof *result) == sizeof *result;
+    const struct worker *worker = disk->kept;
+    return read(worker->results[0], result, sizeof *result) == sizeof *result;
 }
 
-const struct file_way file_thread = { "a thread", open_thread, submit, has_result };
-
-const char *file_disk_open(struct file_disk *disk, struct kalyubos *board, uint8_t slot, const char *path, uint64_t len,
-                           const struct file_way *way)
+static void close_worker(struct file_disk *disk)
 {
-    *disk = (struct file_disk){ .board = board, .slot = slot, .way = way, .buffer = malloc(FILE_BUFFER) };
-    disk->file = open(path, O_RDWR | O_CLOEXEC);
-    if (disk->file < 0 || disk->buffer == NULL)
+    struct worker *worker = disk->kept;
+    close(worker->steps[1]);
+    worker->steps[1] = -1;
+    pthread_join(worker->thread, NULL);
+    close_pipe(worker->steps);
+    close_pipe(worker->results);
+    free(worker);
+}
+
+const struct file_way file_thread = { "a thread", open_worker, submit, has_result, close_worker };
+
+/* ---- a disk */
+
+/* What is wrong with the file, the buffer or the way to the kernel, or NULL. */
+static const char *open_all(struct file_disk *disk, const char *path, uint64_t len, bool read_only)
+{
+    disk->file = open(path, (read_only ? O_RDONLY : O_RDWR) | O_CLOEXEC);
+    if (disk->file < 0)
         return strerror(errno);
     off_t file_len = lseek(disk->file, 0, SEEK_END);
-    if (file_len < 0 || (uint64_t)file_len < len)
+    if (file_len < 0)
+        return strerror(errno);
+    if ((uint64_t)file_len < len)
         return "is shorter than the disk";
-    return way->open(disk) ? NULL : strerror(errno);
+    disk->buffer = malloc(FILE_BUFFER);
+    return disk->buffer != NULL && disk->way->open(disk) ? NULL : strerror(errno);
 }
 
-void file_disk_begin(struct file_disk *disk)
+const char *file_disk_open(struct file_disk *disk, struct kalyubos *board, uint8_t slot, const char *path, uint64_t len,
+                           bool read_only, const struct file_way *way)
+{
+    *disk = (struct file_disk){ .board = board, .slot = slot, .way = way, .file = -1, .ready = -1 };
+    const char *wrong = open_all(disk, path, len, read_only);
+    if (wrong != NULL)
+        file_disk_close(disk);
+    return wrong;
+}
+
+void file_disk_close(struct file_disk *disk)
+{
+    if (disk->kept != NULL)
+        disk->way->close(disk);
+    if (disk->file >= 0)
+        close(disk->file);
+    free(disk->buffer);
+    *disk = (struct file_disk){ .file = -1, .ready = -1 };
+}
+
+bool file_disk_begin(struct file_disk *disk)
 {
     kalyubos_operation(disk->board, disk->slot, &disk->asked, disk->runs, KALYUBOS_RUNS);
     disk->len = disk->done = 0;
     for (uint32_t i = 0; i < disk->asked.runs; i++)
         disk->len += disk->runs[i].len;
     disk->unsynced = disk->asked.stable || disk->len == 0; /* without bytes it is a flush, or moves none */
-    go_further(disk);
+    disk->is_refused = !go_further(disk);
+    return !disk->is_refused;
 }
 
 bool file_disk_go_on(struct file_disk *disk, bool *failed)
 {
-    int32_t result;
-    if (!disk->way->has_result(disk, &result))
+    int32_t result = -1;
+    if (!disk->is_refused && !disk->way->has_result(disk, &result))
         return false;
     *failed = result < 0 || (result == 0 && disk->step.len > 0);
     if (*failed)
@@ -145,6 +209,6 @@ bool file_disk_go_on(struct file_disk *disk, bool *failed)
     disk->done += (uint64_t)result;
     if (disk->done == disk->len && !disk->unsynced)
         return true;
-    go_further(disk);
-    return false;
+    *failed = !go_further(disk);
+    return *failed;
 }

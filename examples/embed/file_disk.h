@@ -32,29 +32,35 @@ struct file_disk {
     struct kalyubos_run runs[KALYUBOS_RUNS];
     uint64_t len, done; /* how many bytes all runs have, and how many of them are done */
     bool unsynced;      /* a sync is wanted at the end */
+    bool is_refused;    /* the kernel hasn't taken its first step: it fails */
     struct file_step step;
 
     const struct file_way *way;
-    int steps[2], results[2]; /* pipes to the thread, and from it */
-    void *ring;
+    void *kept; /* by the way */
 };
 
 /* A way to the kernel. */
 struct file_way {
     const char *name;
-    bool (*open)(struct file_disk *disk);
-    void (*submit)(struct file_disk *disk);
+    bool (*open)(struct file_disk *disk);   /* sets `ready` */
+    bool (*submit)(struct file_disk *disk); /* false where the kernel hasn't taken the step */
     bool (*has_result)(struct file_disk *disk, int32_t *result); /* of the step, once: bytes done, or below 0 */
+    void (*close)(struct file_disk *disk);  /* behind the end of a step that the kernel works on */
 };
 extern const struct file_way file_thread; /* of file_disk.c */
 extern const struct file_way file_ring;   /* of file_ring.c: io_uring, or a thread where that isn't to be had */
 
-/* Serves a slot's disk from a file of at least `len` bytes. Answers NULL, or what is wrong. */
+/* Serves a slot's disk from a file of at least `len` bytes, which is opened for reading alone for a slot that is read-only.
+ * Answers NULL, or what is wrong; then nothing is left open. */
 const char *file_disk_open(struct file_disk *disk, struct kalyubos *board, uint8_t slot, const char *path, uint64_t len,
-                           const struct file_way *way);
+                           bool read_only, const struct file_way *way);
 
-/* Begins what the slot waits for: after each call that is answered KALYUBOS_IO. */
-void file_disk_begin(struct file_disk *disk);
+/* Closes what was opened. It waits for a step that the kernel works on; its operation is never completed. */
+void file_disk_close(struct file_disk *disk);
+
+/* Begins what the slot waits for: after each call that is answered KALYUBOS_IO. False where the kernel doesn't take it: then
+ * nothing is to be waited for, and file_disk_go_on tells at once that it has failed. */
+bool file_disk_begin(struct file_disk *disk);
 
 /* Goes on where `ready` can be read: true once the operation has ended, to be completed as `failed` says. */
 bool file_disk_go_on(struct file_disk *disk, bool *failed);

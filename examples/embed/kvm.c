@@ -173,7 +173,7 @@ static void open_disk(struct guest *guest)
     int file = must(mkstemp(path), "a disk");
     must(ftruncate(file, DISK_LEN), "a disk");
     must((int)write(file, DISKS[guest->slot], strlen(DISKS[guest->slot])), "a disk");
-    const char *wrong = file_disk_open(&guest->disk, &board, guest->slot, path, DISK_LEN, &file_thread);
+    const char *wrong = file_disk_open(&guest->disk, &board, guest->slot, path, DISK_LEN, false, &file_thread);
     if (wrong != NULL) {
         fprintf(stderr, "%s: %s\n", path, wrong);
         exit(1);
@@ -185,7 +185,7 @@ static void open_disk(struct guest *guest)
 static bool disk_can_go_on(const struct guest *guest, int milliseconds)
 {
     struct pollfd wake = { .fd = guest->disk.ready, .events = POLLIN };
-    return poll(&wake, 1, milliseconds) > 0;
+    return guest->disk.is_refused || poll(&wake, 1, milliseconds) > 0;
 }
 
 /* What the disk came to. This may complete what the guest asked for, so it is a call for the guest. */
@@ -481,6 +481,8 @@ int main(int words_len, char **words)
         must(-pthread_join(threads[i], NULL), "a thread's end");
     for (unsigned i = 0; i < GUESTS; i++)
         report(&guests[i]);
+    for (unsigned i = 0; i < GUESTS && hosted; i++)
+        file_disk_close(&guests[i].disk);
     must_do(kalyubos_destroy(&board), "destroy");
     return 0;
 }

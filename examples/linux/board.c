@@ -68,7 +68,7 @@ static void name_disk(struct kalyubos_slot *slot, const char *path)
 static void open_disk(uint8_t slot)
 {
     const char *path = settings.names[slot];
-    const char *wrong = file_disk_open(&disks[slot], &board, slot, path, settings.sectors[slot] * 512,
+    const char *wrong = file_disk_open(&disks[slot], &board, slot, path, settings.sectors[slot] * 512, false,
                                        settings.threads ? &file_thread : &file_ring);
     if (wrong != NULL) {
         fprintf(stderr, "linux-machine: %s: %s\n", path, wrong);
@@ -124,6 +124,8 @@ void board_close(void)
     for (size_t i = 0; i < settings.guests && settings.copies; i++)
         for (size_t j = 0; j < memories[i].count; j++)
             free(memories[i].regions[j].bytes);
+    for (size_t i = 0; i < settings.guests && settings.hosted; i++)
+        file_disk_close(&disks[i]);
     must(kalyubos_destroy(&board), "destroy");
     disk_close();
     if (!record_end())
@@ -252,9 +254,13 @@ void board_wait(void)
 {
     enum { MILLISECONDS = 10 };
     struct pollfd ready[GUESTS];
-    for (size_t i = 0; i < settings.guests; i++)
+    bool is_refused = false;
+    for (size_t i = 0; i < settings.guests; i++) {
         ready[i] = (struct pollfd){ .fd = flies[i] ? disks[i].ready : -1, .events = POLLIN };
-    poll(ready, settings.guests, MILLISECONDS);
+        is_refused = is_refused || (flies[i] && disks[i].is_refused);
+    }
+    if (!is_refused)
+        poll(ready, settings.guests, MILLISECONDS);
 }
 
 struct board_flights board_flights(uint8_t slot)

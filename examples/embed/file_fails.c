@@ -1,0 +1,277 @@
+/*
+ * Tries file_disk.c and file_ring.c with each of their calls failing in turn, by threads and by io_uring: a disk that can't be
+ * opened leaves nothing behind, each operation of one that is open ends, and a close gives back all. It is linked with
+ * --wrap for each call that is named in CALLS of .ci/checks/hosts.py, and has the library's three functions itself.
+ */
+#define _GNU_SOURCE
+#include <dirent.h>
+#include <errno.h>
+#include <fcntl.h>
+#include <malloc.h>
+#include <poll.h>
+#include <stdarg.h>
+#include <stdatomic.h>
+#include <stdio.h>
+#include <stdlib.h>
+#include <string.h>
+#include <sys/mman.h>
+#include <unistd.h>
+
+#include "file_disk.h"
+
+enum { MEMORY_LEN = 0x2000, DISK_LEN = 0x4000, SECONDS = 10 };
+
+static uint8_t memory[MEMORY_LEN];
+static struct kalyubos_operation asked;
+static struct kalyubos_run runs[2];
+
+static void need(bool holds, const char *what)
+{
+    if (!holds) {
+        fprintf(stderr, "file_fails: %s\n", what);
+        exit(1);
+    }
+}
+
+/* ---- the library: a slot that waits for `asked` */
+
+uint32_t kalyubos_operation(struct kalyubos *board, uint8_t slot, struct kalyubos_operation *to, struct kalyubos_run *into, size_t most)
+{
+    (void)board, (void)slot, (void)most;
+    *to = asked;
+    memcpy(into, runs, asked.runs * sizeof *runs);
+    return KALYUBOS_DONE;
+}
+
+uint32_t kalyubos_read_memory(struct kalyubos *board, uint8_t slot, uint64_t at, uint8_t *into, size_t len)
+{
+    (void)board, (void)slot;
+    memcpy(into, memory + at, len);
+    return KALYUBOS_DONE;
+}
+
+uint32_t kalyubos_write_memory(struct kalyubos *board, uint8_t slot, uint64_t at, const uint8_t *from, size_t len)
+{
+    (void)board, (void)slot;
+    memcpy(memory + at, from, len);
+    return KALYUBOS_DONE;
+}
+
+/* ---- the calls: the one of this number fails, counted in all threads */
+
+static atomic_ulong calls, failing;
+
+static bool fails(int why)
+{
+    if (atomic_fetch_add(&calls, 1) + 1 != failing)
+        return false;
+    errno = why;
+    return true;
+}
+
+#define WRAP(answer, name, why, wrong, parameters, arguments) \
+    answer __real_##name parameters;                          \
+    answer __wrap_##name parameters                           \
+    {                                                         \
+        return fails(why) ? wrong : __real_##name arguments;  \
+    }
+WRAP(off_t, lseek, EIO, -1, (int file, off_t at, int from), (file, at, from))
+WRAP(void *, malloc, ENOMEM, NULL, (size_t len), (len))
+WRAP(int, pipe2, EMFILE, -1, (int ends[2], int flags), (ends, flags))
+WRAP(void *, mmap, ENOMEM, MAP_FAILED, (void *at, size_t len, int may, int flags, int file, off_t from), (at, len, may, flags, file, from))
+WRAP(ssize_t, read, EIO, -1, (int file, void *into, size_t len), (file, into, len))
+WRAP(ssize_t, write, EIO, -1, (int file, const void *from, size_t len), (file, from, len))
+WRAP(ssize_t, pread, EIO, -1, (int file, void *into, size_t len, off_t at), (file, into, len, at))
+WRAP(ssize_t, pwrite, EIO, -1, (int file, const void *from, size_t len, off_t at), (file, from, len, at))
+WRAP(int, fdatasync, EIO, -1, (int file), (file))
+WRAP(int, fallocate, EOPNOTSUPP, -1, (int file, int mode, off_t at, off_t len), (file, mode, at, len))
+
+int __real_pthread_create(pthread_t *thread, const pthread_attr_t *how, void *(*run)(void *), void *user);
+int __wrap_pthread_create(pthread_t *thread, const pthread_attr_t *how, void *(*run)(void *), void *user)
+{
+    return fails(EAGAIN) ? EAGAIN : __real_pthread_create(thread, how, run, user);
+}
+
+int __real_open(const char *path, int how, ...);
+int __wrap_open(const char *path, int how, ...)
+{
+    return fails(EACCES) ? -1 : __real_open(path, how);
+}
+
+long __real_syscall(long number, ...);
+long __wrap_syscall(long number, ...)
+{
+    long words[6];
+    va_list rest;
+    va_start(rest, number);
+    for (int i = 0; i < 6; i++)
+        words[i] = va_arg(rest, long);
+    va_end(rest);
+    return fails(EBADR) ? -1 : __real_syscall(number, words[0], words[1], words[2], words[3], words[4], words[5]);
+}
+
+/* ---- what is left */
+
+static size_t entries(const char *path, bool (*counts)(const char *name))
+{
+    DIR *folder = opendir(path);
+    const struct dirent *entry;
+    size_t found = 0;
+    need(folder != NULL, path);
+    while ((entry = readdir(folder)) != NULL)
+        found += counts(entry->d_name);
+    closedir(folder);
+    return found;
+}
+
+static bool is_any(const char *name)
+{
+    return *name != 0;
+}
+
+/* The kernel keeps a thread of io_uring's for some seconds. */
+static bool is_ours(const char *thread)
+{
+    char path[300], name[32] = "";
+    snprintf(path, sizeof path, "/proc/self/task/%s/comm", thread);
+    FILE *file = fopen(path, "r");
+    bool is_there = file != NULL && fgets(name, sizeof name, file) != NULL;
+    if (file != NULL)
+        fclose(file);
+    return is_there && strncmp(name, "iou-", 4) != 0;
+}
+
+/* How many rings of io_uring are mapped. */
+static size_t mapped_rings(void)
+{
+    char line[512];
+    size_t found = 0;
+    FILE *maps = fopen("/proc/self/maps", "r");
+    need(maps != NULL, "the maps");
+    while (fgets(line, sizeof line, maps) != NULL)
+        found += strstr(line, "io_uring") != NULL;
+    fclose(maps);
+    return found;
+}
+
+struct left {
+    size_t files, threads, rings, bytes;
+};
+
+static struct left look(void)
+{
+    struct left left = { entries("/proc/self/fd", is_any), entries("/proc/self/task", is_ours), mapped_rings(), 0 };
+    left.bytes = mallinfo2().uordblks;
+    return left;
+}
+
+/* A joined thread's entry stands a moment longer. */
+static bool is_all_gone(const struct left *before)
+{
+    struct left now = look();
+    for (int tries = 0; tries < 1000 && now.threads != before->threads; tries++, now = look())
+        usleep(1000);
+    return now.files == before->files && now.threads == before->threads && now.rings == before->rings && now.bytes == before->bytes;
+}
+
+/* ---- a disk and its operations */
+
+/* Does an operation to its end, and answers whether it failed. */
+static bool is_failed(struct file_disk *disk)
+{
+    bool failed, waits = file_disk_begin(disk);
+    do {
+        struct pollfd wake = { .fd = disk->ready, .events = POLLIN };
+        need(!waits || poll(&wake, 1, SECONDS * 1000) == 1, "an operation doesn't end");
+    } while (!file_disk_go_on(disk, &failed));
+    return failed;
+}
+
+static bool is_all(const uint8_t *bytes, size_t len, uint8_t byte)
+{
+    while (len > 0 && bytes[len - 1] == byte)
+        len--;
+    return len == 0;
+}
+
+/* Writes 4 KiB in two parts, zeroes the second kilobyte, flushes, reads all back, and reads behind the file's end. */
+static unsigned use(struct file_disk *disk)
+{
+    unsigned failed = 0;
+    memset(memory, 'x', 0x1000);
+    memset(memory + 0x1000, 0xff, 0x1000);
+    runs[0] = (struct kalyubos_run){ 0, 0x800 };
+    runs[1] = (struct kalyubos_run){ 0x800, 0x800 };
+    asked = (struct kalyubos_operation){ .kind = KALYUBOS_OUT, .stable = true, .runs = 2 };
+    bool wrote = !is_failed(disk);
+    runs[0] = (struct kalyubos_run){ 0x400, 0x400 };
+    asked = (struct kalyubos_operation){ .kind = KALYUBOS_ZEROES, .runs = 1 };
+    bool zeroed = !is_failed(disk);
+    asked = (struct kalyubos_operation){ .kind = KALYUBOS_FLUSH };
+    failed += is_failed(disk);
+    runs[0] = (struct kalyubos_run){ 0x1000, 0x1000 };
+    asked = (struct kalyubos_operation){ .kind = KALYUBOS_IN, .runs = 1 };
+    bool read = !is_failed(disk);
+    if (wrote && zeroed && read)
+        need(is_all(memory + 0x1000, 0x400, 'x') && is_all(memory + 0x1400, 0x400, 0) && is_all(memory + 0x1800, 0x800, 'x'), "other bytes are read");
+    asked = (struct kalyubos_operation){ .kind = KALYUBOS_IN, .start = DISK_LEN, .runs = 1 };
+    need(is_failed(disk), "a read behind the file's end is done");
+    return failed + !wrote + !zeroed + !read;
+}
+
+/* Opens the disk, uses it and closes it while the call of this number fails; 0 for none. Answers how many calls there were. */
+static unsigned long try(const char *path, const struct file_way *way, unsigned long number)
+{
+    struct left before = look();
+    struct file_disk disk;
+    calls = 0;
+    failing = number;
+    const char *wrong = file_disk_open(&disk, NULL, 0, path, DISK_LEN, false, way);
+    if (wrong == NULL) {
+        unsigned failed = use(&disk);
+        need(failed <= 1, "one failing call fails two operations");
+        need(number != 0 || failed == 0, "an operation fails, though no call does");
+        file_disk_close(&disk);
+    }
+    need(number != 0 || wrong == NULL, "the disk can't be opened");
+    failing = 0;
+    need(is_all_gone(&before), wrong == NULL ? "a close leaves something" : "an open that failed leaves something");
+    return calls;
+}
+
+/* What the C library keeps of its first thread and of freed room is there once a disk was used. */
+static void warm_up(const char *path, const struct file_way *way)
+{
+    struct file_disk disk;
+    struct left left = look();
+    need(file_disk_open(&disk, NULL, 0, path, DISK_LEN, false, way) == NULL && use(&disk) == 0, "a first disk");
+    file_disk_close(&disk);
+    is_all_gone(&left);
+}
+
+/* A file that may be read alone is a disk for a read-only slot: reads are done, and a write fails. */
+static void try_read_only(const char *path, const struct file_way *way)
+{
+    struct file_disk disk;
+    need(file_disk_open(&disk, NULL, 0, path, DISK_LEN, true, way) == NULL, "a file for reading alone can't be opened");
+    need(use(&disk) == 2, "of a file for reading alone, others fail than a write and a zeroing");
+    file_disk_close(&disk);
+}
+
+int main(void)
+{
+    const struct file_way *ways[] = { &file_thread, &file_ring };
+    char path[] = "/tmp/kalyubos-fails-XXXXXX";
+    int file = mkstemp(path);
+    need(file >= 0 && ftruncate(file, DISK_LEN) == 0, "a file");
+    for (size_t way = 0; way < 2; way++) {
+        warm_up(path, ways[way]);
+        unsigned long all = try(path, ways[way], 0);
+        for (unsigned long number = 1; number <= all; number++)
+            try(path, ways[way], number);
+        try_read_only(path, ways[way]);
+        printf("%s: each of %lu calls fails in turn\n", ways[way]->name, all);
+    }
+    remove(path);
+    return 0;
+}
