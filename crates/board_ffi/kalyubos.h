@@ -25,10 +25,11 @@
  *
  * The library is built for x86-64-v2 (SSE4.2 and POPCNT) and Linux's calling convention.
  *
- * The library keeps no pointer of the caller but those of loans (kalyubos_create_lent): a call copies what it needs. Each call answers a number. After any but
- * KALYUBOS_DONE its out parameters are unchanged, with three exceptions: `pending` is told after every answer where the
- * slot exists, `took` after KALYUBOS_MORE too, and kalyubos_judge tells what its answer is about. The numbers never
- * change; a later version only adds some.
+ * The library keeps no pointer of the caller but those of loans (kalyubos_create_lent): a call copies what it needs.
+ *
+ * Each call answers a number. After any but KALYUBOS_DONE its out parameters are unchanged, with three exceptions: `pending`
+ * is told after every answer where the slot exists but KALYUBOS_BAD_WINDOW, `took` after KALYUBOS_MORE too, and
+ * kalyubos_judge tells what its answer is about. The numbers never change; a later version only adds some.
  *
  * A struct that the host fills begins with its `size`, its sizeof in the header that the host was built with. This
  * version takes its own size alone, and answers KALYUBOS_BAD_SIZE for any other before it looks at another field. A
@@ -41,9 +42,9 @@
  * kalyubos_create_hosted makes one whose disks the host serves: the board says what it wants of a disk, the host does it
  * as it likes, and says that it is done; meanwhile the guest runs on. All calls are there for both.
  *
- * The four calls that make a board take all memory that it needs, and kalyubos_destroy gives it back. No other call takes
- * or gives any, so no guest can be refused memory for what another did: what a guest sees is decided by its own slot's
- * calls alone, the completions of its disk among them.
+ * The four calls that make a board take all memory that it needs, and kalyubos_destroy gives it back. The two that judge
+ * slots take some, and give it back before they answer. No other call takes or gives any, so no guest can be refused memory
+ * for what another did: what a guest sees is decided by its own slot's calls alone, the completions of its disk among them.
  */
 #ifndef KALYUBOS_H
 #define KALYUBOS_H
@@ -72,7 +73,7 @@ enum {
     KALYUBOS_HAS_BOARD = 2,         /* the handle holds a board already, and goes on holding it */
     KALYUBOS_BAD_SLOT = 3,          /* the board has no such slot; nothing changed */
     KALYUBOS_BAD_RANGE = 4,         /* no region of the memory, nor the image, holds all of the range; nothing changed */
-    KALYUBOS_NO_MEMORY = 5,         /* the heap refused; only the calls that make a board answer this */
+    KALYUBOS_NO_MEMORY = 5,         /* the heap refused; only the calls that make or judge a board answer this */
     KALYUBOS_BAD_WINDOW = 6,        /* no window has this number; nothing changed */
     KALYUBOS_BAD_IMAGE = 7,         /* the image isn't whole sectors of 512 bytes */
     KALYUBOS_NO_SLOTS = 8,          /* a board needs a slot */
@@ -255,12 +256,14 @@ struct kalyubos_operation {
  * Makes a board of `slots_len` slots over a copy of the image, with a cache of at most `cache` sectors before it,
  * and puts it into an empty handle. A refusal leaves the handle as it was and keeps no memory. The first of these that
  * holds is answered:
- *  - BAD_SIZE, where a slot's `size` isn't sizeof(struct kalyubos_slot), and nothing behind it is read; BAD_IMAGE; BAD_OUTLET;
- *    NO_SLOTS; TOO_MANY_SLOTS;
+ *  - HAS_BOARD; BAD_SIZE, where a slot's `size` isn't sizeof(struct kalyubos_slot), and nothing behind it is read; BAD_IMAGE;
+ *    BAD_OUTLET; NO_SLOTS; TOO_MANY_SLOTS;
  *  - slot by slot NO_REGIONS, then region by region BAD_MEMORY_SIZE, BAD_MEMORY_BASE and REGIONS_NOT_APART, then
  *    EXTENT_OUTSIDE and EXTENTS_OVERLAP;
  *  - BAD_CACHE.
  * NO_MEMORY may come in the place of one of the numbers from NO_SLOTS on.
+ *
+ * A sector is read where it lies in the image, so `cache` is judged and changes nothing else.
  *
  * `chains` and `bytes` are the budget of one call, and 0 is no limit: a call serves no more than so many chains, and
  * begins no further chain once those before it had so many bytes in their buffers. So one call moves `bytes` and one
@@ -502,8 +505,8 @@ uint32_t kalyubos_read_image(struct kalyubos *board, size_t start, uint8_t *into
 
 /*
  * The heap. The installed library has it over malloc, as examples/embed/heap.c does; a host that defines one of these
- * defines all of them. They are of one heap, and are called within the calls that make a board and kalyubos_destroy alone. A block
- * is aligned to `align`, a power of two up to 16.
+ * defines all of them. They are of one heap, and are called within the calls that make or judge a board and kalyubos_destroy
+ * alone. A block is aligned to `align`, a power of two up to 16.
  * `found` is false where there is no memory, and `at` is then any address; a block that couldn't be resized stands as
  * it was. Of a block that is resized the first `kept` bytes stay. A block of size 0 is a block as any other.
  */
