@@ -32,6 +32,13 @@ static void words_of(const struct seat *seat, uint8_t words[2])
     need(kalyubos_interrupts(seat->board, seat->slot, &words[0], &words[1]) == KALYUBOS_DONE, "interrupts", seat->slot);
 }
 
+/* A write of a slot in which nothing is paused or in flight, and which serves nothing. */
+static void write_register(const struct seat *seat, uint8_t window, uint16_t offset, uint32_t value)
+{
+    struct kalyubos_pending pending;
+    need(kalyubos_write(seat->board, seat->slot, window, offset, 4, value, &pending) == KALYUBOS_DONE, "a write", seat->slot);
+}
+
 /* Resets both windows, and leaves registers, queues, a size and typed bytes of its own there. It notifies nothing. */
 static void use_as_a_stranger(const struct seat *seat)
 {
@@ -40,15 +47,15 @@ static void use_as_a_stranger(const struct seat *seat)
     uint8_t typed[64];
     size_t took;
     for (uint8_t window = KALYUBOS_BLOCK; window <= KALYUBOS_CONSOLE; window++) {
-        kalyubos_write(seat->board, seat->slot, window, 0x70, 4, 0, &pending);
+        write_register(seat, window, 0x70, 0);
         for (uint64_t left = thrown(12); left != 0; left--) {
             uint16_t offset = offsets[thrown(sizeof offsets / sizeof *offsets)];
-            kalyubos_write(seat->board, seat->slot, window, offset, 4, (uint32_t)thrown(16), &pending);
+            write_register(seat, window, offset, (uint32_t)thrown(16));
         }
-        kalyubos_write(seat->board, seat->slot, window, 0x70, 4, 0, &pending); /* no queue is live when bytes are typed */
+        write_register(seat, window, 0x70, 0); /* no queue is live when bytes are typed */
     }
     memset(typed, 's', sizeof typed);
-    kalyubos_input(seat->board, seat->slot, typed, thrown(sizeof typed), &took, &pending);
+    need(kalyubos_input(seat->board, seat->slot, typed, thrown(sizeof typed), &took, &pending) == KALYUBOS_DONE, "an input", seat->slot);
     kalyubos_resize(seat->board, seat->slot, (uint16_t)thrown(300), (uint16_t)thrown(300), &pending);
 }
 

@@ -423,8 +423,8 @@ static void print_features(void)
     for (uint32_t i = 0; i < 3; i++) {
         struct kalyubos_pending pending;
         uint32_t word = 0;
-        kalyubos_write(&board, 0, windows[i], 0x014, 4, i == 2, &pending);
-        kalyubos_read(&board, 0, windows[i], 0x010, 4, &word);
+        bool selected = kalyubos_write(&board, 0, windows[i], 0x014, 4, i == 2, &pending) == KALYUBOS_DONE;
+        need(selected && kalyubos_read(&board, 0, windows[i], 0x010, 4, &word) == KALYUBOS_DONE, "features", 0);
         printf("0 v:%08" PRIx32 " - 0 0\n", word);
     }
     end(&board);

@@ -57,6 +57,13 @@
 extern "C" {
 #endif
 
+/* An answer that a host must look at: a lost KALYUBOS_MORE or KALYUBOS_IO leaves the guest waiting for ever. */
+#if defined(__GNUC__) || defined(__clang__)
+#define KALYUBOS_LOOK_AT_IT __attribute__((warn_unused_result))
+#else
+#define KALYUBOS_LOOK_AT_IT
+#endif
+
 /* The version of this header, 0.3.0: 10000 for each major version, 100 for each minor one, and the patch. */
 #define KALYUBOS_VERSION 300
 
@@ -272,6 +279,7 @@ struct kalyubos_operation {
  * Choose each outlet for the longest chain that the guest's driver sends: one that is longer than `outlet` is never
  * let through, however often it is tried. Linux's console sends up to 32 KiB at once.
  */
+KALYUBOS_LOOK_AT_IT
 uint32_t kalyubos_create(struct kalyubos *board, const struct kalyubos_slot *slots, size_t slots_len,
                          const uint8_t *image, size_t image_len, uint32_t cache, uint32_t chains, uint64_t bytes);
 
@@ -317,6 +325,7 @@ static inline size_t kalyubos_region_at_fault(uint32_t answer, const struct kaly
  * Guests of a hosted board share nothing. With a handle for each guest, a board of one slot, guests need no lock between
  * them: what orders the calls of a guest's CPUs and of its disk is that guest's own.
  */
+KALYUBOS_LOOK_AT_IT
 uint32_t kalyubos_create_hosted(struct kalyubos *board, const struct kalyubos_slot *slots, size_t slots_len);
 
 /* `len` bytes of the host's, from `bytes` on. Where there are none, `bytes` may be null. It never changes. */
@@ -340,9 +349,11 @@ struct kalyubos_loan {
  * Until kalyubos_destroy the bytes stay mapped where they are, and no two loans of any boards share a byte. The duty above
  * on a guest's memory in place holds of them: nobody touches them while a call for their guest runs.
  */
+KALYUBOS_LOOK_AT_IT
 uint32_t kalyubos_create_lent(struct kalyubos *board, const struct kalyubos_slot *slots, size_t slots_len,
                               struct kalyubos_loan *loans, size_t loans_len, const uint8_t *image, size_t image_len,
                               uint32_t cache, uint32_t chains, uint64_t bytes);
+KALYUBOS_LOOK_AT_IT
 uint32_t kalyubos_create_hosted_lent(struct kalyubos *board, const struct kalyubos_slot *slots, size_t slots_len,
                                      struct kalyubos_loan *loans, size_t loans_len);
 
@@ -373,6 +384,7 @@ uint32_t kalyubos_read(struct kalyubos *board, uint8_t slot, uint8_t window, uin
  * says so. BUSY: the write, to Status (0x070) or QueueReady (0x044) of the block window, waits for what is in flight. The
  * CPU that made it waits with it; make the same write again after the completion. All else goes on meanwhile.
  */
+KALYUBOS_LOOK_AT_IT
 uint32_t kalyubos_write(struct kalyubos *board, uint8_t slot, uint8_t window, uint16_t offset, uint8_t width,
                         uint32_t value, struct kalyubos_pending *pending);
 
@@ -385,6 +397,7 @@ uint32_t kalyubos_write(struct kalyubos *board, uint8_t slot, uint8_t window, ui
  * answered BUSY and changes nothing, except kalyubos_interrupts, kalyubos_disturbed, kalyubos_counters and
  * kalyubos_take_output. Calls for other slots may stand in between, and no guest sees that one paused.
  */
+KALYUBOS_LOOK_AT_IT
 uint32_t kalyubos_go_on(struct kalyubos *board, uint8_t slot, struct kalyubos_pending *pending);
 
 /*
@@ -413,6 +426,7 @@ uint32_t kalyubos_operation(struct kalyubos *board, uint8_t slot, struct kalyubo
  * notification: the answer is IO where that began a further operation, else DONE. `pending` is what then waits. IDLE
  * where nothing is in flight.
  */
+KALYUBOS_LOOK_AT_IT
 uint32_t kalyubos_completed(struct kalyubos *board, uint8_t slot, bool failed, struct kalyubos_pending *pending);
 
 /*
@@ -435,6 +449,7 @@ uint32_t kalyubos_write_memory(struct kalyubos *board, uint8_t slot, uint64_t ad
  * what was taken may have gone to the guest's buffers at once, and a driver that finds buffers enough doesn't notify
  * for more. After MORE too `took` bytes were taken; kalyubos_go_on brings them to the guest.
  */
+KALYUBOS_LOOK_AT_IT
 uint32_t kalyubos_input(struct kalyubos *board, uint8_t slot, const uint8_t *bytes, size_t bytes_len, size_t *took,
                         struct kalyubos_pending *pending);
 
@@ -474,6 +489,7 @@ uint32_t kalyubos_saved_len(struct kalyubos *board, uint8_t slot, size_t *len);
  *  - takes the output.
  * Then, with no call for the slot between, it saves the devices, and copies the memory and the disk.
  */
+KALYUBOS_LOOK_AT_IT
 uint32_t kalyubos_save(struct kalyubos *board, uint8_t slot, uint8_t *into, size_t into_len, size_t *written);
 
 /*
@@ -489,6 +505,7 @@ uint32_t kalyubos_save(struct kalyubos *board, uint8_t slot, uint8_t *into, size
  * Before it the host puts back the guest's memory and its disk, those of an image by the board that it makes. Behind it the
  * host sets both lines by `pending`, makes a write again that was answered NO_ROOM, and starts the guest's CPUs.
  */
+KALYUBOS_LOOK_AT_IT
 uint32_t kalyubos_restore(struct kalyubos *board, uint8_t slot, const uint8_t *from, size_t from_len,
                           struct kalyubos_pending *pending);
 
