@@ -27,7 +27,8 @@ IsBytes-rest b bytes h i = h (suc i)
 
 -- ---- steps
 
-guard_ok : {A : Type 0} (b : Bool) (d : Stop) (x y : A) → cond b (Err d) (Ok x) ≡ Ok y → (b ≡ false) × (x ≡ y)
+pub guard_ok : {A : Type 0} (b : Bool) (d : Stop) (x y : A) → cond b (Err d) (Ok x) ≡ Ok y
+    → (b ≡ false) × (x ≡ y)
 guard_ok true d x y e = absurd cc
 guard_ok false d x y e = (refl, cc)
 
@@ -118,14 +119,14 @@ module _ {A B : Type 0} {first : Reader A} {second : Reader B} {text : A → Lis
 -- the same field as a value of another type
 module _ {A B : Type 0} {read : Reader A} {text : A → List ℕ} {Fits : A → Type 0}
     (of_parts : IsField read text Fits) (make : A → B) (parts : B → A)
-    (parts_of : (x : A) → parts (make x) ≡ x) (made_of : (y : B) → make (parts y) ≡ y) where
+    (parts_of : (x : A) → Fits x → parts (make x) ≡ x) (made_of : (y : B) → make (parts y) ≡ y) where
   made_takes : (bytes : List ℕ) (y : B) (rest : List ℕ) → IsBytes bytes → made make read bytes ≡ Ok (y, rest)
       → Takes bytes (text (parts y)) rest × Fits (parts y)
   made_takes bytes y rest fits e =
       let x = step read text Fits bytes _ (y, rest) of_parts fits e in
       subst (λ (z : B × List ℕ). Takes bytes (text (parts z.0)) z.1 × Fits (parts z.0))
       (ok_is (make x.value, x.rest) (y, rest) x.goes_on)
-      (rw (parts_of x.value) (x.takes, x.fits))
+      (rw (parts_of x.value x.fits) (x.takes, x.fits))
 
   made_again : (y : B) (rest : List ℕ) → Fits (parts y)
       → made make read (text (parts y) ++ rest) ≡ Ok (y, rest)
@@ -175,14 +176,14 @@ byte_field = record {
         × (p.0 < 256)) (ok_is (b, bytes) (x, rest) e)
         (record { parts = refl; rest_fits = IsBytes-rest b bytes fits }, fits 0)
 
-record IsWide (w : Width) (limit : ℕ) : Type 0 where
-  len : (n : ℕ) → length (to_le_bytes w n) ≡ byte_len w
-  back : (bytes : List ℕ) → length bytes ≡ byte_len w → IsBytes bytes
+pub record IsWide (w : Width) (limit : ℕ) : Type 0 where
+  pub len : (n : ℕ) → length (to_le_bytes w n) ≡ byte_len w
+  pub back : (bytes : List ℕ) → length bytes ≡ byte_len w → IsBytes bytes
       → to_le_bytes w (from_le_bytes w bytes) ≡ bytes
-  again : (n : ℕ) → n < limit → from_le_bytes w (to_le_bytes w n) ≡ n
-  below : (bytes : List ℕ) → IsBytes bytes → from_le_bytes w bytes < limit
+  pub again : (n : ℕ) → n < limit → from_le_bytes w (to_le_bytes w n) ≡ n
+  pub below : (bytes : List ℕ) → IsBytes bytes → from_le_bytes w bytes < limit
 
-wide16 : IsWide w16 (2 ^ 16)
+pub wide16 : IsWide w16 (2 ^ 16)
 wide16 = record {
   len = λ n. refl;
   back = λ bytes len fits. le_bytes_2 bytes _ len fits refl;
@@ -190,7 +191,7 @@ wide16 = record {
   below = λ bytes fits. omega (arith, fits 0, fits 1);
 }
 
-wide32 : IsWide w32 (2 ^ 32)
+pub wide32 : IsWide w32 (2 ^ 32)
 wide32 = record {
   len = λ n. refl;
   back = λ bytes len fits. le_bytes_4 bytes _ len fits refl;
@@ -198,7 +199,7 @@ wide32 = record {
   below = λ bytes fits. omega (arith, fits 0, fits 1, fits 2, fits 3);
 }
 
-wide64 : IsWide w64 (2 ^ 64)
+pub wide64 : IsWide w64 (2 ^ 64)
 wide64 = record {
   len = λ n. refl;
   back = λ bytes len fits. le_bytes_8 bytes _ len fits refl;
@@ -206,7 +207,7 @@ wide64 = record {
   below = λ bytes fits. omega (arith, fits 0, fits 1, fits 2, fits 3, fits 4, fits 5, fits 6, fits 7);
 }
 
-number_takes : (w : Width) (limit : ℕ) (wide : IsWide w limit) (bytes : List ℕ) (n : ℕ) (rest : List ℕ)
+pub number_takes : (w : Width) (limit : ℕ) (wide : IsWide w limit) (bytes : List ℕ) (n : ℕ) (rest : List ℕ)
     → IsBytes bytes → number_at w bytes ≡ Ok (n, rest) → Takes bytes (to_le_bytes w n) rest × (n < limit)
 number_takes w limit wide bytes n rest fits e =
     let g = guard_ok (ltb (length bytes) (byte_len w)) (record { why = Short; left = length bytes })
@@ -237,7 +238,7 @@ number_again w limit wide n rest lt =
       wide.again n lt,
     ) refl
 
-number_field : (w : Width) (limit : ℕ) → IsWide w limit
+pub number_field : (w : Width) (limit : ℕ) → IsWide w limit
     → IsField (number_at w) (to_le_bytes w) (λ n. n < limit)
 number_field w limit wide = record {
   takes = λ bytes n rest fits e. number_takes w limit wide bytes n rest fits e;
@@ -255,7 +256,7 @@ field64 = number_field w64 (2 ^ 64) wide64
 
 -- ---- numbers of one value, and an identity
 
-equal_or : (n : ℕ) (x y : ℕ × List ℕ) (same : Bool) (d : Stop) → (x.0 == n) ≡ same
+pub equal_or : (n : ℕ) (x y : ℕ × List ℕ) (same : Bool) (d : Stop) → (x.0 == n) ≡ same
     → cond same (Ok x) (Err d) ≡ Ok y → (x.0 ≡ n) × (x ≡ y)
 equal_or n x y true d is e = (eqb-true _ _ is, ok_is x y e)
 equal_or n x y false d is e = absurd cc
@@ -276,7 +277,7 @@ constant_again : (w : Width) (limit n : ℕ) (why : Why) (wide : IsWide w limit)
 constant_again w limit n why wide lt x rest is =
     rw (is, number_again w limit wide n rest lt, eq-eqb n n refl) refl
 
-constant_field : (w : Width) (limit n : ℕ) (why : Why) → IsWide w limit → n < limit
+pub constant_field : (w : Width) (limit n : ℕ) (why : Why) → IsWide w limit → n < limit
     → IsField (constant_at w n why) (to_le_bytes w) (λ x. x ≡ n)
 constant_field w limit n why wide lt = record {
   takes = λ bytes x rest fits e. constant_takes w limit n why wide bytes x rest fits e;

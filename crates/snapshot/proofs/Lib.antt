@@ -1,4 +1,9 @@
+pub mod Agreement
 pub mod Exact
+pub mod Explained
+pub mod First
 pub mod OfWindow
 pub mod OfSlot
+pub mod Parts
+pub mod Single
 pub mod Joining

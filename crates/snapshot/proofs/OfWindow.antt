@@ -3,17 +3,17 @@ use Rattle.std.proofs.Common.{◌≡◌, ℕ, zero, suc, Bool, true, false, List
 use Rattle.mmio_window.specs.declared.interrupts.Interrupts.{Interrupts}
 use Rattle.mmio_window.specs.declared.saved.Reached.{Reached}
 use Rattle.mmio_window.specs.Interrupts.{interrupt_bits}
-use Rattle.snapshot.specs.Reading.{interrupts_at, negotiation_at, queue_at, reached_at, selectors_at, served_at, window_at}
-use Rattle.snapshot.specs.Spelling.{MayReach, NegotiationFits, QueueFits, ReachedFits, SelectorsFit, WindowFits, negotiation, queue, reached, selectors, served, window}
-use Rattle.snapshot.proofs.Exact.{Always, IsBytes, IsBytes-rest, IsField, Takes, both_field, byte_field, chosen, field16, field32, field64, made_field, ok_is, refit, step}
+use Rattle.snapshot.specs.Reading.{interrupts_at, reached_at, served_at}
+use Rattle.snapshot.specs.Spelling.{MayReach, ReachedFits, reached, served}
+use Rattle.snapshot.proofs.Exact.{Always, IsBytes, IsBytes-rest, IsField, Takes, both_field, chosen, field16, made_field, ok_is, step}
 
 -- ---- how far a queue is served
 
-served_field : IsField served_at served ReachedFits
+pub served_field : IsField served_at served ReachedFits
 unfolding served_at
 served_field =
     made_field (both_field field16 (both_field field16 field16)) _
-    (λ r. (r.place, (r.pending, r.used_count))) (λ x. refl) (λ r. refl)
+    (λ r. (r.place, (r.pending, r.used_count))) (λ x fits. refl) (λ r. refl)
 
 reached_takes : (bytes : List ℕ) (r : Option Reached) (rest : List ℕ) → IsBytes bytes
     → reached_at bytes ≡ Ok (r, rest) → Takes bytes (reached r) rest × MayReach r
@@ -35,7 +35,7 @@ unfolding reached_at
 reached_again None rest fits = refl
 reached_again (Some r) rest fits = rw (served_field.again r rest fits) refl
 
-reached_field : IsField reached_at reached MayReach
+pub reached_field : IsField reached_at reached MayReach
 reached_field = record {
   takes = λ bytes r rest fits e. reached_takes bytes r rest fits e;
   again = λ r rest fits. reached_again r rest fits;
@@ -43,7 +43,7 @@ reached_field = record {
 
 -- ---- choices
 
-abbrev reasons : Interrupts → List ℕ
+abbrev pub reasons : Interrupts → List ℕ
 reasons i = interrupt_bits i ∷ []
 
 interrupts_takes : (bytes : List ℕ) (i : Interrupts) (rest : List ℕ) → IsBytes bytes
@@ -76,45 +76,8 @@ interrupts_again true false rest = refl
 interrupts_again false true rest = refl
 interrupts_again true true rest = refl
 
-interrupts_field : IsField interrupts_at reasons Always
+pub interrupts_field : IsField interrupts_at reasons Always
 interrupts_field = record {
   takes = λ bytes i rest fits e. interrupts_takes bytes i rest fits e;
   again = λ i rest fits. interrupts_again i.used_buffer i.configuration_change rest;
 }
-
--- ---- the parts of a window
-
-queue_field : IsField queue_at queue QueueFits
-unfolding queue_at queue
-queue_field =
-    made_field
-    (both_field field32 (both_field field64 (both_field field64 (both_field field64 reached_field)))) _
-    (λ q. (q.number, (q.descriptor_area, (q.driver_area, (q.device_area, q.reached)))))
-    (λ x. refl) (λ q. refl)
-
-negotiation_field : IsField negotiation_at negotiation NegotiationFits
-unfolding negotiation_at
-negotiation_field =
-    made_field (both_field field64 (both_field byte_field field64)) _
-    (λ n. (n.offered, (n.status, n.accepted))) (λ x. refl) (λ n. refl)
-
-selectors_field : IsField selectors_at selectors SelectorsFit
-unfolding selectors_at
-selectors_field =
-    made_field (both_field field32 (both_field field32 (both_field field32 field32))) _
-    (λ s. (s.device_features, (s.driver_features, (s.queue, s.shm)))) (λ x. refl) (λ s. refl)
-
--- ---- a window
-
-pub window_field : IsField window_at window WindowFits
-unfolding window_at window
-window_field =
-    refit WindowFits
-    (made_field (both_field (both_field negotiation_field selectors_field) (both_field
-    (both_field queue_field queue_field) (both_field interrupts_field field32))) _
-    (λ w. (
-      (w.negotiation, w.selectors),
-      ((w.queue_0, w.queue_1), (w.interrupts, w.config_generation)),
-    )) (λ x. refl) (λ w. refl))
-    (λ w fits. (fits.0, (fits.1.0, fits.1.1.1)))
-    (λ w fits. (fits.0, (fits.1.0, (tt, fits.1.1))))

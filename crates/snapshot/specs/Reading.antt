@@ -1,5 +1,6 @@
--- Reading from left to right, with the first fault that is met.
-use Rattle.std.specs.Prelude.{◌≡◌, ◌==◌, ◌-◌, ℕ, zero, suc, Bool, true, false, List, [], ◌∷◌, length, take, drop, Option, Some, None, Result, Ok, Err, nat_lt, if◌then◌else◌}
+-- How the reader goes from left to right: what its private functions give. What comes of it is said by
+-- `IsSnapshot` and `IsFirstFault`: no public clause cites this.
+use Rattle.std.specs.Prelude.{◌≡◌, ◌==◌, ℕ, zero, suc, Bool, true, false, List, [], ◌∷◌, length, take, drop, Option, Some, None, Result, Ok, Err, nat_lt, if◌then◌else◌}
 use Rattle.std.specs.Int.{Width, w16, w32, w64, byte_len, from_le_bytes}
 use Rattle.mmio_window.specs.declared.interrupts.Interrupts.{Interrupts}
 use Rattle.mmio_window.specs.declared.saved.Reached.{Reached}
@@ -7,7 +8,6 @@ use Rattle.mmio_window.specs.declared.saved.SavedNegotiation.{SavedNegotiation}
 use Rattle.mmio_window.specs.declared.saved.SavedQueue.{SavedQueue}
 use Rattle.mmio_window.specs.declared.saved.SavedSelectors.{SavedSelectors}
 use Rattle.mmio_window.specs.declared.saved.SavedWindow.{SavedWindow}
-use Rattle.snapshot.specs.declared.fault.SnapshotFault.{SnapshotFault}
 use Rattle.snapshot.specs.declared.fault.Stop.{Stop}
 use Rattle.snapshot.specs.declared.fault.Why.{Why}
 use Rattle.snapshot.specs.declared.fault.Why.TheVariants.{Short, Magic, Version, Choice, TooMuchInput, Trailing}
@@ -150,36 +150,27 @@ slot_at =
 
 -- ---- the snapshot
 
--- the version, behind the magic
-unfoldable pub opening_at : Reader ℕ
-opening_at bytes = do
-  found ← constant_at w64 magic Magic bytes
-  constant_at w32 1 Version found.1
+-- how much input is pending
+abbrev pub count_at : Reader ℕ
+count_at bytes = do
+  count ← number_at w32 bytes
+  if nat_lt 4096 count.0 then stop TooMuchInput bytes else Ok count
+
+-- all that stands before the pending input, and how much of that there is
+unfoldable pub head_at : Reader (SavedSlot × ℕ)
+head_at =
+    made (λ x. (x.1.1.0, x.1.1.1))
+    (constant_at w64 magic Magic & constant_at w32 1 Version & slot_at & count_at)
 
 -- the pending input, of which there is so much, to the end
-abbrev pub input_of : List ℕ → ℕ → List ℕ → Result (List ℕ) Stop
-input_of bytes count rest =
-    if nat_lt 4096 count then stop TooMuchInput bytes
-    else if nat_lt (length rest) count then stop Short rest
+abbrev pub pending_at : ℕ → List ℕ → Result (List ℕ) Stop
+pending_at count rest =
+    if nat_lt (length rest) count then stop Short rest
     else if nat_lt count (length rest) then stop Trailing (drop count rest)
     else Ok rest
 
-unfoldable pub input_at : List ℕ → Result (List ℕ) Stop
-input_at bytes = do
-  count ← number_at w32 bytes
-  input_of bytes count.0 count.1
-
 unfoldable pub whole_at : List ℕ → Result (SavedSlot × List ℕ) Stop
 whole_at bytes = do
-  version ← opening_at bytes
-  slot ← slot_at version.1
-  pending ← input_at slot.1
-  Ok (slot.0, pending)
-
--- a field's place is how many bytes stand before it
-abbrev pub placed : {A : Type 0} → List ℕ → Result A Stop → Result A SnapshotFault
-placed bytes (Ok x) = Ok x
-placed bytes (Err s) = Err (record { why = s.why; place = length bytes - s.left })
-
-abbrev pub snapshot_at : List ℕ → Result (SavedSlot × List ℕ) SnapshotFault
-snapshot_at bytes = placed bytes (whole_at bytes)
+  head ← head_at bytes
+  pending ← pending_at head.0.1 head.1
+  Ok (head.0.0, pending)

@@ -3,6 +3,7 @@
 
 mod fault;
 mod head;
+mod laws;
 mod reader;
 mod reading;
 mod saved;
@@ -10,6 +11,7 @@ mod slot;
 mod writing;
 
 pub use fault::{ShortBuffer, SnapshotFault, Why};
+pub use laws::{bytes_have_one_fault, fields_are_the_spelling};
 pub use reading::read;
 pub use saved::SavedSlot;
 pub use writing::{write, write_into, written_len};

@@ -1,10 +1,12 @@
 //! Reading a snapshot from left to right.
 
-ghost use Rattle.std.specs.Prelude.{IfOk, ℕ, List, Ok};
+ghost use Rattle.std.specs.Prelude.{IfErr, IfOk, IsErrOf, ℕ, List, Ok};
 ghost use Rattle.std.specs.Int.{w32, w64};
 ghost use Rattle.snapshot.specs.declared.saved.SavedSlot.{SavedSlot};
-ghost use Rattle.snapshot.specs.Reading.{Gives, Reads, constant_at, input_at, opening_at, snapshot_at, whole_at};
+ghost use Rattle.snapshot.specs.Reading.{Gives, Reads, constant_at, count_at, head_at, pending_at, whole_at};
+ghost use Rattle.snapshot.specs.declared.fault.SnapshotFault.{SnapshotFault};
 ghost use Rattle.snapshot.specs.declared.fault.Why.{Why};
+ghost use Rattle.snapshot.specs.Faults.{IsFirstFault};
 ghost use Rattle.snapshot.specs.Spelling.{IsSnapshot, magic};
 
 use crate::fault::{SnapshotFault, Stop, Why};
@@ -18,7 +20,7 @@ const MAGIC: u64 = 6003089762645983563;
 pub(crate) const VERSION: u32 = 1;
 
 /// How many bytes of input may be pending.
-const MOST_PENDING: usize = 4096;
+const MOST_PENDING: u32 = 4096;
 
 /// What a snapshot says, with the pending input. Else the first fault from left to right.
 pub fn read(bytes: &[u8]) -> Result<(SavedSlot, &[u8]), SnapshotFault>
@@ -27,15 +29,9 @@ pub fn read(bytes: &[u8]) -> Result<(SavedSlot, &[u8]), SnapshotFault>
     ensures only { (slot : SavedSlot) (pending : List ℕ) → IsSnapshot bytes.now slot pending →
         Gives {Y = SavedSlot × List ℕ} (λ x. (x.0, x.1.now)) result (Ok (slot, pending)) }
 
-    // and of other bytes the first fault is told
-    ensures exact { Gives (λ x. (x.0, x.1.now)) result (snapshot_at bytes.now) }
-{
-    found(bytes)
-}
-
-// The same, said once.
-fn found(bytes: &[u8]) -> Result<(SavedSlot, &[u8]), SnapshotFault>
-    ensures { Gives (λ x. (x.0, x.1.now)) result (snapshot_at bytes.now) }
+    // and of other bytes the first fault is told, the one that they have
+    ensures fault { IfErr result (IsFirstFault bytes.now) }
+    ensures exact { (fault : SnapshotFault) → IsFirstFault bytes.now fault → IsErrOf result fault }
 {
     match whole_of(bytes) {
         Ok(found) => Ok(found),
@@ -51,20 +47,35 @@ fn whole_of(bytes: &[u8]) -> Result<(SavedSlot, &[u8]), Stop>
     ensures { Gives (λ x. (x.0, x.1.now)) result (whole_at bytes.now) }
 {
     let mut reader = Reader { left: bytes };
-    reader.opening()?;
-    let slot = reader.slot()?;
-    let pending = reader.input()?;
+    let (slot, count) = reader.head()?;
+    let pending = pending_of(reader.left, count as usize)?;
     Ok((slot, pending))
 }
 
-impl<'a> Reader<'a> {
-    // The version, behind the magic.
-    #[tactic(auto, unfolding(crate::specs::Reading::opening_at))]
-    fn opening(&mut self) -> Result<u32, Stop>
-        ensures { Reads opening_at self.old.left.now result self.new.left.now }
+// The pending input, of which there is so much, and behind which nothing stands.
+fn pending_of(left: &[u8], count: usize) -> Result<&[u8], Stop>
+    ensures { Gives (λ pending. pending.now) result (pending_at count left.now) }
+{
+    if left.len() < count {
+        return Err(Stop::at(Why::Short, left));
+    }
+    if left.len() > count {
+        return Err(Stop::at(Why::Trailing, &left[count..]));
+    }
+    Ok(left)
+}
+
+impl Reader<'_> {
+    // All that stands before the pending input, and how much of that there is.
+    #[tactic(auto, unfolding(crate::specs::Reading::head_at))]
+    fn head(&mut self) -> Result<(SavedSlot, u32), Stop>
+        ensures { Reads head_at self.old.left.now result self.new.left.now }
     {
         self.magic()?;
-        self.version()
+        self.version()?;
+        let slot = self.slot()?;
+        let count = self.count()?;
+        Ok((slot, count))
     }
 
     fn magic(&mut self) -> Result<u64, Stop>
@@ -89,22 +100,15 @@ impl<'a> Reader<'a> {
         Ok(found)
     }
 
-    // The pending input, behind which nothing stands.
-    #[tactic(auto, unfolding(crate::specs::Reading::input_at))]
-    fn input(&mut self) -> Result<&'a [u8], Stop>
-        ensures { Gives (λ pending. pending.now) result (input_at self.old.left.now) }
+    // How much input is pending.
+    fn count(&mut self) -> Result<u32, Stop>
+        ensures { Reads count_at self.old.left.now result self.new.left.now }
     {
         let bytes = self.left;
-        let count = self.u32()? as usize;
+        let count = self.u32()?;
         if count > MOST_PENDING {
             return Err(Stop::at(Why::TooMuchInput, bytes));
         }
-        if self.left.len() < count {
-            return Err(Stop::at(Why::Short, self.left));
-        }
-        if self.left.len() > count {
-            return Err(Stop::at(Why::Trailing, &self.left[count..]));
-        }
-        Ok(self.left)
+        Ok(count)
     }
 }

@@ -1,25 +1,33 @@
-use Rattle.std.proofs.Common.{ℕ, List, Result, Ok, Err, Bor, subst, arith}
-use Rattle.std.specs.Prelude.{IfOk}
-use Rattle.snapshot.specs.declared.fault.SnapshotFault.{SnapshotFault}
-use Rattle.snapshot.specs.declared.saved.SavedSlot.{SavedSlot}
-use Rattle.snapshot.specs.Reading.{Gives, snapshot_at}
-use Rattle.snapshot.specs.Spelling.{IsSnapshot}
-use Rattle.snapshot.proofs.Exact.{IsBytes}
-use Rattle.snapshot.proofs.OfSlot.{snapshot_found, snapshot_read}
+use Rattle.std.proofs.Common.{Ok, Err, sym, ◌∙◌, ap, arith}
+use Rattle.snapshot.proofs.Exact.{ok_is}
+use Rattle.snapshot.proofs.First.{first_fault, first_fault_once}
+use Rattle.snapshot.proofs.OfSlot.{snapshot_or_stop, snapshot_read, whole_found}
 use Rattle.snapshot.proofs.reading.read.Goals as goal
 
-spelled : (bytes : List ℕ) (result : Result (SavedSlot × Bor (List ℕ)) SnapshotFault) → IsBytes bytes
-    → Gives {Y = SavedSlot × List ℕ} (λ x. (x.0, x.1.now)) result (snapshot_at bytes)
-    → IfOk result (λ x. IsSnapshot bytes x.0 x.1.now)
-spelled bytes (Ok x) fits e = snapshot_found bytes (x.0, x.1.now) fits e
-spelled bytes (Err why) fits e = tt
+pub returns-in-Ok-clause-spelled : goal.returns-in-Ok-clause-spelled
+returns-in-Ok-clause-spelled c =
+    whole_found c.args.bytes.now _ (λ i. omega (arith, c.type_inv.bytes i)) c.in-Ok.ensures
 
-pub returns-clause-spelled : goal.returns-clause-spelled
-returns-clause-spelled c =
-    spelled c.args.bytes.now c.found.result (λ i. omega (arith, c.type_inv.bytes i)) c.found.ensures
+pub returns-in-Ok-clause-only : goal.returns-in-Ok-clause-only
+returns-in-Ok-clause-only c = λ slot pending is.
+    ap Ok (ok_is (slot, pending) _ (sym (snapshot_read c.args.bytes.now slot pending is) ∙ c.in-Ok.ensures))
 
-pub returns-clause-only : goal.returns-clause-only
-returns-clause-only c = λ slot pending is.
-    subst (λ (read : Result (SavedSlot × List ℕ) SnapshotFault). Gives {Y = SavedSlot
-    × List ℕ} (λ x. (x.0, x.1.now)) c.found.result read)
-    (snapshot_read c.args.bytes.now slot pending is) c.found.ensures
+pub returns-in-Ok-clause-exact : goal.returns-in-Ok-clause-exact
+returns-in-Ok-clause-exact c = λ fault is.
+    let found = whole_found c.args.bytes.now _ (λ i. omega (arith, c.type_inv.bytes i)) c.in-Ok.ensures in
+    absurd (is.none _ _ found)
+
+pub returns-in-Err-clause-only : goal.returns-in-Err-clause-only
+returns-in-Err-clause-only c = λ slot pending is.
+    absurd (snapshot_or_stop c.args.bytes.now slot pending _ is c.in-Err.ensures)
+
+pub returns-in-Err-clause-fault : goal.returns-in-Err-clause-fault
+returns-in-Err-clause-fault c =
+    rw c.saturating_sub.ensures
+    (first_fault c.args.bytes.now _ (λ i. omega (arith, c.type_inv.bytes i)) c.in-Err.ensures)
+
+pub returns-in-Err-clause-exact : goal.returns-in-Err-clause-exact
+returns-in-Err-clause-exact c = λ fault is.
+    rw c.saturating_sub.ensures
+    (ap Err (first_fault_once c.args.bytes.now _ fault
+    (first_fault c.args.bytes.now _ (λ i. omega (arith, c.type_inv.bytes i)) c.in-Err.ensures) is))

@@ -1,0 +1,404 @@
+-- A reader that fails stops at the first field that no value has there.
+use Rattle.std.proofs.Common.{◌≡◌, ◌⊎◌, inl, inr, ℕ, zero, suc, ◌+◌, ◌-◌, ◌<◌, ◌≤◌, List, [], ◌∷◌, ◌++◌, length, drop, Result, Ok, Err, refl, sym, ap, subst, ◌∙◌, arith}
+use Rattle.std.proofs.lemmas.Bool.{cases_lt}
+use Rattle.std.proofs.lemmas.List.{append-nil, drop-append-le, length-append}
+use Rattle.snapshot.specs.declared.fault.Stop.{Stop}
+use Rattle.snapshot.specs.declared.fault.Why.{Why}
+use Rattle.snapshot.specs.Fields.{Field, joined}
+use Rattle.snapshot.specs.Faults.{BeginsWith, wrong_with}
+use Rattle.snapshot.specs.Reading.{◌>>=◌, ◌&◌, Reader, made}
+use Rattle.snapshot.proofs.Agreement.{behind_it, behind_of, drop_past, front_of, in_front, joined-append}
+use Rattle.snapshot.proofs.Exact.{IsBytes, IsField, both_field, made_field, ok_is, refit}
+
+-- what stops the reader, where a value goes on with these fields
+abbrev pub StopsAt : List Field → List ℕ → Stop → Type 0
+StopsAt [] rest stop = ⊥
+StopsAt (next ∷ behind) rest stop =
+    stop ≡ record { why = wrong_with rest (next ∷ behind); left = length rest }
+
+-- the bytes agree with a value in so many fields, with none in more, and what comes then stops the reader
+pub record Stops {A : Type 0} (fields : A → List Field) (Fits : A → Type 0) (bytes : List ℕ)
+    (stop : Stop) : Type 0 where
+  pub count : ℕ
+  pub value : A
+  pub fits : Fits value
+  pub rest : List ℕ
+  pub begins : BeginsWith bytes (fields value) count rest
+  pub most : (y : A) (n : ℕ) (behind : List ℕ) → Fits y → BeginsWith bytes (fields y) n behind → n ≤ count
+  pub why : (y : A) (behind : List ℕ) → Fits y → BeginsWith bytes (fields y) count behind
+      → StopsAt (drop count (fields y)) behind stop
+
+-- A reader of a value with these fields.
+pub record IsRead {A : Type 0} (read : Reader A) (text : A → List ℕ) (fields : A → List Field)
+    (Fits : A → Type 0) : Type 0 where
+  pub field : IsField read text Fits
+  pub joins : (x : A) → joined (fields x) ≡ text x
+  pub some : A
+  pub some_fits : Fits some
+  -- of the value that is read no other has more fields that agree
+  pub ends : (bytes : List ℕ) (x y : A) (left rest : List ℕ) (n : ℕ) → IsBytes bytes
+      → read bytes ≡ Ok (x, left) → Fits y → BeginsWith bytes (fields y) n rest → length (fields x) ≤ n
+      → length (fields y) ≤ length (fields x)
+  pub fails : (bytes : List ℕ) (stop : Stop) → IsBytes bytes → read bytes ≡ Err stop
+      → Stops fields Fits bytes stop
+
+-- ---- what came of a step
+
+pub record Went {A B : Type 0} (read : Reader A) (bytes : List ℕ) (f : A × List ℕ → Result B Stop)
+    (end : Result B Stop) : Type 0 where
+  pub value : A
+  pub rest : List ℕ
+  pub is : read bytes ≡ Ok (value, rest)
+  pub goes_on : f (value, rest) ≡ end
+
+went_by : {A B : Type 0} (read : Reader A) (bytes : List ℕ) (f : A × List ℕ → Result B Stop) (y : B)
+    (r : Result (A × List ℕ) Stop) → read bytes ≡ r → (r >>= f) ≡ Ok y → Went read bytes f (Ok y)
+went_by read bytes f y (Ok x) is e = record { value = x.0; rest = x.1; is = is; goes_on = e }
+went_by read bytes f y (Err d) is e = absurd cc
+
+pub went : {A B : Type 0} (read : Reader A) (bytes : List ℕ) (f : A × List ℕ → Result B Stop) (y : B)
+    → (read bytes >>= f) ≡ Ok y → Went read bytes f (Ok y)
+went read bytes f y e = went_by read bytes f y (read bytes) refl e
+
+abbrev pub failing : (A : Type 0) → Stop → Result A Stop
+failing A stop = Err stop
+
+pub failing_is : (A : Type 0) (d stop : Stop) → failing A d ≡ failing A stop → d ≡ stop
+failing_is A d stop e = cc
+
+failed_by : {A B : Type 0} (read : Reader A) (bytes : List ℕ) (f : A × List ℕ → Result B Stop) (stop : Stop)
+    (r : Result (A × List ℕ) Stop) → read bytes ≡ r → (r >>= f) ≡ Err stop
+    → (read bytes ≡ Err stop) ⊎ Went read bytes f (Err stop)
+failed_by read bytes f stop (Ok x) is e = inr (record { value = x.0; rest = x.1; is = is; goes_on = e })
+failed_by {A} {B} read bytes f stop (Err d) is e = inl (is ∙ ap Err (failing_is B d stop e))
+
+-- a reader that fails at its first step, or behind it
+pub failed : {A B : Type 0} (read : Reader A) (bytes : List ℕ) (f : A × List ℕ → Result B Stop) (stop : Stop)
+    → (read bytes >>= f) ≡ Err stop → (read bytes ≡ Err stop) ⊎ Went read bytes f (Err stop)
+failed read bytes f stop e = failed_by read bytes f stop (read bytes) refl e
+
+abbrev answering : {A : Type 0} → A × List ℕ → Result (A × List ℕ) Stop
+answering x = Ok x
+
+answered_once : {A : Type 0} (r : Result (A × List ℕ) Stop) (x y : A × List ℕ) → r ≡ answering x
+    → r ≡ answering y → x ≡ y
+answered_once r x y a b = cc
+
+answered_or_failed : {A : Type 0} (r : Result (A × List ℕ) Stop) (x : A × List ℕ) (stop : Stop)
+    → r ≡ answering x → r ≡ Err stop → ⊥
+answered_or_failed r x stop a b = cc
+
+-- ---- a value all of whose fields agree is the one that is read
+
+module _ {A : Type 0} {read : Reader A} {text : A → List ℕ} {fields : A → List Field} {Fits : A → Type 0}
+    (is : IsRead read text fields Fits) where
+  pub read_again : (bytes : List ℕ) (y : A) (rest : List ℕ) → Fits y → bytes ≡ joined (fields y) ++ rest
+      → read bytes ≡ Ok (y, rest)
+  read_again bytes y rest fits e =
+      ap read (e ∙ ap (λ (t : List ℕ). t ++ rest) (is.joins y)) ∙ is.field.again y rest fits
+
+  pub same_value : (bytes : List ℕ) (x y : A) (left rest : List ℕ) → read bytes ≡ Ok (x, left) → Fits y
+      → bytes ≡ joined (fields y) ++ rest → ◌≡◌ {A = A × List ℕ} (y, rest) (x, left)
+  same_value bytes x y left rest e fits text_is =
+      answered_once (read bytes) (y, rest) (x, left) (read_again bytes y rest fits text_is) e
+
+  pub front_read : (bytes : List ℕ) (x : A) (left : List ℕ) → IsBytes bytes → read bytes ≡ Ok (x, left)
+      → bytes ≡ joined (fields x) ++ left
+  front_read bytes x left fits e =
+      (is.field.takes bytes x left fits e).0.parts ∙ ap (λ (t : List ℕ). t ++ left) (sym (is.joins x))
+
+-- ---- one field behind another
+
+stops_more : (xs ys : List Field) (rest : List ℕ) (stop : Stop) → StopsAt xs rest stop
+    → StopsAt (xs ++ ys) rest stop
+stops_more [] ys rest stop h = absurd h
+stops_more (x ∷ xs) ys rest stop h = h
+
+module _ {A B : Type 0} {first : Reader A} {second : Reader B} {text : A → List ℕ} {behind : B → List ℕ}
+    {one : A → List Field} {other : B → List Field} {Fits : A → Type 0} {FitsBehind : B → Type 0}
+    (of_first : IsRead first text one Fits) (of_second : IsRead second behind other FitsBehind) where
+  abbrev both : A × B → List Field
+  both x = one x.0 ++ other x.1
+
+  abbrev both_text : A × B → List ℕ
+  both_text x = text x.0 ++ behind x.1
+
+  abbrev BothFit : A × B → Type 0
+  BothFit x = Fits x.0 × FitsBehind x.1
+
+  both_joins : (x : A × B) → joined (both x) ≡ both_text x
+  both_joins x = joined-append (one x.0) (other x.1) ∙ rw (of_first.joins x.0, of_second.joins x.1) refl
+
+  -- a value of which all of the first part agrees, where the first part is read
+  passed : (bytes : List ℕ) (a : A) (mid : List ℕ) (y : A × B) (n : ℕ) (rest : List ℕ)
+      → first bytes ≡ Ok (a, mid) → Fits y.0 → length (one y.0) ≤ n → BeginsWith bytes (both y) n rest
+      → (y.0 ≡ a) × BeginsWith mid (other y.1) (n - length (one y.0)) rest
+  passed bytes a mid y n rest e fits le h =
+      let parts = behind_of (one y.0) (other y.1) bytes rest n (n - length (one y.0)) (omega arith) h in
+      let same : ◌≡◌ {A = A × List ℕ} (y.0, parts.mid) (a, mid) =
+      same_value of_first bytes a y.0 mid parts.mid e fits parts.front in
+      let counted : parts.more ≡ n - length (one y.0) = (let is = parts.counted in omega arith) in (
+        ap (λ (p : A × List ℕ). p.0) same,
+        subst (λ (p : A × List ℕ). BeginsWith p.1 (other y.1) (n - length (one y.0)) rest) same
+            (subst (λ (k : ℕ). BeginsWith parts.mid (other y.1) k rest) counted parts.behind),
+      )
+
+  both_ends_at : (bytes : List ℕ) (a : A) (mid : List ℕ) (b : B) (left : List ℕ) (y : A × B) (rest : List ℕ)
+      (n : ℕ) → IsBytes bytes
+      → first bytes ≡ Ok (a, mid) → second mid ≡ Ok (b, left) → BothFit y → BeginsWith bytes (both y) n rest
+      → length (one a ++ other b) ≤ n → length (both y) ≤ length (one a ++ other b)
+  both_ends_at bytes a mid b left y rest n bs e d fits h le =
+      let of_found = length-append (one a) (other b) in
+      let of_other = length-append (one y.0) (other y.1) in
+      elim (cases_lt n (length (one y.0))) [
+        | inl lt ↦
+            (let ended = of_first.ends bytes a y.0 mid rest n bs e fits.0
+            (front_of (one y.0) (other y.1) bytes rest n (omega arith) h) (omega arith) in
+            absurd (omega arith))
+        | inr past ↦
+            (let p = passed bytes a mid y n rest e fits.0 past h in
+            let same : length (one y.0) ≡ length (one a) = ap (λ (v : A). length (one v)) p.0 in
+            let ended = of_second.ends mid b y.1 left rest (n - length (one y.0))
+            (of_first.field.takes bytes a mid bs e).0.rest_fits d fits.1 p.1 (omega arith) in
+            omega arith)
+      ]
+
+  both_ends : (bytes : List ℕ) (x y : A × B) (left rest : List ℕ) (n : ℕ) → IsBytes bytes
+      → (first & second) bytes ≡ Ok (x, left) → BothFit y → BeginsWith bytes (both y) n rest
+      → length (both x) ≤ n → length (both y) ≤ length (both x)
+  both_ends bytes x y left rest n bs e fits h le =
+      let a = went first bytes _ (x, left) e in
+      let b = went second a.rest _ (x, left) a.goes_on in
+      let pair : A × B = (a.value, b.value) in
+      let found : pair ≡ x = ap (λ (p : (A × B) × List ℕ). p.0) (ok_is (pair, b.rest) (x, left) b.goes_on) in
+      subst (λ (p : A × B). length (both p) ≤ n → length (both y) ≤ length (both p)) found
+      (both_ends_at bytes a.value a.rest b.value b.rest y rest n bs a.is b.is fits h) le
+
+  -- where the first part fails
+  module _ (bytes : List ℕ) (stop : Stop) (e : first bytes ≡ Err stop) (s : Stops one Fits bytes stop) where
+    not_passed : (y : A × B) (n : ℕ) (rest : List ℕ) → Fits y.0 → length (one y.0) ≤ n
+        → BeginsWith bytes (both y) n rest → ⊥
+    not_passed y n rest fits le h =
+        let parts = behind_of (one y.0) (other y.1) bytes rest n (n - length (one y.0)) (omega arith) h in
+        answered_or_failed (first bytes) (y.0, parts.mid) stop
+        (read_again of_first bytes y.0 parts.mid fits parts.front) e
+
+    first_most : (y : A × B) (n : ℕ) (rest : List ℕ) → BothFit y → BeginsWith bytes (both y) n rest
+        → n ≤ s.count
+    first_most y n rest fits h =
+        elim (cases_lt n (length (one y.0))) [
+          | inl lt ↦ s.most y.0 n rest fits.0 (front_of (one y.0) (other y.1) bytes rest n (omega arith) h)
+          | inr past ↦ absurd (not_passed y n rest fits.0 past h)
+        ]
+
+    first_why : (y : A × B) (rest : List ℕ) → BothFit y → BeginsWith bytes (both y) s.count rest
+        → StopsAt (drop s.count (both y)) rest stop
+    first_why y rest fits h =
+        elim (cases_lt s.count (length (one y.0))) [
+          | inl lt ↦
+              (let le : s.count ≤ length (one y.0) = omega arith in
+              subst (λ (fs : List Field). StopsAt fs rest stop)
+              (sym (drop-append-le s.count (one y.0) (other y.1) le))
+              (stops_more (drop s.count (one y.0)) (other y.1) rest stop
+              (s.why y.0 rest fits.0 (front_of (one y.0) (other y.1) bytes rest s.count le h))))
+          | inr past ↦ absurd (not_passed y s.count rest fits.0 past h)
+        ]
+
+    first_fails : Stops both BothFit bytes stop
+    first_fails = record {
+      count = s.count;
+      value = (s.value, of_second.some);
+      fits = (s.fits, of_second.some_fits);
+      rest = s.rest;
+      begins = in_front (one s.value) (other of_second.some) bytes s.rest s.count s.begins;
+      most = λ y n rest fits h. first_most y n rest fits h;
+      why = λ y rest fits h. first_why y rest fits h;
+    }
+
+  -- where the part behind it does
+  module _ (bytes : List ℕ) (a : A) (mid : List ℕ) (stop : Stop) (bs : IsBytes bytes)
+      (e : first bytes ≡ Ok (a, mid)) (s : Stops other FitsBehind mid stop) where
+    not_short : (y : A × B) (n : ℕ) (rest : List ℕ) → Fits y.0 → n < length (one y.0) → length (one a) ≤ n
+        → BeginsWith bytes (both y) n rest → ⊥
+    not_short y n rest fits lt le h =
+        let ended = of_first.ends bytes a y.0 mid rest n bs e fits
+        (front_of (one y.0) (other y.1) bytes rest n (omega arith) h) le in
+        absurd (omega arith)
+
+    second_most : (y : A × B) (n : ℕ) (rest : List ℕ) → BothFit y → BeginsWith bytes (both y) n rest
+        → n ≤ length (one a) + s.count
+    second_most y n rest fits h =
+        elim (cases_lt n (length (one a))) [
+          | inl short ↦ omega arith
+          | inr long ↦
+              elim (cases_lt n (length (one y.0))) [
+                | inl lt ↦ absurd (not_short y n rest fits.0 lt long h)
+                | inr past ↦
+                    (let p = passed bytes a mid y n rest e fits.0 past h in
+                    let same : length (one y.0) ≡ length (one a) = ap (λ (v : A). length (one v)) p.0 in
+                    let few = s.most y.1 (n - length (one y.0)) rest fits.1 p.1 in
+                    omega arith)
+              ]
+        ]
+
+    second_why : (y : A × B) (rest : List ℕ) → BothFit y
+        → BeginsWith bytes (both y) (length (one a) + s.count) rest
+        → StopsAt (drop (length (one a) + s.count) (both y)) rest stop
+    second_why y rest fits h =
+        elim (cases_lt (length (one a) + s.count) (length (one y.0))) [
+          | inl lt ↦ absurd (not_short y (length (one a) + s.count) rest fits.0 lt (omega arith) h)
+          | inr past ↦
+              (let p = passed bytes a mid y (length (one a) + s.count) rest e fits.0 past h in
+              let same : length (one a) ≡ length (one y.0) = ap (λ (v : A). length (one v)) (sym p.0) in
+              let behind_is : length (one a) + s.count - length (one y.0) ≡ s.count = omega arith in
+              let here = s.why y.1 rest fits.1
+              (subst (λ (k : ℕ). BeginsWith mid (other y.1) k rest) behind_is p.1) in
+              let past_is : drop (length (one a) + s.count) (both y) ≡ drop s.count (other y.1) =
+              ap (λ (k : ℕ). drop (k + s.count) (both y)) same ∙ drop_past (one y.0) (other y.1) s.count in
+              subst (λ (fs : List Field). StopsAt fs rest stop) (sym past_is) here)
+        ]
+
+    second_fails : Stops both BothFit bytes stop
+    second_fails = record {
+      count = length (one a) + s.count;
+      value = (a, s.value);
+      fits = ((of_first.field.takes bytes a mid bs e).1, s.fits);
+      rest = s.rest;
+      begins = behind_it (one a) (other s.value) bytes mid s.rest s.count
+          (front_read of_first bytes a mid bs e) s.begins;
+      most = λ y n rest fits h. second_most y n rest fits h;
+      why = λ y rest fits h. second_why y rest fits h;
+    }
+
+  both_fails : (bytes : List ℕ) (stop : Stop) → IsBytes bytes → (first & second) bytes ≡ Err stop
+      → Stops both BothFit bytes stop
+  both_fails bytes stop bs e =
+      elim (failed first bytes _ stop e) [
+        | inl here ↦ first_fails bytes stop here (of_first.fails bytes stop bs here)
+        | inr w ↦
+            elim (failed second w.rest _ stop w.goes_on) [
+              | inl there ↦ second_fails bytes w.value w.rest stop bs w.is
+                  (of_second.fails w.rest stop
+                  (of_first.field.takes bytes w.value w.rest bs w.is).0.rest_fits there)
+              | inr v ↦ absurd (let never = v.goes_on in cc)
+            ]
+      ]
+
+  pub both_read : IsRead (first & second) both_text both BothFit
+  both_read = record {
+    field = both_field of_first.field of_second.field;
+    joins = λ x. both_joins x;
+    some = (of_first.some, of_second.some);
+    some_fits = (of_first.some_fits, of_second.some_fits);
+    ends = λ bytes x y left rest n bs e fits h le. both_ends bytes x y left rest n bs e fits h le;
+    fails = λ bytes stop bs e. both_fails bytes stop bs e;
+  }
+
+-- ---- the same as a value of another type
+
+module _ {A B : Type 0} {read : Reader A} {text : A → List ℕ} {fields : A → List Field} {Fits : A → Type 0}
+    (of_parts : IsRead read text fields Fits) (make : A → B) (parts : B → A)
+    (parts_of : (x : A) → Fits x → parts (make x) ≡ x) (made_of : (y : B) → make (parts y) ≡ y) where
+  made_ends : (bytes : List ℕ) (x y : B) (left rest : List ℕ) (n : ℕ) → IsBytes bytes
+      → made make read bytes ≡ Ok (x, left) → Fits (parts y) → BeginsWith bytes (fields (parts y)) n rest
+      → length (fields (parts x)) ≤ n → length (fields (parts y)) ≤ length (fields (parts x))
+  made_ends bytes x y left rest n bs e fits h le =
+      let v = went read bytes _ (x, left) e in
+      let made_is : make v.value ≡ x =
+      ap (λ (p : B × List ℕ). p.0) (ok_is (make v.value, v.rest) (x, left) v.goes_on) in
+      let value_is : v.value ≡ parts x =
+      sym (parts_of v.value (of_parts.field.takes bytes v.value v.rest bs v.is).1) ∙ ap parts made_is in
+      subst (λ (a : A). length (fields a) ≤ n → length (fields (parts y)) ≤ length (fields a)) value_is
+      (of_parts.ends bytes v.value (parts y) v.rest rest n bs v.is fits h) le
+
+  made_stops : (bytes : List ℕ) (stop : Stop) → Stops fields Fits bytes stop
+      → Stops (λ y. fields (parts y)) (λ y. Fits (parts y)) bytes stop
+  made_stops bytes stop s =
+      let same : s.value ≡ parts (make s.value) = sym (parts_of s.value s.fits) in
+      record {
+        count = s.count;
+        value = make s.value;
+        fits = subst Fits same s.fits;
+        rest = s.rest;
+        begins = subst (λ (a : A). BeginsWith bytes (fields a) s.count s.rest) same s.begins;
+        most = λ y n rest fits h. s.most (parts y) n rest fits h;
+        why = λ y rest fits h. s.why (parts y) rest fits h;
+      }
+
+  made_fails : (bytes : List ℕ) (stop : Stop) → IsBytes bytes → made make read bytes ≡ Err stop
+      → Stops (λ y. fields (parts y)) (λ y. Fits (parts y)) bytes stop
+  made_fails bytes stop bs e =
+      elim (failed read bytes _ stop e) [
+        | inl here ↦ made_stops bytes stop (of_parts.fails bytes stop bs here)
+        | inr v ↦ absurd (let never = v.goes_on in cc)
+      ]
+
+  pub made_read : IsRead (made make read) (λ y. text (parts y)) (λ y. fields (parts y)) (λ y. Fits (parts y))
+  made_read = record {
+    field = made_field of_parts.field make parts parts_of made_of;
+    joins = λ y. of_parts.joins (parts y);
+    some = make of_parts.some;
+    some_fits = subst Fits (sym (parts_of of_parts.some of_parts.some_fits)) of_parts.some_fits;
+    ends = λ bytes x y left rest n bs e fits h le. made_ends bytes x y left rest n bs e fits h le;
+    fails = λ bytes stop bs e. made_fails bytes stop bs e;
+  }
+
+-- the same, of whose values the same have a spelling
+pub reread : {A : Type 0} {read : Reader A} {text : A → List ℕ} {fields : A → List Field} {Fits : A → Type 0}
+    (Same : A → Type 0) → IsRead read text fields Fits
+    → ((x : A) → Fits x → Same x) → ((x : A) → Same x → Fits x) → IsRead read text fields Same
+reread Same is into back = record {
+  field = refit Same is.field into back;
+  joins = is.joins;
+  some = is.some;
+  some_fits = into is.some is.some_fits;
+  ends = λ bytes x y left rest n bs e same h le. is.ends bytes x y left rest n bs e (back y same) h le;
+  fails = λ bytes stop bs e. let s = is.fails bytes stop bs e in record {
+    count = s.count;
+    value = s.value;
+    fits = into s.value s.fits;
+    rest = s.rest;
+    begins = s.begins;
+    most = λ y n rest same h. s.most y n rest (back y same) h;
+    why = λ y rest same h. s.why y rest (back y same) h;
+  };
+}
+
+-- ---- a single field
+
+module _ {A : Type 0} {read : Reader A} {text : A → List ℕ} {Fits : A → Type 0} (wrong : Why)
+    (of : IsField read text Fits) (value : A) (value_fits : Fits value)
+    (stops : (bytes : List ℕ) (stop : Stop) (y : A) → read bytes ≡ Err stop → Fits y
+    → StopsAt (record { bytes = text y; wrong = wrong } ∷ []) bytes stop) where
+  abbrev alone : A → List Field
+  alone y = record { bytes = text y; wrong = wrong } ∷ []
+
+  alone_most : (bytes : List ℕ) (stop : Stop) (y : A) (n : ℕ) (rest : List ℕ) → read bytes ≡ Err stop → Fits y
+      → BeginsWith bytes (alone y) n rest → n ≤ 0
+  alone_most bytes stop y zero rest e fits h = omega arith
+  alone_most bytes stop y (suc zero) rest e fits h =
+      absurd (answered_or_failed (read bytes) (y, rest) stop
+      (ap read (h.text ∙ ap (λ (t : List ℕ). t ++ rest) (append-nil (text y))) ∙ of.again y rest fits) e)
+  alone_most bytes stop y (suc (suc n)) rest e fits h = absurd (let many = h.enough in omega arith)
+
+  alone_fails : (bytes : List ℕ) (stop : Stop) → read bytes ≡ Err stop → Stops alone Fits bytes stop
+  alone_fails bytes stop e = record {
+    count = 0;
+    value = value;
+    fits = value_fits;
+    rest = bytes;
+    begins = record { enough = omega arith; text = refl };
+    most = λ y n rest fits h. alone_most bytes stop y n rest e fits h;
+    why = λ y rest fits h.
+        subst (λ (t : List ℕ). StopsAt (alone y) t stop) h.text (stops bytes stop y e fits);
+  }
+
+  pub alone_read : IsRead read text alone Fits
+  alone_read = record {
+    field = of;
+    joins = λ x. append-nil (text x);
+    some = value;
+    some_fits = value_fits;
+    ends = λ bytes x y left rest n bs e fits h le. omega arith;
+    fails = λ bytes stop bs e. alone_fails bytes stop e;
+  }

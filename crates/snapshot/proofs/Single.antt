@@ -1,0 +1,215 @@
+-- Single fields, and what stops a reader at them.
+use Rattle.std.proofs.Common.{◌≡◌, ◌==◌, inl, inr, ℕ, zero, suc, ◌^◌, ◌<◌, ◌≤◌, Bool, true, false, cond, ltb, List, [], ◌∷◌, ◌++◌, length, take, drop, Ok, Err, refl, sym, ap, subst, ◌∙◌, arith}
+use Rattle.std.specs.Int.{Width, w16, w32, w64, byte_len, from_le_bytes, to_le_bytes}
+use Rattle.std.proofs.lemmas.Bool.{le-ltb, lt-ltb, ltb-false, ltb-true}
+use Rattle.mmio_window.specs.declared.interrupts.Interrupts.{Interrupts}
+use Rattle.snapshot.specs.declared.fault.Stop.{Stop}
+use Rattle.snapshot.specs.declared.fault.Why.{Why}
+use Rattle.snapshot.specs.declared.fault.Why.TheVariants.{Short, Choice, TooMuchInput}
+use Rattle.snapshot.specs.Fields.{Field}
+use Rattle.snapshot.specs.Reading.{byte_at, constant_at, count_at, flag_at, identity_at, interrupts_at, number_at}
+use Rattle.snapshot.specs.Spelling.{flag}
+use Rattle.snapshot.proofs.Exact.{Always, IsBytes, IsField, IsWide, Takes, byte_field, chosen, constant_field, field32, guard_ok, identity_field, number_field, step, wide16, wide32, wide64}
+use Rattle.snapshot.proofs.Explained.{IsRead, StopsAt, alone_read, failed, failing_is}
+use Rattle.snapshot.proofs.OfWindow.{interrupts_field, reasons}
+
+-- ---- how a field stops a reader
+
+pub stops_short : (bytes : List ℕ) (next : Field) (behind : List Field) (stop : Stop)
+    → length bytes < length next.bytes → stop ≡ record { why = Short; left = length bytes }
+    → StopsAt (next ∷ behind) bytes stop
+stops_short bytes next behind stop lt is =
+    let test : ltb (length bytes) (length next.bytes) ≡ true = lt-ltb _ _ lt in
+    is ∙ ap (λ (b : Bool). record { why = cond b Short next.wrong; left = length bytes }) (sym test)
+
+pub stops_wrong : (bytes : List ℕ) (next : Field) (behind : List Field) (stop : Stop)
+    → length next.bytes ≤ length bytes → stop ≡ record { why = next.wrong; left = length bytes }
+    → StopsAt (next ∷ behind) bytes stop
+stops_wrong bytes next behind stop le is =
+    let test : ltb (length bytes) (length next.bytes) ≡ false = le-ltb _ _ le in
+    is ∙ ap (λ (b : Bool). record { why = cond b Short next.wrong; left = length bytes }) (sym test)
+
+guard_err : {A : Type 0} (b : Bool) (d stop : Stop) (x : A) → cond b (Err d) (Ok x) ≡ Err stop
+    → (b ≡ true) × (d ≡ stop)
+guard_err {A} true d stop x e = (refl, failing_is A d stop e)
+guard_err false d stop x e = absurd cc
+
+-- ---- a number
+
+abbrev numbered : Width → Why → ℕ → Field
+numbered w wrong n = record { bytes = to_le_bytes w n; wrong = wrong }
+
+number_short : (w : Width) (limit : ℕ) (wide : IsWide w limit) (wrong : Why) (bytes : List ℕ) (stop : Stop)
+    (y : ℕ) → number_at w bytes ≡ Err stop → StopsAt (numbered w wrong y ∷ []) bytes stop
+number_short w limit wide wrong bytes stop y e =
+    let g = guard_err (ltb (length bytes) (byte_len w)) (record { why = Short; left = length bytes }) stop
+    (from_le_bytes w (take (byte_len w) bytes), drop (byte_len w) bytes) e in
+    let short : length bytes < byte_len w = ltb-true _ _ g.0 in
+    stops_short bytes (numbered w wrong y) [] stop (omega (arith, short, wide.len y)) (sym g.1)
+
+number_long : (w : Width) (bytes : List ℕ) (x : ℕ) (rest : List ℕ) → number_at w bytes ≡ Ok (x, rest)
+    → byte_len w ≤ length bytes
+number_long w bytes x rest e =
+    let g = guard_ok (ltb (length bytes) (byte_len w)) (record { why = Short; left = length bytes })
+    (from_le_bytes w (take (byte_len w) bytes), drop (byte_len w) bytes) (x, rest) e in
+    ltb-false _ _ g.0
+
+pub number_read : (w : Width) (limit : ℕ) (wide : IsWide w limit) → 0 < limit
+    → IsRead (number_at w) (to_le_bytes w) (λ n. numbered w Choice n ∷ []) (λ n. n < limit)
+number_read w limit wide some =
+    alone_read Choice (number_field w limit wide) 0 some
+    (λ bytes stop y e fits. number_short w limit wide Choice bytes stop y e)
+
+pub read16 : IsRead (number_at w16) (to_le_bytes w16) (λ n. numbered w16 Choice n ∷ []) (λ n. n < 2 ^ 16)
+read16 = number_read w16 (2 ^ 16) wide16 (omega arith)
+
+pub read32 : IsRead (number_at w32) (to_le_bytes w32) (λ n. numbered w32 Choice n ∷ []) (λ n. n < 2 ^ 32)
+read32 = number_read w32 (2 ^ 32) wide32 (omega arith)
+
+pub read64 : IsRead (number_at w64) (to_le_bytes w64) (λ n. numbered w64 Choice n ∷ []) (λ n. n < 2 ^ 64)
+read64 = number_read w64 (2 ^ 64) wide64 (omega arith)
+
+-- ---- a number that has one value
+
+constant_stops : (w : Width) (limit n : ℕ) (why : Why) (wide : IsWide w limit) (bytes : List ℕ) (stop : Stop)
+    (y : ℕ) → constant_at w n why bytes ≡ Err stop → StopsAt (numbered w why y ∷ []) bytes stop
+constant_stops w limit n why wide bytes stop y e =
+    elim (failed (number_at w) bytes _ stop e) [
+      | inl short ↦ number_short w limit wide why bytes stop y short
+      | inr v ↦
+          (let long : byte_len w ≤ length bytes = number_long w bytes v.value v.rest v.is in
+          stops_wrong bytes (numbered w why y) [] stop (omega (arith, long, wide.len y))
+          (sym (refused (v.value == n) (v.value, v.rest) (record { why = why; left = length bytes }) stop
+          v.goes_on)))
+    ]
+  where
+    refused : (same : Bool) (x : ℕ × List ℕ) (d stop : Stop) → cond same (Ok x) (Err d) ≡ Err stop → d ≡ stop
+    refused true x d stop e = absurd cc
+    refused false x d stop e = failing_is (ℕ × List ℕ) d stop e
+
+pub constant_read : (w : Width) (limit n : ℕ) (why : Why) (wide : IsWide w limit) → n < limit
+    → IsRead (constant_at w n why) (to_le_bytes w) (λ x. numbered w why x ∷ []) (λ x. x ≡ n)
+constant_read w limit n why wide lt =
+    alone_read why (constant_field w limit n why wide lt) n refl
+    (λ bytes stop y e fits. constant_stops w limit n why wide bytes stop y e)
+
+-- ---- how much input is pending
+
+count_takes : (bytes : List ℕ) (x : ℕ) (rest : List ℕ) → IsBytes bytes → count_at bytes ≡ Ok (x, rest)
+    → Takes bytes (to_le_bytes w32 x) rest × (x ≤ 4096)
+count_takes bytes x rest fits e =
+    let found = step (number_at w32) (to_le_bytes w32) (λ n. n < 2 ^ 32) bytes _ (x, rest) field32 fits e in
+    let few = guard_ok (ltb 4096 found.value) (record { why = TooMuchInput; left = length bytes })
+    (found.value, found.rest) (x, rest) found.goes_on in
+    let most : found.value ≤ 4096 = ltb-false _ _ few.0 in
+    subst (λ (p : ℕ × List ℕ). Takes bytes (to_le_bytes w32 p.0) p.1 × (p.0 ≤ 4096)) few.1 (found.takes, most)
+
+count_again : (x : ℕ) (rest : List ℕ) → x ≤ 4096 → count_at (to_le_bytes w32 x ++ rest) ≡ Ok (x, rest)
+count_again x rest few =
+    let test : ltb 4096 x ≡ false = le-ltb _ _ few in
+    rw (field32.again x rest (omega arith), test) refl
+
+count_field : IsField count_at (to_le_bytes w32) (λ n. n ≤ 4096)
+count_field = record {
+  takes = λ bytes x rest fits e. count_takes bytes x rest fits e;
+  again = λ x rest few. count_again x rest few;
+}
+
+count_stops : (bytes : List ℕ) (stop : Stop) (y : ℕ) → count_at bytes ≡ Err stop
+    → StopsAt (numbered w32 TooMuchInput y ∷ []) bytes stop
+count_stops bytes stop y e =
+    elim (failed (number_at w32) bytes _ stop e) [
+      | inl short ↦ number_short w32 (2 ^ 32) wide32 TooMuchInput bytes stop y short
+      | inr v ↦
+          (let long : byte_len w32 ≤ length bytes = number_long w32 bytes v.value v.rest v.is in
+          let much = guard_err (ltb 4096 v.value) (record { why = TooMuchInput; left = length bytes }) stop
+          (v.value, v.rest) v.goes_on in
+          stops_wrong bytes (numbered w32 TooMuchInput y) [] stop (omega (arith, long, wide32.len y))
+          (sym much.1))
+    ]
+
+pub count_read : IsRead count_at (to_le_bytes w32) (λ n. numbered w32 TooMuchInput n ∷ []) (λ n. n ≤ 4096)
+count_read =
+    alone_read TooMuchInput count_field 0 (omega arith) (λ bytes stop y e fits. count_stops bytes stop y e)
+
+-- ---- a byte, and a choice
+
+abbrev plain : List ℕ → Field
+plain bytes = record { bytes = bytes; wrong = Choice }
+
+byte_stops : (bytes : List ℕ) (stop : Stop) (y : ℕ) → byte_at bytes ≡ Err stop
+    → StopsAt (plain (y ∷ []) ∷ []) bytes stop
+byte_stops [] stop y e = stops_short [] (plain (y ∷ [])) [] stop (omega arith) (sym (failing_is _ _ stop e))
+byte_stops (b ∷ bytes) stop y e = absurd cc
+
+pub byte_read : IsRead byte_at (λ b. b ∷ []) (λ b. plain (b ∷ []) ∷ []) (λ b. b < 256)
+byte_read = alone_read Choice byte_field 0 (omega arith) (λ bytes stop y e fits. byte_stops bytes stop y e)
+
+abbrev pub choice : Bool → List ℕ
+choice b = flag b ∷ []
+
+flag_takes : (bytes : List ℕ) (b : Bool) (rest : List ℕ) → IsBytes bytes → flag_at bytes ≡ Ok (b, rest)
+    → Takes bytes (choice b) rest × Always b
+unfolding flag_at
+flag_takes [] b rest fits e = absurd cc
+flag_takes (zero ∷ bytes) b rest fits e = chosen choice Always false b 0 bytes rest refl tt fits e
+flag_takes (suc zero ∷ bytes) b rest fits e = chosen choice Always true b 1 bytes rest refl tt fits e
+flag_takes (suc (suc n) ∷ bytes) b rest fits e = absurd cc
+
+flag_again : (b : Bool) (rest : List ℕ) → Always b → flag_at (choice b ++ rest) ≡ Ok (b, rest)
+unfolding flag_at
+flag_again true rest fits = refl
+flag_again false rest fits = refl
+
+flag_field : IsField flag_at choice Always
+flag_field = record {
+  takes = λ bytes b rest fits e. flag_takes bytes b rest fits e;
+  again = λ b rest fits. flag_again b rest fits;
+}
+
+flag_stops : (bytes : List ℕ) (stop : Stop) (y : Bool) → flag_at bytes ≡ Err stop
+    → StopsAt (plain (choice y) ∷ []) bytes stop
+unfolding flag_at
+flag_stops [] stop y e = stops_short [] (plain (choice y)) [] stop (omega arith) (sym (failing_is _ _ stop e))
+flag_stops (zero ∷ bytes) stop y e = absurd cc
+flag_stops (suc zero ∷ bytes) stop y e = absurd cc
+flag_stops (suc (suc b) ∷ bytes) stop y e =
+    stops_wrong (suc (suc b) ∷ bytes) (plain (choice y)) [] stop (omega arith) (sym (failing_is _ _ stop e))
+
+pub flag_read : IsRead flag_at choice (λ b. plain (choice b) ∷ []) Always
+flag_read = alone_read Choice flag_field false tt (λ bytes stop y e fits. flag_stops bytes stop y e)
+
+interrupts_stops : (bytes : List ℕ) (stop : Stop) (y : Interrupts) → interrupts_at bytes ≡ Err stop
+    → StopsAt (plain (reasons y) ∷ []) bytes stop
+unfolding interrupts_at
+interrupts_stops [] stop y e =
+    stops_short [] (plain (reasons y)) [] stop (omega arith) (sym (failing_is _ _ stop e))
+interrupts_stops (zero ∷ bytes) stop y e = absurd cc
+interrupts_stops (suc zero ∷ bytes) stop y e = absurd cc
+interrupts_stops (suc (suc zero) ∷ bytes) stop y e = absurd cc
+interrupts_stops (suc (suc (suc zero)) ∷ bytes) stop y e = absurd cc
+interrupts_stops (suc (suc (suc (suc b))) ∷ bytes) stop y e =
+    stops_wrong (suc (suc (suc (suc b))) ∷ bytes) (plain (reasons y)) [] stop (omega arith)
+    (sym (failing_is _ _ stop e))
+
+pub interrupts_read : IsRead interrupts_at reasons (λ i. plain (reasons i) ∷ []) Always
+interrupts_read =
+    alone_read Choice interrupts_field (record { used_buffer = false; configuration_change = false }) tt
+    (λ bytes stop y e fits. interrupts_stops bytes stop y e)
+
+-- ---- an identity
+
+identity_stops : (bytes : List ℕ) (stop : Stop) (y : List ℕ) → identity_at bytes ≡ Err stop → length y ≡ 20
+    → StopsAt (plain y ∷ []) bytes stop
+identity_stops bytes stop y e len =
+    let g = guard_err (ltb (length bytes) 20) (record { why = Short; left = length bytes }) stop
+    (take 20 bytes, drop 20 bytes) e in
+    let short : length bytes < 20 = ltb-true _ _ g.0 in
+    stops_short bytes (plain y) [] stop (omega arith) (sym g.1)
+
+pub identity_read : IsRead identity_at (λ xs. xs) (λ xs. plain xs ∷ []) (λ xs. length xs ≡ 20)
+identity_read =
+    alone_read Choice identity_field zeros refl (λ bytes stop y e fits. identity_stops bytes stop y e fits)
+  where
+    zeros : List ℕ
+    zeros = 0 ∷ 0 ∷ 0 ∷ 0 ∷ 0 ∷ 0 ∷ 0 ∷ 0 ∷ 0 ∷ 0 ∷ 0 ∷ 0 ∷ 0 ∷ 0 ∷ 0 ∷ 0 ∷ 0 ∷ 0 ∷ 0 ∷ 0 ∷ []
