@@ -1,5 +1,5 @@
 -- A slot's windows stay those of its devices, and sound.
-use Rattle.std.proofs.Common.{ℕ, ◌≤◌, ◌∙◌, Bool, List, length, Option, Result, Ok, Err}
+use Rattle.std.proofs.Common.{ℕ, ◌≤◌, ◌∙◌, Bool, List, length, Option, Result, Ok, Err, ap}
 use Rattle.std.specs.Prelude.{IfOk, OnErr}
 use Rattle.guest_memory.specs.Memory.{Memory, SameRange}
 use Rattle.chain.specs.declared.budget.Budget.{Budget}
@@ -7,6 +7,7 @@ use Rattle.chain.specs.declared.budget.Progress.{Progress}
 use Rattle.chain.specs.Service.{Device}
 use Rattle.mmio_window.specs.declared.queue.Queue.{Queue}
 use Rattle.mmio_window.specs.declared.stage.Stage.{Stage}
+use Rattle.mmio_window.specs.DeviceKind.{configuration_changes}
 use Rattle.mmio_window.specs.Pieces.{IsRefusedAt, ServesTo}
 use Rattle.mmio_window.specs.Soundness.{IsSound}
 use Rattle.mmio_window.specs.Window.{WindowState}
@@ -33,6 +34,7 @@ pub memory_changed : (m m' : Memory) (read_only : Bool) (block console : WindowS
 memory_changed m m' read_only block console pending sound range = record {
   block_kind = sound.block_kind;
   block_offers = sound.block_offers;
+  block_generation = sound.block_generation;
   console_kind = sound.console_kind;
   console_offers = sound.console_offers;
   block_sound = IsSound-same_range m m' block range sound.block_sound;
@@ -48,6 +50,7 @@ pub block_changed : (m m' : Memory) (read_only : Bool) (block block' console : W
 block_changed m m' read_only block block' console pending sound keeps here range = record {
   block_kind = keeps.kind ∙ sound.block_kind;
   block_offers = keeps.offered ∙ sound.block_offers;
+  block_generation = keeps.generation (ap configuration_changes sound.block_kind) ∙ sound.block_generation;
   console_kind = sound.console_kind;
   console_offers = sound.console_offers;
   block_sound = here;
@@ -64,6 +67,7 @@ pub console_changed : (m m' : Memory) (read_only : Bool) (block console console'
 console_changed m m' read_only block console console' pending pending' sound keeps here range fits = record {
   block_kind = sound.block_kind;
   block_offers = sound.block_offers;
+  block_generation = sound.block_generation;
   console_kind = keeps.kind ∙ sound.console_kind;
   console_offers = keeps.offered ∙ sound.console_offers;
   block_sound = IsSound-same_range m m' block range sound.block_sound;

@@ -26,15 +26,19 @@ use Rattle.block_device.specs.Hosting.{CompletesIn, HostsTo}
 
 registers_kept : (kind : DeviceKind) (change : QueueRegisters → QueueRegisters) (w : WindowState)
     → KeepsDevice w (with_registers_in (queue_of kind 0) change w)
-registers_kept Block change w = record { kind = refl; offered = refl }
-registers_kept Console change w = record { kind = refl; offered = refl }
+registers_kept Block change w = record { kind = refl; offered = refl; generation = λ never. refl }
+registers_kept Console change w = record { kind = refl; offered = refl; generation = λ never. refl }
 
 ring_kept : (w : WindowState) (ring : Queue) → KeepsDevice w (with_ring 0 w ring)
 ring_kept w ring = registers_kept w.kind (λ registers. record registers { ring = Some ring }) w
 
 spent_kept : (wanted : Bool) (w : WindowState) (ring : Queue)
     → KeepsDevice w (after_service Spent wanted (with_ring 0 w ring))
-spent_kept true w ring = record { kind = (ring_kept w ring).kind; offered = (ring_kept w ring).offered }
+spent_kept true w ring = record {
+  kind = (ring_kept w ring).kind;
+  offered = (ring_kept w ring).offered;
+  generation = (ring_kept w ring).generation;
+}
 spent_kept false w ring = ring_kept w ring
 
 at : (before between after : WindowState) → after ≡ between → KeepsDevice before between

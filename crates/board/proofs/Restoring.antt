@@ -3,10 +3,10 @@ use Rattle.std.proofs.Common.{◌≡◌, ◌∙◌, inl, inr, ℕ, List, [], Opt
 use Rattle.std.specs.Prelude.{IfErr, IsSome, OnErr, OnOk}
 use Rattle.mmio_window.specs.Window.{WindowState}
 use Rattle.sector_cache.specs.Sector.{extent_of}
-use Rattle.snapshot.specs.declared.fault.SnapshotFault.{SnapshotFault}
 use Rattle.snapshot.specs.declared.saved.SavedSlot.{SavedSlot}
 use Rattle.snapshot.specs.Spelling.{IsSnapshot}
-use Rattle.snapshot.proofs.OfSlot.{snapshot_once, snapshot_or_fault}
+use Rattle.snapshot.proofs.First.{first_fault_once}
+use Rattle.snapshot.proofs.OfSlot.{snapshot_once}
 use Rattle.board.specs.declared.event.EventKind.TheVariants.{Restore}
 use Rattle.board.specs.declared.reply.Reply.TheVariants.{BadState}
 use Rattle.board.specs.declared.saved.RestoreFault.{RestoreFault}
@@ -53,7 +53,7 @@ not_prevented_too old bytes new why is cause =
 
 no_cause : (old : BoardSlot) (bytes : List ℕ) (new : BoardSlot) (why : RestoreFault)
     → IsRestored old bytes new → IsCauseOf old bytes why → ⊥
-no_cause old bytes new (Snapshot fault) is cause = snapshot_or_fault _ _ _ fault is.read cause
+no_cause old bytes new (Snapshot fault) is cause = cause.none is.saved is.pending is.read
 no_cause old bytes new OtherSlot is cause = not_prevented_too old bytes new OtherSlot is cause
 no_cause old bytes new BadBlock is cause = not_prevented_too old bytes new BadBlock is cause
 no_cause old bytes new BadConsole is cause = not_prevented_too old bytes new BadConsole is cause
@@ -88,14 +88,10 @@ prevented_once slot bytes one other a b =
 -- what was saved prevents it, where the bytes are a snapshot
 prevented : (slot : BoardSlot) (bytes : List ℕ) (saved : SavedSlot) (pending : List ℕ) (why : RestoreFault)
     → IsSnapshot bytes saved pending → IsCauseOf slot bytes why → IsPrevented slot bytes why
-prevented slot bytes saved pending (Snapshot fault) is cause = absurd (snapshot_or_fault _ _ _ fault is cause)
+prevented slot bytes saved pending (Snapshot fault) is cause = absurd (cause.none saved pending is)
 prevented slot bytes saved pending OtherSlot is cause = cause
 prevented slot bytes saved pending BadBlock is cause = cause
 prevented slot bytes saved pending BadConsole is cause = cause
-
-same_fault : (r : Result (SavedSlot × List ℕ) SnapshotFault) (one other : SnapshotFault) → r ≡ Err one
-    → r ≡ Err other → one ≡ other
-same_fault r one other a b = cc
 
 -- where the one cause is what was saved, so is the other
 behind_prevented : (slot : BoardSlot) (bytes : List ℕ) (one other : RestoreFault)
@@ -105,7 +101,7 @@ behind_prevented slot bytes one other a cause =
 
 pub cause_once : (slot : BoardSlot) (bytes : List ℕ) (one other : RestoreFault)
     → IsCauseOf slot bytes one → IsCauseOf slot bytes other → one ≡ other
-cause_once slot bytes (Snapshot one) (Snapshot other) a b = ap Snapshot (same_fault _ one other a b)
+cause_once slot bytes (Snapshot one) (Snapshot other) a b = ap Snapshot (first_fault_once bytes one other a b)
 cause_once slot bytes one OtherSlot a b = sym (behind_prevented slot bytes OtherSlot one b a)
 cause_once slot bytes one BadBlock a b = sym (behind_prevented slot bytes BadBlock one b a)
 cause_once slot bytes one BadConsole a b = sym (behind_prevented slot bytes BadConsole one b a)

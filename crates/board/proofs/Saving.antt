@@ -1,7 +1,7 @@
 -- A slot takes up the snapshot of every slot of its description.
 use Rattle.std.proofs.Common.{◌≡◌, ◌∙◌, ◌↔◌, ◌<◌, ℕ, List, Option, Some, None, Result, Ok, Err, refl, sym, ap, subst, arith, drop, inl, inr, length}
 use Rattle.std.proofs.lemmas.Bool.{cases_lt}
-use Rattle.std.specs.Prelude.{◌++◌, IfErr, IfOk, IsErr, IsOk, OnOk}
+use Rattle.std.specs.Prelude.{◌++◌, ◌==◌, IfErr, IfOk, IsErr, IsOk, OnOk, if◌then◌else◌}
 use Rattle.guest_memory.specs.Memory.{Memory}
 use Rattle.mmio_window.specs.declared.device_kind.DeviceKind.{DeviceKind}
 use Rattle.mmio_window.specs.declared.device_kind.DeviceKind.TheVariants.{Block, Console}
@@ -11,21 +11,32 @@ use Rattle.mmio_window.specs.Window.{WindowState}
 use Rattle.mmio_window.proofs.Soundness.{IsSound-same_range}
 use Rattle.snapshot.specs.declared.fault.SnapshotFault.{SnapshotFault}
 use Rattle.snapshot.specs.declared.saved.SavedSlot.{SavedSlot}
-use Rattle.snapshot.specs.Reading.{snapshot_at}
+use Rattle.snapshot.specs.Faults.{IsFirstFault}
 use Rattle.snapshot.specs.Spelling.{IsSnapshot, snapshot}
-use Rattle.snapshot.proofs.OfSlot.{snapshot_once, snapshot_or_fault}
+use Rattle.snapshot.proofs.OfSlot.{snapshot_once}
 use Rattle.board.specs.declared.saved.RestoreFault.{RestoreFault}
 use Rattle.board.specs.declared.saved.RestoreFault.TheVariants.{Snapshot, OtherSlot, BadBlock, BadConsole}
-use Rattle.board.specs.Saved.{IsAs, IsCauseOf, IsLike, IsRestored, IsSavedTo, IsSnapshotOf, OffersFeatures, Prevents, RestoresIt, Suits, TakesUp, saved_slot, snapshot_of}
+use Rattle.board.specs.Saved.{IsAs, IsCauseOf, IsLike, IsRestored, IsSavedTo, IsSnapshotOf, OffersFeatures, Prevents, RestoresIt, Suits, TakesUp, block_restored, console_restored, saved_slot, snapshot_of}
 use Rattle.board.specs.Slot.{BoardSlot, IsSoundSlot, block_features}
 
 -- ---- what is saved
 
 -- a window that is sound for a memory is given back over every memory of its range
-restores_it : (m : Memory) (w : WindowState) → IsSound m w
+restores_it : (kind : DeviceKind) (m : Memory) (w : WindowState) → IsSound m w → w.kind ≡ kind
     → ((other : Memory) → IsSound other w → window_restored w.kind other (saved_window w) ≡ Some w)
-    → RestoresIt w.kind m w
-restores_it m w sound back other same = back other (IsSound-same_range m other w same sound)
+    → RestoresIt (window_restored kind) m w
+restores_it kind m w sound is back other same =
+    subst (λ (k : DeviceKind). window_restored k other (saved_window w) ≡ Some w) is
+    (back other (IsSound-same_range m other w same sound))
+
+-- where the generation is 0, the block device's is too
+never_counted : (generation : ℕ) (restored : Option WindowState) → generation ≡ 0
+    → (if generation == 0 then restored else None) ≡ restored
+never_counted generation restored is = rw is refl
+
+block_it : (m : Memory) (w : WindowState) → w.config_generation ≡ 0 → RestoresIt (window_restored Block) m w
+    → RestoresIt block_restored m w
+block_it m w never restores other same = never_counted w.config_generation _ never ∙ restores other same
 
 -- the snapshot of a slot that is sound
 is_snapshot : (slot : BoardSlot) (bytes : List ℕ)
@@ -38,10 +49,9 @@ is_snapshot : (slot : BoardSlot) (bytes : List ℕ)
 is_snapshot slot bytes sound block console spelled = record {
   spelled = spelled;
   offers = record { block = sound.block_offers; console = sound.console_offers };
-  block = subst (λ (kind : DeviceKind). RestoresIt kind slot.memory slot.block) sound.block_kind
-      (restores_it slot.memory slot.block sound.block_sound block);
-  console = subst (λ (kind : DeviceKind). RestoresIt kind slot.memory slot.console) sound.console_kind
-      (restores_it slot.memory slot.console sound.console_sound console);
+  block = block_it slot.memory slot.block sound.block_generation
+      (restores_it Block slot.memory slot.block sound.block_sound sound.block_kind block);
+  console = restores_it Console slot.memory slot.console sound.console_sound sound.console_kind console;
 }
 
 -- what was written of it
@@ -115,10 +125,10 @@ as_saved slot old new bytes saved is like e takes =
     let cols_saved : saved.0.cols ≡ slot.cols = ap (λ (x : SavedSlot × List ℕ). x.0.cols) e in
     let rows_saved : saved.0.rows ≡ slot.rows = ap (λ (x : SavedSlot × List ℕ). x.0.rows) e in
     let block : new.block ≡ slot.block
-    = same_window _ _ _ (ap (window_restored Block old.memory) (sym block_saved)
+    = same_window _ _ _ (ap (block_restored old.memory) (sym block_saved)
     ∙ takes.block) (is.block old.memory like.memory) in
     let console : new.console ≡ slot.console
-    = same_window _ _ _ (ap (window_restored Console old.memory) (sym console_saved)
+    = same_window _ _ _ (ap (console_restored old.memory) (sym console_saved)
     ∙ takes.console) (is.console old.memory like.memory) in
     takes.is ∙ rw (block, console, pending_saved, cols_saved, rows_saved, like.read_only, like.identity) refl
 
@@ -162,8 +172,8 @@ restored_of old new bytes saved pending (Err why) read takes = tt
 
 -- and no snapshot of a slot is refused as none
 pub not_refused : (slot : BoardSlot) (bytes : List ℕ) (fault : SnapshotFault) → IsSnapshotOf bytes slot
-    → snapshot_at bytes ≡ Err fault → ⊥
-not_refused slot bytes fault is e = snapshot_or_fault _ _ _ fault is.spelled e
+    → IsFirstFault bytes fault → ⊥
+not_refused slot bytes fault is first = first.none (saved_slot slot) slot.pending is.spelled
 
 -- why nothing was taken up, of the bytes
 pub cause_of : (old : BoardSlot) (bytes : List ℕ) (saved : SavedSlot) (pending : List ℕ)

@@ -1,13 +1,13 @@
 -- The snapshot of a slot, and what a slot becomes that takes one up.
-use Rattle.std.specs.Prelude.{◌≡◌, ◌≤◌, ◌++◌, ℕ, IsSome, None, Some, Err, List, drop, length}
+use Rattle.std.specs.Prelude.{◌≡◌, ◌≤◌, ◌++◌, ◌==◌, ℕ, IsSome, None, Option, Some, List, drop, if◌then◌else◌, length}
 use Rattle.guest_memory.specs.Memory.{Memory, SameRange}
-use Rattle.mmio_window.specs.declared.device_kind.DeviceKind.{DeviceKind}
 use Rattle.mmio_window.specs.declared.device_kind.DeviceKind.TheVariants.{Block, Console}
+use Rattle.mmio_window.specs.declared.saved.SavedWindow.{SavedWindow}
 use Rattle.mmio_window.specs.Saved.{saved_window, window_restored}
 use Rattle.mmio_window.specs.Window.{WindowState}
 use Rattle.sector_cache.specs.Sector.{extent_of}
 use Rattle.snapshot.specs.declared.saved.SavedSlot.{SavedSlot}
-use Rattle.snapshot.specs.Reading.{snapshot_at}
+use Rattle.snapshot.specs.Faults.{IsFirstFault}
 use Rattle.snapshot.specs.Spelling.{IsSnapshot, snapshot}
 use Rattle.board.specs.declared.saved.RestoreFault.{RestoreFault}
 use Rattle.board.specs.declared.saved.RestoreFault.TheVariants.{Snapshot, OtherSlot, BadBlock, BadConsole}
@@ -33,9 +33,18 @@ saved_slot slot = record {
 abbrev pub snapshot_of : BoardSlot → List ℕ
 snapshot_of slot = snapshot (saved_slot slot) slot.pending
 
+-- The block device's window as it was saved, over this memory. Of another ConfigGeneration than 0 there is none
+-- either: a disk's configuration never changes (2.5).
+abbrev pub block_restored : Memory → SavedWindow → Option WindowState
+block_restored m saved = if saved.config_generation == 0 then window_restored Block m saved else None
+
+-- the console's
+abbrev pub console_restored : Memory → SavedWindow → Option WindowState
+console_restored m saved = window_restored Console m saved
+
 -- over every memory of this range what is saved of the window gives it back
-abbrev pub RestoresIt : DeviceKind → Memory → WindowState → Type 0
-RestoresIt kind old w = (m : Memory) → SameRange old m → window_restored kind m (saved_window w) ≡ Some w
+abbrev pub RestoresIt : (Memory → SavedWindow → Option WindowState) → Memory → WindowState → Type 0
+RestoresIt restored old w = (m : Memory) → SameRange old m → restored m (saved_window w) ≡ Some w
 
 -- the slot's devices offer what devices of their kind do
 pub record OffersFeatures (slot : BoardSlot) : Type 0 where
@@ -47,8 +56,8 @@ pub record OffersFeatures (slot : BoardSlot) : Type 0 where
 pub record IsSnapshotOf (bytes : List ℕ) (slot : BoardSlot) : Type 0 where
   pub spelled : IsSnapshot bytes (saved_slot slot) slot.pending
   pub offers : OffersFeatures slot
-  pub block : RestoresIt Block slot.memory slot.block
-  pub console : RestoresIt Console slot.memory slot.console
+  pub block : RestoresIt block_restored slot.memory slot.block
+  pub console : RestoresIt console_restored slot.memory slot.console
 
 -- A buffer that held these bytes holds the slot's snapshot at its front, which has so many. The others stay.
 pub record IsSavedTo (slot : BoardSlot) (old new : List ℕ) (len : ℕ) : Type 0 where
@@ -74,8 +83,8 @@ pub record Suits (saved : SavedSlot) (slot : BoardSlot) : Type 0 where
 -- the disk with its mode and identity, and whether an event of the slot has met a refusal.
 pub record TakesUp (old : BoardSlot) (saved : SavedSlot) (pending : List ℕ) (new : BoardSlot) : Type 0 where
   pub suits : Suits saved old
-  pub block : window_restored Block old.memory saved.block ≡ Some new.block
-  pub console : window_restored Console old.memory saved.console ≡ Some new.console
+  pub block : block_restored old.memory saved.block ≡ Some new.block
+  pub console : console_restored old.memory saved.console ≡ Some new.console
   pub is :
       new
       ≡ record old {
@@ -98,10 +107,10 @@ pub record IsRestored (old : BoardSlot) (bytes : List ℕ) (new : BoardSlot) : T
 abbrev pub Prevents : BoardSlot → SavedSlot → RestoreFault → Type 0
 Prevents slot saved (Snapshot fault) = ⊥
 Prevents slot saved OtherSlot = ¬ Suits saved slot
-Prevents slot saved BadBlock = Suits saved slot × (window_restored Block slot.memory saved.block ≡ None)
+Prevents slot saved BadBlock = Suits saved slot × (block_restored slot.memory saved.block ≡ None)
 Prevents slot saved BadConsole =
-    Suits saved slot × (IsSome (window_restored Block slot.memory saved.block)
-    × (window_restored Console slot.memory saved.console ≡ None))
+    Suits saved slot × (IsSome (block_restored slot.memory saved.block)
+    × (console_restored slot.memory saved.console ≡ None))
 
 -- The bytes are a snapshot, and this is why the slot doesn't take up what was saved.
 pub record IsPrevented (slot : BoardSlot) (bytes : List ℕ) (why : RestoreFault) : Type 0 where
@@ -113,7 +122,7 @@ pub record IsPrevented (slot : BoardSlot) (bytes : List ℕ) (why : RestoreFault
 -- the one cause for which a slot doesn't take up these bytes: they are no snapshot, and this is their first
 -- fault, or what was saved prevents it
 abbrev pub IsCauseOf : BoardSlot → List ℕ → RestoreFault → Type 0
-IsCauseOf slot bytes (Snapshot fault) = snapshot_at bytes ≡ Err fault
+IsCauseOf slot bytes (Snapshot fault) = IsFirstFault bytes fault
 IsCauseOf slot bytes why = IsPrevented slot bytes why
 
 -- ---- the round trip

@@ -93,12 +93,14 @@ block_features read_only =
 abbrev pub console_features : ℕ
 console_features = console_size + console_emerg_write + device_features
 
--- Each window is that of its device, of its kind and offering what it offers. Both are sound for the memory:
--- their ready queues lie in it. And no more input is pending than may be.
+-- Each window is that of its device, of its kind and offering what it offers. The block device's has
+-- ConfigGeneration 0, as its configuration never changes (2.5). Both are sound for the memory: their ready
+-- queues lie in it. And no more input is pending than may be.
 pub record IsSoundSlot (memory : Memory) (read_only : Bool) (block console : WindowState)
     (pending : List ℕ) : Type 0 where
   pub block_kind : block.kind ≡ Block
   pub block_offers : block.negotiation.offered ≡ block_features read_only
+  pub block_generation : block.config_generation ≡ 0
   pub console_kind : console.kind ≡ Console
   pub console_offers : console.negotiation.offered ≡ console_features
   pub block_sound : IsSound memory block

@@ -12,7 +12,8 @@ pub enum RestoreFault {
     /// The slot has another memory range, another disk, or devices that offer other features.
     #[error("the slot has another memory, another disk or other devices")]
     OtherSlot,
-    /// The block device's window can't be so: its status or its features can't stand so, or its queue can't be ready.
+    /// The block device's window can't be so: its status or its features can't stand so, its queue can't be ready, or
+    /// ConfigGeneration isn't 0.
     #[error("the block device's window can't be so")]
     BadBlock,
     /// The console's window can't be so.

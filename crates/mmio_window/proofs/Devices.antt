@@ -1,6 +1,6 @@
 -- A window stays that of its device: whatever is written to it and however its queues are served, its kind
--- and the features that it offers stay.
-use Rattle.std.proofs.Common.{◌≡◌, ◌==◌, ◌∙◌, ℕ, Bool, true, false, Option, Some, None, refl, subst, sym}
+-- and the features that it offers stay, and ConfigGeneration where its configuration never changes.
+use Rattle.std.proofs.Common.{◌≡◌, ◌==◌, ◌∙◌, ℕ, Bool, true, false, Option, Some, None, ap, refl, subst, sym}
 use Rattle.std.specs.Prelude.{◌&&◌, if◌then◌else◌, nat_lt}
 use Rattle.std.specs.Option.{option_map_or}
 use Rattle.guest_memory.specs.Memory.{Memory}
@@ -35,13 +35,18 @@ use Rattle.mmio_window.proofs.Writes.{written_by_cases}
 pub record KeepsDevice (old new : WindowState) : Type 0 where
   pub kind : new.kind ≡ old.kind
   pub offered : new.negotiation.offered ≡ old.negotiation.offered
+  pub generation : configuration_changes old.kind ≡ false → new.config_generation ≡ old.config_generation
 
 KeepsDevice-self : (w : WindowState) → KeepsDevice w w
-KeepsDevice-self w = record { kind = refl; offered = refl }
+KeepsDevice-self w = record { kind = refl; offered = refl; generation = λ never. refl }
 
 KeepsDevice-trans : (a b c : WindowState) → KeepsDevice a b → KeepsDevice b c → KeepsDevice a c
-KeepsDevice-trans a b c first second =
-    record { kind = second.kind ∙ first.kind; offered = second.offered ∙ first.offered }
+KeepsDevice-trans a b c first second = record {
+  kind = second.kind ∙ first.kind;
+  offered = second.offered ∙ first.offered;
+  generation = λ never. second.generation (ap configuration_changes first.kind ∙ never)
+      ∙ first.generation never;
+}
 
 KeepsDevice-at : (a b c : WindowState) → c ≡ b → KeepsDevice a b → KeepsDevice a c
 KeepsDevice-at a b c is keeps = subst (KeepsDevice a) (sym is) keeps
@@ -51,8 +56,10 @@ KeepsDevice-at a b c is keeps = subst (KeepsDevice a) (sym is) keeps
 with_registers_kept : (queue : Option QueueIndex) (change : QueueRegisters → QueueRegisters) (w : WindowState)
     → KeepsDevice w (with_registers_in queue change w)
 with_registers_kept None change w = KeepsDevice-self w
-with_registers_kept (Some Queue0) change w = record { kind = refl; offered = refl }
-with_registers_kept (Some Queue1) change w = record { kind = refl; offered = refl }
+with_registers_kept (Some Queue0) change w =
+    record { kind = refl; offered = refl; generation = λ never. refl }
+with_registers_kept (Some Queue1) change w =
+    record { kind = refl; offered = refl; generation = λ never. refl }
 
 status_kept : (zero_written : Bool) (s : NegotiationState) (status : ℕ)
     → (if zero_written then fresh s.offered else record s { status = status }).offered ≡ s.offered
@@ -67,8 +74,8 @@ features_kept false s accepted = refl
 status_by_test : (zero_written : Bool) (w : WindowState) (n : NegotiationState)
     → n.offered ≡ w.negotiation.offered
     → KeepsDevice w (if zero_written then reset w else record w { negotiation = n })
-status_by_test true w n same = record { kind = refl; offered = refl }
-status_by_test false w n same = record { kind = refl; offered = same }
+status_by_test true w n same = record { kind = refl; offered = refl; generation = λ never. refl }
+status_by_test false w n same = record { kind = refl; offered = same; generation = λ never. refl }
 
 register_kept : (register : Register) (value : ℕ) (m : Memory) (w : WindowState)
     → KeepsDevice w (register_written register value m w)
@@ -82,9 +89,10 @@ register_kept register value m w =
       kind = refl;
       offered = features_kept (has w.negotiation.status features_ok) w.negotiation
           (with_feature_word w.driver_features_sel value w.negotiation.accepted);
+      generation = λ never. refl;
     })
     (λ (device_sel driver_sel queue_sel shm_sel : ℕ) (interrupts : Interrupts).
-    record { kind = refl; offered = refl })
+    record { kind = refl; offered = refl; generation = λ never. refl })
     (KeepsDevice-self w) register tt
 
 by_register : (register : Option Register) (value : ℕ) (m : Memory) (w : WindowState)
@@ -105,29 +113,31 @@ KeepsDevice-written offset width value m w =
 
 -- ---- the device's events
 
-changed_kept : (changes ready : Bool) (w : WindowState)
+changed_kept : (changes ready : Bool) (w : WindowState) → configuration_changes w.kind ≡ changes
     → KeepsDevice w (if changes && ready then with_config_interrupt (with_generation_counted w) else if
     changes then with_generation_counted w else w)
-changed_kept true true w = record { kind = refl; offered = refl }
-changed_kept true false w = record { kind = refl; offered = refl }
-changed_kept false ready w = KeepsDevice-self w
+changed_kept true true w is =
+    record { kind = refl; offered = refl; generation = λ never. absurd (cc (is, never)) }
+changed_kept true false w is =
+    record { kind = refl; offered = refl; generation = λ never. absurd (cc (is, never)) }
+changed_kept false ready w is = KeepsDevice-self w
 
 -- a change of the configuration keeps it
 pub KeepsDevice-config_changed : (w : WindowState) → KeepsDevice w (with_config_changed w)
 KeepsDevice-config_changed w =
-    changed_kept (configuration_changes w.kind) (has w.negotiation.status driver_ok) w
+    changed_kept (configuration_changes w.kind) (has w.negotiation.status driver_ok) w refl
 
 with_ring_kept : (q : ℕ) (w : WindowState) (ring : Queue) → KeepsDevice w (with_ring q w ring)
 with_ring_kept q w ring =
     with_registers_kept (queue_of w.kind q) (λ registers. record registers { ring = Some ring }) w
 
 used_kept : (wanted : Bool) (w : WindowState) → KeepsDevice w (if wanted then with_used_interrupt w else w)
-used_kept true w = record { kind = refl; offered = refl }
+used_kept true w = record { kind = refl; offered = refl; generation = λ never. refl }
 used_kept false w = KeepsDevice-self w
 
 ending_kept : (ending : Ending) (w : WindowState) → KeepsDevice w (after_ending ending w)
 ending_kept Spent w = KeepsDevice-self w
-ending_kept (Faulted fault) w = record { kind = refl; offered = refl }
+ending_kept (Faulted fault) w = record { kind = refl; offered = refl; generation = λ never. refl }
 ending_kept Refused w = KeepsDevice-self w
 
 service_kept : (q : ℕ) (ending : Ending) (wanted : Bool) (w : WindowState) (last : Queue)

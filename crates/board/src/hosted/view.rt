@@ -20,11 +20,12 @@ impl<A: Allocator> HostedBoard<A> {
         Some(slot.counters())
     }
 
-    /// The window of the slot's block device.
+    /// The window of the slot's block device. Its ConfigGeneration is always 0.
     pub fn block_window(&self, slot: u8) -> Option<&Window>
         ensures there { IsSome result ↔ (slot < length self.now) }
         ensures value { IfSome result (λ window.
             IsSomeAnd (slice_get self.now slot) (λ found. window.now ≡ found.slot.block)) }
+        ensures generation { IfSome result (λ window. window.now.config_generation ≡ 0) }
     {
         let slot = self.slot(slot)?;
         Some(slot.devices().block_window())

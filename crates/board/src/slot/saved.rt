@@ -1,10 +1,11 @@
 //! A slot's snapshot, and a slot that takes one up.
 
-ghost use Rattle.std.specs.Prelude.{◌≡◌, ◌≢◌, ◌↔◌, ◌<◌, ◌≤◌, ℕ, IfErr, IfOk, IsErr, IsOk, IsTrue, List, OnErr, OnOk, Some, length};
+ghost use Rattle.std.specs.Prelude.{◌≡◌, ◌≢◌, ◌↔◌, ◌<◌, ◌≤◌, ℕ, IfErr, IfOk, IfSome, IsErr, IsOk, IsTrue, List, OnErr, OnOk, Some, length};
 ghost use Rattle.guest_memory.specs.Memory.{Memory};
-ghost use Rattle.mmio_window.specs.Saved.{window_restored};
+ghost use Rattle.mmio_window.specs.declared.device_kind.DeviceKind.{DeviceKind};
+ghost use Rattle.mmio_window.specs.Saved.{saved_window, window_restored};
 ghost use Rattle.mmio_window.specs.Soundness.{IsSound};
-ghost use Rattle.board.specs.Saved.{IsAs, IsCauseOf, IsLike, IsRestored, IsSavedTo, IsSnapshotOf, OffersFeatures, Prevents, Suits, TakesUp, saved_slot, snapshot_of};
+ghost use Rattle.board.specs.Saved.{IsAs, IsCauseOf, IsLike, IsRestored, IsSavedTo, IsSnapshotOf, OffersFeatures, Prevents, Suits, TakesUp, block_restored, saved_slot, snapshot_of};
 ghost use Rattle.board.specs.declared.event.EventKind.{EventKind};
 ghost use Rattle.board.specs.declared.reply.Reply.{Reply};
 ghost use Rattle.board.specs.Hosting.{device_at};
@@ -16,7 +17,7 @@ ghost use Rattle.board.specs.World.{MayGive};
 use crate::reply::Reply;
 use crate::saved::RestoreFault;
 use crate::slot::Slot;
-use mmio_window::{DeviceKind, Window};
+use mmio_window::{DeviceKind, SavedWindow, Window};
 use negotiation::Flags;
 use snapshot::{SavedSlot, ShortBuffer};
 use std::alloc::{AllocError, Allocator};
@@ -123,7 +124,7 @@ impl<A: Allocator> Slot<A> {
         if !self.suits(saved) {
             return Err(RestoreFault::OtherSlot);
         }
-        let Some(block) = Window::restored(DeviceKind::Block, &saved.block, &self.memory) else {
+        let Some(block) = self.block_restored(&saved.block) else {
             return Err(RestoreFault::BadBlock);
         };
         let Some(console) = Window::restored(DeviceKind::Console, &saved.console, &self.memory)
@@ -134,6 +135,20 @@ impl<A: Allocator> Slot<A> {
         self.console = console;
         self.console_device.restore(pending, saved.cols, saved.rows);
         Ok(())
+    }
+
+    // The block device's window as it was saved. A disk's configuration never changes, so its generation is 0.
+    fn block_restored(&self, saved: &SavedWindow) -> Option<Window>
+        ensures value { result ≡ block_restored self.now.memory saved.now }
+        ensures kind { IfSome result (λ window. window.kind ≡ DeviceKind.Block) }
+        ensures sound { IfSome result (IsSound self.now.memory) }
+        ensures generation { IfSome result (λ window. window.config_generation ≡ 0) }
+        ensures again { IfSome result (λ window. saved_window window ≡ saved.now) }
+    {
+        if saved.config_generation != 0 {
+            return None;
+        }
+        Window::restored(DeviceKind::Block, saved, &self.memory)
     }
 
     // Whether the slot is of the description that was saved.

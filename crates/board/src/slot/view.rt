@@ -11,7 +11,8 @@ use std::alloc::Allocator;
 impl<A: Allocator> Slot<A> {
     /// The block device's window.
     pub(crate) fn block_window(&self) -> &Window
-        ensures { result.now ≡ self.now.block }
+        ensures value { result.now ≡ self.now.block }
+        ensures generation { result.now.config_generation ≡ 0 }
     {
         &self.block
     }

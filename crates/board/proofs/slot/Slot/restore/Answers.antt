@@ -17,4 +17,4 @@ returns-in-Ok-clause-taken g c = λ slot is like.
 
 pub returns-in-Err-clause-taken : goal.returns-in-Err-clause-taken
 returns-in-Err-clause-taken g c =
-    λ slot is like. absurd (not_refused slot c.args.from.now _ is c.in-Err.ensures.exact)
+    λ slot is like. absurd (not_refused slot c.args.from.now _ is c.in-Err.ensures.fault)
