@@ -467,6 +467,8 @@ class Window:
         for queue in [*new.queues, Queue(0)][:2]:
             queue.restore(snapshot, new, memory)
         new.interrupts, new.generation = snapshot.choice(range(4)), snapshot.value(4)
+        if self.kind == "b" and new.generation:
+            raise NoSnapshot
         return new
 
     def may_accept(self):
