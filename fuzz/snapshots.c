@@ -374,6 +374,8 @@ static void hand(struct guest *guest, const struct snapshot *made, bool must_be_
         need(answer == KALYUBOS_BAD_SNAPSHOT, "bytes that spell no snapshot", tried);
     else if (!are_alike(made, &layout, &before))
         need(answer == KALYUBOS_OTHER_SLOT, "a slot of another description", tried);
+    else if (get(made->bytes + layout.interrupts[0] + 1, 4) != 0)
+        need(answer == KALYUBOS_BAD_STATE, "a disk of another generation", tried);
     else
         need(answer == KALYUBOS_DONE || answer == KALYUBOS_BAD_STATE, "a slot of this description", tried);
     need(are_same(&after, answer == KALYUBOS_DONE ? made : &before), "what a restore leaves", tried);

@@ -78,7 +78,8 @@ static void check_refusals(void)
         { 28, 5, KALYUBOS_OTHER_SLOT },      { 36, 1, KALYUBOS_OTHER_SLOT },     /* sectors, read-only */
         { 37, 'D', KALYUBOS_OTHER_SLOT },    { 61, 0x45, KALYUBOS_OTHER_SLOT },  /* identity, an offered feature */
         { 69, 0x10, KALYUBOS_BAD_STATE },    { 69, 8, KALYUBOS_BAD_STATE },      /* a status bit without a name, 8 alone */
-        { 165, 0x20, KALYUBOS_BAD_STATE },                                     /* the same of the console */
+        { 153, 1, KALYUBOS_BAD_STATE },      { 156, 0x80, KALYUBOS_BAD_STATE },  /* ConfigGeneration of the disk */
+        { 165, 0x20, KALYUBOS_BAD_STATE },                                     /* a status bit of the console */
     };
     uint8_t bytes[LEN + 1];
     for (size_t i = 0; i < sizeof rows / sizeof *rows; i++) {
