@@ -29,7 +29,7 @@ const MOST_SECTORS: u32 = 65536;
 pub struct SectorCache<I: Image, A: Allocator = Global> {
     image: I,
     kept: Kept<A>,
-    // The bytes of the sector that was lent last.
+    // The bytes of the sector that was lent or written last.
     lent: [u8; 512],
 }
 
@@ -117,13 +117,16 @@ impl<I: Image, A: Allocator + Copy> SectorCache<I, A> {
     }
 
     #[tactic(auto, using(crate::proofs::Coherence::coherent_forgotten, crate::proofs::Coherence::coherent_written, crate::proofs::Coherence::coherent_torn))]
-    /// Writes a sector. After an `Err` that sector may hold any 512 bytes.
+    /// Writes a sector. After an `Err` that sector may hold any 512 bytes. `from` is read once, since it may lie where
+    /// a guest writes meanwhile: the image gets a copy, and that one is kept.
     pub fn write(&mut self, sector: u64, from: &[u8; 512]) -> Result<(), ImageError>
         requires { sector < (I.disk self.old).sector_count }
         ensures ok { OnOk result (I.disk self.new ≡ written sector from.now (I.disk self.old)) }
         ensures err { OnErr result (IsTorn sector (I.disk self.old) (I.disk self.new)) }
         ensures touches { TouchesSector I.moment I.may_leave I.left_since sector self.old self.new }
     {
+        self.lent = *from;
+        let from = &self.lent;
         self.kept.forget(sector);
         self.image.write_sector(sector, from)?;
         if lend_one(&self.image, sector).is_none() {
