@@ -27,7 +27,7 @@ impl<A: Allocator> Device<Pending<A>> for Receive {
 
     ghost device = { λ fixed. receive };
 
-    ghost Refuses = { λ fixed pending memory buffers why. ⊥ };
+    ghost Refuses = { λ fixed left pending memory buffers why. ⊥ };
 
     ghost IsReady = { λ here pending. Unit {0} };
 

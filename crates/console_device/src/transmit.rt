@@ -33,7 +33,7 @@ impl<O: Outlet> Device<O> for Transmit {
 
     ghost device = { λ limit. transmit_within limit };
 
-    ghost Refuses = { λ limit out memory buffers why.
+    ghost Refuses = { λ limit left out memory buffers why.
         (transmit_within limit).LacksMemory out (readable_of memory buffers) (length (writable_of buffers)) };
 
     ghost IsReady = { λ here out. Unit {0} };

@@ -28,8 +28,8 @@ pub trait Device<B> {
 
     ghost device: { Setup → service.Device State };
 
-    // this chain may be left on offer, for this
-    ghost Refuses: { Setup → State → Memory → List Buffer → Self.Refusal → Type 0 };
+    // this chain may be left on offer, for this; the backend is left so
+    ghost Refuses: { Setup → B → State → Memory → List Buffer → Self.Refusal → Type 0 };
 
     // what must hold before a chain, and holds after it
     ghost IsReady: { Self → B → Type 0 };
@@ -52,7 +52,8 @@ pub trait Device<B> {
         requires ready { IsReady self.old backend.old }
         ensures does { IfOk result (λ used. Does (device (setup self.old backend.old)) mem.old mem.new chain.now
             (state self.old backend.old) (state self.new backend.new) used.len used.wrote) }
-        ensures refuses { IfErr result (Refuses (setup self.old backend.old) (state self.old backend.old) mem.old chain.now) }
+        ensures refuses { IfErr result (Refuses (setup self.old backend.old) backend.new (state self.old backend.old)
+            mem.old chain.now) }
         ensures kept { OnErr result (state self.new backend.new ≡ state self.old backend.old) }
         ensures unwritten { OnErr result (mem.new ≡ mem.old) }
         ensures setup { setup self.new backend.new ≡ setup self.old backend.old }

@@ -63,7 +63,8 @@ pub fn serve_queue<B, D: Device<B>, M: Allocator>(
     ensures leaves { IfOk result (LeavesQueue (D.device (D.setup device.old backend.old)) stage budget
         (site_at mem.old queue.old (D.state device.old backend.old)) (site_at mem.new queue.new (D.state device.new backend.new))) }
     ensures refuses { IfErr result (RefusesAt (D.device (D.setup device.old backend.old))
-        (D.Refuses (D.setup device.old backend.old)) stage budget (site_at mem.old queue.old (D.state device.old backend.old))
+        (D.Refuses (D.setup device.old backend.old) backend.new) stage budget
+        (site_at mem.old queue.old (D.state device.old backend.old))
         (site_at mem.new queue.new (D.state device.new backend.new)) chain.new) }
     ensures setup { D.setup device.new backend.new ≡ D.setup device.old backend.old }
     ensures keeps { IsKept D.Keeps device.old backend.old device.new backend.new }
@@ -101,7 +102,8 @@ fn serve_chains<B, D: Device<B>, M: Allocator>(
     ensures stops { IfOk result (Stops (D.device (D.setup device.old backend.old)) budget
         (site_at mem.old queue.old (D.state device.old backend.old)) (site_at mem.new queue.new (D.state device.new backend.new))) }
     ensures refuses { IfErr result (IsLeftAt (D.device (D.setup device.old backend.old))
-        (D.Refuses (D.setup device.old backend.old)) budget (site_at mem.old queue.old (D.state device.old backend.old))
+        (D.Refuses (D.setup device.old backend.old) backend.new) budget
+        (site_at mem.old queue.old (D.state device.old backend.old))
         (site_at mem.new queue.new (D.state device.new backend.new)) chain.new) }
     ensures setup { D.setup device.new backend.new ≡ D.setup device.old backend.old }
     ensures keeps { IsKept D.Keeps device.old backend.old device.new backend.new }

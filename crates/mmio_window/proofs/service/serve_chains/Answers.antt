@@ -52,7 +52,7 @@ pub returns-in-Err-serve-clause-refuses : goal.returns-in-Err-serve-clause-refus
 returns-in-Err-serve-clause-refuses g c =
     let same = c.loop-left.invariant.1 in
     left_at c.loop-left.invariant.0
-    (g.D.Device.Refuses (g.D.Device.setup c.args.device.now c.args.backend.now))
+    (g.D.Device.Refuses (g.D.Device.setup c.args.device.now c.args.backend.now) c.serve.new.backend)
     c.serve.new.mem c.take.new.self (g.D.Device.state c.serve.new.self c.serve.new.backend) c.take.new.chain
     c.in-Ok-Some.token c.in-Err-serve.why
     (rw (← same) (sym c.takes.ensures ∙ c.loop-left-test.true))
