@@ -58,14 +58,6 @@ read_fits m buffers capacity request sector count room payload good is servable 
     let here : P (Read sector count) = subst P is servable in
     omega (arith, here.1, all, writable_few m buffers good)
 
-pub zeroes_fit : (m : Memory) (buffers : List Buffer) (capacity : ℕ) (request : Request) (segments room : ℕ)
-    → Good m buffers → request ≡ WriteZeroes segments
-    → IsServable capacity request (payload_of (readable_of m buffers)) room → 16 * segments < 2 ^ 64
-zeroes_fit m buffers capacity request segments room good is servable =
-    let P : Request → Type 0 = λ r. IsServable capacity r (payload_of (readable_of m buffers)) room in
-    let here : P (WriteZeroes segments) = subst P is servable in
-    omega (arith, here.0, readable_few m buffers good, length-drop 16 (readable_of m buffers))
-
 -- nothing is done
 pub done_rejected : {identity : List ℕ} (request : Request) (buffers : List Buffer) (m : Memory) (disk : Disk)
     (status : RequestStatus) → request ≡ Rejected status

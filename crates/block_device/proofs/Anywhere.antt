@@ -23,11 +23,12 @@ use Rattle.sector_cache.specs.Disk.{Disk}
 use Rattle.block_device.specs.declared.device.BlockDevice.{BlockDevice}
 use Rattle.block_device.specs.declared.request.Request.{Request}
 use Rattle.block_device.specs.declared.request.Request.TheVariants.{Rejected, Read, Write, Flush, GetId, WriteZeroes}
-use Rattle.block_device.specs.Asking.{EndsUnasked, IsAsked, asks_image, unasked_device}
+use Rattle.block_device.specs.Asking.{EndsUnasked, asks_image, unasked_device}
 use Rattle.block_device.specs.Device.{GivesBy}
 use Rattle.block_device.specs.Extent.{extent_disk}
 use Rattle.block_device.specs.declared.hosting.Flight.{Flight}
 use Rattle.block_device.specs.Hosting.{AsksAt, HostsTo, IfAsks, hosted_by, hosted_device, site_of}
+use Rattle.block_device.specs.Operation.{IsTold}
 use Rattle.block_device.specs.Outcome.{Completes, Outcome}
 use Rattle.block_device.specs.Request.{payload_of, request_of}
 use Rattle.block_device.proofs.OneLook.{completes_from}
@@ -96,12 +97,13 @@ hosted_anywhere device disk = record {
 
 -- the chain that it leaves asks for the disk
 pub asks_at : (device : BlockDevice) (stage : Stage) (budget : Budget) (m m' : Memory) (queue last : Queue)
-    (buffers : List Buffer) (refused : Refused Request)
-    → RefusesAt (hosted_device device) (λ state memory buffers request. IsAsked device memory buffers request)
+    (buffers : List Buffer) (runs : List Segment) (refused : Refused Request)
+    → RefusesAt (hosted_device device)
+    (λ state memory buffers request. IsTold device memory buffers request runs)
     stage budget (site_at m queue tt) (site_at m' last tt) buffers refused
     → (disk : Disk) → AsksAt device stage (site_of device m queue disk) (site_of device m' last disk) buffers
     refused.token refused.why
-asks_at device stage budget m m' queue last buffers refused h disk =
+asks_at device stage budget m m' queue last buffers runs refused h disk =
     let seen = extent_disk device.extent disk in
     record {
       opens = h.opens;
@@ -112,7 +114,7 @@ asks_at device stage budget m m' queue last buffers refused h disk =
         offers = h.left.ready;
         offered = h.left.offered;
         taken = h.left.taken;
-        asked = h.left.refuses;
+        asked = h.left.refuses.asked;
       };
       good = h.left.good;
     }

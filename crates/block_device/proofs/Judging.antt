@@ -1,18 +1,22 @@
--- A request that was read, and its segments, one after another, that are judged.
-use Rattle.std.proofs.Common.{◌≡◌, ℕ, ◌+◌, ◌-◌, ◌*◌, ◌/◌, ◌<◌, ◌≤◌, ◌&&◌, Bool, true, false, List, [], ◌∷◌, length, take, drop, get_or, refl, sym, ap, ◌∙◌, arith, nat_lt, length-drop}
-use Rattle.std.specs.List.{list_all}
+-- A request that was read, and its segments, which are read and then judged.
+use Rattle.std.proofs.Common.{◌≡◌, ℕ, ◌+◌, ◌-◌, ◌*◌, ◌/◌, ◌≤◌, Bool, true, false, not, cond, List, [], ◌∷◌, ◌++◌, length, map, take, drop, refl, sym, ap, subst, ◌∙◌, arith, nat_lt, length-drop}
+use Rattle.std.specs.List.{list_all, range_with_len}
 use Rattle.std.proofs.lemmas.Bool.Decides.{nat_tests}
 use Rattle.std.proofs.lemmas.List.{drop-drop, take-take, take_all}
-use Rattle.std.proofs.lemmas.List.Folds.{list_all-append}
-use Rattle.std.proofs.lemmas.List.FromFn.{get_or-map-range_with_len, length-map-range_with_len, map-range_with_len_more}
-use Rattle.std.proofs.lemmas.List.Sums.{AllPass-from_list_all}
+use Rattle.std.proofs.lemmas.List.FromFn.{length-map-range_with_len, map-range_with_len_more}
+use Rattle.guest_memory.specs.Memory.{Memory}
+use Rattle.chain.specs.declared.segment.Buffer.{Buffer}
+use Rattle.chain.specs.Bytes.{readable_of}
 use Rattle.byteorder.specs.Endian.{little_number}
 use Rattle.block_device.specs.declared.device.BlockDevice.{BlockDevice}
 use Rattle.block_device.specs.declared.request.Request.{Request}
-use Rattle.block_device.specs.declared.zeroes.WriteZeroesSegment.{WriteZeroesSegment}
-use Rattle.block_device.specs.Request.{payload_of, request_of, sector_in, type_of, typed_request}
-use Rattle.block_device.specs.Zeroes.{has_known_flags, has_sectors_within, segment_at, segment_of, segments_in}
-use Rattle.block_device.proofs.Zeroing.{first_segments}
+use Rattle.block_device.specs.declared.segments.WriteZeroesSegment.{WriteZeroesSegment}
+use Rattle.block_device.specs.declared.request.Request.TheVariants.{Rejected, WriteZeroes}
+use Rattle.block_device.specs.declared.request.RequestStatus.{RequestStatus}
+use Rattle.block_device.specs.declared.request.RequestStatus.TheVariants.{IoError, Unsupported}
+use Rattle.block_device.specs.Asking.{IsAsked, IsRejected, IsUnread}
+use Rattle.block_device.specs.Request.{AreJudged, AreRead, payload_of, request_of, sector_in, type_of, typed_request, write_zeroes_request_of}
+use Rattle.block_device.specs.Zeroes.{are_segments, has_known_flags, has_sectors_within, segment_at, segment_of, segments_in}
 
 -- a header that lies in one part of the readable list
 pub header_in : (part header readable : List ℕ) → part ≡ take (length part) readable → 16 ≤ length part
@@ -64,67 +68,102 @@ pub same_segment : (a b c d e f : ℕ) → a ≡ d → b ≡ e → c ≡ f
     (record { sector = d; count = e; flags = f })
 same_segment a b c d e f p q r = rw (p, q, r) refl
 
--- of the segments before an index these flags are known, and these sectors within the disk
-pub record IsJudged (capacity : ℕ) (payload : List ℕ) (index : ℕ) (known within : Bool) : Type 0 where
-  pub flags : known ≡ list_all has_known_flags (first_segments payload index)
-  pub sectors : within ≡ list_all (has_sectors_within capacity) (first_segments payload index)
+-- the first segments of a payload, which were read so far
+abbrev pub first_segments : List ℕ → ℕ → List WriteZeroesSegment
+first_segments payload n = map (segment_at payload) (range_with_len 0 n)
 
-alone : (b : Bool) → (b && true) ≡ b
-alone true = refl
-alone false = refl
+pub count_first : (payload : List ℕ) (n : ℕ) (read : List WriteZeroesSegment)
+    → read ≡ first_segments payload n → length read ≡ n
+count_first payload n read are = ap length are ∙ length-map-range_with_len (segment_at payload) 0 n
 
-list_all-more : (p : WriteZeroesSegment → Bool) (payload : List ℕ) (index : ℕ)
-    → list_all p (first_segments payload (index + 1))
-    ≡ (list_all p (first_segments payload index) && p (segment_at payload index))
-list_all-more p payload index =
-    ap (list_all p) (map-range_with_len_more (segment_at payload) 0 index index (omega arith))
-    ∙ list_all-append p (first_segments payload index) (segment_at payload index ∷ [])
-    ∙ ap (λ b. list_all p (first_segments payload index) && b) (alone (p (segment_at payload index)))
+-- one more
+pub segments_more : (payload : List ℕ) (index : ℕ) (read more : List WriteZeroesSegment)
+    (segment : WriteZeroesSegment) → read ≡ first_segments payload index → segment ≡ segment_at payload index
+    → more ≡ read ++ segment ∷ [] → more ≡ first_segments payload (index + 1)
+segments_more payload index read more segment are is put =
+    put ∙ ap (λ l. l ++ segment ∷ []) are ∙ ap (λ s. first_segments payload index ++ s ∷ []) is
+    ∙ sym (map-range_with_len_more (segment_at payload) 0 index index (omega arith))
 
--- one test more of one segment more
-one_more : (p : WriteZeroesSegment → Bool) (payload : List ℕ) (index : ℕ) (before both : Bool)
-    (segment : WriteZeroesSegment)
-    → before ≡ list_all p (first_segments payload index) → segment ≡ segment_at payload index
-    → both ≡ (before && p segment) → both ≡ list_all p (first_segments payload (index + 1))
-one_more p payload index before both segment was is now =
-    now ∙ ap (λ s. before && p s) is ∙ ap (λ b. b && p (segment_at payload index)) was
-    ∙ sym (list_all-more p payload index)
+-- and all of them
+pub segments_all : (payload : List ℕ) (count index : ℕ) (read : List WriteZeroesSegment)
+    → read ≡ first_segments payload index → length payload ≡ 16 * count → index ≡ count
+    → read ≡ segments_in payload
+segments_all payload count index read are size all =
+    let whole : index ≡ length payload / 16 = omega (arith, size, all) in
+    are ∙ ap (first_segments payload) whole
 
-pub judged_more : (capacity : ℕ) (payload : List ℕ) (index : ℕ) (known within known' within' : Bool)
-    (segment : WriteZeroesSegment) → IsJudged capacity payload index known within
-    → segment ≡ segment_at payload index → known' ≡ (known && has_known_flags segment)
-    → within' ≡ (within && has_sectors_within capacity segment)
-    → IsJudged capacity payload (index + 1) known' within'
-judged_more capacity payload index known within known' within' segment j is flags sectors = record {
-  flags = one_more has_known_flags payload index known known' segment j.flags is flags;
-  sectors = one_more (has_sectors_within capacity) payload index within within' segment j.sectors is sectors;
+count_of : (payload : List ℕ) (segments : List WriteZeroesSegment) → segments ≡ segments_in payload
+    → length segments ≡ length payload / 16
+count_of payload segments are =
+    ap length are ∙ length-map-range_with_len (segment_at payload) 0 (length payload / 16)
+
+-- by the two tests that they must pass
+by_tests : (len : ℕ) (read_only fit known within : Bool) → read_only ≡ false → fit ≡ true
+    → cond read_only (Rejected IoError)
+    (cond (not fit) (Rejected IoError)
+    (cond (not known) (Rejected Unsupported)
+    (cond (not within) (Rejected IoError) (WriteZeroes (len / 16)))))
+    ≡ cond (not known) (Rejected Unsupported) (cond (not within) (Rejected IoError) (WriteZeroes (len / 16)))
+by_tests len read_only fit known within e f = rw (e, f) refl
+
+module _ (device : BlockDevice) (payload : List ℕ) (segments : List WriteZeroesSegment)
+    (read : AreRead device payload segments) where
+  judged_by : (known within : Bool) → known ≡ list_all has_known_flags segments
+      → within ≡ list_all (has_sectors_within device.extent.count) segments
+      → write_zeroes_request_of device payload
+      ≡ cond (not known) (Rejected Unsupported)
+      (cond (not within) (Rejected IoError) (WriteZeroes (length payload / 16)))
+  judged_by known within flags sectors =
+      by_tests (length payload) device.read_only (are_segments (length payload))
+      (list_all has_known_flags (segments_in payload))
+      (list_all (has_sectors_within device.extent.count) (segments_in payload)) read.writable read.fit
+      ∙ rw (flags, sectors, read.are) refl
+
+  -- a flag of one isn't known
+  pub judged_unknown : list_all has_known_flags segments ≡ false
+      → write_zeroes_request_of device payload ≡ Rejected Unsupported
+  judged_unknown flags =
+      judged_by false (list_all (has_sectors_within device.extent.count) segments) (sym flags) refl
+
+  -- a sector of one is behind the disk's last one
+  pub judged_outside : list_all has_known_flags segments ≡ true
+      → list_all (has_sectors_within device.extent.count) segments ≡ false
+      → write_zeroes_request_of device payload ≡ Rejected IoError
+  judged_outside flags sectors = judged_by true false (sym flags) (sym sectors)
+
+  -- they pass all tests
+  pub judged_are : list_all has_known_flags segments ≡ true
+      → list_all (has_sectors_within device.extent.count) segments ≡ true → AreJudged device payload segments
+  judged_are flags sectors =
+      let count = count_of payload segments read.are in
+      record {
+        are = read.are;
+        size = grind (arith, nat_tests, read.fit, count);
+        few = grind (arith, nat_tests, read.fit, count);
+        within = sectors;
+        request = ap WriteZeroes count ∙ sym (judged_by true true (sym flags) (sym sectors));
+      }
+
+-- a chain whose segments were judged asks the image
+pub judged_asks : (device : BlockDevice) (m : Memory) (buffers : List Buffer) (len : ℕ)
+    (segments : List WriteZeroesSegment) → IsUnread device m buffers len
+    → AreJudged device (payload_of (readable_of m buffers)) segments
+    → IsAsked device m buffers (WriteZeroes (length segments))
+judged_asks device m buffers len segments unread judged = record {
+  room = unread.room;
+  all = unread.all;
+  is = judged.request ∙ sym unread.zeroes.is;
+  servable = (
+    judged.size,
+    subst (λ l. list_all (has_sectors_within device.extent.count) l ≡ true) judged.are judged.within,
+  );
+  asks = refl;
 }
 
--- a segment of a payload, by its index
-at_index : (payload : List ℕ) (index : ℕ) → index < length payload / 16
-    → get_or (segments_in payload) index (segment_at payload index) ≡ segment_at payload index
-at_index payload index below =
-    get_or-map-range_with_len (segment_at payload) 0 (length payload / 16) index index
-    (segment_at payload index) below (omega arith)
-
--- where all can be zeroed, each can
-module _ (capacity : ℕ) (payload : List ℕ) (segments index : ℕ) (segment : WriteZeroesSegment)
-    (all : list_all (has_sectors_within capacity) (segments_in payload) ≡ true)
-    (size : length payload ≡ 16 * segments) (below : index < segments)
-    (is : segment ≡ segment_at payload index)
-  where
-    segment_fits : has_sectors_within capacity segment ≡ true
-    segment_fits =
-        let d = segment_at payload index in
-        let among : index < length payload / 16 = omega (arith, size, below) in
-        let there : index < length (segments_in payload) =
-        omega (arith, among, length-map-range_with_len (segment_at payload) 0 (length payload / 16)) in
-        ap (has_sectors_within capacity) (is ∙ sym (at_index payload index among))
-        ∙ AllPass-from_list_all (has_sectors_within capacity) (segments_in payload) all index d there
-
-    -- it lies on the disk, and has few sectors
-    pub segment_within : segment.sector + segment.count ≤ capacity
-    segment_within = grind (arith, nat_tests, segment_fits)
-
-    pub segment_few : segment.count ≤ 65536
-    segment_few = grind (arith, nat_tests, segment_fits)
+-- or can't be served
+pub judged_rejected : (device : BlockDevice) (m : Memory) (buffers : List Buffer) (len : ℕ)
+    (status : RequestStatus) → IsUnread device m buffers len
+    → write_zeroes_request_of device (payload_of (readable_of m buffers)) ≡ Rejected status
+    → IsRejected device m buffers status
+judged_rejected device m buffers len status unread is =
+    record { room = unread.room; all = unread.all; is = sym (unread.zeroes.is ∙ is) }

@@ -1,14 +1,14 @@
 -- What the host is told of a request: that it fits, that the runs of a WRITE_ZEROES are those of its
 -- segments, and that nothing of it lies outside.
-use Rattle.std.proofs.Common.{◌≡◌, ℕ, ◌+◌, ◌*◌, ◌/◌, ◌<◌, ◌≤◌, ◌&&◌, ◌==◌, Bool, true, false, not, cond, List, [], ◌∷◌, ◌++◌, length, map, refl, sym, ap, subst, ◌∙◌, arith, append-nil, length-drop}
+use Rattle.std.proofs.Common.{◌≡◌, ℕ, ◌+◌, ◌*◌, ◌/◌, ◌<◌, ◌≤◌, ◌&&◌, ◌==◌, Bool, true, false, not, cond, List, [], ◌∷◌, ◌++◌, length, map, take, get_or, refl, sym, ap, subst, ◌∙◌, arith, append-nil, length-drop}
 use Rattle.std.specs.Prelude.{All, nat_lt}
 use Rattle.std.specs.List.{filter, list_all}
 use Rattle.std.proofs.lemmas.Bool.{lt-ltb, le-ltb}
 use Rattle.std.proofs.lemmas.Bool.Decides.{nat_tests}
 use Rattle.std.proofs.lemmas.Grind.{common_steps}
-use Rattle.std.proofs.lemmas.List.{length-map, map-append}
+use Rattle.std.proofs.lemmas.List.{length-map, length-take-le, map-append, take_more}
 use Rattle.std.proofs.lemmas.List.Elements.{All-cons, All-filter, All-nil, filter-append}
-use Rattle.std.proofs.lemmas.List.FromFn.{length-map-range_with_len, map-range_with_len_more}
+use Rattle.std.proofs.lemmas.List.FromFn.{length-map-range_with_len}
 use Rattle.std.proofs.lemmas.List.Sums.{count_by-le-length, length-filter}
 use Rattle.guest_memory.specs.Memory.{Memory}
 use Rattle.chain.specs.declared.segment.Buffer.{Buffer}
@@ -23,13 +23,12 @@ use Rattle.block_device.specs.declared.operation.Operation.{Operation}
 use Rattle.block_device.specs.declared.request.RequestStatus.TheVariants.{IoError, Unsupported}
 use Rattle.block_device.specs.declared.request.Request.{Request}
 use Rattle.block_device.specs.declared.request.Request.TheVariants.{Rejected, Read, Write, Flush, GetId, WriteZeroes}
-use Rattle.block_device.specs.declared.zeroes.WriteZeroesSegment.{WriteZeroesSegment}
-use Rattle.block_device.specs.Asking.{IsAsked, asks_image}
-use Rattle.block_device.specs.Operation.{LiesInside, OnDisk, disk_run, operation_of, runs_for}
+use Rattle.block_device.specs.declared.segments.WriteZeroesSegment.{WriteZeroesSegment}
+use Rattle.block_device.specs.Asking.{IsAsked, asks_image, has_segments}
+use Rattle.block_device.specs.Operation.{IsTold, LiesInside, OnDisk, disk_run, disk_runs, operation_of, runs_for}
 use Rattle.block_device.specs.Progress.{IsServable}
 use Rattle.block_device.specs.Request.{are_sectors, get_id_request_of, in_request_of, out_request_of, payload_of, request_of, sector_in, type_of, typed_request, write_zeroes_request_of}
 use Rattle.block_device.specs.Zeroes.{are_segments, has_known_flags, has_sectors_within, segment_at, segments_in}
-use Rattle.block_device.proofs.Zeroing.{first_segments}
 
 -- ---- no request has more segments than may be
 
@@ -124,60 +123,47 @@ write_places device m buffers request sector count good a is =
     refl (sym is ∙ a.is) in
     omega (arith, s.1, whole, length-drop 16 readable, length-readable_of m buffers good.inside)
 
-pub asked_few : (device : BlockDevice) (m : Memory) (buffers : List Buffer) (request : Request) (segments : ℕ)
-    → IsAsked device m buffers request → request ≡ WriteZeroes segments → segments ≤ 32
-asked_few device m buffers request segments a is =
-    subst HasFew is (few_segments device (readable_of m buffers) a.room request a.is)
-
 -- ---- the runs of a WRITE_ZEROES
 
-abbrev pub zeroes_before : List ℕ → ℕ → List Segment
-zeroes_before payload index = filter has_bytes (map disk_run (first_segments payload index))
+-- these are the runs of the first segments
+pub record AreRuns (segments : List WriteZeroesSegment) (n : ℕ) (runs : List Segment) : Type 0 where
+  pub are : runs ≡ disk_runs (take n segments)
 
-before_more : (payload : List ℕ) (index : ℕ) → zeroes_before payload (index + 1) ≡ zeroes_before payload index
-    ++ filter has_bytes (disk_run (segment_at payload index) ∷ [])
-before_more payload index =
-    ap (λ l. filter has_bytes (map disk_run l))
-    (map-range_with_len_more (segment_at payload) 0 index index (omega arith))
-    ∙ ap (filter has_bytes) (map-append disk_run (first_segments payload index)
-    (segment_at payload index ∷ []))
-    ∙ filter-append has_bytes (map disk_run (first_segments payload index))
-    (disk_run (segment_at payload index) ∷ [])
+runs-more : (segments : List WriteZeroesSegment) (n : ℕ) (blank : WriteZeroesSegment) → n < length segments
+    → disk_runs (take (n + 1) segments)
+    ≡ disk_runs (take n segments) ++ disk_runs (get_or segments n blank ∷ [])
+runs-more segments n blank below =
+    let here = get_or segments n blank in
+    ap disk_runs (take_more segments n blank below)
+    ∙ ap (filter has_bytes) (map-append disk_run (take n segments) (here ∷ []))
+    ∙ filter-append has_bytes (map disk_run (take n segments)) (disk_run here ∷ [])
 
--- these are the runs of the segments before an index
-pub record AreZeroes (payload : List ℕ) (index : ℕ) (runs : List Segment) : Type 0 where
-  pub are : runs ≡ zeroes_before payload index
-
-pub zeroes_put : (payload : List ℕ) (index : ℕ) (segment : WriteZeroesSegment) (runs new : List Segment)
-    → AreZeroes payload index runs
-    → segment ≡ segment_at payload index → 0 < segment.count → new ≡ runs ++ disk_run segment ∷ []
-    → AreZeroes payload (index + 1) new
-zeroes_put payload index segment runs new h is some put =
-    let one : filter has_bytes (disk_run segment ∷ []) ≡ disk_run segment ∷ [] =
-    rw (lt-ltb 0 (512 * segment.count) (omega (arith, some))) refl in
+pub runs_put : (segments : List WriteZeroesSegment) (n : ℕ) (blank : WriteZeroesSegment)
+    (runs new : List Segment)
+    → n < length segments → AreRuns segments n runs → 0 < (get_or segments n blank).count
+    → new ≡ runs ++ disk_run (get_or segments n blank) ∷ [] → AreRuns segments (n + 1) new
+runs_put segments n blank runs new below h some put =
+    let here = get_or segments n blank in
+    let one : disk_runs (here ∷ []) ≡ disk_run here ∷ [] =
+    rw (lt-ltb 0 (512 * here.count) (omega (arith, some))) refl in
     record {
-      are =
-          put ∙ ap (λ l. runs ++ l) (sym one ∙ ap (λ s. filter has_bytes (disk_run s ∷ [])) is)
-          ∙ ap (λ l. l ++ filter has_bytes (disk_run (segment_at payload index) ∷ [])) h.are
-          ∙ sym (before_more payload index);
+      are = put ∙ ap (λ l. runs ++ l) (sym one) ∙ ap (λ l. l ++ disk_runs (here ∷ [])) h.are
+          ∙ sym (runs-more segments n blank below);
     }
 
-pub zeroes_passed : (payload : List ℕ) (index : ℕ) (segment : WriteZeroesSegment) (runs : List Segment)
-    → AreZeroes payload index runs
-    → segment ≡ segment_at payload index → segment.count ≤ 0 → AreZeroes payload (index + 1) runs
-zeroes_passed payload index segment runs h is none =
-    let one : filter has_bytes (disk_run segment ∷ []) ≡ [] =
-    rw (le-ltb 0 (512 * segment.count) (omega (arith, none))) refl in
+pub runs_passed : (segments : List WriteZeroesSegment) (n : ℕ) (blank : WriteZeroesSegment)
+    (runs : List Segment)
+    → n < length segments → AreRuns segments n runs → (get_or segments n blank).count ≤ 0
+    → AreRuns segments (n + 1) runs
+runs_passed segments n blank runs below h none =
+    let here = get_or segments n blank in
+    let one : disk_runs (here ∷ []) ≡ [] = rw (le-ltb 0 (512 * here.count) (omega (arith, none))) refl in
     record {
-      are =
-          sym (append-nil runs) ∙ ap (λ l. runs ++ l) (sym one
-          ∙ ap (λ s. filter has_bytes (disk_run s ∷ [])) is)
-          ∙ ap (λ l. l ++ filter has_bytes (disk_run (segment_at payload index) ∷ [])) h.are
-          ∙ sym (before_more payload index);
+      are = sym (append-nil runs) ∙ ap (λ l. runs ++ l) (sym one) ∙ ap (λ l. l ++ disk_runs (here ∷ [])) h.are
+          ∙ sym (runs-more segments n blank below);
     }
 
-few_of : (segments : List WriteZeroesSegment)
-    → length (filter has_bytes (map disk_run segments)) ≤ length segments
+few_of : (segments : List WriteZeroesSegment) → length (disk_runs segments) ≤ length segments
 few_of segments =
     omega (
       arith,
@@ -186,15 +172,16 @@ few_of segments =
       length-map segments disk_run,
     )
 
-pub zeroes_few_before : (payload : List ℕ) (index : ℕ) (runs : List Segment) → AreZeroes payload index runs
-    → length runs ≤ index
-zeroes_few_before payload index runs h =
-    omega (
-      arith,
-      ap length h.are,
-      few_of (first_segments payload index),
-      length-map-range_with_len (segment_at payload) 0 index,
-    )
+pub runs_few_before : (segments : List WriteZeroesSegment) (n : ℕ) (runs : List Segment)
+    → n ≤ length segments → AreRuns segments n runs → length runs ≤ n
+runs_few_before segments n runs some h =
+    omega (arith, ap length h.are, few_of (take n segments), length-take-le n segments some)
+
+-- a WRITE_ZEROES left them
+pub runs_left : (device : BlockDevice) (m : Memory) (buffers : List Buffer) (request : Request)
+    (runs : List Segment) (segments : ℕ) → request ≡ WriteZeroes segments
+    → IsTold device m buffers request runs → runs ≡ runs_for request m buffers
+runs_left device m buffers request runs segments is told = told.zeroes (ap has_segments is)
 
 -- ---- nothing lies outside
 

@@ -204,12 +204,6 @@ pub own_write : (extent : Extent) (request : Request) (payload : List ℕ) (sect
     → TouchesOf (on_image extent (written_sectors request payload)) t u a b p q
 own_write extent request payload sector count is h = rw is h
 
-pub own_zeroes : (extent : Extent) (request : Request) (payload : List ℕ) (segments : ℕ) {t u : ℕ}
-    {a b : List ℕ → Type 0} {p q : ℕ → List ℕ → Type 0} → request ≡ WriteZeroes segments
-    → TouchesOf (on_image extent (all_sectors (segments_in payload))) t u a b p q
-    → TouchesOf (on_image extent (written_sectors request payload)) t u a b p q
-own_zeroes extent request payload segments is h = rw is h
-
 module _ (device : BlockDevice) (m : Memory) (buffers : List Buffer) (request : Request)
     (asked : IsAsked device m buffers request) where
   abbrev payload : List ℕ

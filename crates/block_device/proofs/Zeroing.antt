@@ -1,11 +1,11 @@
 -- Sectors that were zeroed so far, and what the request is once they all are, or once the image fails.
-use Rattle.std.proofs.Common.{◌≡◌, inl, inr, ℕ, zero, suc, ◌+◌, ◌-◌, ◌*◌, ◌/◌, ◌<◌, ◌≤◌, Bool, true, false, ◌&&◌, List, [], ◌∷◌, ◌++◌, length, map, replicate, refl, sym, ap, ◌∙◌, arith, subst, append_assoc, append-nil}
+use Rattle.std.proofs.Common.{◌≡◌, inl, inr, ℕ, zero, suc, ◌+◌, ◌-◌, ◌*◌, ◌^◌, ◌<◌, ◌≤◌, Bool, true, false, ◌&&◌, List, [], ◌∷◌, ◌++◌, length, take, drop, get_or, replicate, refl, sym, ap, ◌∙◌, arith, subst, append_assoc, append-nil}
 use Rattle.std.specs.List.{AllByRecursion, list_all, range_with_len}
 use Rattle.std.specs.Prelude.{Contains, OnErr, OnOk, Result}
 use Rattle.std.proofs.lemmas.Bool.Decides.{nat_tests}
-use Rattle.std.proofs.lemmas.List.{length-replicate, map-append}
+use Rattle.std.proofs.lemmas.List.{length-replicate, take-append-drop, take_more}
 use Rattle.std.proofs.lemmas.List.Elements.{Contains-append_left, Contains-append_right}
-use Rattle.std.proofs.lemmas.List.FromFn.{map-range_with_len_more}
+use Rattle.std.proofs.lemmas.List.Sums.{AllPass-from_list_all}
 use Rattle.guest_memory.specs.Memory.{Memory}
 use Rattle.chain.specs.declared.segment.Buffer.{Buffer}
 use Rattle.chain.specs.Bytes.{readable_of}
@@ -14,12 +14,12 @@ use Rattle.block_device.specs.declared.device.BlockDevice.{BlockDevice}
 use Rattle.block_device.specs.declared.extent.Extent.{Extent}
 use Rattle.block_device.specs.declared.request.RequestStatus.TheVariants.{IoError}
 use Rattle.block_device.specs.declared.request.Request.TheVariants.{WriteZeroes}
-use Rattle.block_device.specs.declared.zeroes.WriteZeroesSegment.{WriteZeroesSegment}
+use Rattle.block_device.specs.declared.segments.WriteZeroesSegment.{WriteZeroesSegment}
 use Rattle.block_device.specs.Extent.{IsWithin, extent_disk}
 use Rattle.block_device.specs.Request.{payload_of, status_of}
 use Rattle.block_device.specs.Outcome.{filled}
 use Rattle.block_device.specs.Progress.{IsWritten}
-use Rattle.block_device.specs.Zeroes.{IsStopped, IsZeroed, StopsZeroing, all_sectors, has_sectors_within, sectors_of, segment_at, segments_in, zeroed_sectors}
+use Rattle.block_device.specs.Zeroes.{IsStopped, IsZeroed, StopsZeroing, all_sectors, has_sectors_within, sectors_of, segments_in, zeroed_sectors}
 use Rattle.block_device.proofs.Endings.{flush_ends, nothing_found}
 use Rattle.block_device.proofs.Extents.{extent_disk-filled, KeepsOutside-filled, KeepsOutside-same, lies_still, dirty_after-chunk, outside_trans, same_disk, written-run}
 
@@ -186,139 +186,140 @@ run-at a n count below =
 
 -- ---- the sectors of several segments
 
--- the first segments of a payload
-abbrev pub first_segments : List ℕ → ℕ → List WriteZeroesSegment
-first_segments payload n = map (segment_at payload) (range_with_len 0 n)
-
 flat-append : (xs ys : List WriteZeroesSegment) → all_sectors (xs ++ ys) ≡ all_sectors xs ++ all_sectors ys
 flat-append [] ys = refl
 flat-append (x ∷ xs) ys = ap (λ l. sectors_of x ++ l) (flat-append xs ys)
     ∙ sym (append_assoc (sectors_of x) (all_sectors xs) (all_sectors ys))
 
-segments-at : (payload : List ℕ) (n count : ℕ) → n < count
-    → first_segments payload count ≡ first_segments payload n
-    ++ segment_at payload n ∷ map (segment_at payload) (range_with_len (n + 1) (count - n - 1))
-segments-at payload n count below =
-    let zero_on : 0 + n ≡ n = omega arith in
-    ap (map (segment_at payload)) (run-at 0 n count below
-    ∙ ap (λ k. range_with_len 0 n ++ k ∷ range_with_len (k + 1) (count - n - 1)) zero_on)
-    ∙ map-append (segment_at payload) (range_with_len 0 n) (n ∷ range_with_len (n + 1) (count - n - 1))
+-- a list of segments at an index, as a loop over it comes by
+module _ (segments : List WriteZeroesSegment) (n : ℕ) (blank : WriteZeroesSegment)
+    (below : n < length segments)
+  where
+    abbrev here : WriteZeroesSegment
+    here = get_or segments n blank
 
-sectors-more : (payload : List ℕ) (n : ℕ) → all_sectors (first_segments payload (n + 1))
-    ≡ all_sectors (first_segments payload n) ++ sectors_of (segment_at payload n)
-sectors-more payload n =
-    ap all_sectors (map-range_with_len_more (segment_at payload) 0 n n (omega arith))
-    ∙ flat-append (first_segments payload n) (segment_at payload n ∷ [])
-    ∙ ap (λ l. all_sectors (first_segments payload n) ++ l) (append-nil (sectors_of (segment_at payload n)))
+    abbrev done : List ℕ
+    done = all_sectors (take n segments)
 
--- those of one segment are among them
-pub segment-listed : (payload : List ℕ) (n : ℕ) (segment : WriteZeroesSegment)
-    → segment ≡ segment_at payload n → n < length payload / 16
-    → (sector : ℕ) → Contains (sectors_of segment) sector
-    → Contains (all_sectors (segments_in payload)) sector
-segment-listed payload n segment is below sector here =
-    let count = length payload / 16 in
-    let done : List ℕ = all_sectors (first_segments payload n) in
-    let rest : List WriteZeroesSegment = map (segment_at payload) (range_with_len (n + 1) (count - n - 1)) in
-    let own : List ℕ = sectors_of (segment_at payload n) in
-    let all : all_sectors (segments_in payload) ≡ done ++ (own ++ all_sectors rest) =
-    ap all_sectors (segments-at payload n count below)
-    ∙ flat-append (first_segments payload n) (segment_at payload n ∷ rest) in
-    subst (λ (sectors : List ℕ). Contains sectors sector) (sym all)
-    (Contains-append_right done (own ++ all_sectors rest) sector
-    (Contains-append_left own (all_sectors rest) sector
-    (subst (λ (s : WriteZeroesSegment). Contains (sectors_of s) sector) is here)))
+    abbrev rest : List ℕ
+    rest = all_sectors (drop (n + 1) segments)
 
--- one segment more
-pub zeroing_joins : (extent : Extent) (old d d' : Disk) (payload : List ℕ) (n : ℕ)
-    (segment : WriteZeroesSegment) → IsZeroed extent (all_sectors (first_segments payload n)) old d
-    → segment ≡ segment_at payload n → IsZeroed extent (sectors_of segment) d d'
-    → IsZeroed extent (all_sectors (first_segments payload (n + 1))) old d'
-zeroing_joins extent old d d' payload n segment z is more = record {
-  seen =
-      more.seen ∙ ap (λ s. zeroed_sectors (sectors_of s) (extent_disk extent d)) is
-      ∙ ap (zeroed_sectors (sectors_of (segment_at payload n))) z.seen
-      ∙ sym (zeroed-append (all_sectors (first_segments payload n)) (sectors_of (segment_at payload n))
-      (extent_disk extent old))
-      ∙ ap (λ l. zeroed_sectors l (extent_disk extent old)) (sym (sectors-more payload n));
-  outside = outside_trans extent old d d' z.outside more.outside;
-}
+    sectors-more : all_sectors (take (n + 1) segments) ≡ done ++ sectors_of here
+    sectors-more =
+        ap all_sectors (take_more segments n blank below) ∙ flat-append (take n segments) (here ∷ [])
+        ∙ ap (λ l. done ++ l) (append-nil (sectors_of here))
 
--- the image fails in a segment
-pub segment_stops : (extent : Extent) (old d d' : Disk) (payload : List ℕ) (n : ℕ)
-    (segment : WriteZeroesSegment) → IsZeroed extent (all_sectors (first_segments payload n)) old d
-    → segment ≡ segment_at payload n → n < length payload / 16
-    → StopsZeroing extent (sectors_of segment) d d'
-    → StopsZeroing extent (all_sectors (segments_in payload)) old d'
-segment_stops extent old d d' payload n segment z is below stops =
-    let s = stops.stopped in
-    let count = length payload / 16 in
-    let done : List ℕ = all_sectors (first_segments payload n) in
-    let rest : List ℕ = all_sectors (map (segment_at payload) (range_with_len (n + 1) (count - n - 1))) in
-    let within : sectors_of (segment_at payload n) ≡ s.before ++ s.sector ∷ s.later =
-    sym (ap sectors_of is) ∙ s.listed in
-    record {
-      stopped = record {
-        before = done ++ s.before;
-        sector = s.sector;
-        later = s.later ++ rest;
-        listed =
-            ap all_sectors (segments-at payload n count below)
-            ∙ flat-append (first_segments payload n) (segment_at payload n
-            ∷ map (segment_at payload) (range_with_len (n + 1) (count - n - 1)))
-            ∙ ap (λ l. done ++ (l ++ rest)) within
-            ∙ ap (λ l. done ++ l) (append_assoc s.before (s.sector ∷ s.later) rest)
-            ∙ sym (append_assoc done s.before (s.sector ∷ (s.later ++ rest)));
-        torn = record {
-          left = s.torn.left;
-          whole = s.torn.whole;
-          torn =
-              s.torn.torn
-              ∙ ap (λ d. failed (written s.sector s.torn.left d)) (ap (zeroed_sectors s.before) z.seen
-              ∙ sym (zeroed-append done s.before (extent_disk extent old)));
-        };
-      };
-      outside = outside_trans extent old d d' z.outside stops.outside;
-    }
+    sectors-at : all_sectors segments ≡ done ++ (sectors_of here ++ rest)
+    sectors-at =
+        ap all_sectors (sym (take-append-drop (n + 1) segments))
+        ∙ flat-append (take (n + 1) segments) (drop (n + 1) segments) ∙ ap (λ l. l ++ rest) sectors-more
+        ∙ append_assoc done (sectors_of here) rest
+
+    -- its sectors are among all
+    pub segment-listed : (sector : ℕ) → Contains (sectors_of here) sector
+        → Contains (all_sectors segments) sector
+    segment-listed sector among =
+        subst (λ (sectors : List ℕ). Contains sectors sector) (sym sectors-at)
+        (Contains-append_right done (sectors_of here ++ rest) sector
+        (Contains-append_left (sectors_of here) rest sector among))
+
+    -- it lies on the disk, as all do
+    pub segment_within : (capacity : ℕ) → list_all (has_sectors_within capacity) segments ≡ true
+        → here.sector + here.count ≤ capacity
+    segment_within capacity all =
+        let fits : has_sectors_within capacity here ≡ true =
+        AllPass-from_list_all (has_sectors_within capacity) segments all n blank below in
+        grind (arith, nat_tests, fits)
+
+    pub segment_addressable : (capacity : ℕ) → list_all (has_sectors_within capacity) segments ≡ true
+        → 512 * capacity < 2 ^ 64 → 512 * here.sector < 2 ^ 64
+    segment_addressable capacity all disk =
+        let fits = segment_within capacity all in omega (arith, fits, disk)
+
+    pub segment_few : (capacity : ℕ) → list_all (has_sectors_within capacity) segments ≡ true
+        → here.count ≤ 65536
+    segment_few capacity all =
+        let fits : has_sectors_within capacity here ≡ true =
+        AllPass-from_list_all (has_sectors_within capacity) segments all n blank below in
+        grind (arith, nat_tests, fits)
+
+    module _ (extent : Extent) (old d d' : Disk) (z : IsZeroed extent done old d) where
+      -- one segment more
+      pub zeroing_joins : IsZeroed extent (sectors_of here) d d'
+          → IsZeroed extent (all_sectors (take (n + 1) segments)) old d'
+      zeroing_joins more = record {
+        seen =
+            more.seen ∙ ap (zeroed_sectors (sectors_of here)) z.seen
+            ∙ sym (zeroed-append done (sectors_of here) (extent_disk extent old))
+            ∙ ap (λ l. zeroed_sectors l (extent_disk extent old)) (sym sectors-more);
+        outside = outside_trans extent old d d' z.outside more.outside;
+      }
+
+      -- the image fails in it
+      segment_stops : StopsZeroing extent (sectors_of here) d d'
+          → StopsZeroing extent (all_sectors segments) old d'
+      segment_stops stops =
+          let s = stops.stopped in
+          record {
+            stopped = record {
+              before = done ++ s.before;
+              sector = s.sector;
+              later = s.later ++ rest;
+              listed =
+                  sectors-at ∙ ap (λ l. done ++ (l ++ rest)) s.listed
+                  ∙ ap (λ l. done ++ l) (append_assoc s.before (s.sector ∷ s.later) rest)
+                  ∙ sym (append_assoc done s.before (s.sector ∷ (s.later ++ rest)));
+              torn = record {
+                left = s.torn.left;
+                whole = s.torn.whole;
+                torn =
+                    s.torn.torn
+                    ∙ ap (λ d. failed (written s.sector s.torn.left d)) (ap (zeroed_sectors s.before) z.seen
+                    ∙ sym (zeroed-append done s.before (extent_disk extent old)));
+              };
+            };
+            outside = outside_trans extent old d d' z.outside stops.outside;
+          }
 
 -- ---- the request
 
--- these segments were zeroed so far
-module _ (device : BlockDevice) (buffers : List Buffer) (m : Memory) (disk d disk' : Disk) (segments n : ℕ)
-    (z : IsZeroed device.extent (all_sectors (first_segments (payload_of (readable_of m buffers)) n)) disk d)
+-- these segments of it were zeroed so far
+module _ (device : BlockDevice) (buffers : List Buffer) (m : Memory) (disk d disk' : Disk)
+    (segments : List WriteZeroesSegment) (n : ℕ)
+    (z : IsZeroed device.extent (all_sectors (take n segments)) disk d)
+    (are : segments ≡ segments_in (payload_of (readable_of m buffers)))
   where
-    abbrev payload : List ℕ
-    payload = payload_of (readable_of m buffers)
-
     abbrev shown : Disk → Disk
     shown disk = extent_disk device.extent disk
 
     -- the image fails in the next one
-    pub zeroes_stopped : (segment : WriteZeroesSegment) → segment ≡ segment_at payload n
-        → n < length payload / 16 → StopsZeroing device.extent (sectors_of segment) d disk'
-        → IsWritten device (WriteZeroes segments) buffers m IoError disk disk'
-    zeroes_stopped segment is below stops =
-        let s = segment_stops device.extent disk d disk' payload n segment z is below stops in
+    pub zeroes_stopped : (blank : WriteZeroesSegment) → n < length segments
+        → StopsZeroing device.extent (sectors_of (get_or segments n blank)) d disk'
+        → IsWritten device (WriteZeroes (length segments)) buffers m IoError disk disk'
+    zeroes_stopped blank below stops =
+        let s = segment_stops segments n blank below device.extent disk d disk' z stops in
         record {
-          done = nothing_found (WriteZeroes segments) buffers m (shown disk) (shown disk') IoError
-              (inr (inl (record { left = shown disk'; stopped = s.stopped; is = refl })));
+          done = nothing_found (WriteZeroes (length segments)) buffers m (shown disk) (shown disk') IoError
+              (inr (inl (record {
+                left = shown disk';
+                stopped = subst (λ l. IsStopped (all_sectors l) (shown disk) (shown disk')) are s.stopped;
+                is = refl;
+              })));
           calls = record {
-            counted = stopped-failures (all_sectors (segments_in payload)) (shown disk) (shown disk')
-                s.stopped;
+            counted = stopped-failures (all_sectors segments) (shown disk) (shown disk') s.stopped;
             outside = s.outside;
           };
         }
 
     -- all of them are zeroed, and the flush has come out
-    pub zeroes_end : {E : Type 0} (result : Result (Unit {0}) E) → length payload ≡ 16 * segments → n ≡
-        segments
+    pub zeroes_end : {E : Type 0} (result : Result (Unit {0}) E) → take n segments ≡ segments
         → OnOk result (disk' ≡ flushed d) → OnErr result (disk' ≡ failed d)
-        → IsWritten device (WriteZeroes segments) buffers m (status_of result) disk disk'
-    zeroes_end result size all ok err =
-        let sectors : List ℕ = all_sectors (segments_in payload) in
-        let whole : n ≡ length payload / 16 = omega (arith, size, all) in
+        → IsWritten device (WriteZeroes (length segments)) buffers m (status_of result) disk disk'
+    zeroes_end result all ok err =
+        let sectors : List ℕ = all_sectors (segments_in (payload_of (readable_of m buffers))) in
         let seen : shown d ≡ zeroed_sectors sectors (shown disk) =
-        z.seen ∙ ap (λ k. zeroed_sectors (all_sectors (first_segments payload k)) (shown disk)) whole in
-        flush_ends device (WriteZeroes segments) buffers m disk d (zeroed_sectors sectors (shown disk)) seen
+        z.seen ∙ ap (λ l. zeroed_sectors (all_sectors l) (shown disk)) (all ∙ are) in
+        flush_ends device (WriteZeroes (length segments)) buffers m disk d
+        (zeroed_sectors sectors (shown disk)) seen
         (ap (λ (d : Disk). d.failures) seen ∙ zeroed-failures sectors (shown disk)) z.outside
         disk' result ok err (inl (record { found = []; finds = refl; is = refl })) (inr (inr refl))

@@ -5,14 +5,17 @@ use Rattle.std.specs.List.{filter}
 use Rattle.guest_memory.specs.Memory.{Memory, Inside}
 use Rattle.chain.specs.declared.segment.Buffer.{Buffer}
 use Rattle.chain.specs.declared.segment.Segment.{Segment}
+use Rattle.chain.specs.Buffers.{Good}
 use Rattle.chain.specs.Bytes.{readable_of, segments_of}
 use Rattle.chain.specs.Runs.{has_bytes, runs_of}
+use Rattle.block_device.specs.declared.device.BlockDevice.{BlockDevice}
 use Rattle.block_device.specs.declared.operation.Operation.{Operation}
 use Rattle.block_device.specs.declared.operation.OperationKind.{OperationKind}
 use Rattle.block_device.specs.declared.operation.OperationKind.TheVariants as kind
 use Rattle.block_device.specs.declared.request.Request.{Request}
 use Rattle.block_device.specs.declared.request.Request.TheVariants.{Read, Write, WriteZeroes}
-use Rattle.block_device.specs.declared.zeroes.WriteZeroesSegment.{WriteZeroesSegment}
+use Rattle.block_device.specs.declared.segments.WriteZeroesSegment.{WriteZeroesSegment}
+use Rattle.block_device.specs.Asking.{IsAsked, has_segments}
 use Rattle.block_device.specs.Extent.{sector_len}
 use Rattle.block_device.specs.Request.{payload_of}
 use Rattle.block_device.specs.Zeroes.{segments_in}
@@ -34,8 +37,11 @@ abbrev pub disk_run : WriteZeroesSegment → Segment
 disk_run segment = record { addr = sector_len * segment.sector; len = sector_len * segment.count }
 
 -- those of all segments in order, but for segments without a sector
+abbrev pub disk_runs : List WriteZeroesSegment → List Segment
+disk_runs segments = filter has_bytes (map disk_run segments)
+
 abbrev pub zeroes_in : List ℕ → List Segment
-zeroes_in payload = filter has_bytes (map disk_run (segments_in payload))
+zeroes_in payload = disk_runs (segments_in payload)
 
 -- Where the bytes of an operation lie: of IN all that come before the status, of OUT all behind the header
 -- (5.2.6).
@@ -44,6 +50,18 @@ runs_for (Read sector count) m buffers = runs_of 0 (sector_len * count) (segment
 runs_for (Write sector count) m buffers = runs_of 16 (16 + sector_len * count) (segments_of false buffers)
 runs_for (WriteZeroes segments) m buffers = zeroes_in (payload_of (readable_of m buffers))
 runs_for request m buffers = []
+
+-- The chain asks for the disk, and of a WRITE_ZEROES these are the runs.
+pub record IsTold (device : BlockDevice) (m : Memory) (buffers : List Buffer) (request : Request)
+    (runs : List Segment) : Type 0 where
+  pub asked : IsAsked device m buffers request
+  pub zeroes : has_segments request ≡ true → runs ≡ runs_for request m buffers
+
+-- The chain asked for the disk, with memory as it was then.
+pub record WasAsked (device : BlockDevice) (buffers : List Buffer) (request : Request) : Type 0 where
+  pub memory : Memory
+  pub good : Good memory buffers
+  pub asked : IsAsked device memory buffers request
 
 -- every byte of the run is one of a disk of so many sectors
 abbrev pub OnDisk : ℕ → Segment → Type 0

@@ -1,6 +1,6 @@
 -- What a driver asks for (5.2.6): the header's fields, and the checks in their order. All of it is known
 -- before the image is touched.
-use Rattle.std.specs.Prelude.{ℕ, ◌+◌, ◌/◌, ◌%◌, Bool, true, false, not, ◌&&◌, ◌==◌, nat_lt, nat_le, if◌then◌else◌, List, length, take, drop, Result, Ok, Err}
+use Rattle.std.specs.Prelude.{◌≡◌, ℕ, ◌+◌, ◌*◌, ◌/◌, ◌≤◌, ◌%◌, Bool, true, false, not, ◌&&◌, ◌==◌, nat_lt, nat_le, if◌then◌else◌, List, length, take, drop, Result, Ok, Err}
 use Rattle.std.specs.List.{list_all}
 use Rattle.byteorder.specs.Endian.{little_number}
 use Rattle.block_device.specs.declared.device.BlockDevice.{BlockDevice}
@@ -9,7 +9,8 @@ use Rattle.block_device.specs.declared.request.RequestStatus.TheVariants.{Succes
 use Rattle.block_device.specs.declared.request.Request.{Request}
 use Rattle.block_device.specs.declared.request.Request.TheVariants.{Rejected, Read, Write, Flush, GetId, WriteZeroes}
 use Rattle.block_device.specs.Extent.{sector_len}
-use Rattle.block_device.specs.Zeroes.{are_segments, has_known_flags, has_sectors_within, segment_len, segments_in}
+use Rattle.block_device.specs.declared.segments.WriteZeroesSegment.{WriteZeroesSegment}
+use Rattle.block_device.specs.Zeroes.{are_segments, has_known_flags, has_sectors_within, max_write_zeroes_seg, segment_len, segments_in}
 
 -- The header is the first 16 readable bytes: the type in 4, 4 that are reserved, the sector in 8.
 abbrev pub header_of : List ℕ → List ℕ
@@ -54,6 +55,22 @@ write_zeroes_request_of device payload =
     else if not (list_all (has_sectors_within device.extent.count) (segments_in payload))
     then Rejected IoError
     else WriteZeroes (length payload / segment_len)
+
+-- These are its segments, and it passes the checks that come before theirs.
+pub record AreRead (device : BlockDevice) (payload : List ℕ)
+    (segments : List WriteZeroesSegment) : Type 0 where
+  pub are : segments ≡ segments_in payload
+  pub writable : device.read_only ≡ false
+  pub fit : are_segments (length payload) ≡ true
+
+-- These are its segments, and it can be served: each of them lies on the disk.
+pub record AreJudged (device : BlockDevice) (payload : List ℕ)
+    (segments : List WriteZeroesSegment) : Type 0 where
+  pub are : segments ≡ segments_in payload
+  pub size : length payload ≡ segment_len * length segments
+  pub few : length segments ≤ max_write_zeroes_seg
+  pub within : list_all (has_sectors_within device.extent.count) segments ≡ true
+  pub request : WriteZeroes (length segments) ≡ write_zeroes_request_of device payload
 
 -- a request of this type
 abbrev pub typed_request : BlockDevice → ℕ → ℕ → List ℕ → ℕ → Request

@@ -1,7 +1,17 @@
 //! The device over a cache of its image, as the service of its queue has it.
 
+ghost use Rattle.std.specs.Prelude.{◌≡◌};
+ghost use Rattle.guest_memory.specs.Memory.{SameRange};
+ghost use Rattle.chain.specs.Buffers.{Good};
+ghost use Rattle.chain.specs.Service.{Does};
+ghost use Rattle.block_device.specs.Asking.{IsUnread};
+ghost use Rattle.block_device.specs.Extent.{IsWithin};
+ghost use Rattle.block_device.specs.Keeping.{KeepsImage};
+ghost use Rattle.block_device.specs.Touching.{device_over};
+
 use crate::answer::{Begun, finish};
 use crate::device::BlockDevice;
+use crate::transfer::Done;
 use chain::Chain;
 use guest_memory::GuestMemory;
 use mmio_window::{Device, Used};
@@ -35,7 +45,7 @@ impl<I: Image, C: Allocator + Copy> Device<SectorCache<I, C>> for Cached {
 
     ghost device = { λ fixed. device_over I.disk I.moment I.may_leave I.left_since fixed };
 
-    ghost Refuses = { λ fixed cache memory buffers why. ⊥ };
+    ghost Refuses = { λ fixed left cache memory buffers why. ⊥ };
 
     ghost IsReady = { λ here cache. IsWithin (I.disk cache).sector_count here.device.extent };
 
@@ -59,6 +69,38 @@ impl<I: Image, C: Allocator + Copy> Device<SectorCache<I, C>> for Cached {
                 self.failed |= done.status.is_io_error();
                 Ok(finish(mem, chain, done))
             }
+            Begun::Zeroes(len) => Ok(self.serve_zeroes(mem, chain, cache, len)),
+        }
+    }
+}
+
+impl Cached {
+    /// Serves a WRITE_ZEROES with so many bytes of segments. What is zeroed are the segments that were judged.
+    #[inline(never)]
+    fn serve_zeroes<I: Image, M: Allocator, C: Allocator + Copy>(
+        &mut self,
+        mem: &mut GuestMemory<M>,
+        chain: &Chain,
+        cache: &mut SectorCache<I, C>,
+        len: u64,
+    ) -> Used
+        requires good { Good mem.old chain.now }
+        requires lies { IsWithin (I.disk cache.old).sector_count self.old.device.extent }
+        requires unread { IsUnread self.old.device mem.old chain.now len }
+        ensures does { Does (device_over I.disk I.moment I.may_leave I.left_since self.old.device) mem.old mem.new
+            chain.now cache.old cache.new result.len result.wrote }
+        ensures keeps { KeepsImage I.disk I.moment I.may_leave I.left_since self.old.device self.new.device
+            self.old.failed self.new.failed cache.old cache.new }
+        ensures device { self.new.device ≡ self.old.device }
+        ensures range { SameRange mem.old mem.new }
+    {
+        match self.device.judged_segments(mem, chain, len) {
+            Ok(segments) => {
+                let done = Done::of(self.device.zero_segments(cache, &segments));
+                self.failed |= done.status.is_io_error();
+                finish(mem, chain, done)
+            }
+            Err(status) => self.device.reject(mem, chain, status),
         }
     }
 }

@@ -5,7 +5,7 @@ ghost use Rattle.block_device.specs.Config.{config_of};
 
 use crate::extent::Extent;
 use crate::request::SECTOR_LEN;
-use crate::zeroes::{MAX_WRITE_ZEROES_SECTORS, MAX_WRITE_ZEROES_SEG};
+use crate::segments::{MAX_WRITE_ZEROES_SECTORS, MAX_WRITE_ZEROES_SEG};
 use byteorder::{ByteOrder, LittleEndian};
 
 /// How many segments a request may have, next to its header and its status.

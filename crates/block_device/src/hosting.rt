@@ -13,14 +13,14 @@ ghost use Rattle.block_device.specs.Extent.{sector_len};
 ghost use Rattle.block_device.specs.Hosting.{CompletesIn, HostsTo, IfAsks, IsGivenBack, IsInFlight, hosted_by};
 ghost use Rattle.block_device.specs.Operation.{LiesInside};
 
-use crate::answer::{Begun, finish};
+use crate::answer::finish;
 use crate::device::{BlockDevice, REQUESTQ};
+use crate::on_host::OnHost;
 use crate::operation::{Operation, Verdict};
-use crate::request::Request;
 use crate::transfer::Done;
 use chain::{Budget, Chain, Progress, Runs, Virtqueue};
 use guest_memory::GuestMemory;
-use mmio_window::{Device, Left, Queue, Stage, Token, Used, Window, serve_queue, show};
+use mmio_window::{Left, Queue, Stage, Token, Used, Window, serve_queue, show};
 use negotiation::{Features, Flags};
 use std::alloc::Allocator;
 
@@ -29,12 +29,6 @@ use std::alloc::Allocator;
 pub struct Flight {
     pub token: Token,
     pub operation: Operation,
-}
-
-/// A device in a piece of its service. It leaves a chain that asks for the disk.
-#[derive(Drop)]
-struct OnHost {
-    device: BlockDevice,
 }
 
 /// How a piece came out.
@@ -91,55 +85,15 @@ impl BlockDevice {
             return Hosted::Done;
         };
         let mut device = OnHost { device: *self };
-        match serve_queue(&mut device, &mut (), mem, queue, stage, budget, room) {
+        match serve_queue(&mut device, runs, mem, queue, stage, budget, room) {
             Err(asked) => {
-                let operation = self.tell(mem, room, asked.why, stable, runs);
+                let operation = self.tell(room, asked.why, stable, runs);
                 Hosted::Asks(Flight {
                     token: asked.token,
                     operation,
                 })
             }
             Ok(left) => Hosted::by(show(window, left, room)),
-        }
-    }
-}
-
-impl Device<()> for OnHost {
-    type Refusal = Request;
-
-    ghost use Rattle.block_device.specs.declared.device.BlockDevice.{BlockDevice};
-    ghost use Rattle.block_device.specs.Asking.{IsAsked};
-    ghost use Rattle.block_device.specs.Hosting.{hosted_device};
-
-    ghost State = { Unit {0} };
-
-    ghost state = { λ here host. tt };
-
-    ghost Setup = { BlockDevice };
-
-    ghost setup = { λ here host. here.device };
-
-    ghost device = { λ fixed. hosted_device fixed };
-
-    ghost Refuses = { λ fixed disk memory buffers request. IsAsked fixed memory buffers request };
-
-    ghost IsReady = { λ here host. Unit {0} };
-
-    ghost Keeps = { λ here host there later. Unit {0} };
-
-    fn takes(&self, _host: &()) -> bool {
-        true
-    }
-
-    fn serve<M: Allocator>(
-        &mut self,
-        mem: &mut GuestMemory<M>,
-        chain: &Chain,
-        _host: &mut (),
-    ) -> Result<Used, Request> {
-        match self.device.begin(mem, chain) {
-            Begun::Answered(used) => Ok(used),
-            Begun::Asks(request) => Err(request),
         }
     }
 }

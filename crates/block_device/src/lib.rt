@@ -1,20 +1,24 @@
 //! A block device (5.2): one request of a driver after another, served over an extent of a shared image.
 //!
-//! `request` reads a header and judges it, `transfer` moves sectors, those of an OUT out of its `payload`, `zeroes` zeroes
-//! them, and `answer` goes from a chain's header to its status byte. `cached` serves a chain over the cache of an image, and
-//! `serve` a queue of them, and tells the window. `hosting` does both where the host has the disk, by what `operation` tells
-//! it. The caller is the board, which hands in the guest's memory, the device's window and the cache over the image.
+//! `header` is read and `request` judges it, as `segments` does with those of a WRITE_ZEROES. `transfer` moves sectors,
+//! those of an OUT out of its `payload`, `zeroes` zeroes them, and `answer` goes from a header to the status byte.
+//! `cached` serves a chain over the cache of an image, and `serve` a queue of them, and tells the window. `on_host` and
+//! `hosting` do so where the host has the disk, by what `operation` tells it. The caller is the board, which hands in
+//! the guest's memory, the device's window and the cache over the image.
 #![tactic(auto)]
 
 mod answer;
 mod cached;
 mod device;
 mod extent;
+mod header;
 mod hosting;
 mod laws;
+mod on_host;
 mod operation;
 mod payload;
 mod request;
+mod segments;
 mod serve;
 mod transfer;
 mod zeroes;

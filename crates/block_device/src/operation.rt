@@ -2,16 +2,13 @@
 
 ghost use Rattle.std.specs.Prelude.{◌≡◌, ◌*◌, ◌^◌, ◌<◌};
 ghost use Rattle.guest_memory.specs.Memory.{Memory};
-ghost use Rattle.chain.specs.Buffers.{Good};
-ghost use Rattle.block_device.specs.Asking.{IsAsked};
 ghost use Rattle.block_device.specs.Extent.{sector_len};
-ghost use Rattle.block_device.specs.Operation.{operation_of, runs_for};
+ghost use Rattle.block_device.specs.Operation.{IsTold, WasAsked, operation_of, runs_for};
 
 use crate::device::BlockDevice;
-use crate::request::{HEADER_LEN, Request, SECTOR_LEN};
+use crate::header::HEADER_LEN;
+use crate::request::{Request, SECTOR_LEN};
 use chain::{Chain, Runs};
-use guest_memory::GuestMemory;
-use std::alloc::Allocator;
 
 /// What is to be done (5.2.6).
 #[derive(Clone, Copy, Debug, PartialEq, Eq)]
@@ -58,21 +55,20 @@ pub enum Verdict {
 }
 
 impl BlockDevice {
-    /// What the host is told of a request: the operation, and in `runs` where its bytes lie. `stable` is whether its
-    /// driver can't flush.
-    pub(crate) fn tell<M: Allocator>(
+    /// What the host is told of a request: the operation, and in `runs` where its bytes lie. Those of a WRITE_ZEROES
+    /// stand there already. `stable` is whether its driver can't flush.
+    pub(crate) fn tell(
         &self,
-        mem: &GuestMemory<M>,
         chain: &Chain,
         request: Request,
         stable: bool,
         runs: &mut Runs,
     ) -> Operation
-        requires good { Good mem.now chain.now }
         requires disk { sector_len * self.now.extent.count < 2 ^ 64 }
-        requires asked { IsAsked self.now mem.now chain.now request }
+        requires asked { WasAsked self.now chain.now request }
         ensures operation { result ≡ operation_of stable request }
-        ensures runs { runs.new ≡ runs_for request mem.now chain.now }
+        ensures runs { (m : Memory) → IsTold self.now m chain.now request runs.old →
+            runs.new ≡ runs_for request m chain.now }
     {
         match request {
             Request::Read { sector, count } => {
@@ -95,14 +91,11 @@ impl BlockDevice {
                     stable,
                 }
             }
-            Request::WriteZeroes { segments } => {
-                self.zero_runs(mem, chain, segments, runs);
-                Operation {
-                    kind: OperationKind::Zeroes,
-                    stable,
-                    ..Operation::FLUSH
-                }
-            }
+            Request::WriteZeroes { .. } => Operation {
+                kind: OperationKind::Zeroes,
+                stable,
+                ..Operation::FLUSH
+            },
             Request::Flush => {
                 runs.clear();
                 Operation::FLUSH

@@ -5,7 +5,7 @@ ghost use Rattle.chain.specs.Buffers.{Within};
 ghost use Rattle.chain.specs.Bytes.{readable_of};
 ghost use Rattle.block_device.specs.Request.{payload_of};
 
-use crate::request::HEADER_LEN;
+use crate::header::HEADER_LEN;
 use chain::Chain;
 use guest_memory::GuestMemory;
 use sector_cache::Source;

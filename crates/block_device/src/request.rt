@@ -1,24 +1,21 @@
-//! One request as its driver wrote it (5.2.6): the header is read, its type looked up, and everything
-//! that can be refused without the image is refused here.
+//! One request as its driver wrote it (5.2.6): its header's type is looked up, and everything that can be refused
+//! without the image is refused here.
 
-ghost use Rattle.std.specs.Prelude.{◌≡◌, ◌≤◌, ℕ, List, length, drop, All};
-ghost use Rattle.byteorder.specs.Endian.{little_number};
+ghost use Rattle.std.specs.Prelude.{◌≡◌, ℕ, List, false, length, All};
 ghost use Rattle.chain.specs.Buffers.{Within};
 ghost use Rattle.chain.specs.Bytes.{readable_of};
+ghost use Rattle.block_device.specs.Asking.{IsHeaded, has_segments};
 ghost use Rattle.block_device.specs.Progress.{IsServable};
-ghost use Rattle.block_device.specs.Request.{are_sectors, code_of, in_request_of, is_io_error, out_request_of, payload_of, request_of, sector_in, type_of};
+ghost use Rattle.block_device.specs.Request.{are_sectors, code_of, in_request_of, is_io_error, out_request_of, payload_of, request_of, write_zeroes_request_of};
 
 use crate::device::BlockDevice;
-use byteorder::{ByteOrder, LittleEndian};
+use crate::header::{HEADER_LEN, Header};
 use chain::Chain;
 use guest_memory::GuestMemory;
 use std::alloc::Allocator;
 
 /// The bytes of a sector.
 pub(crate) const SECTOR_LEN: u64 = sector_cache::SECTOR_LEN as u64;
-
-/// The bytes of a request's header: type, reserved, sector.
-pub(crate) const HEADER_LEN: u64 = 16;
 
 /// The bytes that name the device.
 pub(crate) const ID_LEN: u64 = 20;
@@ -70,54 +67,6 @@ impl RequestStatus {
     }
 }
 
-/// The fields of a request's header.
-#[derive(Clone, Copy)]
-struct Header {
-    kind: u32,
-    sector: u64,
-}
-
-impl Header {
-    /// Those in the first bytes of a chain, where they lie in memory where that is one segment.
-    #[inline(always)]
-    fn read<A: Allocator>(mem: &GuestMemory<A>, chain: &Chain) -> Header
-        requires inside { All (Within mem.now) chain.now }
-        requires there { 16 ≤ length (readable_of mem.now chain.now) }
-        ensures kind { result.kind ≡ type_of (readable_of mem.now chain.now) }
-        ensures sector { result.sector ≡ sector_in (readable_of mem.now chain.now) }
-    {
-        match chain.read_part(mem, 0).first_chunk() {
-            Some(bytes) => Header::of(bytes),
-            None => Header::gathered(mem, chain),
-        }
-    }
-
-    /// The same of a header that lies in more than one segment.
-    #[inline(never)]
-    fn gathered<A: Allocator>(mem: &GuestMemory<A>, chain: &Chain) -> Header
-        requires inside { All (Within mem.now) chain.now }
-        requires there { 16 ≤ length (readable_of mem.now chain.now) }
-        ensures kind { result.kind ≡ type_of (readable_of mem.now chain.now) }
-        ensures sector { result.sector ≡ sector_in (readable_of mem.now chain.now) }
-    {
-        let mut bytes = [0; HEADER_LEN as usize];
-        chain.read_at(mem, 0, &mut bytes);
-        Header::of(&bytes)
-    }
-
-    /// Those of a header with these bytes.
-    #[inline(always)]
-    fn of(bytes: &[u8; HEADER_LEN as usize]) -> Header
-        ensures kind { result.kind ≡ little_number 4 bytes.now }
-        ensures sector { result.sector ≡ little_number 8 (drop 8 bytes.now) }
-    {
-        Header {
-            kind: LittleEndian::read_u32(bytes),
-            sector: LittleEndian::read_u64(&bytes[8..]),
-        }
-    }
-}
-
 /// What a driver asks for, once all is checked that the image isn't needed for.
 #[derive(Clone, Copy, Debug, PartialEq, Eq)]
 pub enum Request {
@@ -133,6 +82,15 @@ pub enum Request {
     WriteZeroes { segments: u64 },
 }
 
+/// A request as far as a header and a chain's lengths tell it.
+#[derive(Clone, Copy)]
+pub(crate) enum Headed {
+    /// All of it is known. It has no segments.
+    Known(Request),
+    /// A WRITE_ZEROES with so many bytes of segments, which aren't read yet.
+    Zeroes(u64),
+}
+
 impl BlockDevice {
     /// Whether `len` bytes are whole sectors, which from `sector` on all lie in the extent.
     fn has_sectors(&self, sector: u64, len: u64) -> bool
@@ -145,6 +103,7 @@ impl BlockDevice {
     /// IN of `room` bytes.
     fn in_request(&self, sector: u64, room: u64) -> Request
         ensures value { result ≡ in_request_of self.now sector room }
+        ensures plain { has_segments result ≡ false }
         ensures servable { (payload : List ℕ) → IsServable self.now.extent.count result payload room }
     {
         if self.has_sectors(sector, room) {
@@ -160,6 +119,7 @@ impl BlockDevice {
     /// OUT of `len` bytes.
     fn out_request(&self, sector: u64, len: u64) -> Request
         ensures value { result ≡ out_request_of self.now sector len }
+        ensures plain { has_segments result ≡ false }
         ensures servable { (payload : List ℕ) (room : ℕ) → length payload ≡ len
             → IsServable self.now.extent.count result payload room }
     {
@@ -174,26 +134,63 @@ impl BlockDevice {
     }
 
     /// The request that a chain holds, with `room` writable bytes before the status.
-    #[inline(always)]
     pub fn request<A: Allocator>(&self, mem: &GuestMemory<A>, chain: &Chain, room: u64) -> Request
         requires { All (Within mem.now) chain.now }
         ensures value { result ≡ request_of self.now (readable_of mem.now chain.now) room }
         ensures servable { IsServable self.now.extent.count result
             (payload_of (readable_of mem.now chain.now)) room }
     {
+        match self.headed(mem, chain, room) {
+            Headed::Known(request) => request,
+            Headed::Zeroes(len) => self.write_zeroes_request(mem, chain, len),
+        }
+    }
+
+    /// The same as far as the header tells it.
+    #[inline(always)]
+    pub(crate) fn headed<A: Allocator>(
+        &self,
+        mem: &GuestMemory<A>,
+        chain: &Chain,
+        room: u64,
+    ) -> Headed
+        requires { All (Within mem.now) chain.now }
+        ensures { IsHeaded self.now (readable_of mem.now chain.now) room result }
+    {
         let readable = chain.readable_len();
         if readable < HEADER_LEN {
-            return Request::Rejected(RequestStatus::IoError);
+            return Headed::Known(Request::Rejected(RequestStatus::IoError));
         }
         let Header { kind, sector } = Header::read(mem, chain);
         match kind {
-            TYPE_IN => self.in_request(sector, room),
-            TYPE_OUT => self.out_request(sector, readable - HEADER_LEN),
-            TYPE_FLUSH => Request::Flush,
-            TYPE_GET_ID if room >= ID_LEN => Request::GetId,
-            TYPE_GET_ID => Request::Rejected(RequestStatus::IoError),
-            TYPE_WRITE_ZEROES => self.write_zeroes_request(mem, chain, readable - HEADER_LEN),
-            _ => Request::Rejected(RequestStatus::Unsupported),
+            TYPE_IN => Headed::Known(self.in_request(sector, room)),
+            TYPE_OUT => Headed::Known(self.out_request(sector, readable - HEADER_LEN)),
+            TYPE_FLUSH => Headed::Known(Request::Flush),
+            TYPE_GET_ID if room >= ID_LEN => Headed::Known(Request::GetId),
+            TYPE_GET_ID => Headed::Known(Request::Rejected(RequestStatus::IoError)),
+            TYPE_WRITE_ZEROES => Headed::Zeroes(readable - HEADER_LEN),
+            _ => Headed::Known(Request::Rejected(RequestStatus::Unsupported)),
+        }
+    }
+
+    /// WRITE_ZEROES of the segments in `len` bytes.
+    fn write_zeroes_request<A: Allocator>(
+        &self,
+        mem: &GuestMemory<A>,
+        chain: &Chain,
+        len: u64,
+    ) -> Request
+        requires inside { All (Within mem.now) chain.now }
+        requires payload { length (payload_of (readable_of mem.now chain.now)) ≡ len }
+        ensures value { result ≡ write_zeroes_request_of self.now (payload_of (readable_of mem.now chain.now)) }
+        ensures servable { (room : ℕ) → IsServable self.now.extent.count result
+            (payload_of (readable_of mem.now chain.now)) room }
+    {
+        match self.judged_segments(mem, chain, len) {
+            Ok(segments) => Request::WriteZeroes {
+                segments: segments.as_slice().len() as u64,
+            },
+            Err(status) => Request::Rejected(status),
         }
     }
 }

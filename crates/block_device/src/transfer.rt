@@ -16,9 +16,10 @@ ghost use Rattle.block_device.specs.Progress.{IsDone, IsWritten};
 ghost use Rattle.block_device.specs.Touching.{on_image};
 
 use crate::device::BlockDevice;
+use crate::header::HEADER_LEN;
 use crate::operation::{OperationKind, Verdict};
 use crate::payload::Payload;
-use crate::request::{HEADER_LEN, RequestStatus, SECTOR_LEN};
+use crate::request::{RequestStatus, SECTOR_LEN};
 use chain::Chain;
 use guest_memory::GuestMemory;
 use sector_cache::{Image, ImageError, SectorCache};

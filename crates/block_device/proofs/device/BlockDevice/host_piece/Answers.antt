@@ -11,17 +11,12 @@ use Rattle.mmio_window.specs.Window.{queue_at}
 use Rattle.block_device.proofs.Anywhere.{asks_at, hosts_to, none_asks}
 use Rattle.block_device.proofs.device.BlockDevice.host_piece.Goals as goal
 
-pub tell-operation-requires-clause-good : goal.tell-operation-requires-clause-good
-tell-operation-requires-clause-good g c =
-    (asks_at c.args.self.now c.args.stage c.args.budget c.args.mem.now c.serve_queue.new.mem
-    c.in-Some.queue.now c.serve_queue.new.queue c.serve_queue.new.chain c.in-Err.asked
-    c.in-Err.ensures.refuses any_disk).good
-
 pub tell-operation-requires-clause-asked : goal.tell-operation-requires-clause-asked
-tell-operation-requires-clause-asked g c =
-    (asks_at c.args.self.now c.args.stage c.args.budget c.args.mem.now c.serve_queue.new.mem
-    c.in-Some.queue.now c.serve_queue.new.queue c.serve_queue.new.chain c.in-Err.asked
-    c.in-Err.ensures.refuses any_disk).stops.asked
+tell-operation-requires-clause-asked g c = record {
+  memory = c.serve_queue.new.mem;
+  good = c.in-Err.ensures.refuses.left.good;
+  asked = c.in-Err.ensures.refuses.left.refuses.asked;
+}
 
 pub returns-in-Err-clause-served : goal.returns-in-Err-clause-served
 returns-in-Err-clause-served g c disk = record {
@@ -30,20 +25,22 @@ returns-in-Err-clause-served g c disk = record {
   last = c.serve_queue.new.queue;
   request = c.in-Err.asked.why;
   asks = asks_at c.args.self.now c.args.stage c.args.budget c.args.mem.now c.serve_queue.new.mem
-      c.in-Some.queue.now c.serve_queue.new.queue c.serve_queue.new.chain c.in-Err.asked
+      c.in-Some.queue.now c.serve_queue.new.queue c.serve_queue.new.chain c.serve_queue.new.backend
+      c.in-Err.asked
       c.in-Err.ensures.refuses disk;
   window = refl;
   operation = c.tell-operation.ensures.operation
       ∙ ap (λ flushes. operation_of (not flushes) c.in-Err.asked.why)
       (c.contains-stable.ensures tt ∙ ap (λ bits. has bits block_flush) (c.negotiated-negotiated.ensures.value
       ∙ ap negotiated_of c.negotiation.ensures));
-  runs_are = c.tell-operation.ensures.runs;
+  runs_are = c.tell-operation.ensures.runs c.serve_queue.new.mem c.in-Err.ensures.refuses.left.refuses;
 }
 
 pub returns-in-Err-clause-flight : goal.returns-in-Err-clause-flight
 returns-in-Err-clause-flight g c =
     let asks = asks_at c.args.self.now c.args.stage c.args.budget c.args.mem.now c.serve_queue.new.mem
-    c.in-Some.queue.now c.serve_queue.new.queue c.serve_queue.new.chain c.in-Err.asked
+    c.in-Some.queue.now c.serve_queue.new.queue c.serve_queue.new.chain c.serve_queue.new.backend
+    c.in-Err.asked
     c.in-Err.ensures.refuses any_disk in
     record {
       queue = c.serve_queue.new.queue;
@@ -57,11 +54,13 @@ returns-in-Err-clause-flight g c =
 pub returns-in-Err-clause-inside : goal.returns-in-Err-clause-inside
 returns-in-Err-clause-inside g c =
     let asks = asks_at c.args.self.now c.args.stage c.args.budget c.args.mem.now c.serve_queue.new.mem
-    c.in-Some.queue.now c.serve_queue.new.queue c.serve_queue.new.chain c.in-Err.asked
+    c.in-Some.queue.now c.serve_queue.new.queue c.serve_queue.new.chain c.serve_queue.new.backend
+    c.in-Err.asked
     c.in-Err.ensures.refuses any_disk in
     told_inside c.args.self.now c.serve_queue.new.mem c.serve_queue.new.chain c.in-Err.asked.why
     (not c.contains-stable.result) c.tell-operation.result c.tell-operation.new.runs
-    asks.good asks.stops.asked c.tell-operation.ensures.operation c.tell-operation.ensures.runs
+    asks.good asks.stops.asked c.tell-operation.ensures.operation
+    (c.tell-operation.ensures.runs c.serve_queue.new.mem c.in-Err.ensures.refuses.left.refuses)
 
 pub returns-in-Err-clause-sound : goal.returns-in-Err-clause-sound
 returns-in-Err-clause-sound g c =

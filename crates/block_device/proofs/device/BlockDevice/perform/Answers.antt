@@ -1,7 +1,7 @@
-use Rattle.block_device.proofs.Answering.{flushing_ends, read_fits, write_fits, zeroes_fit}
+use Rattle.block_device.proofs.Answering.{flushing_ends, read_fits, write_fits}
 use Rattle.chain.specs.Bytes.{readable_of}
 use Rattle.block_device.specs.Request.{payload_of}
-use Rattle.block_device.proofs.Touching.{own_write, own_zeroes, written_none}
+use Rattle.block_device.proofs.Touching.{own_write, written_none}
 use Rattle.block_device.proofs.device.BlockDevice.perform.Goals as goal
 
 pub read_sectors-requires-clause-fits : goal.read_sectors-requires-clause-fits
@@ -14,12 +14,6 @@ pub write_sectors-requires-clause-fits : goal.write_sectors-requires-clause-fits
 write_sectors-requires-clause-fits g c =
     write_fits c.args.mem.now c.args.chain.now c.args.self.now.extent.count c.args.request c.in-Write.sector
     c.in-Write.count c.requires.asked.room c.requires.good c.in-Write.is c.requires.asked.servable
-
-pub zero_segments-requires-clause-fits : goal.zero_segments-requires-clause-fits
-zero_segments-requires-clause-fits g c =
-    zeroes_fit c.args.mem.now c.args.chain.now c.args.self.now.extent.count c.args.request
-    c.in-WriteZeroes.segments c.requires.asked.room c.requires.good c.in-WriteZeroes.is
-    c.requires.asked.servable
 
 pub returns-in-Flush-clause-done : goal.returns-in-Flush-clause-done
 returns-in-Flush-clause-done g c =
@@ -38,9 +32,3 @@ returns-in-Write-clause-own g c =
 
 pub returns-in-Flush-clause-own : goal.returns-in-Flush-clause-own
 returns-in-Flush-clause-own g c = written_none _ c.flush.ensures.touches
-
-pub returns-in-WriteZeroes-clause-own : goal.returns-in-WriteZeroes-clause-own
-returns-in-WriteZeroes-clause-own g c =
-    own_zeroes c.args.self.now.extent c.args.request
-    (payload_of (readable_of c.args.mem.now c.args.chain.now)) c.in-WriteZeroes.segments
-    c.in-WriteZeroes.is c.zero_segments.ensures.touches

@@ -1,19 +1,19 @@
-use Rattle.block_device.proofs.Telling.{asked_few, read_places, write_places}
+use Rattle.block_device.proofs.Telling.{read_places, runs_left, write_places}
 use Rattle.block_device.proofs.device.BlockDevice.tell.Goals as goal
 
 pub runs-requires : goal.runs-requires
-runs-requires g c = record {
-  in_list = read_places c.args.self.now c.args.mem.now c.args.chain.now c.args.request c.in-Read.sector
-      c.in-Read.count c.requires.asked c.in-Read.is;
+runs-requires c = record {
+  in_list = read_places c.args.self.now c.requires.asked.memory c.args.chain.now c.args.request
+      c.in-Read.sector c.in-Read.count c.requires.asked.asked c.in-Read.is;
 }
 
 pub runs-requires-in-Write : goal.runs-requires-in-Write
-runs-requires-in-Write g c = record {
-  in_list = write_places c.args.self.now c.args.mem.now c.args.chain.now c.args.request c.in-Write.sector
-      c.in-Write.count c.requires.good c.requires.asked c.in-Write.is;
+runs-requires-in-Write c = record {
+  in_list = write_places c.args.self.now c.requires.asked.memory c.args.chain.now c.args.request
+      c.in-Write.sector c.in-Write.count c.requires.asked.good c.requires.asked.asked c.in-Write.is;
 }
 
-pub zero_runs-requires-clause-few : goal.zero_runs-requires-clause-few
-zero_runs-requires-clause-few g c =
-    asked_few c.args.self.now c.args.mem.now c.args.chain.now c.args.request c.in-WriteZeroes.segments
-    c.requires.asked c.in-WriteZeroes.is
+pub returns-in-WriteZeroes-clause-runs : goal.returns-in-WriteZeroes-clause-runs
+returns-in-WriteZeroes-clause-runs c = λ m told.
+    runs_left c.args.self.now m c.args.chain.now c.args.request c.args.runs.now c.in-WriteZeroes.segments
+    c.in-WriteZeroes.is told

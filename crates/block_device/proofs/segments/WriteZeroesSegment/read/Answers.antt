@@ -3,7 +3,7 @@ use Rattle.std.proofs.lemmas.List.{take_all}
 use Rattle.byteorder.specs.Endian.{little_number}
 use Rattle.chain.specs.Bytes.{readable_of}
 use Rattle.block_device.proofs.Judging.{same_segment, segment_read}
-use Rattle.block_device.proofs.zeroes.WriteZeroesSegment.read.Goals as goal
+use Rattle.block_device.proofs.segments.WriteZeroesSegment.read.Goals as goal
 
 pub returns : goal.returns
 returns g c =

@@ -1,6 +1,6 @@
 use Rattle.chain.specs.Bytes.{readable_of}
 use Rattle.block_device.proofs.Judging.{header_in, kind_read, sector_read}
-use Rattle.block_device.proofs.request.Header.read.Goals as goal
+use Rattle.block_device.proofs.header.Header.read.Goals as goal
 
 pub returns-in-Some-clause-kind : goal.returns-in-Some-clause-kind
 returns-in-Some-clause-kind g c =
