@@ -1,5 +1,5 @@
 -- While no call of the image fails a clean image stays clean; so a stop leaves what the guests see.
-use Rattle.std.proofs.Common.{◌≡◌, inl, inr, ℕ, ◌≤◌, Bool, Option, Some, None, List, [], ◌∷◌, length, map, refl, sym, ap, ◌∙◌, arith}
+use Rattle.std.proofs.Common.{◌≡◌, inl, inr, ℕ, Bool, Option, Some, None, List, [], ◌∷◌, length, map, refl, sym, ap, ◌∙◌, arith}
 use Rattle.std.specs.Prelude.{IfSome, IsSome, MatchOption, false, unwrap_or}
 use Rattle.std.specs.List.{slice_get}
 use Rattle.guest_memory.specs.Memory.{Memory}
@@ -28,7 +28,7 @@ use Rattle.board.specs.Outcome.{Outcome}
 use Rattle.board.specs.Slot.{BoardSlot, SlotState, state_of}
 use Rattle.board.specs.Task.{Finishes, Nothing, PutOut, Serve, Task, device_of}
 use Rattle.board.specs.World.{IsCutShort, IsRefused, MayGive, MissingStep, SlotStep, World, seen}
-use Rattle.board.proofs.Failures.{given_failures}
+use Rattle.board.proofs.Runs.{line_failures, step_failures}
 
 -- ---- a service of the disk in which no call fails
 
@@ -142,32 +142,12 @@ step_at_clean old event written new None same clean step =
 step_at_clean old event written new (Some state) same clean step =
     given_clean state event.what old.health new.health step.outcome same clean step.given
 
-step_at_rises : {A : Type 0} (old : World) (event : Event A) (written : Record A) (new : World)
-    (o : Option SlotState)
-    → MatchOption o (MissingStep old event.slot written new)
-    (λ s. SlotStep old event.slot s event.what written new) → old.health.failures ≤ new.health.failures
-step_at_rises old event written new None step = let same : new.health.failures ≡ old.health.failures =
-    ap (λ (w : World). w.health.failures) step.same in omega arith
-step_at_rises old event written new (Some state) step =
-    given_failures state event.what old.health new.health step.outcome step.given
-
-line_rises : {A : Type 0} (old new : World) (moves : List (Move A)) → IsLine old moves new
-    → old.health.failures ≤ new.health.failures
-line_rises old new [] is = let same : new.health.failures ≡ old.health.failures =
-    ap (λ (w : World). w.health.failures) is in omega arith
-line_rises old new (move ∷ moves) line =
-    let here = step_at_rises old move.event move.written move.after
-    (slice_get old.slots move.event.slot) line.0 in
-    let rest = line_rises move.after new moves line.1 in
-    omega (arith, here, rest)
-
 pub line_clean : {A : Type 0} (old new : World) (moves : List (Move A)) → IsLine old moves new
     → new.health.failures ≡ old.health.failures → old.health.dirty ≡ false → new.health.dirty ≡ false
 line_clean old new [] is same clean = ap (λ (w : World). w.health.dirty) is ∙ clean
 line_clean old new (move ∷ moves) line same clean =
-    let here = step_at_rises old move.event move.written move.after
-    (slice_get old.slots move.event.slot) line.0 in
-    let rest = line_rises move.after new moves line.1 in
+    let here = step_failures old move.event move.written move.after line.0 in
+    let rest = line_failures move.after moves new line.1 in
     let first : move.after.health.failures ≡ old.health.failures = omega (arith, here, rest, same) in
     line_clean move.after new moves line.1 (same ∙ sym first)
     (step_at_clean old move.event move.written move.after (slice_get old.slots move.event.slot)

@@ -186,10 +186,11 @@ life_keeps old [] [] last here flies own course =
 life_keeps old [] (t ∷ told) last here flies own course = absurd course
 life_keeps old (call ∷ calls) [] last here flies own course = absurd course
 life_keeps old (call ∷ calls) (t ∷ told) last here flies own course =
-    let outcome = course.0 in
-    let one = call_keeps old call.event outcome here flies own.0 course.1.0.next in
+    let outcome = course.1.outcome in
+    let one = call_keeps old call.event outcome here flies own.0 course.1.next.next in
     then_keeps old.slot.block outcome.state.slot.block last.slot.block one.keeps
-    (life_keeps outcome.state calls told last here one.flies own.1 course.1.1.1)
+    (life_keeps outcome.state calls told last here one.flies own.1
+    (subst (λ (s : HostedState). IsHostedCourse s calls told last) course.1.left course.2))
 
 -- ---- the chain that is in flight
 

@@ -6,6 +6,7 @@ pub mod Blocks
 pub mod Outside
 pub mod Lists
 pub mod Seats
+pub mod Steps
 pub mod Alone
 pub mod Failures
 pub mod Durable

@@ -16,7 +16,7 @@ use Rattle.board.specs.declared.reply.Reply.{Reply}
 use Rattle.board.specs.declared.reply.Reply.TheVariants.{Done, NoMemory}
 use Rattle.board.specs.declared.pause.Service.TheVariants.{Block, Receive, Transmit}
 use Rattle.board.specs.Hosting.{CompletesOrGives, CompletionGives, GivesAtRest, GivesInFlight, HostedOutcome, HostedState, InFlight, IsBesideDisk, IsHostedNext, Lands, LooksAtQueue, OwnGives, WaitsOrGives, answers, flight_by, in_rooms, must_wait, notifies_block, unlimited, verdict_in}
-use Rattle.board.specs.HostedLine.{AreFound, DecidesBy, FindsMemory, HostedCall, IsCalledNext, IsHostedCourse, Told, told_of}
+use Rattle.board.specs.HostedLine.{AreFound, DecidesBy, FindsMemory, HostedCall, IsCalledNext, IsHostedCourse, IsHostedTold, Told, told_of}
 use Rattle.board.specs.Image.{Health}
 use Rattle.board.specs.Machine.{IsNext, at_rest, task_at}
 use Rattle.board.specs.Outcome.{Outcome}
@@ -28,6 +28,7 @@ use Rattle.board.specs.World.{IsCutShort, IsRefused, MayGive}
 use Rattle.board.proofs.Alone.{served}
 use Rattle.board.proofs.OneRun.{next_once}
 use Rattle.board.proofs.OneSeat.{seat_once}
+use Rattle.board.proofs.Steps.{answered_once}
 use Rattle.board.proofs.Waiting.{same_hosted}
 
 -- ---- a look
@@ -239,39 +240,23 @@ call_once old call one other x y p q =
     hosted_once old call.event one other (beside_by call.limit old call.event call.waiting one other p q
     x.within y.within) x.next y.next
 
-record OneCourse {A : Type 0} (t u : List (Told A)) (l m : HostedState) : Type 0 where
-  told : t ≡ u
-  last : l ≡ m
-
-course_once : {A : Type 0} (old : HostedState) (calls : List (HostedCall A)) (told told' : List (Told A))
-    (last last' : HostedState) → IsHostedCourse old calls told last → IsHostedCourse old calls told' last'
-    → AreFound calls told → AreFound calls told' → OneCourse told told' last last'
-course_once old [] [] [] last last' x y p q = record { told = refl; last = x ∙ sym y }
-course_once old [] (t ∷ told) told' last last' x y p q = absurd x
-course_once old [] [] (t ∷ told') last last' x y p q = absurd y
-course_once old (call ∷ calls) [] told' last last' x y p q = absurd x
-course_once old (call ∷ calls) (t ∷ told) [] last last' x y p q = absurd y
-course_once {A} old (call ∷ calls) (t ∷ told) (t' ∷ told') last last' x y p q =
-    let one : HostedOutcome A = x.0 in
-    let other : HostedOutcome A = y.0 in
-    let says : t ≡ told_of one = x.1.1.0 in
-    let says' : t' ≡ told_of other = y.1.1.0 in
-    let same : one ≡ other =
-    call_once old call one other x.1.0 y.1.0
-    (subst (λ (r : Reply A). FindsMemory call.limit call.event r) (ap (λ (t : Told A). t.reply) says) p.0)
-    (subst (λ (r : Reply A). FindsMemory call.limit call.event r) (ap (λ (t : Told A). t.reply) says') q.0) in
-    let rest : IsHostedCourse one.state calls told' last' =
-    subst (λ (o : HostedOutcome A). IsHostedCourse o.state calls told' last') (sym same) y.1.1.1 in
-    let later = course_once one.state calls told told' last last' x.1.1.1 rest p.1 q.1 in
-    record {
-      told = rw (says ∙ ap (λ (o : HostedOutcome A). told_of o) same ∙ sym says', later.told) refl;
-      last = later.last;
-    }
+told_once : {A : Type 0} (old one other : HostedState) (call : HostedCall A) (p q : Told A)
+    → IsHostedTold old call p one → IsHostedTold old call q other
+    → FindsMemory call.limit call.event p.reply → FindsMemory call.limit call.event q.reply
+    → (p ≡ q) × (one ≡ other)
+told_once {A} old one other call p q x y f k =
+    let found : Told A → Type 0 = λ t. FindsMemory call.limit call.event t.reply in
+    let same = call_once old call x.outcome y.outcome x.next y.next (subst found x.told_is f)
+    (subst found y.told_is k) in
+    (
+      x.told_is ∙ (ap (λ (o : HostedOutcome A). told_of o) same ∙ sym y.told_is),
+      x.left ∙ (ap (λ (o : HostedOutcome A). o.state) same ∙ sym y.left),
+    )
 
 pub hosted_run_once : {A : Type 0} (old : HostedState) (calls : List (HostedCall A))
     (told told' : List (Told A)) (last last' : HostedState) → IsHostedCourse old calls told last
     → IsHostedCourse old calls told' last'
     → AreFound calls told → AreFound calls told' → (told ≡ told') × (last ≡ last')
 hosted_run_once old calls told told' last last' x y p q =
-    let same = course_once old calls told told' last last' x y p q in
-    (same.told, same.last)
+    answered_once IsHostedTold (λ call t. FindsMemory call.limit call.event t.reply) told_once AreFound
+    (λ call more t rest found. found) old calls told told' last last' x y p q

@@ -1,5 +1,5 @@
 -- The one-slot machine is deterministic, and how its image fared before an event is never seen.
-use Rattle.std.proofs.Common.{◌≡◌, ℕ, Bool, Option, Some, None, List, [], ◌∷◌, map, refl, sym, ◌∙◌, ap, subst}
+use Rattle.std.proofs.Common.{◌≡◌, ℕ, Bool, Option, Some, None, List, [], refl, sym, ◌∙◌, ap}
 use Rattle.guest_memory.specs.Memory.{Memory}
 use Rattle.chain.specs.Service.{Device, Site, Ending, IsService, HasAtMostOneAnswer}
 use Rattle.chain.proofs.Servicing.{at_most_one_service, never_refused}
@@ -22,12 +22,13 @@ use Rattle.board.specs.declared.reply.Reply.TheVariants.{Done, Took}
 use Rattle.board.specs.declared.reply.Record.{Record}
 use Rattle.board.specs.declared.pause.Service.TheVariants.{Block, Receive, Transmit}
 use Rattle.board.specs.Image.{Health, disk_with}
-use Rattle.board.specs.Machine.{task_at, with_write, with_input, Gives, IsNext, IsCourse, RunsOnItsOwn, record_of, at_rest}
+use Rattle.board.specs.Machine.{task_at, with_write, with_input, Gives, IsNext, IsTold, RunsOnItsOwn, record_of, at_rest}
 use Rattle.board.specs.Outcome.{Outcome, replies, does}
 use Rattle.board.specs.Slot.{SlotState}
 use Rattle.board.specs.Task.{Task, Nothing, Serve, PutOut, device_of, IsBlockService, IsReceiveService, IsTransmitService, Finishes}
 use Rattle.board.proofs.Guests.{AtRest, exact_at_rest}
 use Rattle.board.proofs.Restoring.{restored_once}
+use Rattle.board.proofs.Steps.{one_course}
 
 -- ---- how the image fared is never seen
 
@@ -232,39 +233,17 @@ next_once state (Restore bytes) one other a b =
     restored_once state bytes one other a.gives.alike b.gives.alike
 next_once state (Complete verdict) one other a b = a.gives.alike ∙ sym b.gives.alike
 
-record OneCourse {A : Type 0} (one other : List (Outcome A)) (s t : SlotState) : Type 0 where
-  outcomes : one ≡ other
-  last : s ≡ t
-
-course_once : {A : Type 0} (state : SlotState) (events : List (EventKind A)) (one other : List (Outcome A))
-    (s t : SlotState) → IsCourse state events one s → IsCourse state events other t → OneCourse one other s t
-course_once state [] [] [] s t a b = record { outcomes = refl; last = a ∙ sym b }
-course_once state [] [] (q ∷ other) s t a b = absurd b
-course_once state [] (p ∷ one) other s t a b = absurd a
-course_once state (what ∷ events) [] other s t a b = absurd a
-course_once state (what ∷ events) (p ∷ one) [] s t a b = absurd b
-course_once {A} state (what ∷ events) (p ∷ one) (q ∷ other) s t a b =
-    let same : p ≡ q = next_once state what p q a.0 b.0 in
-    let rest : OneCourse one other s t =
-    course_once p.state events one other s t a.1
-    (subst (λ (o : Outcome A). IsCourse o.state events other t) (sym same) b.1) in
-    record {
-      outcomes = ap (λ (o : Outcome A). o ∷ one) same
-          ∙ ap (λ (os : List (Outcome A)). q ∷ os) rest.outcomes;
-      last = rest.last;
-    }
+told_once : {A : Type 0} (g : ℕ) (state one other : SlotState) (what : EventKind A) (p q : Record A)
+    → IsTold g state what p one → IsTold g state what q other → (p ≡ q) × (one ≡ other)
+told_once {A} g state one other what p q x y =
+    let same = next_once state what x.outcome y.outcome x.is_next y.is_next in (
+      x.recorded ∙ (ap (λ (o : Outcome A). record_of g o) same ∙ sym y.recorded),
+      x.left ∙ (ap (λ (o : Outcome A). o.state) same ∙ sym y.left),
+    )
 
 -- and so has a whole run
-pub record OneRun {A : Type 0} (told told' : List (Record A)) (one other : SlotState) : Type 0 where
-  pub records : told ≡ told'
-  pub last : one ≡ other
-
 pub one_run : {A : Type 0} (g : ℕ) (state one other : SlotState) (events : List (EventKind A))
     (records records' : List (Record A)) → RunsOnItsOwn g state events records one
-    → RunsOnItsOwn g state events records' other → OneRun records records' one other
+    → RunsOnItsOwn g state events records' other → (records ≡ records') × (one ≡ other)
 one_run g state one other events records records' a b =
-    let course = course_once state events a.outcomes b.outcomes one other a.course b.course in
-    record {
-      records = a.told ∙ (ap (λ os. map (record_of g) os) course.outcomes ∙ sym b.told);
-      last = course.last;
-    }
+    one_course (IsTold g) (told_once g) state events records records' one other a b

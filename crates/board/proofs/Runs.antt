@@ -14,6 +14,7 @@ use Rattle.board.specs.Line.{AnswersMissing, Move, IsLine, IsQuiet, HadMemory, H
 use Rattle.board.proofs.Alone.{alone, recorded_slot}
 use Rattle.board.proofs.Failures.{given_failures}
 use Rattle.board.proofs.Noted.{line_noted}
+use Rattle.board.proofs.Steps.{lines_join}
 
 step_failures_at : {A : Type 0} (old : World) (event : Event A) (written : Record A) (new : World)
     (o : Option SlotState) → MatchOption o (MissingStep old event.slot written new)
@@ -23,14 +24,14 @@ step_failures_at old event written new None step = let same : new.health.failure
 step_failures_at old event written new (Some s) step =
     given_failures s event.what old.health new.health step.outcome step.given
 
--- in a step
-step_failures : {A : Type 0} (old : World) (event : Event A) (written : Record A) (new : World)
+-- the image's failures never fall: in a step
+pub step_failures : {A : Type 0} (old : World) (event : Event A) (written : Record A) (new : World)
     → Step old event written new → old.health.failures ≤ new.health.failures
 step_failures old event written new step =
     step_failures_at old event written new (slice_get old.slots event.slot) step
 
 -- and in a line
-line_failures : {A : Type 0} (old : World) (moves : List (Move A)) (new : World) → IsLine old moves new
+pub line_failures : {A : Type 0} (old : World) (moves : List (Move A)) (new : World) → IsLine old moves new
     → old.health.failures ≤ new.health.failures
 line_failures old [] new line = let same : new.health.failures ≡ old.health.failures =
     ap (λ (w : World). w.health.failures) line in omega arith
@@ -126,20 +127,14 @@ run_of old new events before after moves line events_are records_are = record {
 pub run_none : {A : Type 0} (world : World) (before : List (Record A)) → IsRun world world [] before before
 run_none world before = run_of world world [] before before [] refl refl (sym (append-nil before))
 
--- two lines, the second from where the first ends, are one
-lines_join : {A : Type 0} (old mid new : World) (moves more : List (Move A)) → IsLine old moves mid
-    → IsLine mid more new → IsLine old (moves ++ more) new
-lines_join old mid new [] more line rest = subst (λ (w : World). IsLine w more new) line rest
-lines_join old mid new (move ∷ moves) more line rest =
-    (line.0, lines_join move.after mid new moves more line.1 rest)
-
--- and so are two runs
+-- two runs, the second from where the first ends, are one
 pub runs_join : {A : Type 0} (old mid new : World) (events more : List (Event A))
     (before between after : List (Record A)) → IsRun old mid events before between
     → IsRun mid new more between after → IsRun old new (events ++ more) before after
 runs_join {A} old mid new events more before between after one other =
     run_of old new (events ++ more) before after (one.moves ++ other.moves)
-    (lines_join old mid new one.moves other.moves one.line other.line)
+    (lines_join (λ (world : World) (move : Move A). Step world move.event move.written move.after)
+    (λ (move : Move A). move.after) old mid new one.moves other.moves one.line other.line)
     (map-append (λ (m : Move A). m.event) one.moves other.moves
     ∙ (ap (λ es. es ++ events_of other.moves) one.events_are
     ∙ ap (λ es. events ++ es) other.events_are))

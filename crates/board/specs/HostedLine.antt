@@ -1,6 +1,6 @@
 -- A board whose disks the host serves: calls of any slots in any order, and what each guest sees of them.
 -- Slots share nothing, so its world is the list of their states.
-use Rattle.std.specs.Prelude.{◌≡◌, ◌≢◌, ℕ, ◌==◌, ⊤, Bool, true, false, nat_lt, if◌then◌else◌, Option, Some, None, List, [], ◌∷◌, ◌++◌, map, filter, slice_set, MatchOption}
+use Rattle.std.specs.Prelude.{◌≡◌, ◌≢◌, ℕ, ⊤, Bool, true, false, nat_lt, if◌then◌else◌, Option, Some, None, List, [], ◌∷◌, ◌++◌, map, slice_set, MatchOption}
 use Rattle.std.specs.List.{slice_get}
 use Rattle.guest_memory.specs.Memory.{Memory, put}
 use Rattle.board.specs.declared.event.EventKind.{EventKind}
@@ -9,6 +9,7 @@ use Rattle.board.specs.declared.reply.Reply.{Reply}
 use Rattle.board.specs.declared.reply.Reply.TheVariants.{BadRange, BadSlot, Bytes, Done, NoMemory}
 use Rattle.board.specs.Hosting.{HostedOutcome, HostedState, IsHostedNext}
 use Rattle.board.specs.Machine.{block_irq, console_irq}
+use Rattle.board.specs.Steps.{IsAnsweredBy, LeadTo, own_steps}
 use Rattle.board.specs.Within.{TakesWithin}
 
 -- One call for a guest: what is done, and the outlet of its console, with its limit where that alone decides
@@ -64,16 +65,18 @@ AreFound [] told = ⊤
 AreFound (call ∷ calls) [] = ⊤
 AreFound (call ∷ calls) (told ∷ rest) = FindsMemory call.limit call.event told.reply × AreFound calls rest
 
+-- what it is told, and the state after it
+pub record IsHostedTold {A : Type 0} (old : HostedState) (call : HostedCall A) (told : Told A)
+    (new : HostedState) : Type 0 where
+  pub outcome : HostedOutcome A
+  pub next : IsCalledNext old call outcome
+  pub told_is : told ≡ told_of outcome
+  pub left : new ≡ outcome.state
+
 -- one call after another: what each is told, and the state after the last
 abbrev pub IsHostedCourse : {A : Type 0} → HostedState → List (HostedCall A) → List (Told A)
     → HostedState → Type 0
-IsHostedCourse old [] [] last = last ≡ old
-IsHostedCourse old [] (told ∷ rest) last = ⊥
-IsHostedCourse old (call ∷ calls) [] last = ⊥
-IsHostedCourse {A} old (call ∷ calls) (told ∷ rest) last =
-    (outcome : HostedOutcome A)
-    × (IsCalledNext old call outcome
-    × ((told ≡ told_of outcome) × IsHostedCourse outcome.state calls rest last))
+IsHostedCourse old calls told last = IsAnsweredBy IsHostedTold old calls told last
 
 -- ---- the whole board
 
@@ -164,19 +167,16 @@ pub record HostedMove (A : Type 0) : Type 0 where
   pub after : List HostedState
 
 abbrev pub IsHostedLine : {A : Type 0} → List HostedState → List (HostedMove A) → List HostedState → Type 0
-IsHostedLine old [] new = new ≡ old
-IsHostedLine old (move ∷ moves) new = Calls old move.slot move.call move.told move.after
-    × IsHostedLine move.after moves new
+IsHostedLine old moves new =
+    LeadTo (λ slots move. Calls slots move.slot move.call move.told move.after) (λ move. move.after)
+    old moves new
 
 -- what is called for guest g, in order, and what it is told
-abbrev pub own_moves : {A : Type 0} → ℕ → List (HostedMove A) → List (HostedMove A)
-own_moves g moves = filter (λ move. move.slot == g) moves
-
 abbrev pub own_calls : {A : Type 0} → ℕ → List (HostedMove A) → List (HostedCall A)
-own_calls g moves = map (λ move. move.call) (own_moves g moves)
+own_calls g moves = map (λ move. move.call) (own_steps (λ move. move.slot) g moves)
 
 abbrev pub own_told : {A : Type 0} → ℕ → List (HostedMove A) → List (Told A)
-own_told g moves = map (λ move. move.told) (own_moves g moves)
+own_told g moves = map (λ move. move.told) (own_steps (λ move. move.slot) g moves)
 
 -- Guest g, which was in this state, is told what it would be told alone, and its state afterwards is what it
 -- would be alone: its own calls decide both, the outcomes of its completions among them, whatever was called

@@ -16,6 +16,7 @@ pub mod Machine
 pub mod World
 pub mod Quiet
 pub mod Line
+pub mod Steps
 pub mod Fault
 pub mod Pausing
 pub mod Within

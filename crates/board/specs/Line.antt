@@ -1,5 +1,5 @@
 -- Lines of events, and what each slot sees of one: its own events, as if it were alone.
-use Rattle.std.specs.Prelude.{◌≡◌, ◌≢◌, ◌↔◌, ℕ, ◌≤◌, ◌==◌, ⊤, false, List, [], ◌∷◌, ◌++◌, map, filter, take, All, Some, Ok, Err, Result}
+use Rattle.std.specs.Prelude.{◌≡◌, ◌≢◌, ◌↔◌, ℕ, ◌≤◌, ◌==◌, false, List, ◌++◌, map, filter, take, All, Some, Ok, Err, Result}
 use Rattle.std.specs.List.{slice_get}
 use Rattle.board.specs.declared.event.Event.{Event}
 use Rattle.board.specs.declared.event.EventKind.{EventKind}
@@ -8,6 +8,7 @@ use Rattle.board.specs.declared.reply.Record.{Record}
 use Rattle.board.specs.declared.reply.RunStop.{RunStop}
 use Rattle.board.specs.Machine.{RunsOnItsOwn}
 use Rattle.board.specs.Slot.{AreInterruptWords, SlotState, BoardSlot}
+use Rattle.board.specs.Steps.{HoldsAlong, LeadTo}
 use Rattle.board.specs.World.{World, Step, bad_slot}
 
 -- One event that was handled: the event, its record, and what can be seen of the board after it.
@@ -24,9 +25,8 @@ records_of moves = map (λ move. move.written) moves
 
 -- the moves lead from one world to another, each by a step that its event may take
 abbrev pub IsLine : {A : Type 0} → World → List (Move A) → World → Type 0
-IsLine old [] new = new ≡ old
-IsLine old (move ∷ moves) new =
-    Step old move.event move.written move.after × IsLine move.after moves new
+IsLine old moves new =
+    LeadTo (λ world move. Step world move.event move.written move.after) (λ move. move.after) old moves new
 
 -- what guest g does, in order
 abbrev pub own_events : {A : Type 0} → ℕ → List (Event A) → List (EventKind A)
@@ -44,8 +44,7 @@ pub record IsUndisturbed {A : Type 0} (g : ℕ) (old : World) (move : Move A) : 
 
 -- no event of g's met a refusal
 abbrev pub IsQuiet : {A : Type 0} → ℕ → World → List (Move A) → Type 0
-IsQuiet g old [] = ⊤
-IsQuiet g old (move ∷ moves) = IsUndisturbed g old move × IsQuiet g move.after moves
+IsQuiet g old moves = HoldsAlong (IsUndisturbed g) (λ move. move.after) old moves
 
 -- Guest g, which was in this state, is told what it would be told alone, and its state afterwards is
 -- what it would be alone: its own events decide both, whatever others did in between.

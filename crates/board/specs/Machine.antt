@@ -1,5 +1,5 @@
 -- The one-slot machine: what a guest would see if it were alone, one event after another.
-use Rattle.std.specs.Prelude.{◌≡◌, ℕ, false, if◌then◌else◌, List, [], ◌∷◌, ◌++◌, length, map, take}
+use Rattle.std.specs.Prelude.{◌≡◌, ℕ, false, if◌then◌else◌, List, ◌++◌, length, take}
 use Rattle.guest_memory.specs.Memory.{is_inside, part_of, put}
 use Rattle.mmio_window.specs.declared.action.Action.{Action}
 use Rattle.mmio_window.specs.declared.device_kind.DeviceKind.{DeviceKind}
@@ -19,6 +19,7 @@ use Rattle.board.specs.Image.{Health, sectors_of}
 use Rattle.board.specs.Outcome.{Outcome, replies, does, IsDetermined}
 use Rattle.board.specs.Restoring.{Restores}
 use Rattle.board.specs.Slot.{SlotState}
+use Rattle.board.specs.Steps.{IsAnsweredBy}
 use Rattle.board.specs.Task.{Task, task_of, IsReceiveService, Finishes}
 
 -- what comes of a read and of a write of memory
@@ -111,14 +112,6 @@ pub record IsNext {A : Type 0} (state : SlotState) (what : EventKind A) (outcome
   pub after : Health
   pub gives : Gives state what at_rest after outcome
 
--- What comes of one event after another: an outcome for each, and the state after the last.
-abbrev pub IsCourse : {A : Type 0} → SlotState → List (EventKind A) → List (Outcome A) → SlotState → Type 0
-IsCourse state [] [] last = last ≡ state
-IsCourse state [] (outcome ∷ outcomes) last = ⊥
-IsCourse state (what ∷ rest) [] last = ⊥
-IsCourse state (what ∷ rest) (outcome ∷ outcomes) last =
-    IsNext state what outcome × IsCourse outcome.state rest outcomes last
-
 -- InterruptStatus of both windows (4.2.2)
 abbrev pub block_irq : SlotState → ℕ
 block_irq state = interrupt_bits state.block.interrupts
@@ -136,10 +129,16 @@ record_of g outcome = record {
   console_irq = console_irq outcome.state;
 }
 
+-- guest g, alone in this state, does this: what comes of it, the record of that, and the state after it
+pub record IsTold {A : Type 0} (g : ℕ) (state : SlotState) (what : EventKind A) (written : Record A)
+    (after : SlotState) : Type 0 where
+  pub outcome : Outcome A
+  pub is_next : IsNext state what outcome
+  pub recorded : written ≡ record_of g outcome
+  pub left : after ≡ outcome.state
+
 -- Guest g, alone from this state on, does these things: it is told these records, and its state
 -- afterwards is the last one.
-pub record RunsOnItsOwn {A : Type 0} (g : ℕ) (state : SlotState) (events : List (EventKind A))
-    (records : List (Record A)) (last : SlotState) : Type 0 where
-  pub outcomes : List (Outcome A)
-  pub course : IsCourse state events outcomes last
-  pub told : records ≡ map (record_of g) outcomes
+abbrev pub RunsOnItsOwn : {A : Type 0} → ℕ → SlotState → List (EventKind A) → List (Record A) → SlotState
+    → Type 0
+RunsOnItsOwn g state events records last = IsAnsweredBy (IsTold g) state events records last

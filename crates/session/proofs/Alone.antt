@@ -1,5 +1,5 @@
 -- Each guest of a session, as its own calls decide it.
-use Rattle.std.proofs.Common.{◌≡◌, ◌≢◌, ℕ, Option, Some, None, List, [], ◌∷◌, ◌++◌, take, drop, refl, sym, ◌∙◌, ap, subst}
+use Rattle.std.proofs.Common.{◌≡◌, ◌≢◌, ℕ, Option, Some, None, List, ◌++◌, take, drop, refl, sym, ◌∙◌, ap, subst}
 use Rattle.std.specs.Prelude.{MatchOption}
 use Rattle.std.specs.List.{slice_get}
 use Rattle.board.specs.declared.event.Event.{Event}
@@ -13,6 +13,7 @@ use Rattle.board.specs.Within.{Seat, IsNextWithin}
 use Rattle.board.proofs.Alone.{served, get_set}
 use Rattle.board.proofs.OneRun.{next_of}
 use Rattle.board.proofs.OneSeat.{seat_once}
+use Rattle.board.proofs.Steps.{IsOwn, each_along, one_course, own_alone}
 use Rattle.board.specs.declared.pause.Pause.{Pause}
 use Rattle.session.specs.declared.response.Response.{Response}
 use Rattle.session.specs.declared.response.Response.TheVariants.{Answered, More, Busy, Idle}
@@ -22,11 +23,10 @@ use Rattle.session.specs.Line.{IsIdle}
 use Rattle.session.specs.Pacing.{Call, GoOn, Handle, slot_in}
 use Rattle.session.specs.Pausing.{ComesTo}
 use Rattle.session.specs.Session.{IsStep, SessionState, Waiting, limit_of, output_of, world_of}
-use Rattle.session.specs.Steps.{Answer, Asking, Called, Does, Gave, Takes, Told, Took, after_step, slot_of}
+use Rattle.session.specs.Steps.{Answer, Asking, Called, Does, Gave, IsAnsweredSo, Takes, Told, Took, after_step, answer_of, asking_of, slot_of}
 use Rattle.session.proofs.PacedAlone.{others_at}
 use Rattle.session.proofs.PacedCalls.{never_busy, never_idle}
 use Rattle.session.proofs.PacedCourses.{by_pause, step_of}
-use Rattle.session.proofs.Seats.{IsFairStep, OwnStep, alone}
 use Rattle.session.proofs.Waiting.{others_wait}
 
 -- what a guest's own event comes to
@@ -69,36 +69,42 @@ own_event {A} old new event reply state h here =
       there = there;
     }
 
--- guest g sits so in a session, and nothing of it is paused
-record Sits (g : ℕ) (seat : Seat) (session : SessionState) : Type 0 where
+-- guest g sits so in a session, and nothing of it is paused; so much of its output may wait
+record Sits (limit g : ℕ) (seat : Seat) (session : SessionState) : Type 0 where
   there : slice_get (world_of session).slots g ≡ Some seat.state
   waits : output_of g session ≡ seat.waiting
   idle : IsIdle g (paced_world_of session)
+  limited : limit_of g session ≡ limit
 
-module _ {A : Type 0} where
+module _ {A : Type 0} (limit : ℕ) where
   abbrev NeverMore : Response A → Type 0
   NeverMore response = response ≢ More
 
-  abbrev Came : Seat → SessionState → SessionStep A → Type 0
-  Came seat old step = OwnStep slot_in own_call IsNextAsked limit_of Sits seat old step
+  abbrev Came : Seat → SessionStep A → Type 0
+  Came seat step =
+      IsOwn Happens after_step (slot_of slot_in) (Sits limit) (asking_of own_call) answer_of
+      (IsNextAsked limit) seat step
 
   -- a call of a slot of which nothing is paused, and which doesn't pause
   own_called : (old : SessionState) (call : Call A) (response : Response A)
       (after : SessionState) (seat : Seat)
       → IsCalled old call response after → ComesTo call (Some None) old response after → response ≢ More
-      → Sits (slot_in call) seat old → Came seat old (Called call response after)
+      → Sits limit (slot_in call) seat old → Came seat (Called call response after)
   own_called old (Handle event) (Answered reply) after seat h comes never sits =
       let came = own_event old after event reply seat.state h.whole sits.there in
       let same : seat_of event.slot seat.state old ≡ seat =
       ap (λ (w : List ℕ). record { state = seat.state; waiting = w }) sits.waits in
       record {
         last = seat_of event.slot came.last after;
-        next = subst (λ (s : Seat). IsNextWithin (limit_of event.slot old) s event.what reply
-            (seat_of event.slot came.last after)) same came.next;
+        next = subst (λ (s : Seat). IsNextWithin limit s event.what reply
+            (seat_of event.slot came.last after)) same (subst (λ (n : ℕ). IsNextWithin n
+            (seat_of event.slot seat.state old) event.what reply (seat_of event.slot came.last after))
+            sits.limited came.next);
         sits = record {
           there = came.there;
           waits = refl;
           idle = ap (λ (ps : List (Option Pause)). slice_get ps event.slot) h.whole.paused ∙ sits.idle;
+          limited = h.whole.limits event.slot ∙ sits.limited;
         };
       }
   own_called old (Handle event) More after seat h comes never sits = absurd (never refl)
@@ -110,12 +116,12 @@ module _ {A : Type 0} where
       record {
         last = seat;
         next = (comes.0, refl);
-        sits = subst (λ (s : SessionState). Sits slot seat s) (sym comes.1) sits;
+        sits = subst (λ (s : SessionState). Sits limit slot seat s) (sym comes.1) sits;
       }
 
   -- the first bytes that wait are what is taken
   own_taken : (old : SessionState) (slot room : ℕ) (bytes : List ℕ) (after : SessionState) (seat : Seat)
-      → IsTaken old slot room bytes after → Sits slot seat old → Came seat old (Took slot room bytes after)
+      → IsTaken old slot room bytes after → Sits limit slot seat old → Came seat (Took slot room bytes after)
   own_taken old slot room bytes after seat h sits = record {
     last = record seat { waiting = drop room seat.waiting };
     next = (h.first ∙ ap (λ (w : List ℕ). take room w) sits.waits, refl);
@@ -123,22 +129,23 @@ module _ {A : Type 0} where
       there = ap (λ (w : World). slice_get w.slots slot) h.world ∙ sits.there;
       waits = h.left ∙ ap (λ (w : List ℕ). drop room w) sits.waits;
       idle = ap (λ (ps : List (Option Pause)). slice_get ps slot) h.paused ∙ sits.idle;
+      limited = h.limits slot ∙ sits.limited;
     };
   }
 
   own_step : (old : SessionState) (step : SessionStep A) (seat : Seat) → Happens old step
-      → IsFairStep slot_in own_call IsNextAsked limit_of Sits Happens NeverMore step
-      → Sits (slot_of slot_in step) seat old → Came seat old step
+      → IsAnsweredSo slot_in NeverMore (slot_of slot_in step) step
+      → Sits limit (slot_of slot_in step) seat old → Came seat step
   own_step old (Called call response after) seat h never sits =
       own_called old call response after seat h
       (subst (λ (p : Option (Option Pause)). ComesTo call p old response after) sits.idle
-      (by_pause old call response after h)) never sits
+      (by_pause old call response after h)) (never refl) sits
   own_step old (Took slot room bytes after) seat h never sits =
       own_taken old slot room bytes after seat h sits
 
-  others_step : (old : SessionState) (step : SessionStep A) (g : ℕ) (seat : Seat) → slot_of slot_in step ≢ g
-      → Happens old step → Sits g seat old → Sits g seat (after_step step)
-  others_step old (Called call response after) g seat other h sits =
+  others_step : (g : ℕ) (old : SessionState) (step : SessionStep A) (seat : Seat) → slot_of slot_in step ≢ g
+      → Happens old step → Sits limit g seat old → Sits limit g seat (after_step step)
+  others_step g old (Called call response after) seat other h sits =
       let s = step_of old call response after (by_pause old call response after h) in
       let kept = others_at g old.budget call (slice_get old.paused (slot_in call))
       (paced_world_of old) response
@@ -148,34 +155,33 @@ module _ {A : Type 0} where
         waits = ap (λ (w : Waiting). w.bytes)
             (others_wait g (slot_in call) old.outputs after.outputs s.outputs other) ∙ sits.waits;
         idle = kept.paused ∙ sits.idle;
+        limited = s.limits g ∙ sits.limited;
       }
-  others_step old (Took slot room bytes after) g seat other h sits = record {
+  others_step g old (Took slot room bytes after) seat other h sits = record {
     there = ap (λ (w : World). slice_get w.slots g) h.world ∙ sits.there;
     waits = ap (λ (w : Waiting). w.bytes) (others_wait g slot old.outputs after.outputs h.others other)
         ∙ sits.waits;
     idle = ap (λ (ps : List (Option Pause)). slice_get ps g) h.paused ∙ sits.idle;
+    limited = h.limits g ∙ sits.limited;
   }
 
-  step_limits : (old : SessionState) (step : SessionStep A) → Happens old step → (slot : ℕ)
-      → limit_of slot (after_step step) ≡ limit_of slot old
-  step_limits old (Called call response after) h =
-      (step_of old call response after (by_pause old call response after h)).limits
-  step_limits old (Took slot room bytes after) h = h.limits
-
-  pub seated_alone : (g : ℕ) (old : SessionState) (steps : List (SessionStep A))
-      (new : SessionState) (state : SlotState) → IsCourse old steps new → NeverPauses g steps
-      → slice_get (world_of old).slots g ≡ Some state → IsIdle g (paced_world_of old)
-      → IsSeatedAlone g state old steps new
-  seated_alone g old steps new state course never here idle =
-      let is = alone slot_in own_call IsNextAsked limit_of Sits Happens NeverMore
-      (record { limits = step_limits; of_own = own_step; of_other = others_step }) g old steps new
-      (seat_of g state old) course never (record { there = here; waits = refl; idle = idle }) in
-      record {
-        last = is.last.state;
-        own = subst (λ (w : List ℕ). IsSeatCourse (limit_of g old) (seat_of g state old) (own_askings g steps)
-            (own_answers g steps) (record { state = is.last.state; waiting = w })) (sym is.sits.waits) is.own;
-        state_after = is.sits.there;
-      }
+pub seated_alone : {A : Type 0} (g : ℕ) (old : SessionState) (steps : List (SessionStep A))
+    (new : SessionState) (state : SlotState) → IsCourse old steps new → NeverPauses g steps
+    → slice_get (world_of old).slots g ≡ Some state → IsIdle g (paced_world_of old)
+    → IsSeatedAlone g state old steps new
+seated_alone {A} g old steps new state course never here idle =
+    let limit = limit_of g old in
+    let is = own_alone Happens after_step (slot_of slot_in) (Sits limit) (asking_of own_call) answer_of
+    (IsNextAsked limit) (λ k was step. IsAnsweredSo slot_in (NeverMore {A = A} limit) k step)
+    (own_step limit) (others_step limit) g old steps new (seat_of g state old) course
+    (each_along Happens after_step (IsAnsweredSo slot_in (NeverMore {A = A} limit) g) old steps never)
+    (record { there = here; waits = refl; idle = idle; limited = refl }) in
+    record {
+      last = is.last.state;
+      own = subst (λ (w : List ℕ). IsSeatCourse limit (seat_of g state old) (own_askings g steps)
+          (own_answers g steps) (record { state = is.last.state; waiting = w })) (sym is.sits.waits) is.own;
+      state_after = is.sits.there;
+    }
 
 -- ---- and so its own calls decide all that it sees
 
@@ -206,19 +212,8 @@ asked_once limit old one other (Takes room) (Gave p) (Told q) x y = absurd y
 pub seat_course_once : {A : Type 0} (limit : ℕ) (old : Seat) (askings : List (Asking (OwnCall A)))
     (one other : List (Answer (Response A))) (s t : Seat) → IsSeatCourse limit old askings one s
     → IsSeatCourse limit old askings other t → (one ≡ other) × (s ≡ t)
-seat_course_once limit old [] [] [] s t x y = (refl, x ∙ sym y)
-seat_course_once limit old [] (p ∷ one) other s t x y = absurd x
-seat_course_once limit old [] [] (q ∷ other) s t x y = absurd y
-seat_course_once limit old (asking ∷ askings) [] other s t x y = absurd x
-seat_course_once limit old (asking ∷ askings) (p ∷ one) [] s t x y = absurd y
-seat_course_once {A} limit old (asking ∷ askings) (p ∷ one) (q ∷ other) s t x y =
-    let same = asked_once limit old x.0 y.0 asking p q x.1 y.1 in
-    let rest = seat_course_once limit x.0 askings one other s t x.2
-    (subst (λ (n : Seat). IsSeatCourse limit n askings other t) (sym same.1) y.2) in (
-      ap (λ (answer : Answer (Response A)). answer ∷ one) same.0
-          ∙ ap (λ (l : List (Answer (Response A))). q ∷ l) rest.0,
-      rest.1,
-    )
+seat_course_once limit old askings one other s t x y =
+    one_course (IsNextAsked limit) (asked_once limit) old askings one other s t x y
 
 -- A guest of one session and one of another, as the same slot with the same output: where the same is asked
 -- of both, both see the same.

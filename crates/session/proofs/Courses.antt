@@ -1,30 +1,12 @@
 -- What waits of a guest's output along a session's course.
-use Rattle.std.proofs.Common.{◌≡◌, ◌≢◌, ℕ, ◌<◌, ◌==◌, Bool, true, false, length, take, drop, List, ◌++◌, Option, Some, refl, sym, ◌∙◌, ap, append_assoc, take-append-drop, arith}
-use Rattle.std.specs.Prelude.{if◌then◌else◌, min, slice_set, unwrap_or}
+use Rattle.std.proofs.Common.{◌≡◌, ℕ, ◌<◌, length, take, drop, List, ◌++◌, Option, Some, refl, sym, ◌∙◌, ap, take-append-drop, arith}
+use Rattle.std.specs.Prelude.{min, slice_set, unwrap_or}
 use Rattle.std.specs.List.{slice_get}
-use Rattle.std.proofs.lemmas.Bool.Decides.{nat_tests}
 use Rattle.std.proofs.lemmas.List.{take_min, drop_min}
 use Rattle.board.proofs.Lists.{others_kept}
 use Rattle.session.specs.Course.{IsTaken}
-use Rattle.session.specs.Session.{KeepsOtherOutputs, SessionState, Waiting, none_waiting, output_of}
-use Rattle.session.proofs.Waiting.{limits_set, others_wait, set_there}
-
-pub output_kept : (g slot : ℕ) (old new : SessionState) → KeepsOtherOutputs slot old.outputs new.outputs
-    → (slot == g) ≡ false → output_of g new ≡ output_of g old
-output_kept g slot old new kept test =
-    let other : slot ≢ g = grind (arith, nat_tests) in
-    ap (λ (w : Waiting). w.bytes) (others_wait g slot old.outputs new.outputs kept other)
-
-pub taken_output : (mine : Bool) (bytes before after out taken new : List ℕ) →
-    (mine ≡ true → before ≡ bytes ++ after) → (mine ≡ false → after ≡ before) →
-    after ++ out ≡ taken ++ new →
-    before ++ out ≡ (if mine then bytes ++ taken else taken) ++ new
-taken_output true bytes before after out taken new first kept rest =
-    ap (λ (b : List ℕ). b ++ out) (first refl)
-    ∙ (append_assoc bytes after out
-    ∙ (ap (λ (b : List ℕ). bytes ++ b) rest ∙ sym (append_assoc bytes taken new)))
-taken_output false bytes before after out taken new first kept rest =
-    ap (λ (b : List ℕ). b ++ out) (sym (kept refl)) ∙ rest
+use Rattle.session.specs.Session.{SessionState, Waiting, none_waiting, output_of}
+use Rattle.session.proofs.Waiting.{limits_set, set_there}
 
 -- what was taken stood before what is left
 pub taken_first : (slot room : ℕ) (old after : SessionState) (bytes : List ℕ)
@@ -33,9 +15,6 @@ taken_first slot room old after bytes h =
     sym (take-append-drop room (output_of slot old))
     ∙ (ap (λ (l : List ℕ). l ++ drop room (output_of slot old)) (sym h.first)
     ∙ ap (λ (l : List ℕ). bytes ++ l) (sym h.left))
-
-pub same_slot : (slot g : ℕ) → (slot == g) ≡ true → slot ≡ g
-same_slot slot g test = grind (arith, nat_tests)
 
 -- bytes are taken from the front, as many as find room
 few : (room count len : ℕ) → count ≡ min len room → count ≡ min room len

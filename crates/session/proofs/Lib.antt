@@ -17,7 +17,6 @@ pub mod SessionTurns
 pub mod Restoring
 pub mod Courses
 pub mod PacedCourses
-pub mod Seats
 pub mod Alone
 pub mod Made
 pub mod InPlace

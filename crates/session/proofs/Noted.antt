@@ -1,8 +1,7 @@
 -- What is noted of a guest says exactly whether an event of it has met a refusal, however its services pause.
-use Rattle.std.proofs.Common.{◌≡◌, ◌≢◌, ◌⊎◌, inl, inr, ℕ, ◌≤◌, Bool, false, List, [], ◌∷◌, Option, Some, None, refl, sym, ◌∙◌, ap, subst, arith}
+use Rattle.std.proofs.Common.{◌≡◌, ◌≢◌, inl, inr, ℕ, ◌≤◌, Bool, false, List, Option, Some, None, refl, sym, ◌∙◌, ap, arith}
 use Rattle.std.specs.Prelude.{◌↔◌}
 use Rattle.std.specs.List.{slice_get}
-use Rattle.std.proofs.lemmas.Bool.{cases_eq}
 use Rattle.chain.specs.declared.budget.Budget.{Budget}
 use Rattle.chain.specs.declared.budget.Progress.{Progress}
 use Rattle.chain.specs.declared.budget.Progress.TheVariants as progress
@@ -21,11 +20,13 @@ use Rattle.board.specs.Pausing.{Begins, GoesOn, IsPiece, TurnsTo, asked, met_in,
 use Rattle.board.specs.Slot.{SlotState}
 use Rattle.board.specs.World.{noted}
 use Rattle.board.proofs.Failures.{given_failures}
-use Rattle.board.proofs.Noted.{met, noted_other, noted_own, unmet}
+use Rattle.board.proofs.Noted.{met, noted_exactly, unmet}
+use Rattle.board.proofs.Steps.{noted_along}
 use Rattle.board.proofs.Whole.{came}
+use Rattle.session.specs.declared.response.Response.{Response}
 use Rattle.session.specs.declared.response.Response.TheVariants.{Answered}
 use Rattle.session.specs.Line.{IsLine, IsNoted, IsUndisturbed}
-use Rattle.session.specs.Pacing.{Call, ComesTo, GoOn, Handle, IsTurn, IsUnchanged, Move, PacedWorld, response_to, slot_in}
+use Rattle.session.specs.Pacing.{Call, ComesTo, GoOn, Handle, IsMove, IsTurn, IsUnchanged, Move, PacedWorld, response_to, slot_in}
 
 -- ---- the image's failures never fall
 
@@ -79,103 +80,64 @@ abbrev Notes : {A : Type 0} → ℕ → PacedWorld → Move A → Type 0
 Notes g old move = (slice_get move.after.world.disturbed g ≡ Some false)
     ↔ ((slice_get old.world.disturbed g ≡ Some false) × IsUndisturbed g old move)
 
-notes_unchanged : {A : Type 0} (g : ℕ) (old : PacedWorld) (move : Move A) → move.response ≢ Answered NoMemory
-    → IsUnchanged old move.after move.output → Notes g old move
-notes_unchanged g old move had u =
-    let same : slice_get move.after.world.disturbed g ≡ slice_get old.world.disturbed g =
-    ap (λ (w : PacedWorld). slice_get w.world.disturbed g) u.same in (
-      λ is. (
-        sym same ∙ is,
-        record {
-          memory = λ mine. had;
-          image = λ mine. ap (λ (w : PacedWorld). w.world.health.failures) u.same;
-        },
-      ),
-      λ is. same ∙ is.0,
+notes : {A : Type 0} (g : ℕ) (old : PacedWorld) (move : Move A) (m : Bool)
+    → move.after.world.disturbed ≡ noted (slot_in move.call) m old.world.disturbed
+    → (m ≡ false) ↔ ((move.response ≢ Answered NoMemory)
+    × (move.after.world.health.failures ≡ old.world.health.failures)) → Notes g old move
+notes g old move m is met =
+    let exactly = noted_exactly old.world.disturbed move.after.world.disturbed (slot_in move.call) g m _ _ is met
+    in (
+      λ found. let now = exactly.0 found in (now.0, record { memory = now.1.0; image = now.1.1 }),
+      λ found. exactly.1 (found.0, (found.1.memory, found.1.image)),
     )
 
-module _ {A : Type 0} (Does : SlotState → Health → Health → SlotState → List ℕ → Turn A → Type 0)
-    (rises : (s : SlotState) (f k : Health) (s' : SlotState) (output : List ℕ) (t : Turn A)
-    → Does s f k s' output t → f.failures ≤ k.failures) where
-  notes_other : (g h : ℕ) (old : PacedWorld) (move : Move A) → slot_in move.call ≡ h → h ≢ g
-      → IsTurn Does old h move.response move.output move.block_irq move.console_irq move.after
-      → Notes g old move
-  notes_other g h old move is other t =
-      let same : slice_get move.after.world.disturbed g ≡ slice_get old.world.disturbed g =
-      ap (λ (flags : List Bool). slice_get flags g) t.taken.disturbed
-      ∙ noted_other old.world.disturbed h g
-      (met_in t.turn old.world.health.failures move.after.world.health.failures) other in (
-        λ found. (
-          sym same ∙ found,
-          record {
-            memory = λ mine. absurd (other (sym is ∙ mine));
-            image = λ mine. absurd (other (sym is ∙ mine));
-          },
-        ),
-        λ found. same ∙ found.0,
-      )
+notes_unchanged : {A : Type 0} (g : ℕ) (old : PacedWorld) (move : Move A) (response : Response A)
+    → response ≢ Answered NoMemory → (move.response ≡ response) × IsUnchanged old move.after move.output
+    → Notes g old move
+notes_unchanged g old move response had c =
+    notes g old move false (ap (λ (w : PacedWorld). w.world.disturbed) c.1.same) (
+      λ none.
+          (λ said. had (sym c.0 ∙ said), ap (λ (w : PacedWorld). w.world.health.failures) c.1.same),
+      λ both. refl,
+    )
 
-  notes_own : (h : ℕ) (old : PacedWorld) (move : Move A) → slot_in move.call ≡ h
-      → IsTurn Does old h move.response move.output move.block_irq move.console_irq move.after
-      → Notes h old move
-  notes_own h old move is t =
-      let test : Bool = met_in t.turn old.world.health.failures move.after.world.health.failures in
-      let now : slice_get move.after.world.disturbed h ≡ slice_get (noted h test old.world.disturbed) h =
-      ap (λ (flags : List Bool). slice_get flags h) t.taken.disturbed in
-      let rose : old.world.health.failures ≤ move.after.world.health.failures =
-      rises t.taken.state old.world.health move.after.world.health t.taken.after move.output
-      t.turn t.taken.comes in (
-        λ found.
-            let own = noted_own old.world.disturbed h test (sym now ∙ found) in
-            let none = turn_unmet t.turn old.world.health.failures
-            move.after.world.health.failures rose own.1 in (
-              own.0,
-              record {
-                memory = λ mine lacking. none.0 (sym t.told ∙ lacking);
-                image = λ mine. none.1;
-              },
-            ),
-        λ found.
-            let none : test ≡ false =
-            turn_met t.turn old.world.health.failures move.after.world.health.failures
-            (λ lacking. found.1.memory is (t.told ∙ lacking)) (found.1.image is) in
-            now ∙ (ap (λ m. slice_get (noted h m old.world.disturbed) h) none ∙ found.0),
-      )
-
-  notes_turn : (g h : ℕ) (old : PacedWorld) (move : Move A) → slot_in move.call ≡ h → (h ≡ g) ⊎ (h ≢ g)
-      → IsTurn Does old h move.response move.output move.block_irq move.console_irq move.after
-      → Notes g old move
-  notes_turn g h old move is (inl mine) t = subst (λ k. Notes k old move) mine (notes_own h old move is t)
-  notes_turn g h old move is (inr other) t = notes_other g h old move is other t
+notes_turn : {A : Type 0} (Does : SlotState → Health → Health → SlotState → List ℕ → Turn A → Type 0)
+    → ((s : SlotState) (f k : Health) (s' : SlotState) (output : List ℕ) (t : Turn A)
+    → Does s f k s' output t → f.failures ≤ k.failures)
+    → (g h : ℕ) (old : PacedWorld) (move : Move A) → slot_in move.call ≡ h
+    → IsTurn Does old h move.response move.output move.block_irq move.console_irq move.after
+    → Notes g old move
+notes_turn Does rises g h old move is t =
+    let rose : old.world.health.failures ≤ move.after.world.health.failures =
+    rises t.taken.state old.world.health move.after.world.health t.taken.after move.output t.turn t.taken.comes in
+    notes g old move _ (rw is t.taken.disturbed) (
+      λ none.
+          let both = turn_unmet t.turn old.world.health.failures move.after.world.health.failures rose none in
+          (λ lacking. both.0 (sym t.told ∙ lacking), both.1),
+      λ had.
+          turn_met t.turn old.world.health.failures move.after.world.health.failures
+          (λ lacking. had.0 (t.told ∙ lacking)) had.1,
+    )
 
 notes_at : {A : Type 0} (g : ℕ) (budget : Budget) (old : PacedWorld) (move : Move A) (call : Call A)
     (o : Option (Option Pause)) → move.call ≡ call
     → ComesTo budget call o old move.response move.output move.block_irq move.console_irq move.after
     → Notes g old move
-notes_at g budget old move call None is c =
-    notes_unchanged g old move (λ said. let never = sym c.0 ∙ said in cc) c.1
+notes_at {A} g budget old move call None is c = notes_unchanged g old move _ (λ no. cc) c
 notes_at g budget old move (Handle event) (Some None) is c =
     notes_turn (Begins event.what budget) (λ s f k s' output t h. begins_rises (asked event.what s) event.what
-    budget s f k s' output t h) g event.slot old move (ap slot_in is) (cases_eq event.slot g) c
-notes_at g budget old move (Handle event) (Some (Some pause)) is c =
-    notes_unchanged g old move (λ said. let never = sym c.0 ∙ said in cc) c.1
-notes_at g budget old move (GoOn slot) (Some None) is c =
-    notes_unchanged g old move (λ said. let never = sym c.0 ∙ said in cc) c.1
+    budget s f k s' output t h) g event.slot old move (ap slot_in is) c
+notes_at g budget old move (Handle event) (Some (Some pause)) is c = notes_unchanged g old move _ (λ no. cc) c
+notes_at g budget old move (GoOn slot) (Some None) is c = notes_unchanged g old move _ (λ no. cc) c
 notes_at {A} g budget old move (GoOn slot) (Some (Some pause)) is c =
     notes_turn (GoesOn pause budget) (λ s f k s' output t h. comes_rises {A = A} pause Next budget s f k s'
-    output t h) g slot old move (ap slot_in is) (cases_eq slot g) c
+    output t h) g slot old move (ap slot_in is) c
 
 -- and a whole line
 pub line_noted : {A : Type 0} (g : ℕ) (budget : Budget) (old new : PacedWorld) (moves : List (Move A))
     → IsLine budget old moves new → IsNoted g old moves new
-line_noted g budget old new [] line =
-    let same : slice_get new.world.disturbed g ≡ slice_get old.world.disturbed g =
-    ap (λ (w : PacedWorld). slice_get w.world.disturbed g) line in
-    (λ is. (sym same ∙ is, tt), λ is. same ∙ is.0)
-line_noted g budget old new (move ∷ moves) line =
-    let first : Notes g old move =
-    notes_at g budget old move move.call (slice_get old.paused (slot_in move.call)) refl line.0 in
-    let rest : IsNoted g move.after moves new = line_noted g budget move.after new moves line.1 in (
-      λ is. let later = rest.0 is in let sooner = first.0 later.0 in (sooner.0, (sooner.1, later.1)),
-      λ is. rest.1 (first.1 (is.0, is.1.0), is.1.1),
-    )
+line_noted {A} g budget old new moves line =
+    noted_along (IsMove {A = A} budget) (λ (move : Move A). move.after)
+    (λ world. slice_get world.world.disturbed g ≡ Some false) (IsUndisturbed g)
+    (λ was move step. notes_at g budget was move move.call (slice_get was.paused (slot_in move.call)) refl step)
+    old moves new line

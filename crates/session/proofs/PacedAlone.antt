@@ -1,7 +1,7 @@
 -- A guest whose own events met no refusal is told what it would be told alone, however its services pause.
-use Rattle.std.proofs.Common.{◌≡◌, ◌≢◌, ◌⊎◌, inl, inr, ℕ, true, false, List, [], ◌∷◌, ◌++◌, Option, Some, None, eqb, refl, sym, ◌∙◌, ap, subst}
+use Rattle.std.proofs.Common.{◌≡◌, ◌≢◌, inl, inr, ℕ, true, false, List, [], ◌∷◌, ◌++◌, Option, Some, None, eqb, refl, sym, ◌∙◌, ap, subst}
+use Rattle.std.specs.Prelude.{⊤}
 use Rattle.std.specs.List.{slice_get}
-use Rattle.std.proofs.lemmas.Bool.Decides.{eqb_tells}
 use Rattle.std.proofs.lemmas.Option.{same_Some}
 use Rattle.chain.specs.declared.budget.Budget.{Budget}
 use Rattle.board.specs.declared.event.Event.{Event}
@@ -13,42 +13,46 @@ use Rattle.board.specs.declared.reply.Reply.{Reply}
 use Rattle.board.specs.declared.reply.Reply.TheVariants.{NoMemory}
 use Rattle.board.specs.declared.reply.Record.{Record}
 use Rattle.board.specs.Image.{Health}
-use Rattle.board.specs.Machine.{IsNext, RunsOnItsOwn, record_of}
+use Rattle.board.specs.Machine.{IsNext, IsTold, RunsOnItsOwn, record_of}
 use Rattle.board.specs.Outcome.{Outcome}
 use Rattle.board.specs.Pausing.{Begins, GoesOn, TurnsTo, asked, readied, reply_of}
 use Rattle.board.specs.Slot.{SlotState}
-use Rattle.board.proofs.Alone.{get_set, get_set_other, on_its_own, served}
+use Rattle.board.proofs.Alone.{served}
+use Rattle.board.proofs.Lists.{get_set, get_set_other}
 use Rattle.board.proofs.OneRun.{next_of}
+use Rattle.board.proofs.Steps as steps
+use Rattle.board.proofs.Steps.{Passes}
 use Rattle.board.proofs.Whole.{came, whole}
 use Rattle.session.specs.declared.response.Response.{Response}
 use Rattle.session.specs.declared.response.Response.TheVariants.{Answered, More, Busy, Idle}
-use Rattle.session.specs.Line.{IsIdle, IsLine, IsQuiet, IsUndisturbed, RunsAlone, begun_by, own_events, own_records, record_at}
+use Rattle.session.specs.Line.{IsIdle, IsLine, IsQuiet, IsUndisturbed, RunsAlone, begun_by, own_events, own_records, record_at, told_by}
 use Rattle.session.specs.Pacing.{Call, ComesTo, Handle, GoOn, IsMove, IsTurn, IsUnchanged, Move, PacedWorld, paused_by, response_to, slot_in}
 use Rattle.session.proofs.Midway.{Way, next_of_pieces, way_again, way_first}
 
--- ---- two ways in which a guest may stand in a line
+-- ---- how a guest may sit in a line
 
--- its slot, of which nothing is paused
-record Stands (g : ℕ) (world : PacedWorld) (state : SlotState) : Type 0 where
-  there : slice_get world.world.slots g ≡ Some state
-  idle : slice_get world.paused g ≡ Some None
+-- an event that a guest waits for, and what it has put out
+pub record Begun (A : Type 0) : Type 0 where
+  pub what : EventKind A
+  pub out : List ℕ
 
--- and in the middle of an event that it began in this state, and that has put out so much
-record IsMidway {A : Type 0} (g : ℕ) (world : PacedWorld) (state : SlotState) (what : EventKind A)
-    (out : List ℕ) : Type 0 where
-  pause : Pause
-  now : SlotState
-  there : slice_get world.world.slots g ≡ Some now
-  paused : slice_get world.paused g ≡ Some (Some pause)
-  asks : asked what state ≡ Some pause
-  way : Way pause.service (readied what state) now out
+-- nothing of its slot is paused
+pub record Stands (g : ℕ) (world : PacedWorld) (state : SlotState) : Type 0 where
+  pub there : slice_get world.world.slots g ≡ Some state
+  pub idle : slice_get world.paused g ≡ Some None
 
--- what comes of a line then
-record Comes {A : Type 0} (g : ℕ) (state : SlotState) (events : List (EventKind A))
-    (records : List (Record A)) (new : PacedWorld) : Type 0 where
-  last : SlotState
-  own : RunsOnItsOwn g state events records last
-  state_after : slice_get new.world.slots g ≡ Some last
+-- or it is in the middle of an event that it began in this state
+pub record IsMidway {A : Type 0} (g : ℕ) (world : PacedWorld) (state : SlotState) (event : Begun A) : Type 0 where
+  pub pause : Pause
+  pub now : SlotState
+  pub there : slice_get world.world.slots g ≡ Some now
+  pub paused : slice_get world.paused g ≡ Some (Some pause)
+  pub asks : asked event.what state ≡ Some pause
+  pub way : Way pause.service (readied event.what state) now event.out
+
+abbrev pub Sits : {A : Type 0} → ℕ → SlotState → Option (Begun A) → PacedWorld → Type 0
+Sits g state None world = Stands g world state
+Sits g state (Some event) world = IsMidway g world state event
 
 -- ---- moves of other slots
 
@@ -87,8 +91,8 @@ others_at g budget (GoOn slot) (Some None) old response output block console new
 others_at g budget (GoOn slot) (Some (Some pause)) old response output block console new other c =
     of_others (GoesOn pause budget) g slot old response output block console new other c
 
--- what an other slot's move says nothing of
-events_of_others : {A : Type 0} (g : ℕ) (call : Call A) (response : Response A) (rest : List (EventKind A))
+-- a move of another slot begins no event of the guest's
+pub events_of_others : {A : Type 0} (g : ℕ) (call : Call A) (response : Response A) (rest : List (EventKind A))
     → eqb (slot_in call) g ≡ false → begun_by g call response rest ≡ rest
 events_of_others g (Handle event) (Answered reply) rest other = rw other refl
 events_of_others g (Handle event) More rest other = rw other refl
@@ -141,236 +145,265 @@ first_pause {A} (Some asking) what budget state before after new output pause is
       (way_first asking.service budget (readied what state) before after new output stood h.1),
 )
 
--- ---- the law, by both ways at once
+-- ---- what a guest's own move does
 
-module _ {A : Type 0} (g : ℕ) (budget : Budget) (new : PacedWorld) (ends : IsIdle g new) where
-  abbrev FromStanding : PacedWorld → List (Move A) → Type 0
-  FromStanding old moves = (state : SlotState) → Stands g old state
-      → Comes g state (own_events g moves) (own_records g [] moves) new
+-- the events of a guest that waits for one: that one, and those that it begins
+abbrev pub events_from : {A : Type 0} → Option (Begun A) → List (EventKind A) → List (EventKind A)
+events_from None rest = rest
+events_from (Some begun) rest = begun.what ∷ rest
 
-  abbrev FromMidway : PacedWorld → List (Move A) → Type 0
-  FromMidway old moves =
-      (state : SlotState) (what : EventKind A) (out : List ℕ) → IsMidway g old state what out
-      → Comes g state (what ∷ own_events g moves) (own_records g out moves) new
+-- and what that one has put out
+abbrev pub out_of : {A : Type 0} → Option (Begun A) → List ℕ
+out_of None = []
+out_of (Some begun) = begun.out
 
-  abbrev Both : PacedWorld → List (Move A) → Type 0
-  Both old moves = FromStanding old moves × FromMidway old moves
+-- nothing: its slot is busy, or waits for nothing
+abbrev pub IsStalled : {A : Type 0} → Response A → Type 0
+IsStalled (Answered reply) = ⊥
+IsStalled More = ⊥
+IsStalled Busy = ⊤
+IsStalled Idle = ⊤
 
-  -- another slot's move
-  standing_others : (old : PacedWorld) (move : Move A) (moves : List (Move A))
-      → eqb (slot_in move.call) g ≡ false → Stays g old move.after → Both move.after moves
-      → FromStanding old (move ∷ moves)
-  standing_others old move moves other stays rest state s =
-      let c : Comes g state (own_events g moves) (own_records g [] moves) new =
-      rest.0 state (record { there = stays.slot ∙ s.there; idle = stays.paused ∙ s.idle }) in
-      rw (other, events_of_others g move.call move.response (own_events g moves) other) c
+-- or it serves an event: one that it begins, or the one that the guest waits for
+pub record Serves {A : Type 0} (g : ℕ) (begun : Option (Begun A)) (call : Call A) (response : Response A)
+    (event : Begun A) : Type 0 where
+  pub events :
+      (rest : List (EventKind A)) → events_from begun (begun_by g call response rest) ≡ event.what ∷ rest
+  pub out : out_of begun ≡ event.out
 
-  midway_others : (old : PacedWorld) (move : Move A) (moves : List (Move A))
-      → eqb (slot_in move.call) g ≡ false → Stays g old move.after → Both move.after moves
-      → FromMidway old (move ∷ moves)
-  midway_others old move moves other stays rest state what out m =
-      let c : Comes g state (what ∷ own_events g moves) (own_records g out moves) new =
-      rest.1 state what out (record {
-        pause = m.pause;
-        now = m.now;
-        there = stays.slot ∙ m.there;
-        paused = stays.paused ∙ m.paused;
-        asks = m.asks;
-        way = m.way;
-      }) in
-      rw (other, events_of_others g move.call move.response (own_events g moves) other) c
+-- nothing, or a piece of an event that isn't its last, or the last
+pub data OwnMove {A : Type 0} (g : ℕ) (state : SlotState) (begun : Option (Begun A)) (call : Call A)
+    (response : Response A) (move : Move A) : Type 0 where
+  Stayed :
+      IsStalled response → move.output ≡ [] → ((rest : List (EventKind A)) → begun_by g call response rest ≡ rest)
+      → Sits g state begun move.after → OwnMove g state begun call response move
+  WentOn :
+      (event : Begun A) → Serves g begun call response event → response ≡ More
+      → Sits g state (Some (record { what = event.what; out = event.out ++ move.output })) move.after
+      → OwnMove g state begun call response move
+  Ended :
+      (event : Begun A) → Serves g begun call response event → (reply : Reply A) → response ≡ Answered reply
+      → (last : SlotState) → IsTold g state event.what (record_at g event.out move reply) last
+      → Sits {A = A} g last None move.after → OwnMove g state begun call response move
 
-  -- a move that changed nothing
-  standing_same : (old : PacedWorld) (move : Move A) (moves : List (Move A)) (state : SlotState)
-      → own_events g (move ∷ moves) ≡ own_events g moves
-      → own_records g [] (move ∷ moves) ≡ own_records g [] moves
-      → move.after ≡ old → Both move.after moves → Stands g old state
-      → Comes g state (own_events g (move ∷ moves)) (own_records g [] (move ∷ moves)) new
-  standing_same old move moves state events records same rest s =
-      rw (events, records) (rest.0 state (subst (λ (w : PacedWorld). Stands g w state) (sym same) s))
-
-  midway_same : (old : PacedWorld) (move : Move A) (moves : List (Move A)) (state : SlotState)
-      (what : EventKind A) (out : List ℕ) → own_events g (move ∷ moves) ≡ own_events g moves
-      → own_records g out (move ∷ moves) ≡ own_records g out moves
-      → move.after ≡ old → Both move.after moves → IsMidway g old state what out
-      → Comes g state (what ∷ own_events g (move ∷ moves)) (own_records g out (move ∷ moves)) new
-  midway_same old move moves state what out events records same rest m =
-      rw (events, records) (rest.1 state what out
-      (subst (λ (w : PacedWorld). IsMidway g w state what out) (sym same) m))
-
-  -- an event that ends with a turn, and whose pieces before it put out so much
-  ended : {Does : SlotState → Health → Health → SlotState → List ℕ → Turn A → Type 0} {now : SlotState}
-      (old : PacedWorld) (move : Move A) (moves : List (Move A)) (state : SlotState) (what : EventKind A)
-      (out : List ℕ) (reply : Reply A) (t : Turned Does g old move now) → t.turn ≡ turn.Answered reply
-      → IsNext state what (came t.after reply (out ++ move.output)) → Both move.after moves
-      → Comes g state (what ∷ own_events g moves) (record_at g out move reply ∷ own_records g [] moves) new
-  ended old move moves state what out reply t is next rest =
-      let c : Comes g t.after (own_events g moves) (own_records g [] moves) new = rest.0 t.after
-      (record { there = t.there; idle = t.paused ∙ ap (λ (x : Turn A). Some (paused_by x)) is }) in
-      record {
-        last = c.last;
-        own = on_its_own g state c.last what (own_events g moves) (record_at g out move reply)
-            (own_records g [] moves) (came t.after reply (out ++ move.output)) next
-            (t.recorded reply out) c.own;
-        state_after = c.state_after;
-      }
-
+module _ {A : Type 0} (budget : Budget) (old : PacedWorld) (move : Move A) (state : SlotState)
+    (answered : move.response ≢ Answered NoMemory)
+    (stood : move.after.world.health.failures ≡ old.world.health.failures) where
   -- an event that the guest begins
-  begins : (old : PacedWorld) (event : Event A) (move : Move A) (moves : List (Move A)) (state : SlotState)
-      → move.call ≡ Handle event → eqb event.slot g ≡ true → (move.response ≢ Answered NoMemory)
-      → move.after.world.health.failures ≡ old.world.health.failures
-      → (t : Turned (Begins event.what budget) g old move state) → (turn : Turn A) → t.turn ≡ turn
-      → Both move.after moves
-      → Comes g state (own_events g (move ∷ moves)) (own_records g [] (move ∷ moves)) new
-  begins old event move moves state call test answered stood t (turn.Answered reply) is rest =
+  begins : (event : Event A) (t : Turned (Begins event.what budget) event.slot old move state) (turn : Turn A)
+      → eqb event.slot event.slot ≡ true → t.turn ≡ turn → Begins event.what budget state old.world.health move.after.world.health t.after
+      move.output turn → OwnMove event.slot state None (Handle event) move.response move
+  begins event t (turn.Answered reply) test is does =
       let said : move.response ≡ Answered reply = t.told ∙ ap response_to is in
-      let does : Begins event.what budget state old.world.health move.after.world.health t.after move.output
-      (turn.Answered reply) =
-      subst (λ (x : Turn A). Begins event.what budget state old.world.health move.after.world.health t.after
-      move.output x) is t.does in
-      let given = whole event.what budget state old.world.health move.after.world.health t.after
-      move.output reply does in
       let outcome : Outcome A = came t.after reply move.output in
       let next : IsNext state event.what outcome =
       next_of state event.what old.world.health move.after.world.health outcome
-      (served state event.what old.world.health move.after.world.health outcome given
+      (served state event.what old.world.health move.after.world.health outcome
+      (whole event.what budget state old.world.health move.after.world.health t.after move.output reply does)
       (λ none. answered (said ∙ ap (λ (r : Reply A). Answered r) none)) stood) in
-      rw (call, said, test) (ended old move moves state event.what [] reply t is next rest)
-  begins old event move moves state call test answered stood t (turn.More pause) is rest =
+      Ended (record { what = event.what; out = [] })
+      (record { events = λ rest. rw (said, test) refl; out = refl }) reply said t.after
+      (record { outcome = outcome; is_next = next; recorded = t.recorded reply []; left = refl })
+      (record { there = t.there; idle = t.paused ∙ ap (λ (x : Turn A). Some (paused_by x)) is })
+  begins event t (turn.More pause) test is does =
       let said : move.response ≡ More = t.told ∙ ap response_to is in
-      let does : Begins event.what budget state old.world.health move.after.world.health t.after move.output
-      (turn.More pause) =
-      subst (λ (x : Turn A). Begins event.what budget state old.world.health move.after.world.health t.after
-      move.output x) is t.does in
       let first = first_pause (asked event.what state) event.what budget state old.world.health
       move.after.world.health t.after move.output pause refl stood does in
-      let c : Comes g state (event.what ∷ own_events g moves) (own_records g move.output moves) new =
-      rest.1 state event.what move.output
+      WentOn (record { what = event.what; out = [] })
+      (record { events = λ rest. rw (said, test) refl; out = refl }) said
       (record {
         pause = pause;
         now = t.after;
         there = t.there;
-        paused = t.paused
-            ∙ ap (λ (x : Turn A). Some (paused_by x)) is;
+        paused = t.paused ∙ ap (λ (x : Turn A). Some (paused_by x)) is;
         asks = first.0;
         way = first.1;
-      }) in
-      rw (call, said, test) c
-
-  standing_own : (old : PacedWorld) (move : Move A) (moves : List (Move A)) (state : SlotState)
-      (call : Call A) → move.call ≡ call → slot_in call ≡ g → eqb (slot_in call) g ≡ true
-      → IsUndisturbed g old move
-      → ComesTo budget call (Some None) old move.response move.output move.block_irq move.console_irq
-      move.after → Both move.after moves → Stands g old state
-      → Comes g state (own_events g (move ∷ moves)) (own_records g [] (move ∷ moves)) new
-  standing_own old move moves state (Handle event) is mine test quiet c rest s =
-      let own : slot_in move.call ≡ g = ap slot_in is ∙ mine in
-      let t : Turned (Begins event.what budget) g old move state =
-      turned (Begins event.what budget) g old move state None s.there s.idle
-      (subst (λ h. IsTurn (Begins event.what budget) old h move.response move.output move.block_irq
-      move.console_irq move.after) mine c) in
-      begins old event move moves state is test (quiet.memory own) (quiet.image own) t t.turn refl rest
-  standing_own old move moves state (GoOn slot) is mine test quiet c rest s =
-      standing_same old move moves state (rw is refl) (rw (is, test, c.0) refl) c.1.same rest s
+      })
 
   -- a service that goes on
-  goes_on : (old : PacedWorld) (slot : ℕ) (move : Move A) (moves : List (Move A)) (state : SlotState)
-      (what : EventKind A) (out : List ℕ) (m : IsMidway g old state what out) → move.call ≡ GoOn slot
-      → eqb slot g ≡ true → (move.response ≢ Answered NoMemory)
-      → move.after.world.health.failures ≡ old.world.health.failures
-      → (t : Turned (GoesOn m.pause budget) g old move m.now) → (turn : Turn A) → t.turn ≡ turn
+  goes_on : (slot : ℕ) (event : Begun A) (m : IsMidway slot old state event)
+      (t : Turned (GoesOn m.pause budget) slot old move m.now) (turn : Turn A) → t.turn ≡ turn
       → GoesOn m.pause budget m.now old.world.health move.after.world.health t.after move.output turn
-      → Both move.after moves
-      → Comes g state (what ∷ own_events g (move ∷ moves)) (own_records g out (move ∷ moves)) new
-  goes_on old slot move moves state what out m call test answered stood t (turn.Answered reply) is
-      (inl (done, piece)) rest =
-      let said : move.response ≡ Answered reply = t.told ∙ ap response_to is in
-      let next : IsNext state what (came t.after (reply_of m.pause) (out ++ move.output)) =
-      next_of_pieces what budget state m.pause m.now out old.world.health move.after.world.health t.after
-      move.output m.asks stood m.way piece in
-      rw (call, said, test) (ended old move moves state what out reply t is
-      (subst (λ (r : Reply A). IsNext state what (came t.after r (out ++ move.output))) (sym done) next) rest)
-  goes_on old slot move moves state what out m call test answered stood t (turn.Answered reply) is
-      (inr (lacks, refused)) rest =
+      → OwnMove slot state (Some event) (GoOn slot) move.response move
+  goes_on slot event m t (turn.Answered reply) is (inl (done, piece)) =
+      let next : IsNext state event.what (came t.after (reply_of m.pause) (event.out ++ move.output)) =
+      next_of_pieces event.what budget state m.pause m.now event.out old.world.health move.after.world.health
+      t.after move.output m.asks stood m.way piece in
+      Ended event (record { events = λ rest. refl; out = refl }) reply (t.told ∙ ap response_to is) t.after
+      (record {
+        outcome = came t.after reply (event.out ++ move.output);
+        is_next = subst (λ (r : Reply A). IsNext state event.what (came t.after r (event.out
+            ++ move.output))) (sym done) next;
+        recorded = t.recorded reply event.out;
+        left = refl;
+      })
+      (record { there = t.there; idle = t.paused ∙ ap (λ (x : Turn A). Some (paused_by x)) is })
+  goes_on slot event m t (turn.Answered reply) is (inr (lacks, refused)) =
       absurd (answered (t.told ∙ ap response_to is ∙ ap (λ (r : Reply A). Answered r) lacks))
-  goes_on old slot move moves state what out m call test answered stood t (turn.More pause) is h rest =
-      let said : move.response ≡ More = t.told ∙ ap response_to is in
-      let c : Comes g state (what ∷ own_events g moves) (own_records g (out ++ move.output) moves) new =
-      rest.1 state what (out ++ move.output) (record {
+  goes_on slot event m t (turn.More pause) is h =
+      WentOn event (record { events = λ rest. refl; out = refl }) (t.told ∙ ap response_to is)
+      (record {
         pause = m.pause;
         now = t.after;
         there = t.there;
         paused = t.paused ∙ ap (λ (x : Turn A). Some (paused_by x)) is
             ∙ ap (λ (p : Pause). Some (Some p)) h.0;
         asks = m.asks;
-        way = way_again m.pause.service budget (readied what state) m.now out old.world.health
+        way = way_again m.pause.service budget (readied event.what state) m.now event.out old.world.health
             move.after.world.health t.after move.output stood m.way h.1;
-      }) in
-      rw (call, said, test) c
+      })
 
-  midway_own : (old : PacedWorld) (move : Move A) (moves : List (Move A)) (state : SlotState)
-      (what : EventKind A) (out : List ℕ) (m : IsMidway g old state what out) (call : Call A)
-      → move.call ≡ call → slot_in call ≡ g → eqb (slot_in call) g ≡ true → IsUndisturbed g old move
-      → ComesTo budget call (Some (Some m.pause)) old move.response move.output move.block_irq
-      move.console_irq move.after → Both move.after moves
-      → Comes g state (what ∷ own_events g (move ∷ moves)) (own_records g out (move ∷ moves)) new
-  midway_own old move moves state what out m (Handle event) is mine test quiet c rest =
-      midway_same old move moves state what out (rw (is, c.0) refl) (rw (is, test, c.0) refl) c.1.same rest m
-  midway_own old move moves state what out m (GoOn slot) is mine test quiet c rest =
-      let own : slot_in move.call ≡ g = ap slot_in is ∙ mine in
-      let t : Turned (GoesOn m.pause budget) g old move m.now =
-      turned (GoesOn m.pause budget) g old move m.now (Some m.pause) m.there m.paused
-      (subst (λ h. IsTurn (GoesOn m.pause budget) old h move.response move.output move.block_irq
-      move.console_irq move.after) mine c) in
-      goes_on old slot move moves state what out m is test (quiet.memory own) (quiet.image own) t
-      t.turn refl t.does rest
+  -- a call, by what is paused of its slot
+  abbrev ComesOf : Call A → Option (Option Pause) → Type 0
+  ComesOf call p =
+      ComesTo budget call p old move.response move.output move.block_irq move.console_irq move.after
 
-  -- a move of either
-  by_move : (old : PacedWorld) (move : Move A) (moves : List (Move A))
-      → ((eqb (slot_in move.call) g ≡ true) × (slot_in move.call ≡ g))
-      ⊎ ((eqb (slot_in move.call) g ≡ false) × (slot_in move.call ≢ g)) → IsMove budget old move
-      → IsUndisturbed g old move
-      → Both move.after moves → Both old (move ∷ moves)
-  by_move old move moves (inl is) step quiet rest = (
-    λ state s.
-        standing_own old move moves state move.call refl is.1 is.0 quiet
-        (subst (λ (o : Option (Option Pause)). ComesTo budget move.call o old move.response move.output
-        move.block_irq move.console_irq move.after) (ap (λ h. slice_get old.paused h) is.1
-        ∙ s.idle) step) rest s,
-    λ state what out m.
-        midway_own old move moves state what out m move.call refl is.1 is.0 quiet
-        (subst (λ (o : Option (Option Pause)). ComesTo budget move.call o old move.response move.output
-        move.block_irq move.console_irq move.after) (ap (λ h. slice_get old.paused h) is.1
-        ∙ m.paused) step) rest,
-  )
-  by_move old move moves (inr is) step quiet rest =
-      let stays : Stays g old move.after =
-      others_at g budget move.call (slice_get old.paused (slot_in move.call)) old move.response
-      move.output move.block_irq move.console_irq move.after is.1 step in
-      (standing_others old move moves is.0 stays rest, midway_others old move moves is.0 stays rest)
+  own_at : (call : Call A) (begun : Option (Begun A)) → eqb (slot_in call) (slot_in call) ≡ true → ComesOf call (slice_get old.paused (slot_in call))
+      → Sits (slot_in call) state begun old → OwnMove (slot_in call) state begun call move.response move
+  own_at (Handle event) None test c s =
+      let t = turned (Begins event.what budget) event.slot old move state None s.there s.idle
+      (subst (λ (p : Option (Option Pause)). ComesOf (Handle event) p) s.idle c) in
+      begins event t t.turn test refl t.does
+  own_at (GoOn slot) None test c s =
+      let same = subst (λ (p : Option (Option Pause)). ComesOf (GoOn slot) p) s.idle c in
+      Stayed (rw (same.0) tt) same.1.silent (λ rest. refl)
+      (subst (λ (w : PacedWorld). Sits {A = A} slot state None w) (sym same.1.same) s)
+  own_at (Handle event) (Some begun) test c s =
+      let same = subst (λ (p : Option (Option Pause)). ComesOf (Handle event) p) s.paused c in
+      Stayed (rw (same.0) tt) same.1.silent (λ rest. rw (same.0) refl)
+      (subst (λ (w : PacedWorld). Sits event.slot state (Some begun) w) (sym same.1.same) s)
+  own_at (GoOn slot) (Some begun) test c s =
+      let t = turned (GoesOn s.pause budget) slot old move s.now (Some s.pause) s.there s.paused
+      (subst (λ (p : Option (Option Pause)). ComesOf (GoOn slot) p) s.paused c) in
+      goes_on slot begun s t t.turn refl t.does
 
-  both : (old : PacedWorld) (moves : List (Move A)) → IsLine budget old moves new
-      → IsQuiet g old moves → Both old moves
-  both old [] line quiet = (
-    λ state s. record {
-      last = state;
-      own = record { outcomes = []; course = refl; told = refl };
-      state_after = ap (λ (w : PacedWorld). slice_get w.world.slots g) line ∙ s.there;
-    },
-    λ state what out m.
-        let idle : ◌≡◌ {A = Option (Option Pause)} (Some None) (Some (Some m.pause)) = sym ends
-        ∙ ap (λ (w : PacedWorld). slice_get w.paused g) line ∙ m.paused in
-        absurd (cc),
-  )
-  both old (move ∷ moves) line quiet =
-      by_move old move moves (eqb_tells (slot_in move.call) g) line.0 quiet.0
-      (both move.after moves line.1 quiet.1)
+pub own_move : {A : Type 0} (budget : Budget) (old : PacedWorld) (move : Move A) (state : SlotState)
+    (begun : Option (Begun A)) → eqb (slot_in move.call) (slot_in move.call) ≡ true → IsMove budget old move
+    → IsUndisturbed (slot_in move.call) old move → Sits (slot_in move.call) state begun old
+    → OwnMove (slot_in move.call) state begun move.call move.response move
+own_move budget old move state begun test step undisturbed sits =
+    own_at budget old move state (undisturbed.memory refl) (undisturbed.image refl) move.call begun test step
+    sits
+
+-- and a move of another slot leaves the guest as it sits
+pub others_move : {A : Type 0} (g : ℕ) (state : SlotState) (begun : Option (Begun A)) (old new : PacedWorld)
+    → Stays g old new → Sits g state begun old → Sits g state begun new
+others_move g state None old new stays s =
+    record { there = stays.slot ∙ s.there; idle = stays.paused ∙ s.idle }
+others_move g state (Some begun) old new stays s = record {
+  pause = s.pause;
+  now = s.now;
+  there = stays.slot ∙ s.there;
+  paused = stays.paused ∙ s.paused;
+  asks = s.asks;
+  way = s.way;
+}
+
+-- ---- the law
+
+-- a guest's state before the event that it waits for, if it waits for one
+record PacedSeat (A : Type 0) : Type 0 where
+  state : SlotState
+  begun : Option (Begun A)
+
+abbrev SitsAt : {A : Type 0} → ℕ → PacedSeat A → PacedWorld → Type 0
+SitsAt g seat world = Sits g seat.state seat.begun world
+
+-- what comes of moves for a guest that sits so before them
+record Comes {A : Type 0} (new : PacedWorld) (g : ℕ) (seat : PacedSeat A) (moves : List (Move A)) : Type 0 where
+  last : SlotState
+  own :
+      RunsOnItsOwn g seat.state (events_from seat.begun (own_events g moves))
+      (own_records g (out_of seat.begun) moves) last
+  state_after : slice_get new.world.slots g ≡ Some last
+
+stalled_told : {A : Type 0} (g : ℕ) (out : List ℕ) (move : Move A) (response : Response A)
+    (rest : List ℕ → List (Record A)) → IsStalled response → told_by g out move response rest ≡ rest out
+stalled_told g out move (Answered reply) rest stalled = absurd stalled
+stalled_told g out move More rest stalled = absurd stalled
+stalled_told g out move Busy rest stalled = refl
+stalled_told g out move Idle rest stalled = refl
+
+run_as : {A : Type 0} (g : ℕ) (state last : SlotState) (events events' : List (EventKind A))
+    (records records' : List (Record A)) → events' ≡ events → records' ≡ records
+    → RunsOnItsOwn g state events records last → RunsOnItsOwn g state events' records' last
+run_as g state last events events' records records' p q own = rw (p, q) own
+
+module _ {A : Type 0} (budget : Budget) (new : PacedWorld) where
+  abbrev Passing : ℕ → PacedSeat A → Move A → Type 0
+  Passing g seat move =
+      Passes (IsMove budget) (λ m. m.after) (λ m. slot_in m.call) SitsAt (Comes new) g seat move
+
+  passes : (g : ℕ) (move : Move A) (seat : PacedSeat A) → eqb (slot_in move.call) g ≡ true
+      → OwnMove g seat.state seat.begun move.call move.response move → Passing g seat move
+  passes g move seat test (Stayed stalled silent events sits) = record {
+    next = seat;
+    sits = sits;
+    comes = λ moves c. record {
+      last = c.last;
+      own = run_as g seat.state c.last _ _ _ _ (ap (events_from seat.begun) (events (own_events g moves)))
+          (rw test (stalled_told g (out_of seat.begun) move move.response (λ more. own_records g more moves)
+          stalled)) c.own;
+      state_after = c.state_after;
+    };
+  }
+  passes g move seat test (WentOn event serves said sits) = record {
+    next = record {
+      state = seat.state;
+      begun = Some (record { what = event.what; out = event.out ++ move.output });
+    };
+    sits = sits;
+    comes = λ moves c. record {
+      last = c.last;
+      own = run_as g seat.state c.last _ _ _ _ (serves.events (own_events g moves))
+          (rw (test, said, serves.out) refl) c.own;
+      state_after = c.state_after;
+    };
+  }
+  passes g move seat test (Ended event serves reply said last told sits) = record {
+    next = record { state = last; begun = None };
+    sits = sits;
+    comes = λ moves c. record {
+      last = c.last;
+      own = run_as g seat.state c.last (event.what ∷ own_events g moves) _
+          (record_at g event.out move reply ∷ own_records g [] moves) _ (serves.events (own_events g moves))
+          (rw (test, said, serves.out) refl) (last, told, c.own);
+      state_after = c.state_after;
+    };
+  }
+
+  ends : (g : ℕ) → IsIdle g new → (state : SlotState) (begun : Option (Begun A)) → Sits g state begun new
+      → Comes new g (record { state = state; begun = begun }) []
+  ends g idle state None sits = record { last = state; own = refl; state_after = sits.there }
+  ends g idle state (Some event) sits =
+      let no : ◌≡◌ {A = Option (Option Pause)} (Some None) (Some (Some sits.pause)) = sym idle ∙ sits.paused in
+      absurd (cc)
 
 -- A guest that is quiet in a line, and idle before and after it, is alone in it.
 pub alone : {A : Type 0} (g : ℕ) (budget : Budget) (old new : PacedWorld) (moves : List (Move A))
     (state : SlotState) → IsLine budget old moves new → IsQuiet g old moves → IsIdle g old → IsIdle g new
     → slice_get old.world.slots g ≡ Some state → RunsAlone g state moves new
-alone g budget old new moves state line quiet starts ends here =
-    let c : Comes g state (own_events g moves) (own_records g [] moves) new =
-    (both g budget new ends old moves line quiet).0 state (record { there = here; idle = starts }) in
+alone {A} g budget old new moves state line quiet starts idle here =
+    let c = steps.alone (IsMove {A = A} budget) (λ (m : Move A). m.after) (λ (m : Move A). slot_in m.call) SitsAt
+    (Comes new) IsUndisturbed
+    (record {
+      own = λ was move seat test step undisturbed sits.
+          passes budget new (slot_in move.call) move seat test
+          (own_move budget was move seat.state seat.begun test step undisturbed sits);
+      others = λ k was move seat test other step sits.
+          record {
+            next = seat;
+            sits = others_move k seat.state seat.begun was move.after
+                (others_at k budget move.call (slice_get was.paused (slot_in move.call)) was move.response
+                move.output move.block_irq move.console_irq move.after other step) sits;
+            comes = λ more c. record {
+              last = c.last;
+              own = run_as k seat.state c.last _ _ _ _ (ap (events_from seat.begun)
+                  (events_of_others k move.call move.response (own_events k more) test)) (rw test refl) c.own;
+              state_after = c.state_after;
+            };
+          };
+    })
+    g new (λ seat sits. ends budget new g idle seat.state seat.begun sits) old moves
+    (record { state = state; begun = None }) line quiet (record { there = here; idle = starts }) in
     record { last = c.last; own = c.own; state_after = c.state_after }

@@ -1,8 +1,8 @@
--- A session's course as a line of the paced board's moves.
-use Rattle.std.proofs.Common.{◌≡◌, ◌≢◌, ℕ, ◌==◌, Bool, true, false, List, [], ◌∷◌, ◌++◌, map, Option, Some, None, refl, sym, ◌∙◌, ap, subst, append_assoc, append-nil, arith}
-use Rattle.std.specs.Prelude.{⊤, if◌then◌else◌, slice_set}
+-- A guest of a session that had room is answered what it would be answered alone, however its services pause.
+use Rattle.std.proofs.Common.{◌≡◌, ◌≢◌, ◌⊎◌, inl, inr, ℕ, eqb, true, false, List, [], ◌∷◌, ◌++◌, map, Option, Some, None, refl, sym, ◌∙◌, ap, subst, append_assoc, append-nil}
+use Rattle.std.specs.Prelude.{slice_set}
 use Rattle.std.specs.List.{slice_get}
-use Rattle.std.proofs.lemmas.Bool.Decides.{nat_tests}
+use Rattle.std.proofs.lemmas.Bool.{cases_eq}
 use Rattle.chain.specs.declared.budget.Budget.{Budget}
 use Rattle.board.specs.declared.event.EventKind.{EventKind}
 use Rattle.board.specs.declared.pause.Pause.{Pause}
@@ -10,21 +10,26 @@ use Rattle.board.specs.declared.pause.Turn.{Turn}
 use Rattle.board.specs.declared.pause.Turn.TheVariants as turn
 use Rattle.board.specs.declared.reply.Reply.{Reply}
 use Rattle.board.specs.declared.reply.Record.{Record}
+use Rattle.board.specs.declared.reply.Reply.TheVariants.{NoMemory}
 use Rattle.board.specs.Image.{Health}
+use Rattle.board.specs.Machine.{RunsOnItsOwn}
 use Rattle.board.specs.Pausing.{HasLimit}
 use Rattle.board.specs.Slot.{SlotState}
+use Rattle.board.specs.World.{World}
 use Rattle.session.specs.declared.response.Response.{Response}
 use Rattle.session.specs.declared.response.Response.TheVariants.{Answered, More, Busy, Idle}
-use Rattle.session.specs.Line.{IsIdle, IsLine, IsQuiet, begun_by, own_events, own_records, told_by}
-use Rattle.session.specs.Pacing.{Call, Handle, GoOn, Move, PacedWorld, slot_in}
+use Rattle.session.specs.Line.{IsIdle, record_at}
+use Rattle.session.specs.Pacing.{Call, Handle, GoOn, Move, slot_in}
 use Rattle.session.specs.Pacing as pacing
-use Rattle.board.proofs.Alone.{get_set}
-use Rattle.session.proofs.PacedAlone.{alone, others_at}
-use Rattle.session.specs.Course.{SessionStep, HadRoom, IsCalled, IsCourse, IsTaken, NeverPauses, RunsAlone, ended_by, events_begun, output_taken, paced_world_of, put_out, replies_ended}
+use Rattle.board.proofs.Lists.{get_set}
+use Rattle.board.proofs.Steps.{Passes, alone, each_along, kept_along}
+use Rattle.session.proofs.PacedAlone.{Begun, Ended, IsStalled, OwnMove, Sits, Stayed, WentOn, events_from, events_of_others, others_at, others_move, out_of, own_move}
+use Rattle.session.specs.Course.{SessionStep, HadRoom, Happens, IsCalled, IsCourse, NeverPauses, RunsAlone, ended_by, events_begun, output_taken, paced_world_of, put_out, replies_ended}
 use Rattle.session.specs.Pausing.{ComesTo, IsCall, IsTurn}
-use Rattle.session.specs.Session.{KeepsOtherOutputs, SessionState, limit_of, output_of, world_of}
-use Rattle.session.specs.Steps.{Called, Took}
-use Rattle.session.proofs.Courses.{output_kept, same_slot, taken_first, taken_output}
+use Rattle.session.specs.Session.{KeepsOtherOutputs, SessionState, Waiting, limit_of, output_of, world_of}
+use Rattle.session.specs.Steps.{Called, IsAnsweredSo, Took, after_step, slot_of}
+use Rattle.session.proofs.Courses.{taken_first}
+use Rattle.session.proofs.Waiting.{others_wait}
 
 -- ---- a call as a move
 
@@ -115,218 +120,205 @@ move_of old call response after h =
       after = paced_world_of after;
     }
 
-abbrev moves_of : {A : Type 0} (old : SessionState) (steps : List (SessionStep A)) (new : SessionState)
-    → IsCourse old steps new → List (Move A)
-moves_of old [] new course = []
-moves_of old (Called call response after ∷ steps) new course =
-    move_of old call response after (by_pause old call response after course.0)
-    ∷ moves_of after steps new course.1
-moves_of old (Took slot room bytes after ∷ steps) new course = moves_of after steps new course.1
+-- ---- how a guest sits in a session
 
--- nothing of what can be seen is other once output was taken
-taken_world : (old after : SessionState) (slot room : ℕ) (bytes : List ℕ) → IsTaken old slot room bytes after
-    → paced_world_of after ≡ paced_world_of old
-taken_world old after slot room bytes h = rw (h.world, h.paused) refl
+-- its state before the event that it waits for, if it waits for one, and what waits of its output
+record Place (A : Type 0) : Type 0 where
+  state : SlotState
+  begun : Option (Begun A)
+  waiting : List ℕ
 
-line_of : {A : Type 0} (budget : Budget) (old : SessionState) (steps : List (SessionStep A))
-    (new : SessionState) (course : IsCourse old steps new) → old.budget ≡ budget
-    → IsLine budget (paced_world_of old) (moves_of old steps new course) (paced_world_of new)
-line_of budget old [] new course is = ap paced_world_of course
-line_of {A} budget old (Called call response after ∷ steps) new course is =
-    let s = step_of old call response after (by_pause old call response after course.0) in (
-      subst (λ (b : Budget). pacing.ComesTo b call (slice_get old.paused (slot_in call)) (paced_world_of old)
-          response s.output s.block s.console (paced_world_of after)) is s.comes,
-      line_of budget after steps new course.1 (s.budget ∙ is),
-    )
-line_of budget old (Took slot room bytes after ∷ steps) new course is =
-    subst (λ (w : PacedWorld). IsLine budget w (moves_of after steps new course.1) (paced_world_of new))
-    (taken_world old after slot room bytes course.0)
-    (line_of budget after steps new course.1 (course.0.budget ∙ is))
+record SitsIn {A : Type 0} (g : ℕ) (place : Place A) (session : SessionState) : Type 0 where
+  seat : Sits g place.state place.begun (paced_world_of session)
+  waits : output_of g session ≡ place.waiting
 
-quiet_of : {A : Type 0} (g : ℕ) (old : SessionState) (steps : List (SessionStep A)) (new : SessionState)
-    (course : IsCourse old steps new) → HadRoom g steps
-    → IsQuiet g (paced_world_of old) (moves_of old steps new course)
-quiet_of g old [] new course had = tt
-quiet_of g old (Called call response after ∷ steps) new course had =
-    (record { memory = had.0; image = λ mine. refl }, quiet_of g after steps new course.1 had.1)
-quiet_of g old (Took slot room bytes after ∷ steps) new course had =
-    subst (λ (w : PacedWorld). IsQuiet g w (moves_of after steps new course.1))
-    (taken_world old after slot room bytes course.0)
-    (quiet_of g after steps new course.1 had)
+-- What comes of steps for a guest that sits so before them: its records, and what is put out from here on.
+record Comes {A : Type 0} (new : SessionState) (g : ℕ) (place : Place A)
+    (steps : List (SessionStep A)) : Type 0 where
+  records : List (Record A)
+  later : List ℕ
+  last : SlotState
+  own : RunsOnItsOwn g place.state (events_from place.begun (events_begun g steps)) records last
+  replies : replies_ended g steps ≡ map (λ written. written.reply) records
+  puts : put_out records ≡ out_of place.begun ++ later
+  output : place.waiting ++ later ≡ output_taken g steps ++ output_of g new
+  state_after : slice_get (world_of new).slots g ≡ Some last
 
-events_are : {A : Type 0} (g : ℕ) (old : SessionState) (steps : List (SessionStep A)) (new : SessionState)
-    (course : IsCourse old steps new) → own_events g (moves_of old steps new course) ≡ events_begun g steps
-events_are g old [] new course = refl
-events_are {A} g old (Called call response after ∷ steps) new course =
-    ap (λ (rest : List (EventKind A)). begun_by g call response rest) (events_are g after steps new course.1)
-events_are g old (Took slot room bytes after ∷ steps) new course = events_are g after steps new course.1
+stalled_ended : {A : Type 0} (response : Response A) (rest : List (Reply A)) → IsStalled response
+    → ended_by response rest ≡ rest
+stalled_ended (Answered reply) rest stalled = absurd stalled
+stalled_ended More rest stalled = absurd stalled
+stalled_ended Busy rest stalled = refl
+stalled_ended Idle rest stalled = refl
 
--- ---- what guest g is answered
+behind_none : (before after : List ℕ) (output : List ℕ) → after ≡ before ++ output → output ≡ [] → after ≡ before
+behind_none before after output is none = is ∙ (ap (λ (l : List ℕ). before ++ l) none ∙ append-nil before)
 
-abbrev replies_in : {A : Type 0} → List (Record A) → List (Reply A)
-replies_in {A} records = map (λ (r : Record A). r.reply) records
+-- where the board and what is paused of it stay, the guest sits as it did
+sits_at : {A : Type 0} (g : ℕ) (state : SlotState) (begun : Option (Begun A)) (old new : SessionState)
+    → world_of new ≡ world_of old → new.paused ≡ old.paused → Sits g state begun (paced_world_of old)
+    → Sits g state begun (paced_world_of new)
+sits_at g state begun old new world paused sits =
+    others_move g state begun (paced_world_of old) (paced_world_of new)
+    (record {
+      slot = ap (λ (w : World). slice_get w.slots g) world;
+      paused = ap (λ (ps : List (Option Pause)). slice_get ps g) paused;
+    }) sits
 
-told_replies : {A : Type 0} (g : ℕ) (out : List ℕ) (move : Move A) (response : Response A)
-    (replies : List (Reply A)) (rest : List ℕ → List (Record A))
-    → ((more : List ℕ) → replies ≡ replies_in (rest more))
-    → ended_by response replies ≡ replies_in (told_by g out move response rest)
-told_replies {A} g out move (Answered reply) replies rest h = ap (λ (rs : List (Reply A)). reply ∷ rs) (h [])
-told_replies g out move More replies rest h = h (out ++ move.output)
-told_replies g out move Busy replies rest h = h out
-told_replies g out move Idle replies rest h = h out
+run_from : {A : Type 0} (g : ℕ) (state last : SlotState) (events events' : List (EventKind A))
+    (records : List (Record A)) → events' ≡ events → RunsOnItsOwn g state events records last
+    → RunsOnItsOwn g state events' records last
+run_from g state last events events' records same own = rw same own
 
-own_replies : {A : Type 0} (mine : Bool) (one other : List (Reply A)) (records more : List (Record A))
-    → one ≡ replies_in records → other ≡ replies_in more
-    → (if mine then one else other) ≡ replies_in (if mine then records else more)
-own_replies true one other records more h k = h
-own_replies false one other records more h k = k
+module _ {A : Type 0} (new : SessionState) where
+  abbrev Passing : ℕ → Place A → SessionStep A → Type 0
+  Passing g place step = Passes Happens after_step (slot_of slot_in) SitsIn (Comes new) g place step
 
-replies_are : {A : Type 0} (g : ℕ) (out : List ℕ) (old : SessionState) (steps : List (SessionStep A))
-    (new : SessionState) (course : IsCourse old steps new)
-    → replies_ended g steps ≡ replies_in (own_records g out (moves_of old steps new course))
-replies_are g out old [] new course = refl
-replies_are g out old (Called call response after ∷ steps) new course =
-    let move = move_of old call response after (by_pause old call response after course.0) in
-    let moves = moves_of after steps new course.1 in
-    own_replies (slot_in call == g) (ended_by response (replies_ended g steps)) (replies_ended g steps)
-    (told_by g out move response (λ more. own_records g more moves)) (own_records g out moves)
-    (told_replies g out move response (replies_ended g steps) (λ more. own_records g more moves)
-    (λ more. replies_are g more after steps new course.1))
-    (replies_are g out after steps new course.1)
-replies_are g out old (Took slot room bytes after ∷ steps) new course =
-    replies_are g out after steps new course.1
+  -- steps of which the guest sees nothing come to what those behind them do
+  unseen : (g : ℕ) (place : Place A) (steps all : List (SessionStep A))
+      → events_begun g all ≡ events_begun g steps → replies_ended g all ≡ replies_ended g steps
+      → output_taken g all ≡ output_taken g steps → Comes new g place steps → Comes new g place all
+  unseen g place steps all events replies taken c = record {
+    records = c.records;
+    later = c.later;
+    last = c.last;
+    own = run_from g place.state c.last _ _ c.records (ap (events_from place.begun) events) c.own;
+    replies = replies ∙ c.replies;
+    puts = c.puts;
+    output = c.output ∙ ap (λ (l : List ℕ). l ++ output_of g new) (sym taken);
+    state_after = c.state_after;
+  }
 
--- ---- what guest g puts out
+  -- a call of its own
+  called : (old : SessionState) (call : Call A) (response : Response A) (after : SessionState)
+      (h : IsCall old call response after) (place : Place A) → eqb (slot_in call) (slot_in call) ≡ true
+      → output_of (slot_in call) old ≡ place.waiting
+      → OwnMove (slot_in call) place.state place.begun call response (move_of old call response after h)
+      → Passing (slot_in call) place (Called call response after)
+  called old call response after h place test waits (Stayed stalled silent events sits) = record {
+    next = place;
+    sits = record {
+      seat = sits;
+      waits = behind_none (output_of (slot_in call) old) (output_of (slot_in call) after)
+          (step_of old call response after h).output (step_of old call response after h).behind silent ∙ waits;
+    };
+    comes = λ steps.
+        unseen (slot_in call) place steps (Called call response after ∷ steps)
+        (events (events_begun (slot_in call) steps))
+        (rw test (stalled_ended response (replies_ended (slot_in call) steps) stalled)) refl;
+  }
+  called old call response after h place test waits (WentOn event serves said sits) =
+      let s = step_of old call response after h in
+      record {
+        next = record {
+          state = place.state;
+          begun = Some (record { what = event.what; out = event.out ++ s.output });
+          waiting = place.waiting ++ s.output;
+        };
+        sits = record { seat = sits; waits = s.behind ∙ ap (λ (l : List ℕ). l ++ s.output) waits };
+        comes = λ steps c. record {
+          records = c.records;
+          later = s.output ++ c.later;
+          last = c.last;
+          own = run_from (slot_in call) place.state c.last _ _ c.records
+              (serves.events (events_begun (slot_in call) steps)) c.own;
+          replies = rw (test, said) c.replies;
+          puts = rw (serves.out) (c.puts ∙ append_assoc event.out s.output c.later);
+          output = sym (append_assoc place.waiting s.output c.later) ∙ c.output;
+          state_after = c.state_after;
+        };
+      }
+  called old call response after h place test waits (Ended event serves reply said last told sits) =
+      let s = step_of old call response after h in
+      let written = record_at (slot_in call) event.out (move_of old call response after h) reply in
+      record {
+        next = record { state = last; begun = None; waiting = place.waiting ++ s.output };
+        sits = record { seat = sits; waits = s.behind ∙ ap (λ (l : List ℕ). l ++ s.output) waits };
+        comes = λ steps c. record {
+          records = written ∷ c.records;
+          later = s.output ++ c.later;
+          last = c.last;
+          own = run_from (slot_in call) place.state c.last (event.what ∷ events_begun (slot_in call) steps) _
+              (written ∷ c.records) (serves.events (events_begun (slot_in call) steps)) (last, told, c.own);
+          replies = rw (test, said) (ap (λ (rs : List (Reply A)). reply ∷ rs) c.replies);
+          puts = rw (serves.out) (ap (λ (l : List ℕ). (event.out ++ s.output) ++ l) c.puts
+              ∙ append_assoc event.out s.output c.later);
+          output = sym (append_assoc place.waiting s.output c.later) ∙ c.output;
+          state_after = c.state_after;
+        };
+      }
 
--- what its moves put out, one behind the other
-abbrev output_in : {A : Type 0} → ℕ → List (Move A) → List ℕ
-output_in g [] = []
-output_in g (move ∷ moves) = if slot_in move.call == g then move.output
-    ++ output_in g moves else output_in g moves
+  own_step : (old : SessionState) (step : SessionStep A) (place : Place A)
+      → eqb (slot_of slot_in step) (slot_of slot_in step) ≡ true → Happens old step
+      → IsAnsweredSo slot_in (λ response. response ≢ Answered NoMemory) (slot_of slot_in step) step
+      → SitsIn (slot_of slot_in step) place old → Passing (slot_of slot_in step) place step
+  own_step old (Called call response after) place test h had sits =
+      let is = by_pause old call response after h in
+      called old call response after is place test sits.waits
+      (own_move old.budget (paced_world_of old) (move_of old call response after is) place.state place.begun test
+      (step_of old call response after is).comes (record { memory = had; image = λ mine. refl }) sits.seat)
+  own_step old (Took slot room bytes after) place test h had sits = record {
+    next = record { state = place.state; begun = place.begun; waiting = output_of slot after };
+    sits = record { seat = sits_at slot place.state place.begun old after h.world h.paused sits.seat; waits = refl };
+    comes = λ steps c. record {
+      records = c.records;
+      later = c.later;
+      last = c.last;
+      own = c.own;
+      replies = c.replies;
+      puts = c.puts;
+      output = rw test (ap (λ (l : List ℕ). l ++ c.later) (sym sits.waits ∙ taken_first slot room old after bytes h)
+          ∙ (append_assoc bytes (output_of slot after) c.later
+          ∙ (ap (λ (l : List ℕ). bytes ++ l) c.output
+          ∙ sym (append_assoc bytes (output_taken slot steps) (output_of slot new)))));
+      state_after = c.state_after;
+    };
+  }
 
-put_output : (mine : Bool) (before after output rest taken new : List ℕ)
-    → (mine ≡ true → after ≡ before ++ output) → (mine ≡ false → after ≡ before)
-    → after ++ rest ≡ taken ++ new → before ++ (if mine then output ++ rest else rest) ≡ taken ++ new
-put_output true before after output rest taken new put kept is =
-    sym (append_assoc before output rest) ∙ (ap (λ (bytes : List ℕ). bytes ++ rest) (sym (put refl)) ∙ is)
-put_output false before after output rest taken new put kept is =
-    ap (λ (bytes : List ℕ). bytes ++ rest) (sym (kept refl)) ∙ is
+  others_step : (g : ℕ) (old : SessionState) (step : SessionStep A) (place : Place A)
+      → eqb (slot_of slot_in step) g ≡ false → slot_of slot_in step ≢ g → Happens old step
+      → SitsIn g place old → Passing g place step
+  others_step g old (Called call response after) place test other h sits =
+      let s = step_of old call response after (by_pause old call response after h) in
+      record {
+        next = place;
+        sits = record {
+          seat = others_move g place.state place.begun (paced_world_of old) (paced_world_of after)
+              (others_at g old.budget call (slice_get old.paused (slot_in call)) (paced_world_of old) response
+              s.output s.block s.console (paced_world_of after) other s.comes) sits.seat;
+          waits = ap (λ (w : Waiting). w.bytes)
+              (others_wait g (slot_in call) old.outputs after.outputs s.outputs other) ∙ sits.waits;
+        };
+        comes = λ steps.
+            unseen g place steps (Called call response after ∷ steps)
+            (events_of_others g call response (events_begun g steps) test) (rw test refl) refl;
+      }
+  others_step g old (Took slot room bytes after) place test other h sits = record {
+    next = place;
+    sits = record {
+      seat = sits_at g place.state place.begun old after h.world h.paused sits.seat;
+      waits = ap (λ (w : Waiting). w.bytes) (others_wait g slot old.outputs after.outputs h.others other)
+          ∙ sits.waits;
+    };
+    comes = λ steps. unseen g place steps (Took slot room bytes after ∷ steps) refl refl (rw test refl);
+  }
 
-outputs_are : {A : Type 0} (g : ℕ) (old : SessionState) (steps : List (SessionStep A)) (new : SessionState)
-    (course : IsCourse old steps new)
-    → output_of g old ++ output_in g (moves_of old steps new course) ≡ output_taken g steps ++ output_of g new
-outputs_are g old [] new course = append-nil (output_of g old) ∙ ap (output_of g) (sym course)
-outputs_are g old (Called call response after ∷ steps) new course =
-    let s = step_of old call response after (by_pause old call response after course.0) in
-    put_output (slot_in call == g) (output_of g old) (output_of g after) s.output
-    (output_in g (moves_of after steps new course.1)) (output_taken g steps) (output_of g new)
-    (λ test. subst (λ (h : ℕ). output_of h after ≡ output_of h old
-    ++ s.output) (same_slot (slot_in call) g test) s.behind)
-    (λ test. output_kept g (slot_in call) old after s.outputs test)
-    (outputs_are g after steps new course.1)
-outputs_are g old (Took slot room bytes after ∷ steps) new course =
-    taken_output (slot == g) bytes (output_of g old) (output_of g after)
-    (output_in g (moves_of after steps new course.1)) (output_taken g steps) (output_of g new)
-    (λ test. subst (λ (h : ℕ). output_of h old ≡ bytes ++ output_of h after) (same_slot slot g test)
-    (taken_first slot room old after bytes course.0))
-    (λ test. output_kept g slot old after course.0.others test)
-    (outputs_are g after steps new course.1)
-
--- ---- the records of a line have all that was put out
-
--- out is what the event that guest g waits for has put out: nothing where it waits for none
-abbrev Owed : Option (Option Pause) → List ℕ → Type 0
-Owed None out = out ≡ []
-Owed (Some None) out = out ≡ []
-Owed (Some (Some pause)) out = ⊤
-
-owed_none : (p : Option (Option Pause)) → Owed p []
-owed_none None = refl
-owed_none (Some None) = refl
-owed_none (Some (Some pause)) = tt
-
-owed_idle : (p : Option (Option Pause)) (out : List ℕ) → p ≡ Some None → Owed p out → out ≡ []
-owed_idle p out idle owed = subst (λ (q : Option (Option Pause)). Owed q out) idle owed
-
--- how a call of guest g's leaves it
-abbrev Leaves : {A : Type 0} → ℕ → PacedWorld → Response A → List ℕ → PacedWorld → Type 0
-Leaves g old (Answered reply) output new = ⊤
-Leaves g old More output new = (pause : Pause) × (slice_get new.paused g ≡ Some (Some pause))
-Leaves g old Busy output new = (new ≡ old) × (output ≡ [])
-Leaves g old Idle output new = (new ≡ old) × (output ≡ [])
-
-by_turn : {A : Type 0} (g : ℕ) (old : PacedWorld) (was : Option Pause) (response : Response A)
-    (output : List ℕ) (new : PacedWorld) (t : Turn A) → slice_get old.paused g ≡ Some was
-    → response ≡ pacing.response_to t → new.paused ≡ slice_set old.paused g (pacing.paused_by t)
-    → Leaves g old response output new
-by_turn g old was response output new (turn.Answered reply) waits told paused = rw told tt
-by_turn g old was response output new (turn.More pause) waits told paused =
-    rw told (
-      pause,
-      ap (λ (ps : List (Option Pause)). slice_get ps g) paused
-          ∙ get_set old.paused g was (Some pause) waits,
-    )
-
-leaves : {A : Type 0} (budget : Budget) (call : Call A) (p : Option (Option Pause)) (old : PacedWorld)
-    (response : Response A) (output : List ℕ) (block console : ℕ) (new : PacedWorld)
-    → slice_get old.paused (slot_in call) ≡ p
-    → pacing.ComesTo budget call p old response output block console new
-    → Leaves (slot_in call) old response output new
-leaves budget call None old response output block console new is c = rw (c.0) tt
-leaves budget (Handle event) (Some None) old response output block console new is c =
-    by_turn event.slot old None response output new c.turn is c.told c.paused
-leaves budget (Handle event) (Some (Some pause)) old response output block console new is c =
-    rw (c.0) (c.1.same, c.1.silent)
-leaves budget (GoOn slot) (Some None) old response output block console new is c =
-    rw (c.0) (c.1.same, c.1.silent)
-leaves budget (GoOn slot) (Some (Some pause)) old response output block console new is c =
-    by_turn slot old (Some pause) response output new c.turn is c.told c.paused
-
--- what is put out by a call of g's, and by those behind it
-behind_call : {A : Type 0} (g : ℕ) (out : List ℕ) (old : PacedWorld) (move : Move A) (response : Response A)
-    (rest : List ℕ → List (Record A)) (later : List ℕ)
-    → Leaves g old response move.output move.after → Owed (slice_get old.paused g) out
-    → ((more : List ℕ) → Owed (slice_get move.after.paused g) more → put_out (rest more) ≡ more ++ later)
-    → put_out (told_by g out move response rest) ≡ out ++ (move.output ++ later)
-behind_call g out old move (Answered reply) rest later left owed h =
-    ap (λ (bytes : List ℕ). (out ++ move.output) ++ bytes) (h [] (owed_none (slice_get move.after.paused g)))
-    ∙ append_assoc out move.output later
-behind_call g out old move More rest later left owed h =
-    h (out ++ move.output) (rw (left.1) tt) ∙ append_assoc out move.output later
-behind_call g out old move Busy rest later left owed h =
-    h out (rw (left.0) owed) ∙ ap (λ (bytes : List ℕ). out ++ (bytes ++ later)) (sym left.1)
-behind_call g out old move Idle rest later left owed h =
-    h out (rw (left.0) owed) ∙ ap (λ (bytes : List ℕ). out ++ (bytes ++ later)) (sym left.1)
-
-by_slot : {A : Type 0} (mine : Bool) (one other : List (Record A)) (out output later : List ℕ)
-    → (mine ≡ true → put_out one ≡ out ++ (output ++ later)) → (mine ≡ false → put_out other ≡ out ++ later)
-    → put_out (if mine then one else other) ≡ out ++ (if mine then output ++ later else later)
-by_slot true one other out output later own others = own refl
-by_slot false one other out output later own others = others refl
-
-not_same : (slot g : ℕ) → (slot == g) ≡ false → slot ≢ g
-not_same slot g test = grind (arith, nat_tests)
-
-put_out_is : {A : Type 0} (g : ℕ) (budget : Budget) (out : List ℕ) (old : PacedWorld) (moves : List (Move A))
-    (new : PacedWorld) → IsLine budget old moves new → IsIdle g new → Owed (slice_get old.paused g) out
-    → put_out (own_records g out moves) ≡ out ++ output_in g moves
-put_out_is g budget out old [] new line idle owed =
-    rw (owed_idle (slice_get old.paused g) out
-    (sym (ap (λ (w : PacedWorld). slice_get w.paused g) line) ∙ idle) owed) refl
-put_out_is g budget out old (move ∷ moves) new line idle owed =
-    by_slot (slot_in move.call == g) (told_by g out move move.response (λ more. own_records g more moves))
-    (own_records g out moves) out move.output (output_in g moves)
-    (λ test.
-    behind_call g out old move move.response (λ more. own_records g more moves) (output_in g moves)
-    (subst (λ (h : ℕ). Leaves h old move.response move.output move.after)
-    (same_slot (slot_in move.call) g test)
-    (leaves budget move.call (slice_get old.paused (slot_in move.call)) old move.response move.output
-    move.block_irq move.console_irq move.after refl line.0))
-    owed (λ more now. put_out_is g budget more move.after moves new line.1 idle now))
-    (λ test.
-    put_out_is g budget out move.after moves new line.1 idle
-    (rw (others_at g budget move.call (slice_get old.paused (slot_in move.call)) old move.response move.output
-    move.block_irq move.console_irq move.after (not_same (slot_in move.call) g test) line.0).paused owed))
+  ends : (g : ℕ) → IsIdle g (paced_world_of new) → (place : Place A) (begun : Option (Begun A))
+      → place.begun ≡ begun → Sits g place.state begun (paced_world_of new)
+      → output_of g new ≡ place.waiting → Comes new g place []
+  ends g idle place None is sits waits = record {
+    records = [];
+    later = [];
+    last = place.state;
+    own = rw is refl;
+    replies = refl;
+    puts = rw is refl;
+    output = append-nil place.waiting ∙ sym waits;
+    state_after = sits.there;
+  }
+  ends g idle place (Some event) is sits waits =
+      let no : ◌≡◌ {A = Option (Option Pause)} (Some None) (Some (Some sits.pause)) = sym idle ∙ sits.paused in
+      absurd (cc)
 
 -- ---- the law
 
@@ -334,21 +326,22 @@ pub runs_alone : {A : Type 0} (g : ℕ) (old new : SessionState) (steps : List (
     (state : SlotState) → IsCourse old steps new → HadRoom g steps
     → IsIdle g (paced_world_of old) → IsIdle g (paced_world_of new)
     → slice_get (world_of old).slots g ≡ Some state → RunsAlone g state old steps new
-runs_alone {A} g old new steps state course had starts ends here =
-    let moves = moves_of old steps new course in
-    let line = line_of old.budget old steps new course refl in
-    let is = alone g old.budget (paced_world_of old) (paced_world_of new) moves state line
-    (quiet_of g old steps new course had) starts ends here in
-    let joined : put_out (own_records g [] moves) ≡ output_in g moves =
-    put_out_is g old.budget [] (paced_world_of old) moves (paced_world_of new) line ends
-    (owed_none (slice_get old.paused g)) in
+runs_alone {A} g old new steps state course had starts idle here =
+    let IsFair : ℕ → SessionStep A → Type 0 = λ k step.
+    IsAnsweredSo slot_in (λ (response : Response A). response ≢ Answered NoMemory) k step in
+    let c = alone Happens after_step (slot_of slot_in) SitsIn (Comes new) (λ k was step. IsFair k step)
+    (record { own = own_step new; others = others_step new }) g new
+    (λ place sits. ends new g idle place place.begun refl sits.seat sits.waits) old steps
+    (record { state = state; begun = None; waiting = output_of g old }) course
+    (each_along Happens after_step (IsFair g) old steps had)
+    (record { seat = record { there = here; idle = starts }; waits = refl }) in
     record {
-      records = own_records g [] moves;
-      last = is.last;
-      own = rw (← events_are g old steps new course) is.own;
-      replies = replies_are g [] old steps new course;
-      output = rw joined (outputs_are g old steps new course);
-      state_after = is.state_after;
+      records = c.records;
+      last = c.last;
+      own = c.own;
+      replies = c.replies;
+      output = ap (λ (l : List ℕ). output_of g old ++ l) c.puts ∙ c.output;
+      state_after = c.state_after;
     }
 
 -- ---- without a budget nothing is paused
@@ -375,55 +368,60 @@ own_goes_on : {A : Type 0} (call : Call A) (old : SessionState) (response : Resp
 own_goes_on (Handle event) old response after unlimited h is = unlimited (h.limited is)
 own_goes_on (GoOn slot) old response after unlimited h is = let idle = h.0 in cc
 
-called_idle : {A : Type 0} (mine : Bool) (g : ℕ) (call : Call A) (old : SessionState) (response : Response A)
-    (after : SessionState) → (slot_in call == g) ≡ mine → (HasLimit old.budget → ⊥)
+called_idle : {A : Type 0} (g : ℕ) (call : Call A) (old : SessionState) (response : Response A)
+    (after : SessionState) → (slot_in call ≡ g) ⊎ (slot_in call ≢ g) → (HasLimit old.budget → ⊥)
     → slice_get old.paused g ≡ Some None → IsCall old call response after
     → slice_get after.paused g ≡ Some None
-called_idle true g call old response after test unlimited idle h =
-    let same = same_slot (slot_in call) g test in
+called_idle g call old response after (inl same) unlimited idle h =
     let own : slice_get old.paused (slot_in call) ≡ Some None =
     ap (λ (k : ℕ). slice_get old.paused k) same ∙ idle in
     subst (λ (k : ℕ). slice_get after.paused k ≡ Some None) same
     (own_idle call old response after unlimited own
     (subst (λ (p : Option (Option Pause)). ComesTo call p old response after) own h))
-called_idle false g call old response after test unlimited idle h =
+called_idle g call old response after (inr other) unlimited idle h =
     let s = step_of old call response after h in
     (others_at g old.budget call (slice_get old.paused (slot_in call)) (paced_world_of old) response s.output
-    s.block s.console (paced_world_of after) (not_same (slot_in call) g test) s.comes).paused ∙ idle
+    s.block s.console (paced_world_of after) other s.comes).paused ∙ idle
+
+-- nothing of guest g is paused, and there is no budget
+record StaysIdle (g : ℕ) (session : SessionState) : Type 0 where
+  unlimited : HasLimit session.budget → ⊥
+  idle : IsIdle g (paced_world_of session)
+
+keeps_idle : {A : Type 0} (g : ℕ) (old : SessionState) (step : SessionStep A) → Happens old step
+    → StaysIdle g old
+    → IsAnsweredSo slot_in (λ (response : Response A). response ≢ More) g step × StaysIdle g (after_step step)
+keeps_idle g old (Called call response after) h stays =
+    let is = by_pause old call response after h in
+    let s = step_of old call response after is in (
+      λ mine.
+          own_goes_on call old response after stays.unlimited
+          (subst (λ (p : Option (Option Pause)). ComesTo call p old response after)
+          (ap (λ (k : ℕ). slice_get old.paused k) mine ∙ stays.idle) is),
+      record {
+        unlimited = λ limit. stays.unlimited (subst (λ (b : Budget). HasLimit b) s.budget limit);
+        idle = called_idle g call old response after (cases_eq (slot_in call) g) stays.unlimited stays.idle is;
+      },
+    )
+keeps_idle g old (Took slot room bytes after) h stays = (
+  tt,
+  record {
+    unlimited = λ limit. stays.unlimited (subst (λ (b : Budget). HasLimit b) h.budget limit);
+    idle = ap (λ (ps : List (Option Pause)). slice_get ps g) h.paused ∙ stays.idle;
+  },
+)
 
 stays_idle : {A : Type 0} (g : ℕ) (old new : SessionState) (steps : List (SessionStep A))
     → IsCourse old steps new → (HasLimit old.budget → ⊥) → IsIdle g (paced_world_of old)
-    → IsIdle g (paced_world_of new)
-stays_idle g old new [] course unlimited idle = ap (λ (s : SessionState). slice_get s.paused g) course ∙ idle
-stays_idle g old new (Called call response after ∷ steps) course unlimited idle =
-    let h = by_pause old call response after course.0 in
-    let s = step_of old call response after h in
-    stays_idle g after new steps course.1
-    (λ limit. unlimited (subst (λ (b : Budget). HasLimit b) s.budget limit))
-    (called_idle (slot_in call == g) g call old response after refl unlimited idle h)
-stays_idle g old new (Took slot room bytes after ∷ steps) course unlimited idle =
-    stays_idle g after new steps course.1
-    (λ limit. unlimited (subst (λ (b : Budget). HasLimit b) course.0.budget limit))
-    (ap (λ (ps : List (Option Pause)). slice_get ps g) course.0.paused ∙ idle)
+    → NeverPauses g steps × StaysIdle g new
+stays_idle {A} g old new steps course unlimited idle =
+    kept_along Happens after_step (StaysIdle g)
+    (IsAnsweredSo slot_in (λ (response : Response A). response ≢ More) g) (keeps_idle g) old steps new course
+    (record { unlimited = unlimited; idle = idle })
 
 pub never_pauses : {A : Type 0} (g : ℕ) (old new : SessionState) (steps : List (SessionStep A))
     → IsCourse old steps new → (HasLimit old.budget → ⊥) → IsIdle g (paced_world_of old) → NeverPauses g steps
-never_pauses g old new [] course unlimited idle = tt
-never_pauses g old new (Called call response after ∷ steps) course unlimited idle =
-    let h = by_pause old call response after course.0 in
-    let s = step_of old call response after h in (
-      λ mine.
-          own_goes_on call old response after unlimited
-          (subst (λ (p : Option (Option Pause)). ComesTo call p old response after)
-          (ap (λ (k : ℕ). slice_get old.paused k) mine ∙ idle) h),
-      never_pauses g after new steps course.1
-          (λ limit. unlimited (subst (λ (b : Budget). HasLimit b) s.budget limit))
-          (called_idle (slot_in call == g) g call old response after refl unlimited idle h),
-    )
-never_pauses g old new (Took slot room bytes after ∷ steps) course unlimited idle =
-    never_pauses g after new steps course.1
-    (λ limit. unlimited (subst (λ (b : Budget). HasLimit b) course.0.budget limit))
-    (ap (λ (ps : List (Option Pause)). slice_get ps g) course.0.paused ∙ idle)
+never_pauses g old new steps course unlimited idle = (stays_idle g old new steps course unlimited idle).0
 
 pub runs_alone_unlimited : {A : Type 0} (g : ℕ) (old new : SessionState) (steps : List (SessionStep A))
     (state : SlotState) → IsCourse old steps new → HadRoom g steps → (HasLimit old.budget → ⊥)
@@ -431,4 +429,4 @@ pub runs_alone_unlimited : {A : Type 0} (g : ℕ) (old new : SessionState) (step
     → RunsAlone g state old steps new
 runs_alone_unlimited g old new steps state course had unlimited starts here =
     runs_alone g old new steps state course had starts
-    (stays_idle g old new steps course unlimited starts) here
+    (stays_idle g old new steps course unlimited starts).1.idle here

@@ -5,6 +5,7 @@ use Rattle.chain.specs.declared.budget.Budget.{Budget}
 use Rattle.sector_cache.specs.Sector.{extent_of}
 use Rattle.board.specs.declared.event.EventKind.{EventKind}
 use Rattle.board.specs.Slot.{SlotState}
+use Rattle.board.specs.Steps.{IsAnsweredBy, own_steps}
 use Rattle.board.specs.Within.{Seat, IsNextWithin}
 use Rattle.session.specs.declared.guest.GuestSpec.{GuestSpec}
 use Rattle.session.specs.declared.response.Response.{Response}
@@ -12,7 +13,7 @@ use Rattle.session.specs.declared.response.Response.TheVariants.{Answered, Idle}
 use Rattle.session.specs.Course.{SessionStep}
 use Rattle.session.specs.Pacing.{Call, Handle, GoOn, slot_in}
 use Rattle.session.specs.Session.{SessionState, limit_of, new_session, output_of, world_of}
-use Rattle.session.specs.Steps.{Answer, Asking, Does, Gave, IsAnsweredBy, Takes, Told, answer_of, asking_of, own_steps}
+use Rattle.session.specs.Steps.{Answer, Asking, Does, Gave, Takes, Told, answer_of, asking_of, slot_of}
 
 -- What a call is for its guest: an event, or that its paused service goes on.
 pub data OwnCall (A : Type 0) : Type 0 where
@@ -25,10 +26,10 @@ own_call (GoOn slot) = GoesOn
 
 -- what was asked for guest g, in order, and what was answered
 abbrev pub own_askings : {A : Type 0} → ℕ → List (SessionStep A) → List (Asking (OwnCall A))
-own_askings g steps = map (asking_of own_call) (own_steps slot_in g steps)
+own_askings g steps = map (asking_of own_call) (own_steps (slot_of slot_in) g steps)
 
 abbrev pub own_answers : {A : Type 0} → ℕ → List (SessionStep A) → List (Answer (Response A))
-own_answers g steps = map answer_of (own_steps slot_in g steps)
+own_answers g steps = map answer_of (own_steps (slot_of slot_in) g steps)
 
 -- ---- the one-slot machine with its outlet
 

@@ -8,13 +8,14 @@ use Rattle.board.specs.declared.reply.Reply.TheVariants.{NoMemory}
 use Rattle.board.specs.declared.reply.Record.{Record}
 use Rattle.board.specs.Machine.{RunsOnItsOwn}
 use Rattle.board.specs.Slot.{SlotState}
+use Rattle.board.specs.Steps.{LeadTo}
 use Rattle.session.specs.declared.response.Response.{Response}
 use Rattle.session.specs.declared.response.Response.TheVariants.{Answered, More, Busy, Idle}
 use Rattle.session.specs.Line.{begun_by}
 use Rattle.session.specs.Pacing.{Call, Handle, GoOn, PacedWorld, slot_in}
 use Rattle.session.specs.Pausing.{IsCall, IsEventCall}
 use Rattle.session.specs.Session.{KeepsOtherOutputs, SessionState, limit_of, output_of, world_of}
-use Rattle.session.specs.Steps.{AreAnswered, Called, CourseStep, LeadTo, Took}
+use Rattle.session.specs.Steps.{AreAnswered, Called, CourseStep, Took, after_step}
 
 -- A call is answered so: by what is paused of its slot, and an event that is answered at once as a whole one.
 abbrev pub IsCalled : {A : Type 0} → SessionState → Call A → Response A → SessionState → Type 0
@@ -42,7 +43,7 @@ Happens old (Took slot room bytes after) = IsTaken old slot room bytes after
 
 -- these steps lead from one session to another
 abbrev pub IsCourse : {A : Type 0} → SessionState → List (SessionStep A) → SessionState → Type 0
-IsCourse old steps new = LeadTo Happens old steps new
+IsCourse old steps new = LeadTo Happens after_step old steps new
 
 -- what can be seen of the board and its pauses
 abbrev pub paced_world_of : SessionState → PacedWorld

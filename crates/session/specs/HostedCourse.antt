@@ -6,9 +6,10 @@ use Rattle.board.specs.declared.event.EventKind.{EventKind}
 use Rattle.board.specs.declared.reply.Reply.{Reply}
 use Rattle.board.specs.Hosting.{HostedState}
 use Rattle.board.specs.HostedLine.{IsCalledNext}
+use Rattle.board.specs.Steps.{IsAnsweredBy, LeadTo, own_steps}
 use Rattle.session.specs.Hosted.{HostedSessionState, IsHostedCall}
 use Rattle.session.specs.Session.{KeepsOtherOutputs, waiting_at}
-use Rattle.session.specs.Steps.{Answer, Asking, Called, CourseStep, Does, Gave, IsAnsweredBy, LeadTo, Takes, Told, Took, answer_of, asking_of, own_steps}
+use Rattle.session.specs.Steps.{Answer, Asking, Called, CourseStep, Does, Gave, Takes, Told, Took, after_step, answer_of, asking_of, slot_of}
 
 -- ---- a session
 
@@ -33,7 +34,7 @@ HostedHappens old (Took slot room bytes after) = IsHostedTaken old slot room byt
 -- these steps lead from one session to another
 abbrev pub IsHostedCourse : {A : Type 0} → HostedSessionState → List (HostedStep A)
     → HostedSessionState → Type 0
-IsHostedCourse old steps new = LeadTo HostedHappens old steps new
+IsHostedCourse old steps new = LeadTo HostedHappens after_step old steps new
 
 -- ---- a guest alone with its outlet
 
@@ -62,10 +63,11 @@ IsNextAsking limit old asking answer new = ⊥
 
 -- what was asked for guest g, in order, and what was answered
 abbrev pub own_hosted_askings : {A : Type 0} → ℕ → List (HostedStep A) → List (Asking (EventKind A))
-own_hosted_askings g steps = map (asking_of (λ event. event.what)) (own_steps (λ event. event.slot) g steps)
+own_hosted_askings g steps =
+    map (asking_of (λ event. event.what)) (own_steps (slot_of (λ event. event.slot)) g steps)
 
 abbrev pub own_hosted_answers : {A : Type 0} → ℕ → List (HostedStep A) → List (Answer (Reply A))
-own_hosted_answers g steps = map answer_of (own_steps (λ event. event.slot) g steps)
+own_hosted_answers g steps = map answer_of (own_steps (slot_of (λ event. event.slot)) g steps)
 
 -- guest g in a session: what it sees, and what waits of its output
 abbrev pub hosted_seat : ℕ → HostedState → HostedSessionState → HostedSeat

@@ -1,6 +1,6 @@
 -- Lines of calls with pauses, and what each guest sees of one: its own events, as if it were alone and never
 -- paused.
-use Rattle.std.specs.Prelude.{◌≡◌, ◌≢◌, ◌↔◌, ℕ, ◌==◌, ⊤, false, if◌then◌else◌, None, Some, List, [], ◌∷◌, ◌++◌}
+use Rattle.std.specs.Prelude.{◌≡◌, ◌≢◌, ◌↔◌, ℕ, ◌==◌, false, if◌then◌else◌, None, Some, List, [], ◌∷◌, ◌++◌}
 use Rattle.std.specs.List.{slice_get}
 use Rattle.chain.specs.declared.budget.Budget.{Budget}
 use Rattle.board.specs.declared.event.EventKind.{EventKind}
@@ -9,14 +9,14 @@ use Rattle.board.specs.declared.reply.Reply.TheVariants.{NoMemory}
 use Rattle.board.specs.declared.reply.Record.{Record}
 use Rattle.board.specs.Machine.{RunsOnItsOwn}
 use Rattle.board.specs.Slot.{SlotState}
+use Rattle.board.specs.Steps.{HoldsAlong, LeadTo}
 use Rattle.session.specs.declared.response.Response.{Response}
 use Rattle.session.specs.declared.response.Response.TheVariants.{Answered, More, Busy, Idle}
 use Rattle.session.specs.Pacing.{Call, Handle, GoOn, IsMove, Move, PacedWorld, slot_in}
 
 -- the moves lead from one world to another
 abbrev pub IsLine : {A : Type 0} → Budget → PacedWorld → List (Move A) → PacedWorld → Type 0
-IsLine budget old [] new = new ≡ old
-IsLine budget old (move ∷ moves) new = IsMove budget old move × IsLine budget move.after moves new
+IsLine budget old moves new = LeadTo (IsMove budget) (λ move. move.after) old moves new
 
 -- no service of guest g's is paused
 abbrev pub IsIdle : ℕ → PacedWorld → Type 0
@@ -70,8 +70,7 @@ pub record IsUndisturbed {A : Type 0} (g : ℕ) (old : PacedWorld) (move : Move 
   pub image : slot_in move.call ≡ g → move.after.world.health.failures ≡ old.world.health.failures
 
 abbrev pub IsQuiet : {A : Type 0} → ℕ → PacedWorld → List (Move A) → Type 0
-IsQuiet g old [] = ⊤
-IsQuiet g old (move ∷ moves) = IsUndisturbed g old move × IsQuiet g move.after moves
+IsQuiet g old moves = HoldsAlong (IsUndisturbed g) (λ move. move.after) old moves
 
 -- what is noted of guest g says whether an event of it has met a refusal: before the line, or in it
 abbrev pub IsNoted : {A : Type 0} → ℕ → PacedWorld → List (Move A) → PacedWorld → Type 0

@@ -1,6 +1,7 @@
 -- What happens to a session of either kind, one step after another, and what one guest has of it: its own
 -- steps.
-use Rattle.std.specs.Prelude.{◌≡◌, ℕ, ◌==◌, ⊤, List, [], ◌∷◌, filter}
+use Rattle.std.specs.Prelude.{◌≡◌, ℕ, ⊤, List}
+use Rattle.board.specs.Steps.{Each}
 
 -- Something that happened, and the session after it: a call was answered so, or these bytes of what a slot's
 -- console put out were taken, where there was room for so many.
@@ -11,12 +12,6 @@ pub data CourseStep (C R S : Type 0) : Type 0 where
 abbrev pub after_step : {C R S : Type 0} → CourseStep C R S → S
 after_step (Called call response after) = after
 after_step (Took slot room bytes after) = after
-
--- these steps lead from one session to another, by what each step is
-abbrev pub LeadTo : {C R S : Type 0} → (S → CourseStep C R S → Type 0) → S
-    → List (CourseStep C R S) → S → Type 0
-LeadTo IsStep old [] new = new ≡ old
-LeadTo IsStep old (step ∷ steps) new = IsStep old step × LeadTo IsStep (after_step step) steps new
 
 -- ---- one guest
 
@@ -45,22 +40,11 @@ abbrev pub slot_of : {C R S : Type 0} → (C → ℕ) → CourseStep C R S → �
 slot_of slot_in (Called call response after) = slot_in call
 slot_of slot_in (Took slot room bytes after) = slot
 
--- the steps of guest g, in order
-abbrev pub own_steps : {C R S : Type 0} → (C → ℕ) → ℕ → List (CourseStep C R S) → List (CourseStep C R S)
-own_steps slot_in g steps = filter (λ step. slot_of slot_in step == g) steps
+-- a step isn't the response to a call of guest g's, or this holds of the response
+abbrev pub IsAnsweredSo : {C R S : Type 0} → (C → ℕ) → (R → Type 0) → ℕ → CourseStep C R S → Type 0
+IsAnsweredSo slot_in IsFair g (Called call response after) = slot_in call ≡ g → IsFair response
+IsAnsweredSo slot_in IsFair g (Took slot room bytes after) = ⊤
 
 -- what holds of each response to a call of guest g
 abbrev pub AreAnswered : {C R S : Type 0} → (C → ℕ) → (R → Type 0) → ℕ → List (CourseStep C R S) → Type 0
-AreAnswered slot_in IsFair g [] = ⊤
-AreAnswered slot_in IsFair g (Called call response after ∷ steps) =
-    (slot_in call ≡ g → IsFair response) × AreAnswered slot_in IsFair g steps
-AreAnswered slot_in IsFair g (Took slot room bytes after ∷ steps) = AreAnswered slot_in IsFair g steps
-
--- ---- a guest that is alone with its outlet
-
--- what is asked and answered leads from one state of the guest to another, by what each asking comes to
-abbrev pub IsAnsweredBy : {T Q P : Type 0} → (T → Q → P → T → Type 0) → T → List Q → List P → T → Type 0
-IsAnsweredBy IsNext old [] [] last = last ≡ old
-IsAnsweredBy {T} IsNext old (asking ∷ askings) (answer ∷ answers) last =
-    (next : T) × IsNext old asking answer next × IsAnsweredBy IsNext next askings answers last
-IsAnsweredBy IsNext old askings answers last = ⊥
+AreAnswered slot_in IsFair g steps = Each (IsAnsweredSo slot_in IsFair g) steps
