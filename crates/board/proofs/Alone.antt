@@ -4,47 +4,30 @@ use Rattle.std.specs.Prelude.{MatchOption}
 use Rattle.std.specs.List.{slice_get}
 use Rattle.board.specs.declared.event.Event.{Event}
 use Rattle.board.specs.declared.event.EventKind.{EventKind}
-use Rattle.board.specs.declared.event.EventKind.TheVariants.{Read, Write, MemRead, MemWrite, Input, Resize, Restore, Complete}
 use Rattle.board.specs.declared.reply.Reply.TheVariants.{NoMemory}
 use Rattle.board.specs.declared.reply.Record.{Record}
-use Rattle.board.specs.declared.pause.Service.TheVariants.{Block, Receive, Transmit}
 use Rattle.board.specs.Image.{Health}
-use Rattle.board.specs.Machine.{Gives, IsTold, RunsOnItsOwn, task_at, with_write}
+use Rattle.board.specs.Machine.{Gives, IsTold, RunsOnItsOwn}
 use Rattle.board.specs.Outcome.{Outcome}
 use Rattle.board.specs.Slot.{SlotState}
-use Rattle.board.specs.Task.{Task, Nothing, Serve, PutOut}
-use Rattle.board.specs.World.{World, IsCutShort, IsRefused, MayGive, SlotStep, MissingStep, Step}
+use Rattle.board.specs.World.{World, MayGive, SlotStep, MissingStep, Step}
 use Rattle.board.specs.Line.{Move, IsLine, IsUndisturbed, IsQuiet, RunsAlone, IsAlone, SeesTheSame, own_events, own_records, events_of, records_of}
 pub use Rattle.board.proofs.Lists.{get_set, get_set_other}
 use Rattle.board.proofs.OneRun.{next_of, one_run}
+use Rattle.board.proofs.Refusals.{Failed, Unput, Unread, Unsent, WasRefused, was_refused}
 use Rattle.board.proofs.Steps as steps
-
--- a task that was cut short shows it
-cut_short_shows : {A : Type 0} (task : Task) (state : SlotState) (old new : Health) (outcome : Outcome A)
-    → IsCutShort task state old new outcome → outcome.reply ≢ NoMemory → new.failures ≡ old.failures → ⊥
-cut_short_shows Nothing state old new outcome refused answered stood = refused
-cut_short_shows (Serve Block) state old new outcome refused answered stood =
-    absurd (omega (arith, refused.failures, stood))
-cut_short_shows (Serve Receive) state old new outcome refused answered stood = refused
-cut_short_shows (Serve Transmit) state old new outcome refused answered stood =
-    answered (ap (λ o. o.reply) refused.is)
-cut_short_shows (PutOut byte) state old new outcome refused answered stood =
-    answered (ap (λ o. o.reply) refused.alike)
 
 -- an event that was refused shows it: memory was wanting, or a call of the image failed
 refused_shows : {A : Type 0} (state : SlotState) (what : EventKind A) (old new : Health) (outcome : Outcome A)
-    → IsRefused state what old new outcome → outcome.reply ≢ NoMemory → new.failures ≡ old.failures → ⊥
-refused_shows state (Read window offset width) old new outcome refused answered stood = refused
-refused_shows state (Write window offset width value) old new outcome refused answered stood =
-    cut_short_shows (task_at window offset width value state) (with_write window offset width value state) old
-    new outcome refused answered stood
-refused_shows state (MemRead addr len) old new outcome refused answered stood =
-    answered (ap (λ o. o.reply) refused.unchanged)
-refused_shows state (MemWrite addr bytes) old new outcome refused answered stood = refused
-refused_shows state (Input bytes) old new outcome refused answered stood = refused
-refused_shows state (Resize cols rows) old new outcome refused answered stood = refused
-refused_shows state (Restore bytes) old new outcome refused answered stood = refused
-refused_shows state (Complete verdict) old new outcome refused answered stood = refused
+    → WasRefused state what old new outcome → outcome.reply ≢ NoMemory → new.failures ≡ old.failures → ⊥
+refused_shows state what old new outcome (Failed block h) answered stood =
+    absurd (omega (arith, h.failures, stood))
+refused_shows state what old new outcome (Unsent console puts h) answered stood =
+    answered (ap (λ o. o.reply) h.is)
+refused_shows state what old new outcome (Unput console puts h) answered stood =
+    answered (ap (λ o. o.reply) h.alike)
+refused_shows state what old new outcome (Unread addr len is h) answered stood =
+    answered (ap (λ o. o.reply) h.alike)
 
 -- an event that met no refusal came out as the one-slot machine has it
 pub served : {A : Type 0} (state : SlotState) (what : EventKind A) (old new : Health) (outcome : Outcome A)
@@ -52,7 +35,8 @@ pub served : {A : Type 0} (state : SlotState) (what : EventKind A) (old new : He
     → Gives state what old new outcome
 served state what old new outcome (inl alike) answered stood = alike.alike
 served state what old new outcome (inr refused) answered stood =
-    absurd (refused_shows state what old new outcome refused answered stood)
+    absurd (refused_shows state what old new outcome (was_refused state what old new outcome refused)
+    answered stood)
 
 -- a step's record is of the event's slot
 recorded_slot_at : {A : Type 0} (old : World) (event : Event A) (written : Record A) (new : World)

@@ -12,6 +12,7 @@ use Rattle.block_device.specs.declared.device.BlockDevice.{BlockDevice}
 use Rattle.block_device.specs.declared.extent.Extent.{Extent}
 use Rattle.block_device.specs.declared.operation.Verdict.{Verdict}
 use Rattle.block_device.specs.Extent.{IsWithin, extent_disk}
+use Rattle.board.specs.Hosting.{device_at}
 use Rattle.board.specs.declared.event.EventKind.TheVariants.{Read, Complete}
 use Rattle.board.specs.declared.reply.Reply.TheVariants.{Value, Idle}
 use Rattle.board.specs.Image.{Health, Tells, bytes_of, health_of, sectors_of, disk_with}
@@ -53,12 +54,8 @@ seen_disk extent disk tells whole lies =
     (sectors_of (extent_of (bytes_of disk) extent.start extent.count))
     (contents_at extent disk.contents tells) (sym (count_of extent disk tells whole lies))
 
--- the slot's device, as its guest knows it
-abbrev pub slot_device : BoardSlot → BlockDevice
-slot_device slot = record { extent = slot.extent; read_only = slot.read_only; identity = slot.identity }
-
 abbrev pub counted_device : BoardSlot → ℕ → BlockDevice
-counted_device slot count = record (slot_device slot) { extent = record { start = 0; count = count } }
+counted_device slot count = record (device_at slot) { extent = record { start = 0; count = count } }
 
 -- ---- a service
 

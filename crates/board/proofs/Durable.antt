@@ -27,7 +27,8 @@ use Rattle.board.specs.Machine.{Gives, task_at, with_write}
 use Rattle.board.specs.Outcome.{Outcome}
 use Rattle.board.specs.Slot.{BoardSlot, SlotState, state_of}
 use Rattle.board.specs.Task.{Finishes, Nothing, PutOut, Serve, Task, device_of}
-use Rattle.board.specs.World.{IsCutShort, IsRefused, MayGive, MissingStep, SlotStep, World, seen}
+use Rattle.board.specs.World.{MayGive, MissingStep, SlotStep, World, seen}
+use Rattle.board.proofs.Refusals.{Failed, Unput, Unread, Unsent, WasRefused, was_refused}
 use Rattle.board.proofs.Runs.{line_failures, step_failures}
 
 -- ---- a service of the disk in which no call fails
@@ -101,35 +102,21 @@ served_clean state (event.Resize cols rows) old new outcome clean h = same_dirty
 served_clean state (event.Restore bytes) old new outcome clean h = same_dirty old new h.image clean
 served_clean state (event.Complete verdict) old new outcome clean h = same_dirty old new h.image clean
 
-cut_short_clean : {A : Type 0} (task : Task) (state : SlotState) (old new : Health) (outcome : Outcome A)
-    → new.failures ≡ old.failures → old.dirty ≡ false → IsCutShort task state old new outcome
-    → new.dirty ≡ false
-cut_short_clean Nothing state old new outcome same clean h = absurd h
-cut_short_clean (Serve Block) state old new outcome same clean h = absurd (omega (arith, h.failures, same))
-cut_short_clean (Serve Receive) state old new outcome same clean h = absurd h
-cut_short_clean (Serve Transmit) state old new outcome same clean h = same_dirty old new h.image clean
-cut_short_clean (PutOut byte) state old new outcome same clean h = same_dirty old new h.image clean
-
 refused_clean : {A : Type 0} (state : SlotState) (what : EventKind A) (old new : Health) (outcome : Outcome A)
-    → new.failures ≡ old.failures → old.dirty ≡ false → IsRefused state what old new outcome
+    → new.failures ≡ old.failures → old.dirty ≡ false → WasRefused state what old new outcome
     → new.dirty ≡ false
-refused_clean state (event.Read window offset width) old new outcome same clean h = absurd h
-refused_clean state (event.Write window offset width value) old new outcome same clean h =
-    cut_short_clean (task_at window offset width value state) (with_write window offset width value state) old
-    new outcome same clean h
-refused_clean state (event.MemRead addr len) old new outcome same clean h = same_dirty old new h.image clean
-refused_clean state (event.MemWrite addr bytes) old new outcome same clean h = absurd h
-refused_clean state (event.Input bytes) old new outcome same clean h = absurd h
-refused_clean state (event.Resize cols rows) old new outcome same clean h = absurd h
-refused_clean state (event.Restore bytes) old new outcome same clean h = absurd h
-refused_clean state (event.Complete verdict) old new outcome same clean h = absurd h
+refused_clean state what old new outcome same clean (Failed block h) =
+    absurd (omega (arith, h.failures, same))
+refused_clean state what old new outcome same clean (Unsent console puts h) = same_dirty old new h.image clean
+refused_clean state what old new outcome same clean (Unput console puts h) = same_dirty old new h.image clean
+refused_clean state what old new outcome same clean (Unread addr len is h) = same_dirty old new h.image clean
 
 given_clean : {A : Type 0} (state : SlotState) (what : EventKind A) (old new : Health) (outcome : Outcome A)
     → new.failures ≡ old.failures → old.dirty ≡ false → MayGive state what old new outcome → new.dirty ≡ false
 given_clean state what old new outcome same clean (inl h) =
     served_clean state what old new outcome clean h.alike
 given_clean state what old new outcome same clean (inr h) =
-    refused_clean state what old new outcome same clean h
+    refused_clean state what old new outcome same clean (was_refused state what old new outcome h)
 
 -- ---- a line
 

@@ -31,6 +31,7 @@ use Rattle.board.specs.Hosting.{CompletionGives, HostedState, InFlight, IsHeld, 
 use Rattle.board.specs.Image.{sectors_of}
 use Rattle.board.specs.Slot.{BoardSlot}
 use Rattle.board.specs.Task.{device_of}
+use Rattle.board.proofs.Blocks.{block_served}
 use Rattle.board.proofs.Blocks.{count_of}
 
 -- ---- an event that doesn't wait
@@ -124,16 +125,12 @@ pub own_device : (slot : BoardSlot) → slot.extent.start ≡ 0 → device_of (h
 own_device slot own = device_same slot.extent 0 (sectors_of (hosted_slot slot).extent) slot.read_only
     slot.identity own (own_count slot own)
 
--- a slot after its block device served it
-abbrev pub with_served : BoardSlot → Memory → WindowState → BoardSlot
-with_served slot memory block = record slot { memory = memory; block = block }
-
 pub looks : (slot : BoardSlot) (memory : Memory) (block : WindowState) (hosted : Hosted)
     (flight : Option Flight) (buffers : List Buffer) (runs : List Segment) → slot.extent.start ≡ 0
     → ((disk : Disk) → HostsTo (device_at slot) First unlimited (queue_at 0 slot.block) hosted slot.memory
     memory slot.block block buffers runs disk) → flight ≡ flight_by hosted
     → LooksAtQueue (hosted_slot slot)
-    (record { slot = hosted_slot (with_served slot memory block); flight = in_rooms flight buffers runs })
+    (record { slot = hosted_slot (block_served slot memory block); flight = in_rooms flight buffers runs })
 looks slot memory block hosted flight buffers runs own hosts is = record {
   hosted = hosted;
   buffers = buffers;
@@ -148,7 +145,7 @@ look_held : (slot : BoardSlot) (memory : Memory) (block : WindowState) (hosted :
     (buffers : List Buffer) (runs : List Segment)
     → IfAsks (IsInFlight memory block buffers) hosted
     → IfAsks (λ flight. LiesInside slot.extent.count memory flight.operation runs) hosted
-    → IsHeldBy (with_served slot memory block) (in_rooms (flight_by hosted) buffers runs)
+    → IsHeldBy (block_served slot memory block) (in_rooms (flight_by hosted) buffers runs)
 look_held slot memory block (Asks flight) buffers runs flying inside =
     record { flying = flying; inside = inside }
 look_held slot memory block More buffers runs flying inside = tt
@@ -161,11 +158,11 @@ pub look_sound : (slot : BoardSlot) (memory : Memory) (block : WindowState) (hos
     → IfAsks (IsInFlight memory block buffers) hosted
     → IfAsks (λ flight. LiesInside slot.extent.count memory flight.operation runs) hosted
     → flight ≡ flight_by hosted
-    → IsSoundHosted (with_served slot memory block) (in_rooms flight buffers runs)
+    → IsSoundHosted (block_served slot memory block) (in_rooms flight buffers runs)
 look_sound slot memory block hosted flight buffers runs own size flying inside is = record {
   own = own;
   size = size;
-  held = subst (λ (f : Option Flight). IsHeldBy (with_served slot memory block) (in_rooms f buffers runs))
+  held = subst (λ (f : Option Flight). IsHeldBy (block_served slot memory block) (in_rooms f buffers runs))
       (sym is) (look_held slot memory block hosted buffers runs flying inside);
 }
 
@@ -190,7 +187,7 @@ pub landed : (A : Type 0) (slot after : BoardSlot) (found : Option Flight) (flig
     (buffers : List Buffer) (runs : List Segment) (verdict : Verdict) (new : HostedState)
     → found ≡ Some flight
     → CompletesIn flight verdict slot.memory after.memory slot.block after.block buffers
-    → after ≡ with_served slot after.memory after.block → LooksAtQueue (hosted_slot after) new
+    → after ≡ block_served slot after.memory after.block → LooksAtQueue (hosted_slot after) new
     → CompletionGives {A = A} (in_rooms found buffers runs)
     (record { slot = hosted_slot slot; flight = in_rooms found buffers runs }) verdict
     (answers new reply.Done)

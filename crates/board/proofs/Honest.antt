@@ -1,5 +1,5 @@
 -- An honest host serves the model's block device.
-use Rattle.std.proofs.Common.{◌≡◌, inl, inr, ℕ, Bool, true, false, Option, Some, None, List, [], ◌∷◌, refl, sym, ◌∙◌, ap, subst}
+use Rattle.std.proofs.Common.{◌≡◌, inl, inr, ℕ, Bool, true, false, Some, List, [], ◌∷◌, refl, sym, ◌∙◌, ap, subst, arith}
 use Rattle.std.specs.Prelude.{if◌then◌else◌}
 use Rattle.std.proofs.lemmas.Option.{same_Some}
 use Rattle.guest_memory.specs.Memory.{Memory}
@@ -28,7 +28,7 @@ use Rattle.board.specs.declared.event.EventKind.TheVariants.{Read, Write, MemRea
 use Rattle.board.specs.declared.reply.Reply.TheVariants.{Bytes, BadRange}
 use Rattle.board.specs.declared.pause.Service.TheVariants as service
 use Rattle.board.specs.Honest.{AreOwn, IsFlown, IsHonestlyServed}
-use Rattle.board.specs.Hosting.{GivesInFlight, HostedOutcome, HostedState, InFlight, IsHostedNext, IsOwn, OwnGives, WaitsOrGives, flight_by, in_rooms, is_block_task, must_wait, notifies_block, unlimited}
+use Rattle.board.specs.Hosting.{HostedOutcome, HostedState, InFlight, IsHostedNext, IsOwn, flight_by, in_rooms, is_block_task, must_wait, notifies_block, unlimited}
 use Rattle.board.specs.HostedLine.{HostedCall, IsHostedCourse, Told}
 use Rattle.board.specs.Image.{Health}
 use Rattle.board.specs.Machine.{at_rest, with_write}
@@ -36,9 +36,10 @@ use Rattle.board.specs.Outcome.{Outcome, does, replies}
 use Rattle.board.specs.Pausing.{readied}
 use Rattle.board.specs.Slot.{SlotState}
 use Rattle.board.specs.Task.{Task, Nothing, Serve, PutOut, Finishes, device_of}
-use Rattle.board.specs.World.{IsCutShort, MayGive}
+use Rattle.board.specs.World.{MayGive}
 use Rattle.board.proofs.Flights.{keeps_all}
-use Rattle.board.proofs.Waiting.{outlasts, own_next}
+use Rattle.board.proofs.Refusals.{Failed, Unput, Unread, Unsent, WasRefused, was_refused}
+use Rattle.board.proofs.Waiting.{Beside, Lands, Looks, Rests, Stands, Waits, Way, outlasts, way}
 
 -- ---- the guest's own events leave the queue where it is
 
@@ -55,15 +56,12 @@ finished_block {A} (Serve service.Transmit) state before after outcome other f =
 finished_block {A} (PutOut byte) state before after outcome other f =
     ap (λ (o : Outcome A). o.state.block) f.alike
 
-cut_block : {A : Type 0} (task : Task) (state : SlotState) (before after : Health) (outcome : Outcome A)
-    → is_block_task task ≡ false → IsCutShort task state before after outcome
-    → outcome.state.block ≡ state.block
-cut_block Nothing state before after outcome other f = absurd f
-cut_block (Serve service.Block) state before after outcome other f = absurd (cc)
-cut_block (Serve service.Receive) state before after outcome other f = absurd f
-cut_block {A} (Serve service.Transmit) state before after outcome other f =
-    ap (λ (o : Outcome A). o.state.block) f.is
-cut_block {A} (PutOut byte) state before after outcome other f = ap (λ (o : Outcome A). o.state.block) f.alike
+refused_block : {A : Type 0} (state : SlotState) (what : EventKind A) (outcome : Outcome A)
+    → WasRefused state what at_rest at_rest outcome → outcome.state.block ≡ state.block
+refused_block state what outcome (Failed block f) = absurd (omega (arith, f.failures))
+refused_block {A} state what outcome (Unsent console puts f) = ap (λ (o : Outcome A). o.state.block) f.is
+refused_block {A} state what outcome (Unput console puts f) = ap (λ (o : Outcome A). o.state.block) f.alike
+refused_block {A} state what outcome (Unread addr len is f) = ap (λ (o : Outcome A). o.state.block) f.alike
 
 -- the block window after the registers of a write, which doesn't wait
 write_keeps : (A : Type 0) (window : DeviceKind) (offset width value : ℕ) (state : SlotState)
@@ -109,17 +107,9 @@ given_keeps {A} state (Resize cols rows) outcome free other (inl served) =
     same_keeps state.block outcome.state.block (ap (λ (o : Outcome A). o.state.block) served.alike.alike)
 given_keeps {A} state (Complete verdict) outcome free other (inl served) =
     same_keeps state.block outcome.state.block (ap (λ (o : Outcome A). o.state.block) served.alike.alike)
-given_keeps state (Read window offset width) outcome free other (inr never) = absurd never
-given_keeps {A} state (Write window offset width value) outcome free other (inr cut) =
-    subst (λ (w : WindowState). KeepsQueues state.block w)
-    (sym (cut_block _ _ at_rest at_rest outcome other cut))
-    (write_keeps A window offset width value state free)
-given_keeps {A} state (MemRead addr len) outcome free other (inr unread) =
-    same_keeps state.block outcome.state.block (ap (λ (o : Outcome A). o.state.block) unread.unchanged)
-given_keeps state (MemWrite addr bytes) outcome free other (inr never) = absurd never
-given_keeps state (Input bytes) outcome free other (inr never) = absurd never
-given_keeps state (Resize cols rows) outcome free other (inr never) = absurd never
-given_keeps state (Complete verdict) outcome free other (inr never) = absurd never
+given_keeps state what outcome free other (inr refused) =
+    same_keeps state.block outcome.state.block
+    (refused_block state what outcome (was_refused state what at_rest at_rest outcome refused))
 given_keeps state (Restore bytes) outcome free other gives = absurd (cc free)
 
 readied_keeps : {A : Type 0} (state : SlotState) (what : EventKind A) → must_wait what ≡ false
@@ -134,28 +124,19 @@ readied_keeps state (Resize cols rows) free = keeps_all state.block
 readied_keeps state (Restore bytes) free = keeps_all state.block
 readied_keeps state (Complete verdict) free = keeps_all state.block
 
-passing_keeps : {A : Type 0} (old : HostedState) (what : EventKind A) (outcome : HostedOutcome A)
-    (rings : Bool) → must_wait what ≡ false → notifies_block what old.slot ≡ rings
-    → GivesInFlight rings old what outcome → KeepsQueues old.slot.block outcome.state.slot.block
-passing_keeps {A} old what outcome true free rings gives =
-    subst (λ (w : WindowState). KeepsQueues old.slot.block w)
-    (sym (ap (λ (o : HostedOutcome A). o.state.slot.block) gives)) (readied_keeps old.slot what free)
-passing_keeps {A} old what outcome false free rings gives = given_keeps old.slot what _ free rings gives.given
-
-waiting_keeps : {A : Type 0} (old : HostedState) (what : EventKind A) (outcome : HostedOutcome A)
-    (waits : Bool) → must_wait what ≡ waits → WaitsOrGives waits old what outcome
-    → KeepsQueues old.slot.block outcome.state.slot.block
-waiting_keeps {A} old what outcome true is gives =
-    same_keeps old.slot.block outcome.state.slot.block
-    (ap (λ (o : HostedOutcome A). o.state.slot.block) gives)
-waiting_keeps old what outcome false is gives =
-    passing_keeps old what outcome (notifies_block what old.slot) is refl gives
-
 own_keeps : {A : Type 0} (old : HostedState) (what : EventKind A) (outcome : HostedOutcome A)
-    (here : InFlight) (flight : Option InFlight) → flight ≡ Some here → OwnGives flight old what outcome
+    (here : InFlight) → IsOwn what → old.flight ≡ Some here → Way old what outcome
     → KeepsQueues old.slot.block outcome.state.slot.block
-own_keeps old what outcome here None is gives = absurd (cc)
-own_keeps old what outcome here (Some f) is gives = waiting_keeps old what outcome (must_wait what) refl gives
+own_keeps {A} old what outcome here own is (Waits there flies waits h) =
+    same_keeps old.slot.block outcome.state.slot.block (ap (λ (o : HostedOutcome A). o.state.slot.block) h)
+own_keeps old what outcome here own is (Beside free quiet h) =
+    given_keeps old.slot what _ (rw is at free) quiet h.given
+own_keeps old what outcome here own is (Looks none rings looks h) = absurd (cc)
+own_keeps {A} old what outcome here own is (Stands there flies free rings h) =
+    subst (λ (w : WindowState). KeepsQueues old.slot.block w)
+    (sym (ap (λ (o : HostedOutcome A). o.state.slot.block) h)) (readied_keeps old.slot what free)
+own_keeps old what outcome here own is (Rests verdict completes none h) = absurd (cc)
+own_keeps old what outcome here own is (Lands verdict completes there flies lands h) = absurd (cc)
 
 then_keeps : (a b c : WindowState) → KeepsQueues a b → KeepsQueues b c → KeepsQueues a c
 then_keeps a b c one other = record {
@@ -173,7 +154,7 @@ call_keeps : {A : Type 0} (old : HostedState) (what : EventKind A) (outcome : Ho
     → Kept old outcome.state here
 call_keeps old what outcome here flies own next =
     record {
-      keeps = own_keeps old what outcome here old.flight flies (own_next old what outcome own next);
+      keeps = own_keeps old what outcome here own flies (way old what outcome next);
       flies = outlasts old here what outcome own flies next;
     }
 

@@ -4,8 +4,7 @@ use Rattle.std.specs.Prelude.{◌&&◌, is_some, IsSomeAnd, slice_set}
 use Rattle.std.specs.Bool.{OnTrue, OnFalse}
 use Rattle.std.specs.List.{slice_get}
 use Rattle.std.proofs.lemmas.Bool.Decides.{nat_tests}
-use Rattle.std.proofs.lemmas.List.{set-get_or}
-use Rattle.std.proofs.lemmas.Option.{get_or_from_slice_get, slice_get_past, slice_get_within}
+use Rattle.std.proofs.lemmas.Option.{slice_get_past, slice_get_within}
 use Rattle.guest_memory.specs.Memory.{Inside, Memory, SameRange, is_inside, part_of, put}
 use Rattle.guest_memory.proofs.Ranges.{is_inside-tells}
 use Rattle.board.specs.declared.event.EventKind.{EventKind}
@@ -18,6 +17,7 @@ use Rattle.board.specs.Machine.{at_rest, block_irq, console_irq}
 use Rattle.board.specs.Slot.{BoardSlot}
 use Rattle.board.specs.Within.{TakesWithin}
 use Rattle.board.specs.World.{MayGive}
+pub use Rattle.board.proofs.Lists.{set_same}
 use Rattle.board.proofs.Flights.{sound_beside}
 use Rattle.board.proofs.HostedSeats.{calls_missing, calls_quietly, calls_there}
 use Rattle.board.proofs.Hosts.{beside_at}
@@ -74,12 +74,6 @@ no_slot {A} slots h event past =
       takes = λ limit waiting. calls_missing {A = A} slots h event limit waiting
           (slice_get_past slots h past);
     })
-
--- a slot that stays
-pub set_same : (slots : List HostedState) (h : ℕ) (state new : HostedState) → slice_get slots h ≡ Some state
-    → new ≡ state → slice_set slots h new ≡ slots
-set_same slots h state new here same =
-    rw (same, ← get_or_from_slice_get slots h state state here) (set-get_or slots h state)
 
 -- ---- a range of memory
 

@@ -18,9 +18,10 @@ use Rattle.board.specs.Machine.{task_at, with_write, Gives}
 use Rattle.board.specs.Outcome.{Outcome, does, replies}
 use Rattle.board.specs.Slot.{SlotState}
 use Rattle.board.specs.Task.{Task, Nothing, Serve, PutOut, Finishes}
-use Rattle.board.specs.World.{World, IsCutShort, IsRefused, MayGive, SlotStep, MissingStep, Step, identities_of}
+use Rattle.board.specs.World.{World, MayGive, SlotStep, MissingStep, Step, identities_of}
 use Rattle.std.proofs.lemmas.Option.{get_or_from_slice_get}
 use Rattle.board.proofs.Restoring.{restored_named}
+use Rattle.board.proofs.Refusals.{Failed, Unput, Unread, Unsent, WasRefused, was_refused}
 
 -- an outcome that is this one has its identity
 named : {A : Type 0} (outcome wanted : Outcome A) → outcome ≡ wanted
@@ -41,15 +42,6 @@ finished_named (Serve service.Block) state old new outcome h = named outcome _ h
 finished_named (Serve service.Receive) state old new outcome h = named outcome _ h.is
 finished_named (Serve service.Transmit) state old new outcome h = named outcome _ h.is
 finished_named (PutOut byte) state old new outcome h = named outcome _ h.alike
-
--- and where it is
-cut_short_named : {A : Type 0} (task : Task) (state : SlotState) (old new : Health) (outcome : Outcome A)
-    → IsCutShort task state old new outcome → outcome.state.identity ≡ state.identity
-cut_short_named Nothing state old new outcome h = absurd h
-cut_short_named (Serve service.Block) state old new outcome h = named outcome _ h.service.is
-cut_short_named (Serve service.Receive) state old new outcome h = absurd h
-cut_short_named (Serve service.Transmit) state old new outcome h = named outcome _ h.is
-cut_short_named (PutOut byte) state old new outcome h = named outcome _ h.alike
 
 -- an access to memory, whether or not it lies in it
 read_named : (A : Type 0) (state : SlotState) (addr len : ℕ) (inside : Bool)
@@ -81,22 +73,17 @@ served_named state (Restore bytes) old new outcome h = restored_named state byte
 served_named state (Complete verdict) old new outcome h = named outcome _ h.alike
 
 refused_named : {A : Type 0} (state : SlotState) (what : EventKind A) (old new : Health) (outcome : Outcome A)
-    → IsRefused state what old new outcome → outcome.state.identity ≡ state.identity
-refused_named state (Read window offset width) old new outcome h = absurd h
-refused_named state (Write window offset width value) old new outcome h =
-    cut_short_named (task_at window offset width value state) (with_write window offset width value state) old
-    new outcome h ∙ write_named window offset width value state
-refused_named state (MemRead addr len) old new outcome h = named outcome _ h.unchanged
-refused_named state (MemWrite addr bytes) old new outcome h = absurd h
-refused_named state (Input bytes) old new outcome h = absurd h
-refused_named state (Resize cols rows) old new outcome h = absurd h
-refused_named state (Restore bytes) old new outcome h = absurd h
-refused_named state (Complete verdict) old new outcome h = absurd h
+    → WasRefused state what old new outcome → outcome.state.identity ≡ state.identity
+refused_named state what old new outcome (Failed block h) = named outcome _ h.service.is
+refused_named state what old new outcome (Unsent console puts h) = named outcome _ h.is
+refused_named state what old new outcome (Unput console puts h) = named outcome _ h.alike
+refused_named state what old new outcome (Unread addr len is h) = named outcome _ h.alike
 
 given_named : {A : Type 0} (state : SlotState) (what : EventKind A) (old new : Health) (outcome : Outcome A)
     → MayGive state what old new outcome → outcome.state.identity ≡ state.identity
 given_named state what old new outcome (inl h) = served_named state what old new outcome h.alike
-given_named state what old new outcome (inr h) = refused_named state what old new outcome h
+given_named state what old new outcome (inr h) =
+    refused_named state what old new outcome (was_refused state what old new outcome h)
 
 -- an event of the board
 step_at : {A : Type 0} (old : World) (event : Event A) (written : Record A) (new : World)

@@ -1,6 +1,6 @@
 -- What stays of a slot whose block event met an image that failed.
-use Rattle.std.proofs.Common.{◌≡◌, inl, inr, ℕ, zero, suc, ◌+◌, ◌*◌, ◌%◌, ◌<◌, ◌≤◌, ◌==◌, Bool, true, false, Option, Some, None, List, [], ◌∷◌, ◌++◌, length, replicate, take, refl, sym, ap, subst, ◌∙◌, arith, length-append, length-take, length-drop}
-use Rattle.std.specs.Prelude.{if◌then◌else◌, ◌^◌, slice_set, MatchOption}
+use Rattle.std.proofs.Common.{◌≡◌, inl, inr, ℕ, zero, suc, ◌+◌, ◌*◌, ◌<◌, ◌≤◌, Bool, true, false, Option, Some, None, List, [], ◌∷◌, ◌++◌, length, replicate, take, refl, sym, ap, subst, ◌∙◌, arith, length-append, length-take}
+use Rattle.std.specs.Prelude.{if◌then◌else◌, slice_set, MatchOption}
 use Rattle.std.specs.List.{AllByRecursion, slice_get}
 use Rattle.std.proofs.lemmas.List.{length-replicate}
 use Rattle.std.specs.Option.{option_map}
@@ -13,10 +13,8 @@ use Rattle.chain.specs.Service.{Entry, Given, Device, Site, Served, Ending, Spen
 use Rattle.sector_cache.specs.Disk.{Disk, written}
 use Rattle.sector_cache.specs.Sector.{with_sector}
 use Rattle.sector_cache.proofs.Sectors.{length-with_sector}
-use Rattle.mmio_window.specs.declared.action.Action.{Action}
 use Rattle.mmio_window.specs.declared.action.Action.TheVariants as action
-use Rattle.mmio_window.specs.declared.device_kind.DeviceKind.{DeviceKind}
-use Rattle.mmio_window.specs.declared.device_kind.DeviceKind.TheVariants.{Block, Console}
+use Rattle.mmio_window.specs.declared.device_kind.DeviceKind.TheVariants.{Console}
 use Rattle.mmio_window.specs.declared.queue.Queue.{Queue}
 use Rattle.mmio_window.specs.declared.queue.Queue.TheVariants.{Split, Packed}
 use Rattle.mmio_window.specs.Queue.{queue_kind}
@@ -32,6 +30,7 @@ use Rattle.mmio_window.specs.Serving.{IsNotified, Notified}
 use Rattle.console_device.specs.Device.{transmit}
 use Rattle.mmio_window.specs.Configuration.{is_configuration_access, narrowed}
 use Rattle.block_device.specs.Zeroes.{all_sectors, segments_in, zeroed_sectors}
+use Rattle.block_device.proofs.Extents.{length-with_sectors}
 use Rattle.block_device.proofs.Requests.{gives_counted}
 use Rattle.block_device.proofs.SomeAnswer.{servable}
 use Rattle.block_device.proofs.Zeroing.{all-below, front-below}
@@ -41,17 +40,15 @@ use Rattle.board.specs.declared.event.EventKind.TheVariants as event
 use Rattle.board.specs.declared.reply.Reply.TheVariants.{BadSlot, NoMemory}
 use Rattle.board.specs.declared.reply.Record.{Record}
 use Rattle.board.specs.Image.{Health, disk_with}
-use Rattle.board.specs.Machine.{action_at, task_at, with_write}
 use Rattle.board.specs.Outcome.{Outcome as Came, replies}
 use Rattle.board.specs.Slot.{SlotState, KeepsBesideDisk, KeepsBesideTransmit}
-use Rattle.board.specs.Task.{Nothing, PutOut, task_of, emergency_write, device_of}
+use Rattle.board.specs.Task.{task_of, emergency_write, device_of}
 use Rattle.board.specs.World.{World, IsFailedService, IsRefusedTransmit, IsCutShort, IsRefused, MayGive, SlotStep, MissingStep, Step, KeepsBoard}
-use Rattle.board.proofs.Lists.{get_set}
+use Rattle.board.proofs.Beside.{same_range}
+use Rattle.board.proofs.Lists.{get_set, set_same}
+use Rattle.board.proofs.Refusals.{Failed, Unput, Unread, Unsent, WasRefused, was_refused}
 
 -- ---- the memory keeps its range
-
-same_range : (m : Memory) → SameRange m m
-same_range m = record { base = refl; size = refl; gaps = refl }
 
 scattered_range : (m : Memory) (addrs : List ℕ) (written : List (Option ℕ))
     → SameRange m (scattered m addrs written)
@@ -90,12 +87,6 @@ record TellsMany (n : ℕ) (disk : Disk) : Type 0 where
   contents : disk.contents ≡ Some bytes
   size : length bytes ≡ n
 
--- bytes that are written where there are some leave their number
-filled_size : (bytes : List ℕ) (sector : ℕ) (new : List ℕ) → 512 * sector + length new ≤ length bytes
-    → length (with_sectors bytes sector new) ≡ length bytes
-filled_size bytes sector new fits =
-    simp (length-append, length-take, length-drop) (omega arith)
-
 filled_many : (n : ℕ) (disk other : Disk) (sector : ℕ) (new : List ℕ) → TellsMany n disk
     → other.contents ≡ option_map (λ bytes. with_sectors bytes sector new) disk.contents
     → 512 * sector + length new ≤ n → TellsMany n other
@@ -106,7 +97,7 @@ filled_many n disk other sector new many is fits =
       bytes = with_sectors many.bytes sector new;
       contents = is ∙ ap (λ (o : Option (List ℕ)). option_map (λ bytes. with_sectors bytes sector new) o)
           many.contents;
-      size = filled_size many.bytes sector new room ∙ size;
+      size = length-with_sectors many.bytes sector new room ∙ size;
     }
 
 same_many : (n : ℕ) (disk other : Disk) → TellsMany n disk → other.contents ≡ disk.contents
@@ -327,58 +318,18 @@ never : (before after : Health) → before.failures < after.failures → after �
 never before after rose is = let same : after.failures ≡ before.failures =
     ap (λ (h : Health). h.failures) is in omega arith
 
--- a write to the block window
-block_beside : {A : Type 0} (act : Action) (old : SlotState) (before after : Health) (outcome : Came A)
-    → IsCutShort (task_of Block act) old before after outcome → KeepsBesideDisk old outcome.state
-block_beside (action.Notify zero) old before after outcome h = service_beside old before after outcome h
-block_beside (action.Notify (suc q)) old before after outcome h = absurd h
-block_beside action.Reset old before after outcome h = absurd h
-block_beside (action.ConfigWrite offset width value) old before after outcome h = absurd h
-block_beside action.None old before after outcome h = absurd h
-
--- in one to the console's the image has no part
-put_out_stood : {A : Type 0} (is : Bool) (byte : ℕ) (old : SlotState) (before after : Health)
-    (outcome : Came A) → before.failures < after.failures
-    → IsCutShort (if is then PutOut byte else Nothing) old before after outcome → ⊥
-put_out_stood true byte old before after outcome rose h = never before after rose h.image
-put_out_stood false byte old before after outcome rose h = h
-
-console_stood : {A : Type 0} (act : Action) (old : SlotState) (before after : Health) (outcome : Came A)
-    → before.failures < after.failures → IsCutShort (task_of Console act) old before after outcome → ⊥
-console_stood (action.Notify zero) old before after outcome rose h = h
-console_stood (action.Notify (suc zero)) old before after outcome rose h = never before after rose h.image
-console_stood (action.Notify (suc (suc q))) old before after outcome rose h = h
-console_stood action.Reset old before after outcome rose h = h
-console_stood (action.ConfigWrite offset width value) old before after outcome rose h =
-    put_out_stood (offset == emergency_write) (value % 2 ^ 8) old before after outcome rose h
-console_stood action.None old before after outcome rose h = h
-
-write_beside : {A : Type 0} (state : SlotState) (window : DeviceKind) (offset width value : ℕ)
-    (before after : Health) (outcome : Came A) → before.failures < after.failures
-    → IsCutShort (task_at window offset width value state) (with_write window offset width value state) before
-    after outcome → KeepsBesideDisk state outcome.state
-write_beside state Block offset width value before after outcome rose h =
-    let kept : KeepsBesideDisk (with_write Block offset width value state) outcome.state =
-    block_beside (action_at Block offset width value state) (with_write Block offset width value state)
-    before after outcome h in
-    record { rest = kept.rest; memory = kept.memory; extent = kept.extent }
-write_beside state Console offset width value before after outcome rose h =
-    absurd (console_stood (action_at Console offset width value state)
-    (with_write Console offset width value state) before after outcome rose h)
-
 refused_beside : {A : Type 0} (state : SlotState) (what : EventKind A) (before after : Health)
-    (outcome : Came A) → before.failures < after.failures → IsRefused state what before after outcome
+    (outcome : Came A) → before.failures < after.failures → WasRefused state what before after outcome
     → KeepsBesideDisk state outcome.state
-refused_beside state (event.Read window offset width) before after outcome rose h = absurd h
-refused_beside state (event.Write window offset width value) before after outcome rose h =
-    write_beside state window offset width value before after outcome rose h
-refused_beside state (event.MemRead addr len) before after outcome rose h =
+refused_beside state what before after outcome rose (Failed block h) =
+    let kept = service_beside (record state { block = block }) before after outcome h in
+    record { rest = kept.rest; memory = kept.memory; extent = kept.extent }
+refused_beside state what before after outcome rose (Unsent console puts h) =
     absurd (never before after rose h.image)
-refused_beside state (event.MemWrite addr bytes) before after outcome rose h = absurd h
-refused_beside state (event.Input bytes) before after outcome rose h = absurd h
-refused_beside state (event.Resize cols rows) before after outcome rose h = absurd h
-refused_beside state (event.Restore bytes) before after outcome rose h = absurd h
-refused_beside state (event.Complete verdict) before after outcome rose h = absurd h
+refused_beside state what before after outcome rose (Unput console puts h) =
+    absurd (never before after rose h.image)
+refused_beside state what before after outcome rose (Unread addr len is h) =
+    absurd (never before after rose h.image)
 
 given_beside : {A : Type 0} (state : SlotState) (what : EventKind A) (before after : Health)
     (outcome : Came A) → before.failures < after.failures → MayGive state what before after outcome
@@ -386,7 +337,7 @@ given_beside : {A : Type 0} (state : SlotState) (what : EventKind A) (before aft
 given_beside state what before after outcome rose (inl h) = let same : after.failures ≡ before.failures =
     h.failures in absurd (omega arith)
 given_beside state what before after outcome rose (inr h) =
-    refused_beside state what before after outcome rose h
+    refused_beside state what before after outcome rose (was_refused state what before after outcome h)
 
 -- the slot's own step
 slot_step : {A : Type 0} (old : World) (e : Event A) (written : Record A) (new : World) (state : SlotState)
@@ -436,11 +387,6 @@ passes_counted device start at (s ∷ chains) p =
 
 -- ---- a read that found no memory
 
-set_own : {X : Type 0} (xs : List X) (h : ℕ) (x : X) → slice_get xs h ≡ Some x → slice_set xs h x ≡ xs
-set_own [] h x here = refl
-set_own (y ∷ xs) zero x here = let same : y ≡ x = cc here in ap (λ z. z ∷ xs) (sym same)
-set_own (y ∷ xs) (suc h) x here = ap (λ zs. y ∷ zs) (set_own xs h x here)
-
 -- the slot stays, nothing is put out, and the image stays
 record Stays {A : Type 0} (state : SlotState) (old new : Health) (outcome : Came A) : Type 0 where
   slot : outcome.state ≡ state
@@ -469,7 +415,7 @@ board_stays {A} old new h state what written stays here step lacks = by_given st
         let same = stays step.outcome refused in
         record {
           slots = step.slots ∙ (ap (λ (s : SlotState). slice_set old.slots h s) same.slot
-              ∙ set_own old.slots h state here);
+              ∙ set_same old.slots h state state here refl);
           outside = step.outside;
           health = same.image;
           output = ap (λ w. w.output) step.recorded ∙ same.output;
@@ -527,73 +473,30 @@ unchanged_beside {A} state outcome is =
     subst (λ (o : Came A). KeepsBesideTransmit state o.state) (sym is)
     (record { rest = refl; memory = same_range state.memory })
 
--- what a write of the console's window changes before its task is done isn't looked at here
-console_beside : (offset width value : ℕ) (state after : SlotState)
-    → KeepsBesideTransmit (with_write Console offset width value state) after
-    → KeepsBesideTransmit state after
-console_beside offset width value state after kept = record { rest = kept.rest; memory = kept.memory }
-
 -- what a refusal keeps, and that the image has no part in it
 record Lacks {A : Type 0} (state : SlotState) (old new : Health) (outcome : Came A) : Type 0 where
   slot : KeepsBesideTransmit state outcome.state
   image : new ≡ old
 
-put_out_lacks : {A : Type 0} (is : Bool) (byte : ℕ) (state : SlotState) (old new : Health) (outcome : Came A)
-    → IsCutShort (if is then PutOut byte else Nothing) state old new outcome → Lacks state old new outcome
-put_out_lacks true byte state old new outcome h =
-    record { slot = unchanged_beside state outcome h.alike; image = h.image }
-put_out_lacks false byte state old new outcome h = absurd h
-
-console_lacks : {A : Type 0} (act : Action) (state : SlotState) (old new : Health) (outcome : Came A)
-    → IsCutShort (task_of Console act) state old new outcome → Lacks state old new outcome
-console_lacks (action.Notify zero) state old new outcome h = absurd h
-console_lacks (action.Notify (suc zero)) state old new outcome h =
-    record { slot = transmit_beside state old new outcome h; image = h.image }
-console_lacks (action.Notify (suc (suc q))) state old new outcome h = absurd h
-console_lacks action.Reset state old new outcome h = absurd h
-console_lacks (action.ConfigWrite offset width value) state old new outcome h =
-    put_out_lacks (offset == emergency_write) (value % 2 ^ 8) state old new outcome h
-console_lacks action.None state old new outcome h = absurd h
-
--- the block device is never without memory
-block_answers : {A : Type 0} (act : Action) (state : SlotState) (old new : Health) (outcome : Came A)
-    → IsCutShort (task_of Block act) state old new outcome → outcome.reply ≡ NoMemory → ⊥
-block_answers (action.Notify zero) state old new outcome h lacks = let said =
-    sym (ap (λ o. o.reply) h.service.is) ∙ lacks in cc said
-block_answers (action.Notify (suc q)) state old new outcome h lacks = h
-block_answers action.Reset state old new outcome h lacks = h
-block_answers (action.ConfigWrite offset width value) state old new outcome h lacks = h
-block_answers action.None state old new outcome h lacks = h
-
-write_lacks : {A : Type 0} (state : SlotState) (window : DeviceKind) (offset width value : ℕ)
-    (old new : Health) (outcome : Came A) → outcome.reply ≡ NoMemory
-    → IsCutShort (task_at window offset width value state) (with_write window offset width value state) old
-    new outcome → Lacks state old new outcome
-write_lacks state Block offset width value old new outcome lacks h =
-    absurd (block_answers (action_at Block offset width value state)
-    (with_write Block offset width value state) old new outcome h lacks)
-write_lacks state Console offset width value old new outcome lacks h =
-    let kept = console_lacks (action_at Console offset width value state)
-    (with_write Console offset width value state) old new outcome h in
-    record { slot = console_beside offset width value state outcome.state kept.slot; image = kept.image }
-
 refused_lacks : {A : Type 0} (state : SlotState) (what : EventKind A) (old new : Health) (outcome : Came A)
-    → outcome.reply ≡ NoMemory → IsRefused state what old new outcome → Lacks state old new outcome
-refused_lacks state (event.Read window offset width) old new outcome lacks h = absurd h
-refused_lacks state (event.Write window offset width value) old new outcome lacks h =
-    write_lacks state window offset width value old new outcome lacks h
-refused_lacks state (event.MemRead addr len) old new outcome lacks h =
-    record { slot = unchanged_beside state outcome h.unchanged; image = h.image }
-refused_lacks state (event.MemWrite addr bytes) old new outcome lacks h = absurd h
-refused_lacks state (event.Input bytes) old new outcome lacks h = absurd h
-refused_lacks state (event.Resize cols rows) old new outcome lacks h = absurd h
-refused_lacks state (event.Restore bytes) old new outcome lacks h = absurd h
-refused_lacks state (event.Complete verdict) old new outcome lacks h = absurd h
+    → outcome.reply ≡ NoMemory → WasRefused state what old new outcome → Lacks state old new outcome
+-- the block device is never without memory
+refused_lacks state what old new outcome lacks (Failed block h) =
+    let said = sym (ap (λ o. o.reply) h.service.is) ∙ lacks in absurd (cc said)
+refused_lacks state what old new outcome lacks (Unsent console puts h) =
+    let kept = transmit_beside (record state { console = console }) old new outcome h in
+    record { slot = record { rest = kept.rest; memory = kept.memory }; image = h.image }
+refused_lacks state what old new outcome lacks (Unput console puts h) =
+    let kept = unchanged_beside (record state { console = console }) outcome h.alike in
+    record { slot = record { rest = kept.rest; memory = kept.memory }; image = h.image }
+refused_lacks state what old new outcome lacks (Unread addr len is h) =
+    record { slot = unchanged_beside state outcome h.alike; image = h.image }
 
 given_lacks : {A : Type 0} (state : SlotState) (what : EventKind A) (old new : Health) (outcome : Came A)
     → outcome.reply ≡ NoMemory → MayGive state what old new outcome → Lacks state old new outcome
 given_lacks state what old new outcome lacks (inl h) = absurd (h.answered lacks)
-given_lacks state what old new outcome lacks (inr h) = refused_lacks state what old new outcome lacks h
+given_lacks state what old new outcome lacks (inr h) =
+    refused_lacks state what old new outcome lacks (was_refused state what old new outcome h)
 
 pub lacking_event_keeps : {A : Type 0} (old new : World) (e : Event A) (written : Record A)
     (before after : SlotState) → Step old e written new → written.reply ≡ NoMemory

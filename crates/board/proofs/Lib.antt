@@ -8,6 +8,7 @@ pub mod Lists
 pub mod Seats
 pub mod Steps
 pub mod Alone
+pub mod Refusals
 pub mod Failures
 pub mod Durable
 pub mod Touching

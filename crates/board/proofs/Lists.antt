@@ -2,6 +2,8 @@
 use Rattle.std.proofs.Common.{◌≡◌, ◌≢◌, ℕ, zero, suc, List, [], ◌∷◌, Some, refl, ap}
 use Rattle.std.specs.Prelude.{slice_set}
 use Rattle.std.specs.List.{slice_get}
+use Rattle.std.proofs.lemmas.List.{set-get_or}
+use Rattle.std.proofs.lemmas.Option.{get_or_from_slice_get}
 
 -- it is there
 pub get_set : {X : Type 0} (xs : List X) (h : ℕ) (old new : X) → slice_get xs h ≡ Some old
@@ -23,3 +25,8 @@ others_kept (x ∷ xs) (suc h) new (suc other) differ =
 pub get_set_other : {X : Type 0} (xs : List X) (h g : ℕ) (new : X) → h ≢ g
     → slice_get (slice_set xs h new) g ≡ slice_get xs g
 get_set_other xs h g new apart = others_kept xs h new g (λ same. apart (cc (same)))
+
+-- what stands in a place stays where it is put there again
+pub set_same : {X : Type 0} (xs : List X) (h : ℕ) (old new : X) → slice_get xs h ≡ Some old → new ≡ old
+    → slice_set xs h new ≡ xs
+set_same xs h old new here same = rw (same, ← get_or_from_slice_get xs h old old here) (set-get_or xs h old)

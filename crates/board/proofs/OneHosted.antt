@@ -11,23 +11,21 @@ use Rattle.block_device.specs.Hosting.{IfAsks}
 use Rattle.block_device.proofs.OneLook.{one_completion, one_look}
 use Rattle.block_device.proofs.Unasked.{any_disk}
 use Rattle.board.specs.declared.event.EventKind.{EventKind}
-use Rattle.board.specs.declared.event.EventKind.TheVariants.{Read, Write, MemRead, MemWrite, Input, Resize, Restore, Complete}
 use Rattle.board.specs.declared.reply.Reply.{Reply}
 use Rattle.board.specs.declared.reply.Reply.TheVariants.{Done, NoMemory}
-use Rattle.board.specs.declared.pause.Service.TheVariants.{Block, Receive, Transmit}
 use Rattle.board.specs.Hosting.{CompletesOrGives, CompletionGives, GivesAtRest, GivesInFlight, HostedOutcome, HostedState, InFlight, IsBesideDisk, IsHostedNext, Lands, LooksAtQueue, OwnGives, WaitsOrGives, answers, flight_by, in_rooms, must_wait, notifies_block, unlimited, verdict_in}
 use Rattle.board.specs.HostedLine.{AreFound, DecidesBy, FindsMemory, HostedCall, IsCalledNext, IsHostedCourse, IsHostedTold, Told, told_of}
-use Rattle.board.specs.Image.{Health}
-use Rattle.board.specs.Machine.{IsNext, at_rest, task_at}
+use Rattle.board.specs.Machine.{IsNext, at_rest}
 use Rattle.board.specs.Outcome.{Outcome}
 use Rattle.board.specs.Pausing.{readied}
 use Rattle.board.specs.Slot.{SlotState}
-use Rattle.board.specs.Task.{Task, Nothing, Serve, PutOut, device_of}
-use Rattle.board.specs.Within.{IsNextWithin, IsPuttingOut, MayPutOut, Seat, TakesWithin}
-use Rattle.board.specs.World.{IsCutShort, IsRefused, MayGive}
+use Rattle.board.specs.Task.{device_of}
+use Rattle.board.specs.Within.{IsNextWithin, MayPutOut, Seat, TakesWithin}
+use Rattle.board.specs.World.{MayGive}
 use Rattle.board.proofs.Alone.{served}
 use Rattle.board.proofs.OneRun.{next_once}
 use Rattle.board.proofs.OneSeat.{seat_once}
+use Rattle.board.proofs.Refusals.{Failed, Unput, Unread, Unsent, WasRefused, was_refused}
 use Rattle.board.proofs.Steps.{answered_once}
 use Rattle.board.proofs.Waiting.{same_hosted}
 
@@ -149,34 +147,22 @@ beside_exact {A} old what one other p q x y =
     (ap (λ (o : Outcome A). o.reply) same) (ap (λ (o : Outcome A). o.output) same)
 
 -- only what puts something out is refused
-cut_puts : {A : Type 0} (task : Task) (state : SlotState) (old new : Health) (outcome : Outcome A)
-    → IsCutShort task state old new outcome → outcome.reply ≡ NoMemory → IsPuttingOut task
-cut_puts Nothing state old new outcome f is = absurd f
-cut_puts {A} (Serve Block) state old new outcome f is = let done =
-    ap (λ (o : Outcome A). o.reply) f.service.is in absurd (cc)
-cut_puts (Serve Receive) state old new outcome f is = absurd f
-cut_puts (Serve Transmit) state old new outcome f is = tt
-cut_puts (PutOut byte) state old new outcome f is = tt
-
 refused_puts : {A : Type 0} (state : SlotState) (what : EventKind A) (outcome : Outcome A) (limit : ℕ)
-    → FindsMemory (Some limit) what outcome.reply → IsRefused state what at_rest at_rest outcome
+    → FindsMemory (Some limit) what outcome.reply → WasRefused state what at_rest at_rest outcome
     → outcome.reply ≡ NoMemory → MayPutOut state what
-refused_puts state (Read window offset width) outcome limit found refused is = absurd refused
-refused_puts state (Write window offset width value) outcome limit found refused is =
-    cut_puts (task_at window offset width value state) _ at_rest at_rest outcome refused is
-refused_puts state (MemRead addr len) outcome limit found refused is = absurd (found is)
-refused_puts state (MemWrite addr bytes) outcome limit found refused is = absurd refused
-refused_puts state (Input bytes) outcome limit found refused is = absurd refused
-refused_puts state (Resize cols rows) outcome limit found refused is = absurd refused
-refused_puts state (Restore bytes) outcome limit found refused is = absurd refused
-refused_puts state (Complete verdict) outcome limit found refused is = absurd refused
+refused_puts {A} state what outcome limit found (Failed block h) is = let done =
+    ap (λ (o : Outcome A). o.reply) h.service.is in absurd (cc)
+refused_puts state what outcome limit found (Unsent console puts h) is = puts
+refused_puts state what outcome limit found (Unput console puts h) is = puts
+refused_puts {A} state what outcome limit found (Unread addr len read h) is =
+    absurd (subst (λ (w : EventKind A). FindsMemory (Some limit) w outcome.reply) read found is)
 
 given_puts : {A : Type 0} (state : SlotState) (what : EventKind A) (outcome : Outcome A) (limit : ℕ)
     → FindsMemory (Some limit) what outcome.reply → MayGive state what at_rest at_rest outcome
     → outcome.reply ≡ NoMemory → MayPutOut state what
 given_puts state what outcome limit found (inl served) is = absurd (served.answered is)
 given_puts state what outcome limit found (inr refused) is =
-    refused_puts state what outcome limit found refused is
+    refused_puts state what outcome limit found (was_refused state what at_rest at_rest outcome refused) is
 
 -- a call of it with its outlet
 abbrev seat_of : HostedState → List ℕ → Seat
@@ -247,8 +233,7 @@ told_once : {A : Type 0} (old one other : HostedState) (call : HostedCall A) (p 
 told_once {A} old one other call p q x y f k =
     let found : Told A → Type 0 = λ t. FindsMemory call.limit call.event t.reply in
     let same = call_once old call x.outcome y.outcome x.next y.next (subst found x.told_is f)
-    (subst found y.told_is k) in
-    (
+    (subst found y.told_is k) in (
       x.told_is ∙ (ap (λ (o : HostedOutcome A). told_of o) same ∙ sym y.told_is),
       x.left ∙ (ap (λ (o : HostedOutcome A). o.state) same ∙ sym y.left),
     )

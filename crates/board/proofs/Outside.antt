@@ -94,7 +94,7 @@ extent_apart one other apart xs ys same = same_lists _ _ long bytes
 
 -- ---- what a block device leaves outside its extent
 
-length-outside : (extents : List Extent) (i : ℕ) (xs : List ℕ)
+pub length-outside : (extents : List Extent) (i : ℕ) (xs : List ℕ)
     → length (outside_from extents i xs) ≡ length xs
 length-outside extents i [] = refl
 length-outside extents i (x ∷ xs) = ap suc (length-outside extents (i + 1) xs)

@@ -9,7 +9,7 @@ use Rattle.std.proofs.Math.Seq.{map-set_same}
 use Rattle.std.proofs.Math.ListN.{length-set}
 use Rattle.std.proofs.lemmas.Bool.{cases_eq, cases_order}
 use Rattle.std.proofs.lemmas.Bool.Decides.{nat_tests}
-use Rattle.std.proofs.lemmas.List.{map-set, set-get_or, get_or-map, length-map, get_or-set_same, get_or-set_other, same_lists}
+use Rattle.std.proofs.lemmas.List.{map-set, get_or-map, length-map, get_or-set_same, get_or-set_other, same_lists}
 use Rattle.std.proofs.lemmas.Option.{get_or_from_slice_get, slice_get-map, slice_get_within}
 use Rattle.sector_cache.specs.Disk.{Disk, KeepsClean}
 use Rattle.sector_cache.specs.Sector.{extent_of}
@@ -26,14 +26,8 @@ use Rattle.board.specs.Image.{Health, bytes_of, health_of}
 use Rattle.board.specs.Pausing.{ServesTurn, TakesTurn, met_in}
 use Rattle.board.specs.Slot.{SlotState, BoardSlot, StaysInSlot, interrupt_words, state_of}
 use Rattle.board.specs.World.{BoardState, World, SlotStep, MissingStep, StaysInExtents, Step, Serves, Handles, disturbed_of, extents_of, met_refusal, noted, seen}
-pub use Rattle.board.proofs.Lists.{others_kept}
+pub use Rattle.board.proofs.Lists.{others_kept, set_same}
 use Rattle.board.proofs.Outside.{outside_kept, outside_more, extent_apart}
-
--- a slot that is put back as it was changes nothing
-pub set_same : (slots : List BoardSlot) (h : ℕ) (slot new : BoardSlot) → slice_get slots h ≡ Some slot
-    → new ≡ slot → slice_set slots h new ≡ slots
-set_same slots h slot new here same =
-    rw (same, ← get_or_from_slice_get slots h slot slot here) (set-get_or slots h slot)
 
 -- where a slot keeps its extent, all do
 pub extents_of-set : (slots : List BoardSlot) (h : ℕ) (slot new : BoardSlot) → slice_get slots h ≡ Some slot

@@ -47,7 +47,8 @@ use Rattle.board.specs.Task.{Task, Nothing, PutOut, Finishes, device_of, puts_ou
 use Rattle.board.specs.Within.{BeginsWithin, IsSentPiece, PieceBy, PieceWithin, PutsOutWithin, PutsWithin, SendsWithin, TurnWithin}
 use Rattle.board.specs.World.{HasBytesToPutOut, IsCutShort, MayGive, Serves}
 use Rattle.board.proofs.Alike.{PieceAs, RefusedAs, piece_as, refused_as}
-use Rattle.board.proofs.Blocks.{block_served, count_of, counted_device, seen_disk, slot_device}
+use Rattle.board.specs.Hosting.{device_at}
+use Rattle.board.proofs.Blocks.{block_served, count_of, counted_device, seen_disk}
 
 -- a piece comes to the turn of its progress
 pub comes_to : (A : Type 0) (pause : Pause) (stage : Stage) (budget : Budget) (progress : Progress)
@@ -118,7 +119,7 @@ seen_piece : (Way : Request → List ℕ → Disk → Outcome → Type 0) (slot 
     (budget : Budget) (progress : Progress) (memory : Memory) (block : WindowState) (old new : Disk)
     → Tells old → Tells new → IsWhole old → IsWhole new → IsWithin old.sector_count slot.extent
     → IsWithin new.sector_count slot.extent
-    → ServesTo stage (device_by Way (slot_device slot)) budget 0 (queue_at 0 slot.block) progress slot.memory
+    → ServesTo stage (device_by Way (device_at slot)) budget 0 (queue_at 0 slot.block) progress slot.memory
     memory slot.block block (extent_disk slot.extent old) (extent_disk slot.extent new)
     → IsBlockPiece (device_by Way (device_of (state_of (bytes_of old) slot))) stage budget progress
     (state_of (bytes_of old) slot) (health_of old) (health_of new)
@@ -127,7 +128,7 @@ seen_piece Way slot stage budget progress memory block old new tells tells' whol
     let start = state_of (bytes_of old) slot in
     let count : slot.extent.count ≡ sectors_of start.extent =
     sym (count_of slot.extent old tells whole lies) in
-    let guest = piece_anywhere Way (slot_device slot) stage budget (queue_at 0 slot.block) progress
+    let guest = piece_anywhere Way (device_at slot) stage budget (queue_at 0 slot.block) progress
     slot.memory memory slot.block block (extent_disk slot.extent old) (extent_disk slot.extent new) h in
     let own = subst (λ c. ServesTo stage (device_by Way (counted_device slot c)) budget 0
     (queue_at 0 slot.block) progress slot.memory memory slot.block block (extent_disk slot.extent old)
@@ -152,7 +153,7 @@ pub block_piece : (slot : BoardSlot) (stage : Stage) (budget : Budget) (progress
     (block : WindowState) (old new : Disk)
     → Tells old → Tells new → IsWhole old → IsWhole new → IsWithin old.sector_count slot.extent
     → IsWithin new.sector_count slot.extent → old.failures ≤ new.failures
-    → ServesTo stage (block_device (slot_device slot)) budget 0 (queue_at 0 slot.block) progress slot.memory
+    → ServesTo stage (block_device (device_at slot)) budget 0 (queue_at 0 slot.block) progress slot.memory
     memory slot.block block (extent_disk slot.extent old) (extent_disk slot.extent new)
     → IsPiece Block stage budget progress (state_of (bytes_of old) slot) (health_of old) (health_of new)
     (state_of (bytes_of new) (block_served slot memory block)) []
@@ -166,7 +167,7 @@ block_piece slot stage budget progress memory block old new tells tells' whole w
       piece =
           seen_piece (Completes slot.identity) slot stage budget progress memory block old new tells tells'
           whole whole' lies lies'
-          (exact_piece (slot_device slot) stage budget (queue_at 0 slot.block) progress slot.memory memory
+          (exact_piece (device_at slot) stage budget (queue_at 0 slot.block) progress slot.memory memory
           slot.block block (extent_disk slot.extent old) (extent_disk slot.extent new) stood served);
       failures = stood;
     })

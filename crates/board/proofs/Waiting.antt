@@ -1,6 +1,6 @@
 -- What waits for what is in flight, and what doesn't end it.
 use Rattle.std.proofs.Common.{◌≡◌, inl, inr, ℕ, Bool, true, false, Option, Some, None, List, [], length, refl, sym, ◌∙◌, ap, subst}
-use Rattle.std.specs.Prelude.{⊤, if◌then◌else◌}
+use Rattle.std.specs.Prelude.{⊤, ◌&&◌, if◌then◌else◌, is_some}
 use Rattle.guest_memory.specs.Memory.{Memory, is_inside, part_of, put}
 use Rattle.block_device.specs.declared.operation.Verdict.{Verdict}
 use Rattle.board.specs.declared.event.EventKind.{EventKind}
@@ -8,49 +8,102 @@ use Rattle.board.specs.declared.event.EventKind.TheVariants.{Read, Write, MemRea
 use Rattle.board.specs.declared.reply.Reply.{Reply}
 use Rattle.board.specs.declared.reply.Reply.TheVariants.{BadRange, BadState, Bytes, Busy, Done, Idle, NoMemory, Took, Value}
 use Rattle.board.specs.declared.pause.Service.TheVariants.{Block, Receive, Transmit}
-use Rattle.board.specs.Hosting.{CompletesOrGives, CompletionGives, GivesAtRest, GivesInFlight, HostedOutcome, HostedState, InFlight, IsBesideDisk, IsHostedNext, IsOwn, OwnGives, WaitsOrGives, must_wait, notifies_block, verdict_in}
+use Rattle.board.specs.Hosting.{CompletesOrGives, CompletionGives, GivesAtRest, GivesInFlight, HostedOutcome, HostedState, InFlight, IsBesideDisk, IsHostedNext, IsOwn, LooksAtQueue, OwnGives, WaitsOrGives, answers, must_wait, notifies_block, verdict_in}
+use Rattle.board.specs.Hosting as hosting
+use Rattle.board.specs.Pausing.{readied}
 use Rattle.board.specs.Image.{Health}
 use Rattle.board.specs.Machine.{at_rest}
 use Rattle.board.specs.Outcome.{Outcome, does, replies}
 use Rattle.board.specs.Restoring.{IsRestoring}
 use Rattle.board.specs.Slot.{SlotState}
 use Rattle.board.specs.Task.{Task, Nothing, Serve, PutOut, Finishes}
-use Rattle.board.specs.World.{IsCutShort, MayGive}
+use Rattle.board.specs.World.{MayGive}
+use Rattle.board.proofs.Refusals.{Failed, Unput, Unread, Unsent, WasRefused, was_refused}
 
 -- ---- an own event, and a completion
-
-pub own_next : {A : Type 0} (old : HostedState) (what : EventKind A) (outcome : HostedOutcome A) → IsOwn what
-    → IsHostedNext old what outcome → OwnGives old.flight old what outcome
-own_next old what outcome own h = subst (λ (v : Option Verdict). CompletesOrGives v old what outcome) own h
 
 pub next_own : {A : Type 0} (old : HostedState) (what : EventKind A) (outcome : HostedOutcome A) → IsOwn what
     → OwnGives old.flight old what outcome → IsHostedNext old what outcome
 next_own old what outcome own h =
     subst (λ (v : Option Verdict). CompletesOrGives v old what outcome) (sym own) h
 
--- ---- what doesn't end it
+-- ---- what comes of an event
 
-passes_on : {A : Type 0} (notified : Bool) (old : HostedState) (what : EventKind A)
-    (outcome : HostedOutcome A) → GivesInFlight notified old what outcome → outcome.state.flight ≡ old.flight
-passes_on true old what outcome h = ap (λ o. o.state.flight) h
-passes_on false old what outcome h = h.flight
+-- It waits for what is in flight, or the disk has no part in it; its notification is looked at, or stands in
+-- the ring; or it is a completion, of nothing or of what is in flight.
+pub data Way {A : Type 0} (old : HostedState) (what : EventKind A) (outcome : HostedOutcome A) : Type 0 where
+  Waits :
+      (here : InFlight) → old.flight ≡ Some here → must_wait what ≡ true → outcome ≡ answers old Busy
+      → Way old what outcome
+  Beside :
+      (is_some old.flight && must_wait what) ≡ false → notifies_block what old.slot ≡ false
+      → IsBesideDisk old what outcome → Way old what outcome
+  Looks :
+      old.flight ≡ None → notifies_block what old.slot ≡ true
+      → LooksAtQueue (readied what old.slot) outcome.state
+      → outcome ≡ answers outcome.state Done → Way old what outcome
+  Stands :
+      (here : InFlight) → old.flight ≡ Some here → must_wait what ≡ false
+      → notifies_block what old.slot ≡ true
+      → outcome ≡ answers (record old { slot = readied what old.slot }) Done → Way old what outcome
+  Rests :
+      (verdict : Verdict) → verdict_in what ≡ Some verdict → old.flight ≡ None → outcome ≡ answers old Idle
+      → Way old what outcome
+  Lands :
+      (verdict : Verdict) → verdict_in what ≡ Some verdict → (here : InFlight) → old.flight ≡ Some here
+      → hosting.Lands old.slot here verdict outcome.state → outcome ≡ answers outcome.state Done
+      → Way old what outcome
 
-waits_on : {A : Type 0} (waits : Bool) (old : HostedState) (what : EventKind A) (outcome : HostedOutcome A)
-    → WaitsOrGives waits old what outcome → outcome.state.flight ≡ old.flight
-waits_on true old what outcome h = ap (λ o. o.state.flight) h
-waits_on false old what outcome h = passes_on (notifies_block what old.slot) old what outcome h
+module _ {A : Type 0} (old : HostedState) (what : EventKind A) (outcome : HostedOutcome A) where
+  rest_way : (rings : Bool) → old.flight ≡ None → notifies_block what old.slot ≡ rings
+      → GivesAtRest rings old what outcome → Way old what outcome
+  rest_way true none is h = Looks none is h.0 h.1
+  rest_way false none is h = Beside (rw none refl) is h
 
-outlasts_at : {A : Type 0} (flight : Option InFlight) (old : HostedState) (here : InFlight)
-    (what : EventKind A) (outcome : HostedOutcome A) → flight ≡ Some here → OwnGives flight old what outcome
-    → outcome.state.flight ≡ old.flight
-outlasts_at None old here what outcome is h = absurd (cc)
-outlasts_at (Some f) old here what outcome is h = waits_on (must_wait what) old what outcome h
+  flying_way : (rings : Bool) (here : InFlight) → old.flight ≡ Some here → must_wait what ≡ false
+      → notifies_block what old.slot ≡ rings → GivesInFlight rings old what outcome → Way old what outcome
+  flying_way true here flies free is h = Stands here flies free is h
+  flying_way false here flies free is h = Beside (rw (flies, free) refl) is h
+
+  waiting_way : (waits : Bool) (here : InFlight) → old.flight ≡ Some here → must_wait what ≡ waits
+      → WaitsOrGives waits old what outcome → Way old what outcome
+  waiting_way true here flies is h = Waits here flies is h
+  waiting_way false here flies is h = flying_way (notifies_block what old.slot) here flies is refl h
+
+  own_way : (flight : Option InFlight) → old.flight ≡ flight → OwnGives flight old what outcome
+      → Way old what outcome
+  own_way None none h = rest_way (notifies_block what old.slot) none refl h
+  own_way (Some here) flies h = waiting_way (must_wait what) here flies refl h
+
+  completion_way : (flight : Option InFlight) (verdict : Verdict) → verdict_in what ≡ Some verdict
+      → old.flight ≡ flight → CompletionGives flight old verdict outcome → Way old what outcome
+  completion_way None verdict is none h = Rests verdict is none h
+  completion_way (Some here) verdict is flies h = Lands verdict is here flies h.0 h.1
+
+  way_by : (v : Option Verdict) → verdict_in what ≡ v → CompletesOrGives v old what outcome
+      → Way old what outcome
+  way_by None is h = own_way old.flight refl h
+  way_by (Some verdict) is h = completion_way old.flight verdict is refl h
+
+  pub way : IsHostedNext old what outcome → Way old what outcome
+  way h = way_by (verdict_in what) refl h
+
+  -- ---- what doesn't end it
+
+  outlasts_by : (here : InFlight) → IsOwn what → old.flight ≡ Some here → Way old what outcome
+      → outcome.state.flight ≡ Some here
+  outlasts_by here own is (Waits there flies waits h) = ap (λ (o : HostedOutcome A). o.state.flight) h ∙ is
+  outlasts_by here own is (Beside free quiet h) = h.flight ∙ is
+  outlasts_by here own is (Looks none rings looks h) = absurd (cc)
+  outlasts_by here own is (Stands there flies free rings h) =
+      ap (λ (o : HostedOutcome A). o.state.flight) h ∙ is
+  outlasts_by here own is (Rests verdict completes none h) = absurd (cc)
+  outlasts_by here own is (Lands verdict completes there flies lands h) = absurd (cc)
 
 pub outlasts : {A : Type 0} (old : HostedState) (here : InFlight) (what : EventKind A)
     (outcome : HostedOutcome A) → IsOwn what → old.flight ≡ Some here → IsHostedNext old what outcome
     → outcome.state.flight ≡ Some here
-outlasts old here what outcome own is h =
-    outlasts_at old.flight old here what outcome is (own_next old what outcome own h) ∙ is
+outlasts old here what outcome own is h = outlasts_by old what outcome here own is (way old what outcome h)
 
 -- ---- the one-slot machine has nothing in flight
 
@@ -74,28 +127,24 @@ told {A} state outcome reply is plain = record {
   silent = λ idle. absurd (subst (λ (r : Reply A). IsPlain r) (sym is ∙ idle) plain);
 }
 
-finished_untied : {A : Type 0} (task : Task) (state mid : SlotState) (old new : Health) (outcome : Outcome A)
-    → Finishes task mid old new outcome → IsUntied state outcome
-finished_untied {A} Nothing state mid old new outcome f =
-    told state outcome Done (ap (λ (o : Outcome A). o.reply) f.alike) tt
-finished_untied {A} (Serve Block) state mid old new outcome f =
-    told state outcome Done (ap (λ (o : Outcome A). o.reply) f.is) tt
-finished_untied {A} (Serve Receive) state mid old new outcome f =
-    told state outcome Done (ap (λ (o : Outcome A). o.reply) f.is) tt
-finished_untied {A} (Serve Transmit) state mid old new outcome f =
-    told state outcome Done (ap (λ (o : Outcome A). o.reply) f.is) tt
-finished_untied {A} (PutOut byte) state mid old new outcome f =
-    told state outcome Done (ap (λ (o : Outcome A). o.reply) f.alike) tt
+-- a task that is finished is done
+pub finished_done : {A : Type 0} (task : Task) (state : SlotState) (before after : Health)
+    (outcome : Outcome A) → Finishes task state before after outcome → outcome.reply ≡ Done
+finished_done {A} Nothing state before after outcome f = ap (λ (o : Outcome A). o.reply) f.alike
+finished_done {A} (Serve Block) state before after outcome f = ap (λ (o : Outcome A). o.reply) f.is
+finished_done {A} (Serve Receive) state before after outcome f = ap (λ (o : Outcome A). o.reply) f.is
+finished_done {A} (Serve Transmit) state before after outcome f = ap (λ (o : Outcome A). o.reply) f.is
+finished_done {A} (PutOut byte) state before after outcome f = ap (λ (o : Outcome A). o.reply) f.alike
 
-cut_untied : {A : Type 0} (task : Task) (state mid : SlotState) (old new : Health) (outcome : Outcome A)
-    → IsCutShort task mid old new outcome → IsUntied state outcome
-cut_untied Nothing state mid old new outcome f = absurd f
-cut_untied {A} (Serve Block) state mid old new outcome f =
+refused_untied : {A : Type 0} (state : SlotState) (what : EventKind A) (old new : Health)
+    (outcome : Outcome A) → WasRefused state what old new outcome → IsUntied state outcome
+refused_untied {A} state what old new outcome (Failed block f) =
     told state outcome Done (ap (λ (o : Outcome A). o.reply) f.service.is) tt
-cut_untied (Serve Receive) state mid old new outcome f = absurd f
-cut_untied {A} (Serve Transmit) state mid old new outcome f =
+refused_untied {A} state what old new outcome (Unsent console puts f) =
     told state outcome NoMemory (ap (λ (o : Outcome A). o.reply) f.is) tt
-cut_untied {A} (PutOut byte) state mid old new outcome f =
+refused_untied {A} state what old new outcome (Unput console puts f) =
+    told state outcome NoMemory (ap (λ (o : Outcome A). o.reply) f.alike) tt
+refused_untied {A} state what old new outcome (Unread addr len is f) =
     told state outcome NoMemory (ap (λ (o : Outcome A). o.reply) f.alike) tt
 
 read_untied : {A : Type 0} (state : SlotState) (bytes : List ℕ) (outcome : Outcome A) (inside : Bool)
@@ -126,7 +175,7 @@ pub untied : {A : Type 0} (state : SlotState) (what : EventKind A) (old new : He
 untied {A} state (Read window offset width) old new outcome (inl served) =
     told state outcome (Value _) (ap (λ (o : Outcome A). o.reply) served.alike.alike) tt
 untied state (Write window offset width value) old new outcome (inl served) =
-    finished_untied _ state _ old new outcome served.alike
+    told state outcome Done (finished_done _ _ old new outcome served.alike) tt
 untied state (MemRead addr len) old new outcome (inl served) =
     read_untied state (part_of state.memory addr len) outcome
     (is_inside state.memory addr len) served.alike.alike
@@ -146,16 +195,8 @@ untied {A} state (Complete verdict) old new outcome (inl served) =
       kept = λ idle. ap (λ (o : Outcome A). o.state) served.alike.alike;
       silent = λ idle. ap (λ (o : Outcome A). o.output) served.alike.alike;
     }
-untied state (Read window offset width) old new outcome (inr never) = absurd never
-untied state (Write window offset width value) old new outcome (inr cut) =
-    cut_untied _ state _ old new outcome cut
-untied {A} state (MemRead addr len) old new outcome (inr unread) =
-    told state outcome NoMemory (ap (λ (o : Outcome A). o.reply) unread.unchanged) tt
-untied state (MemWrite addr bytes) old new outcome (inr never) = absurd never
-untied state (Input bytes) old new outcome (inr never) = absurd never
-untied state (Resize cols rows) old new outcome (inr never) = absurd never
-untied state (Restore bytes) old new outcome (inr never) = absurd never
-untied state (Complete verdict) old new outcome (inr never) = absurd never
+untied state what old new outcome (inr refused) =
+    refused_untied state what old new outcome (was_refused state what old new outcome refused)
 
 pub same_hosted : (s t : SlotState) (f g : Option InFlight) → s ≡ t → f ≡ g
     → ◌≡◌ {A = HostedState} (record { slot = s; flight = f }) (record { slot = t; flight = g })
@@ -174,86 +215,32 @@ beside_idle old what outcome h is =
 
 -- ---- what a busy answer says
 
-record Waited {A : Type 0} (old : HostedState) (what : EventKind A) (outcome : HostedOutcome A) : Type 0 where
-  stays : outcome.state ≡ old
-  waits : must_wait what ≡ true
-
-rests_busy : {A : Type 0} (notified : Bool) (old : HostedState) (what : EventKind A)
-    (outcome : HostedOutcome A) → GivesAtRest notified old what outcome → outcome.reply ≡ Busy → ⊥
-rests_busy true old what outcome h is = let done = ap (λ o. o.reply) h.1 in cc
-rests_busy false old what outcome h is = beside_busy old what outcome h is
-
-passes_busy : {A : Type 0} (notified : Bool) (old : HostedState) (what : EventKind A)
-    (outcome : HostedOutcome A) → GivesInFlight notified old what outcome → outcome.reply ≡ Busy → ⊥
-passes_busy true old what outcome h is = let done = ap (λ o. o.reply) h in cc
-passes_busy false old what outcome h is = beside_busy old what outcome h is
-
-waits_busy : {A : Type 0} (waits : Bool) (old : HostedState) (what : EventKind A) (outcome : HostedOutcome A)
-    → must_wait what ≡ waits → WaitsOrGives waits old what outcome → outcome.reply ≡ Busy
-    → Waited old what outcome
-waits_busy true old what outcome same h is = record { stays = ap (λ o. o.state) h; waits = same }
-waits_busy false old what outcome same h is =
-    absurd (passes_busy (notifies_block what old.slot) old what outcome h is)
-
-busy_at : {A : Type 0} (flight : Option InFlight) (old : HostedState) (what : EventKind A)
-    (outcome : HostedOutcome A) → OwnGives flight old what outcome → outcome.reply ≡ Busy
-    → Waited old what outcome
-busy_at None old what outcome h is = absurd (rests_busy (notifies_block what old.slot) old what outcome h is)
-busy_at (Some here) old what outcome h is = waits_busy (must_wait what) old what outcome refl h is
-
-completion_busy : {A : Type 0} (flight : Option InFlight) (old : HostedState) (verdict : Verdict)
-    (outcome : HostedOutcome A) → CompletionGives flight old verdict outcome → outcome.reply ≡ Busy → ⊥
-completion_busy None old verdict outcome h is = let idle = ap (λ o. o.reply) h in cc
-completion_busy (Some here) old verdict outcome h is = let done = ap (λ o. o.reply) h.1 in cc
-
-busy_by : {A : Type 0} (v : Option Verdict) (old : HostedState) (what : EventKind A)
-    (outcome : HostedOutcome A) → CompletesOrGives v old what outcome → outcome.reply ≡ Busy
-    → Waited old what outcome
-busy_by None old what outcome h is = busy_at old.flight old what outcome h is
-busy_by (Some verdict) old what outcome h is = absurd (completion_busy old.flight old verdict outcome h is)
+busy_by : {A : Type 0} (old : HostedState) (what : EventKind A) (outcome : HostedOutcome A)
+    → Way old what outcome → outcome.reply ≡ Busy → (outcome.state ≡ old) × (must_wait what ≡ true)
+busy_by old what outcome (Waits here flies waits h) is = (ap (λ o. o.state) h, waits)
+busy_by old what outcome (Beside free quiet h) is = absurd (beside_busy old what outcome h is)
+busy_by old what outcome (Looks none rings looks h) is = let done = ap (λ o. o.reply) h in absurd (cc)
+busy_by old what outcome (Stands here flies free rings h) is = let done = ap (λ o. o.reply) h in absurd (cc)
+busy_by old what outcome (Rests verdict completes none h) is = let idle = ap (λ o. o.reply) h in absurd (cc)
+busy_by old what outcome (Lands verdict completes here flies lands h) is =
+    let done = ap (λ o. o.reply) h in absurd (cc)
 
 pub busy_stays : {A : Type 0} (old : HostedState) (what : EventKind A) (outcome : HostedOutcome A)
     → IsHostedNext old what outcome → outcome.reply ≡ Busy → (outcome.state ≡ old) × (must_wait what ≡ true)
-busy_stays old what outcome h is = let waited = busy_by (verdict_in what) old what outcome h is in
-    (waited.stays, waited.waits)
+busy_stays old what outcome h is = busy_by old what outcome (way old what outcome h) is
 
 -- ---- and what an idle one does
 
-rests_idle : {A : Type 0} (notified : Bool) (old : HostedState) (what : EventKind A)
-    (outcome : HostedOutcome A) → GivesAtRest notified old what outcome → outcome.reply ≡ Idle
-    → outcome.state ≡ old
-rests_idle true old what outcome h is = let done = ap (λ o. o.reply) h.1 in absurd (cc)
-rests_idle false old what outcome h is = beside_idle old what outcome h is
-
-passes_idle : {A : Type 0} (notified : Bool) (old : HostedState) (what : EventKind A)
-    (outcome : HostedOutcome A) → GivesInFlight notified old what outcome → outcome.reply ≡ Idle
-    → outcome.state ≡ old
-passes_idle true old what outcome h is = let done = ap (λ o. o.reply) h in absurd (cc)
-passes_idle false old what outcome h is = beside_idle old what outcome h is
-
-waits_idle : {A : Type 0} (waits : Bool) (old : HostedState) (what : EventKind A) (outcome : HostedOutcome A)
-    → WaitsOrGives waits old what outcome → outcome.reply ≡ Idle → outcome.state ≡ old
-waits_idle true old what outcome h is = ap (λ o. o.state) h
-waits_idle false old what outcome h is = passes_idle (notifies_block what old.slot) old what outcome h is
-
-own_idle : {A : Type 0} (flight : Option InFlight) (old : HostedState) (what : EventKind A)
-    (outcome : HostedOutcome A) → OwnGives flight old what outcome → outcome.reply ≡ Idle
-    → outcome.state ≡ old
-own_idle None old what outcome h is = rests_idle (notifies_block what old.slot) old what outcome h is
-own_idle (Some here) old what outcome h is = waits_idle (must_wait what) old what outcome h is
-
-completion_idle : {A : Type 0} (flight : Option InFlight) (old : HostedState) (verdict : Verdict)
-    (outcome : HostedOutcome A) → CompletionGives flight old verdict outcome → outcome.reply ≡ Idle
-    → outcome.state ≡ old
-completion_idle None old verdict outcome h is = ap (λ o. o.state) h
-completion_idle (Some here) old verdict outcome h is = let done = ap (λ o. o.reply) h.1 in absurd (cc)
-
-idle_by : {A : Type 0} (v : Option Verdict) (old : HostedState) (what : EventKind A)
-    (outcome : HostedOutcome A) → CompletesOrGives v old what outcome → outcome.reply ≡ Idle
-    → outcome.state ≡ old
-idle_by None old what outcome h is = own_idle old.flight old what outcome h is
-idle_by (Some verdict) old what outcome h is = completion_idle old.flight old verdict outcome h is
+idle_by : {A : Type 0} (old : HostedState) (what : EventKind A) (outcome : HostedOutcome A)
+    → Way old what outcome → outcome.reply ≡ Idle → outcome.state ≡ old
+idle_by old what outcome (Waits here flies waits h) is = ap (λ o. o.state) h
+idle_by old what outcome (Beside free quiet h) is = beside_idle old what outcome h is
+idle_by old what outcome (Looks none rings looks h) is = let done = ap (λ o. o.reply) h in absurd (cc)
+idle_by old what outcome (Stands here flies free rings h) is = let done = ap (λ o. o.reply) h in absurd (cc)
+idle_by old what outcome (Rests verdict completes none h) is = ap (λ o. o.state) h
+idle_by old what outcome (Lands verdict completes here flies lands h) is =
+    let done = ap (λ o. o.reply) h in absurd (cc)
 
 pub idle_stays : {A : Type 0} (old : HostedState) (what : EventKind A) (outcome : HostedOutcome A)
     → IsHostedNext old what outcome → outcome.reply ≡ Idle → outcome.state ≡ old
-idle_stays old what outcome h is = idle_by (verdict_in what) old what outcome h is
+idle_stays old what outcome h is = idle_by old what outcome (way old what outcome h) is

@@ -28,7 +28,7 @@ use Rattle.board.proofs.Seats.{extents_of-set, noted_none, others_kept}
 use Rattle.session.specs.declared.response.Response.TheVariants.{Answered}
 use Rattle.session.specs.Pacing.{Handle, PacedState, Responds, paced_world}
 use Rattle.session.specs.Restoring.{restore_response, told_of}
-use Rattle.session.proofs.Places.{not_true, stays}
+use Rattle.session.proofs.Places.{not_true, set_same}
 use Rattle.session.proofs.Turns.{begun}
 
 found_at : (slots : List BoardSlot) (h : ℕ) → h < length slots → (found : BoardSlot)
@@ -94,7 +94,7 @@ refused_turn A old h addr bytes budget state here outside = record {
     });
     block_is = refl;
     console_is = refl;
-    slots = sym (stays old.slots h state here);
+    slots = sym (set_same old.slots h state state here refl);
     disturbed = noted_none h old.health.failures old.disturbed;
     outside = refl;
   };
@@ -110,7 +110,7 @@ module _ (A : Type 0) {I : Type 0} (disk : I → Disk) (old : PacedState I) (boa
   same : slice_get old.paused h ≡ Some None
       → ◌≡◌ {A = PacedState I} (record old { board = board })
       (record { board = board; paused = slice_set old.paused h None; budget = old.budget })
-  same waits = rw (stays old.paused h None waits) refl
+  same waits = rw (set_same old.paused h None None waits refl) refl
 
   seen_at : (found : BoardSlot) → slice_get old.board.slots h ≡ Some found
       → slice_get (world_of disk old.board).slots h ≡ Some (state_of (bytes_of (disk old.board.image)) found)

@@ -22,7 +22,7 @@ use Rattle.session.specs.declared.refusal.Refusal.TheVariants as refusal
 use Rattle.session.specs.Answering.{refusing_response}
 use Rattle.session.specs.Pausing.{ComesTo, IsCall, IsWhole}
 use Rattle.session.specs.Session.{IsIdle, IsStep, SessionState, world_of}
-use Rattle.session.proofs.Places.{stays}
+use Rattle.session.proofs.Places.{set_same}
 
 -- ---- a call of a slot that isn't there, or that is busy
 
@@ -70,7 +70,7 @@ idle_step_call {A} s new event reply is fits asks step =
         taken = t.taken;
         told = refl;
         behind = t.appended;
-        paused = step.paused ∙ sym (stays s.paused event.slot None is);
+        paused = step.paused ∙ sym (set_same s.paused event.slot None None is refl);
         within = λ was now there later_there. rw (asks was) (step.within was now there later_there);
         others = step.others;
         outputs = step.outputs;

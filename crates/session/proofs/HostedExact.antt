@@ -1,28 +1,24 @@
 -- When each refusal of a session comes whose disks the host serves.
-use Rattle.std.proofs.Common.{◌≡◌, ◌≢◌, ◌⊎◌, ◌↔◌, inl, inr, ℕ, ◌≤◌, Bool, true, false, List, length, Option, Some, None, refl, sym, ◌∙◌, ap, subst, arith}
+use Rattle.std.proofs.Common.{◌≡◌, ◌≢◌, ◌↔◌, inl, inr, ℕ, ◌≤◌, Bool, true, false, List, length, Option, Some, None, refl, sym, ◌∙◌, ap, subst, arith}
 use Rattle.std.specs.Prelude.{◌&&◌, is_some, if◌then◌else◌, IsErrOf, IsSomeAnd, Result, Ok, Err}
 use Rattle.std.specs.List.{slice_get}
 use Rattle.std.proofs.lemmas.Option.{slice_get_within, slice_get_cases, same_Some}
-use Rattle.mmio_window.specs.declared.device_kind.DeviceKind.{DeviceKind}
 use Rattle.block_device.specs.declared.operation.Verdict.{Verdict}
 use Rattle.board.specs.declared.event.EventKind.{EventKind}
 use Rattle.board.specs.declared.event.EventKind.TheVariants.{Read, Write, MemRead, MemWrite, Input, Resize, Restore, Complete}
 use Rattle.board.specs.declared.reply.Reply.{Reply}
 use Rattle.board.specs.declared.reply.Reply.TheVariants as reply
 use Rattle.board.specs.declared.reply.Reply.TheVariants.{Done, Bytes, BadSlot, BadRange, NoMemory, Busy, Idle}
-use Rattle.board.specs.declared.pause.Service.TheVariants.{Block, Receive, Transmit}
-use Rattle.board.specs.Hosting.{CompletionGives, GivesAtRest, GivesInFlight, HostedOutcome, HostedState, InFlight, IsBesideDisk, IsOwn, OwnGives, WaitsOrGives, must_wait, notifies_block}
+use Rattle.board.specs.Hosting.{CompletionGives, HostedOutcome, HostedState, InFlight, IsOwn, must_wait}
 use Rattle.board.specs.Image.{Health}
-use Rattle.board.specs.Machine.{at_rest, task_at}
+use Rattle.board.specs.Machine.{at_rest}
 use Rattle.board.specs.Outcome.{Outcome, replies}
 use Rattle.board.specs.Restoring.{IsRestoring}
 use Rattle.board.specs.Slot.{SlotState}
-use Rattle.board.specs.declared.task.Task.{Task}
-use Rattle.board.specs.declared.task.Task.TheVariants.{Nothing, Serve, PutOut}
-use Rattle.board.specs.Task.{Finishes}
-use Rattle.board.specs.Within.{IsPuttingOut, MayPutOut}
-use Rattle.board.specs.World.{IsCutShort, MayGive}
-use Rattle.board.proofs.Waiting.{own_next, untied}
+use Rattle.board.specs.Within.{MayPutOut}
+use Rattle.board.specs.World.{MayGive}
+use Rattle.board.proofs.Refusals.{Failed, Unput, Unread, Unsent, WasRefused, was_refused}
+use Rattle.board.proofs.Waiting.{Beside, Lands, Looks, Rests, Stands, Waits, Way, finished_done, untied, way}
 use Rattle.session.specs.declared.hosted.progress.HostedProgress.{HostedProgress}
 use Rattle.session.specs.declared.refusal.Refusal.{Refusal}
 use Rattle.session.specs.declared.refusal.Refusal.TheVariants as refusal
@@ -32,24 +28,6 @@ use Rattle.session.specs.Session.{HasNoRead}
 use Rattle.session.proofs.HostedLaws.{came_to, told_none}
 
 -- ---- a slot that is there is never said to be missing
-
-finished_done : {A : Type 0} (task : Task) (state : SlotState) (before after : Health) (outcome : Outcome A)
-    → Finishes task state before after outcome → outcome.reply ≡ Done
-finished_done {A} Nothing state before after outcome f = ap (λ (o : Outcome A). o.reply) f.alike
-finished_done {A} (Serve Block) state before after outcome f = ap (λ (o : Outcome A). o.reply) f.is
-finished_done {A} (Serve Receive) state before after outcome f = ap (λ (o : Outcome A). o.reply) f.is
-finished_done {A} (Serve Transmit) state before after outcome f = ap (λ (o : Outcome A). o.reply) f.is
-finished_done {A} (PutOut byte) state before after outcome f = ap (λ (o : Outcome A). o.reply) f.alike
-
--- it is cut short where it puts something out and has no memory, or is done
-cut_to : {A : Type 0} (task : Task) (state : SlotState) (before after : Health) (outcome : Outcome A)
-    → IsCutShort task state before after outcome → (outcome.reply ≡ Done)
-    ⊎ ((outcome.reply ≡ NoMemory) × IsPuttingOut task)
-cut_to Nothing state before after outcome f = absurd f
-cut_to {A} (Serve Block) state before after outcome f = inl (ap (λ (o : Outcome A). o.reply) f.service.is)
-cut_to (Serve Receive) state before after outcome f = absurd f
-cut_to {A} (Serve Transmit) state before after outcome f = inr (ap (λ (o : Outcome A). o.reply) f.is, tt)
-cut_to {A} (PutOut byte) state before after outcome f = inr (ap (λ (o : Outcome A). o.reply) f.alike, tt)
 
 -- what an event is answered: never that there is no slot, and out of memory only where it puts something out
 abbrev Fair : {A : Type 0} → SlotState → EventKind A → Reply A → Type 0
@@ -71,13 +49,21 @@ write_fair : {A : Type 0} (state after : SlotState) (what : EventKind A) (reply 
 write_fair state after what reply true is = (λ no. absurd (cc), λ no any. absurd (cc))
 write_fair state after what reply false is = (λ no. absurd (cc), λ no any. absurd (cc))
 
-cut_fair : {A : Type 0} (state : SlotState) (window : DeviceKind) (offset width value : ℕ) (reply : Reply A)
-    → (reply ≡ Done) ⊎ ((reply ≡ NoMemory) × IsPuttingOut (task_at window offset width value state))
-    → Fair state (Write window offset width value) reply
-cut_fair state window offset width value reply (inl is) =
-    fair_done state (Write window offset width value) reply is
-cut_fair state window offset width value reply (inr is) = let none = is.0 in
-    (λ no. absurd (cc), λ no any. is.1)
+lacking_fair : {A : Type 0} (state : SlotState) (what : EventKind A) (reply : Reply A) → reply ≡ NoMemory
+    → (HasNoRead what → MayPutOut state what) → Fair state what reply
+lacking_fair state what reply is puts = (λ no. absurd (cc), λ no any. puts any)
+
+refused_fair : {A : Type 0} (state : SlotState) (what : EventKind A) (old new : Health) (outcome : Outcome A)
+    → WasRefused state what old new outcome → Fair state what outcome.reply
+refused_fair {A} state what old new outcome (Failed block h) =
+    fair_done state what outcome.reply (ap (λ (o : Outcome A). o.reply) h.service.is)
+refused_fair {A} state what old new outcome (Unsent console puts h) =
+    lacking_fair state what outcome.reply (ap (λ (o : Outcome A). o.reply) h.is) (λ any. puts)
+refused_fair {A} state what old new outcome (Unput console puts h) =
+    lacking_fair state what outcome.reply (ap (λ (o : Outcome A). o.reply) h.alike) (λ any. puts)
+refused_fair {A} state what old new outcome (Unread addr len is h) =
+    lacking_fair state what outcome.reply (ap (λ (o : Outcome A). o.reply) h.alike)
+    (λ any. absurd (subst (λ (w : EventKind A). HasNoRead w) is any))
 
 restore_fair : {A : Type 0} (state : SlotState) (bytes : List ℕ) (outcome : Outcome A)
     → IsRestoring state bytes outcome → Fair state (Restore bytes) outcome.reply
@@ -106,16 +92,8 @@ given_fair state (Restore bytes) old new outcome (inl served) =
     restore_fair state bytes outcome served.alike.alike
 given_fair {A} state (Complete verdict) old new outcome (inl served) = let is =
     ap (λ (o : Outcome A). o.reply) served.alike.alike in (λ no. absurd (cc), λ no any. absurd (cc))
-given_fair state (Read window offset width) old new outcome (inr never) = absurd never
-given_fair state (Write window offset width value) old new outcome (inr cut) =
-    cut_fair state window offset width value outcome.reply (cut_to _ _ old new outcome cut)
-given_fair {A} state (MemRead addr len) old new outcome (inr unread) = let is =
-    ap (λ (o : Outcome A). o.reply) unread.unchanged in (λ no. absurd (cc), λ no any. absurd any)
-given_fair state (MemWrite addr bytes) old new outcome (inr never) = absurd never
-given_fair state (Input bytes) old new outcome (inr never) = absurd never
-given_fair state (Resize cols rows) old new outcome (inr never) = absurd never
-given_fair state (Restore bytes) old new outcome (inr never) = absurd never
-given_fair state (Complete verdict) old new outcome (inr never) = absurd never
+given_fair state what old new outcome (inr refused) =
+    refused_fair state what old new outcome (was_refused state what old new outcome refused)
 
 -- ---- and so with a disk that the host serves
 
@@ -138,10 +116,17 @@ hosted_done_fair old what flight reply free is =
       waits = λ no. absurd (cc);
     }
 
-beside_fair : {A : Type 0} (old : HostedState) (what : EventKind A) (flight : Option InFlight)
-    (outcome : HostedOutcome A) → (is_some flight && must_wait what) ≡ false → IsBesideDisk old what outcome
-    → IsFair old what flight outcome.reply
-beside_fair old what flight outcome free h =
+own_fair : {A : Type 0} (old : HostedState) (what : EventKind A) (outcome : HostedOutcome A) → IsOwn what
+    → Way old what outcome → IsFair old what old.flight outcome.reply
+own_fair {A} old what outcome own (Waits here flies waits h) =
+    let told = ap (λ (o : HostedOutcome A). o.reply) h in
+    record {
+      there = λ no. absurd (cc);
+      room = λ no any. absurd (cc);
+      busy = λ busy. rw (flies, waits) refl;
+      waits = λ yes. told;
+    }
+own_fair old what outcome own (Beside free quiet h) =
     let fair = given_fair old.slot what at_rest at_rest _ h.given in
     record {
       there = fair.0;
@@ -149,33 +134,13 @@ beside_fair old what flight outcome free h =
       busy = λ no. absurd ((untied old.slot what at_rest at_rest _ h.given).free no);
       waits = λ no. absurd (cc);
     }
-
-rest_fair : {A : Type 0} (old : HostedState) (what : EventKind A) (outcome : HostedOutcome A) (rings : Bool)
-    → GivesAtRest rings old what outcome → IsFair old what None outcome.reply
-rest_fair {A} old what outcome true gives =
-    hosted_done_fair old what None outcome.reply refl (ap (λ (o : HostedOutcome A). o.reply) gives.1)
-rest_fair old what outcome false gives = beside_fair old what None outcome refl gives
-
-flying_fair : {A : Type 0} (old : HostedState) (what : EventKind A) (here : InFlight)
-    (outcome : HostedOutcome A) (rings : Bool) → must_wait what ≡ false → GivesInFlight rings old what outcome
-    → IsFair old what (Some here) outcome.reply
-flying_fair {A} old what here outcome true free gives =
-    hosted_done_fair old what (Some here) outcome.reply free (ap (λ (o : HostedOutcome A). o.reply) gives)
-flying_fair old what here outcome false free gives = beside_fair old what (Some here) outcome free gives
-
-waiting_fair : {A : Type 0} (old : HostedState) (what : EventKind A) (here : InFlight)
-    (outcome : HostedOutcome A) (waits : Bool) → must_wait what ≡ waits → WaitsOrGives waits old what outcome
-    → IsFair old what (Some here) outcome.reply
-waiting_fair {A} old what here outcome true is gives =
-    let told = ap (λ (o : HostedOutcome A). o.reply) gives in
-    record { there = λ no. absurd (cc); room = λ no any. absurd (cc); busy = λ busy. is; waits = λ yes. told }
-waiting_fair old what here outcome false is gives =
-    flying_fair old what here outcome (notifies_block what old.slot) is gives
-
-own_fair : {A : Type 0} (old : HostedState) (what : EventKind A) (outcome : HostedOutcome A)
-    (flight : Option InFlight) → OwnGives flight old what outcome → IsFair old what flight outcome.reply
-own_fair old what outcome None gives = rest_fair old what outcome (notifies_block what old.slot) gives
-own_fair old what outcome (Some here) gives = waiting_fair old what here outcome (must_wait what) refl gives
+own_fair {A} old what outcome own (Looks none rings looks h) =
+    hosted_done_fair old what old.flight outcome.reply (rw none refl) (ap (λ (o : HostedOutcome A). o.reply) h)
+own_fair {A} old what outcome own (Stands here flies free rings h) =
+    hosted_done_fair old what old.flight outcome.reply (rw (flies, free) refl)
+    (ap (λ (o : HostedOutcome A). o.reply) h)
+own_fair old what outcome own (Rests verdict completes none h) = absurd (cc)
+own_fair old what outcome own (Lands verdict completes here flies lands h) = absurd (cc)
 
 -- ---- a call of a session
 
@@ -202,7 +167,7 @@ exact_from {A} old new h what reply (Some state) own here is =
     let came = came_to old new h what reply state here is in
     let fair : IsFair state what state.flight reply =
     subst (λ (r : Reply A). IsFair state what state.flight r) (sym came.replied)
-    (own_fair state what came.outcome state.flight (own_next state what came.outcome own came.called.next)) in
+    (own_fair state what came.outcome own (way state what came.outcome came.called.next)) in
     let below = slice_get_within old.slots h state here in
     record {
       bad_slot = (λ no. absurd (fair.there no), λ past. absurd (omega (arith, below, past)));

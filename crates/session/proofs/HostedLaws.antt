@@ -1,28 +1,27 @@
 -- What holds of each call of a session whose disks the host serves.
-use Rattle.std.proofs.Common.{◌≡◌, ◌≢◌, ◌⊎◌, inl, inr, ℕ, eqb, Bool, true, false, Option, Some, None, List, [], ◌++◌, length, refl, sym, ◌∙◌, ap, subst, append-nil}
+use Rattle.std.proofs.Common.{◌≡◌, ◌≢◌, ◌⊎◌, inl, inr, ℕ, eqb, true, false, Option, Some, None, List, [], ◌++◌, length, refl, sym, ◌∙◌, ap, subst, append-nil}
 use Rattle.std.specs.Prelude.{⊤, MatchOption, slice_set, unwrap_or}
 use Rattle.std.specs.List.{slice_get}
 use Rattle.std.specs.Option.{option_and_then}
 use Rattle.std.proofs.lemmas.Bool.Decides.{eqb_tells}
 use Rattle.guest_memory.specs.Memory.{Inside, Memory}
 use Rattle.guest_memory.proofs.Ranges.{is_inside-tells}
-use Rattle.block_device.specs.declared.operation.Verdict.{Verdict}
 use Rattle.board.specs.declared.event.EventKind.{EventKind}
 use Rattle.board.specs.declared.event.EventKind.TheVariants.{MemWrite}
 use Rattle.board.specs.declared.reply.Reply.{Reply}
 use Rattle.board.specs.declared.reply.Reply.TheVariants as reply
 use Rattle.board.specs.declared.reply.Reply.TheVariants.{BadSlot, Busy, Done, Idle}
-use Rattle.board.specs.Hosting.{CompletesOrGives, CompletionGives, GivesAtRest, GivesInFlight, HostedOutcome, HostedState, InFlight, IsBesideDisk, IsHostedNext, IsOwn, OwnGives, WaitsOrGives, must_wait, notifies_block, verdict_in}
+use Rattle.board.specs.Hosting.{HostedOutcome, HostedState, InFlight, IsBesideDisk, IsOwn, must_wait}
 use Rattle.board.specs.HostedLine.{CallsNone, CallsSlot, HostedCall, IsCalledNext, Told, put_back, with_bytes}
 use Rattle.board.specs.Machine.{at_rest}
 use Rattle.board.proofs.Alone.{get_set}
 use Rattle.board.proofs.HostedAccess.{set_same, was_written}
 use Rattle.board.proofs.HostedSeats.{others_stay}
-use Rattle.board.proofs.Waiting.{busy_stays, idle_stays, outlasts, untied}
+use Rattle.board.proofs.Waiting.{Beside, Lands, Looks, Rests, Stands, Waits, Way, busy_stays, idle_stays, outlasts, untied, way}
 use Rattle.session.specs.Hosted.{HostedSessionState, IsHostedCall, IsKept, flight_at, with_hosted_bytes}
 use Rattle.session.specs.Session.{Waiting, none_waiting, waiting_at}
 use Rattle.session.proofs.HostedSteps.{quiet}
-use Rattle.session.proofs.Waiting.{rebuilt}
+use Rattle.session.proofs.Waiting.{same_outlet}
 
 -- a call for a slot as the board takes it, and what it tells of it
 abbrev pub call_at : {A : Type 0} → HostedSessionState → ℕ → EventKind A → HostedCall A
@@ -125,50 +124,18 @@ beside_told : {A : Type 0} (old : HostedState) (what : EventKind A) (outcome : H
 beside_told old what outcome h (inl is) = absurd ((untied old.slot what at_rest at_rest _ h.given).free is)
 beside_told old what outcome h (inr is) = (untied old.slot what at_rest at_rest _ h.given).silent is
 
-beside_silent : {A : Type 0} (old : HostedState) (what : EventKind A) (outcome : HostedOutcome A)
-    → IsBesideDisk old what outcome → Stalls outcome.reply → outcome.output ≡ []
-beside_silent old what outcome h stalls = beside_told old what outcome h (which outcome.reply stalls)
-
-rest_silent : {A : Type 0} (old : HostedState) (what : EventKind A) (outcome : HostedOutcome A) (rings : Bool)
-    → GivesAtRest rings old what outcome → Stalls outcome.reply → outcome.output ≡ []
-rest_silent {A} old what outcome true gives stalls = ap (λ (o : HostedOutcome A). o.output) gives.1
-rest_silent old what outcome false gives stalls = beside_silent old what outcome gives stalls
-
-passing_silent : {A : Type 0} (old : HostedState) (what : EventKind A) (outcome : HostedOutcome A)
-    (rings : Bool) → GivesInFlight rings old what outcome → Stalls outcome.reply → outcome.output ≡ []
-passing_silent {A} old what outcome true gives stalls = ap (λ (o : HostedOutcome A). o.output) gives
-passing_silent old what outcome false gives stalls = beside_silent old what outcome gives stalls
-
-waiting_silent : {A : Type 0} (old : HostedState) (what : EventKind A) (outcome : HostedOutcome A)
-    (waits : Bool) → WaitsOrGives waits old what outcome → Stalls outcome.reply → outcome.output ≡ []
-waiting_silent {A} old what outcome true gives stalls = ap (λ (o : HostedOutcome A). o.output) gives
-waiting_silent old what outcome false gives stalls =
-    passing_silent old what outcome (notifies_block what old.slot) gives stalls
-
-own_silent : {A : Type 0} (old : HostedState) (what : EventKind A) (outcome : HostedOutcome A)
-    (flight : Option InFlight) → OwnGives flight old what outcome → Stalls outcome.reply → outcome.output ≡ []
-own_silent old what outcome None gives stalls =
-    rest_silent old what outcome (notifies_block what old.slot) gives stalls
-own_silent old what outcome (Some here) gives stalls =
-    waiting_silent old what outcome (must_wait what) gives stalls
-
-completed_silent : {A : Type 0} (old : HostedState) (verdict : Verdict) (outcome : HostedOutcome A)
-    (flight : Option InFlight) → CompletionGives flight old verdict outcome → outcome.output ≡ []
-completed_silent {A} old verdict outcome None gives = ap (λ (o : HostedOutcome A). o.output) gives
-completed_silent {A} old verdict outcome (Some here) gives = ap (λ (o : HostedOutcome A). o.output) gives.1
-
-silent_by : {A : Type 0} (v : Option Verdict) (old : HostedState) (event : EventKind A)
-    (outcome : HostedOutcome A) → CompletesOrGives v old event outcome → Stalls outcome.reply
-    → outcome.output ≡ []
-silent_by None old event outcome next stalls = own_silent old event outcome old.flight next stalls
-silent_by (Some verdict) old event outcome next stalls = completed_silent old verdict outcome old.flight next
-
-next_silent : {A : Type 0} (old : HostedState) (event : EventKind A) (outcome : HostedOutcome A)
-    → IsHostedNext old event outcome → Stalls outcome.reply → outcome.output ≡ []
-next_silent old event outcome next stalls = silent_by (verdict_in event) old event outcome next stalls
-
-same_waiting : (old new : Waiting) → new.bytes ≡ old.bytes → new.limit ≡ old.limit → new ≡ old
-same_waiting old new bytes limit = rebuilt new.bytes old.bytes new.limit old.limit bytes limit
+silent_by : {A : Type 0} (old : HostedState) (what : EventKind A) (outcome : HostedOutcome A)
+    → Way old what outcome → Stalls outcome.reply → outcome.output ≡ []
+silent_by {A} old what outcome (Waits here flies waits h) stalls = ap (λ (o : HostedOutcome A). o.output) h
+silent_by old what outcome (Beside free quiet h) stalls =
+    beside_told old what outcome h (which outcome.reply stalls)
+silent_by {A} old what outcome (Looks none rings looks h) stalls = ap (λ (o : HostedOutcome A). o.output) h
+silent_by {A} old what outcome (Stands here flies free rings h) stalls =
+    ap (λ (o : HostedOutcome A). o.output) h
+silent_by {A} old what outcome (Rests verdict completes none h) stalls =
+    ap (λ (o : HostedOutcome A). o.output) h
+silent_by {A} old what outcome (Lands verdict completes here flies lands h) stalls =
+    ap (λ (o : HostedOutcome A). o.output) h
 
 output_stays : {A : Type 0} (old new : HostedSessionState) (h : ℕ) (event : EventKind A) (reply : Reply A)
     (state : HostedState) → slice_get old.slots h ≡ Some state → IsHostedCall old h event reply new
@@ -178,13 +145,13 @@ output_stays : {A : Type 0} (old new : HostedSessionState) (h : ℕ) (event : Ev
 output_stays {A} old new h event reply state here is stalls slot (inl same) =
     let came = came_to old new h event reply state here is in
     let silent : came.outcome.output ≡ [] =
-    next_silent state event came.outcome came.called.next
+    silent_by state event came.outcome (way state event came.outcome came.called.next)
     (subst (λ (r : Reply A). Stalls r) came.replied stalls) in
     let bytes : (waiting_at h new.outputs).bytes ≡ (waiting_at h old.outputs).bytes =
     came.behind ∙ (ap (λ (b : List ℕ). (waiting_at h old.outputs).bytes ++ b) silent
     ∙ append-nil (waiting_at h old.outputs).bytes) in
     subst (λ (k : ℕ). waiting_at k new.outputs ≡ waiting_at k old.outputs) (sym same.1)
-    (same_waiting (waiting_at h old.outputs) (waiting_at h new.outputs) bytes (is.limits h))
+    (same_outlet (waiting_at h new.outputs) (waiting_at h old.outputs) bytes (is.limits h))
 output_stays old new h event reply state here is stalls slot (inr differ) =
     ap (λ (o : Option Waiting). unwrap_or o (none_waiting 0)) (is.outputs slot differ.1)
 

@@ -1,5 +1,5 @@
 -- What a board tells whose disks the host serves, as a call of the session.
-use Rattle.std.proofs.Common.{◌≡◌, ℕ, ◌<◌, ◌≤◌, ◌↔◌, Bool, true, false, List, [], length, Option, Some, None, refl, sym, ◌∙◌, ap, subst, arith}
+use Rattle.std.proofs.Common.{◌≡◌, ℕ, ◌<◌, ◌≤◌, ◌↔◌, true, List, [], length, Option, Some, None, refl, sym, ◌∙◌, ap, subst, arith}
 use Rattle.std.specs.Prelude.{slice_set, MatchOption, unwrap_or, IfNone, IfSome, IsErrOf, IsSome, Result, Ok, Err}
 use Rattle.std.specs.List.{slice_get}
 use Rattle.std.proofs.lemmas.List.{length-set}
@@ -10,12 +10,12 @@ use Rattle.board.specs.declared.reply.Reply.{Reply}
 use Rattle.board.specs.declared.reply.Reply.TheVariants as reply
 use Rattle.board.specs.declared.reply.Reply.TheVariants.{Done, BadSlot, BadRange, Took, Busy}
 use Rattle.block_device.specs.declared.operation.Verdict.{Verdict}
-use Rattle.board.specs.Hosting.{CompletionGives, GivesAtRest, GivesInFlight, HostedOutcome, HostedState, InFlight, IsBesideDisk, IsOwn, OwnGives, WaitsOrGives, must_wait, notifies_block}
+use Rattle.board.specs.Hosting.{CompletionGives, HostedOutcome, HostedState, InFlight, IsBesideDisk, IsOwn, answers, must_wait, notifies_block}
 use Rattle.board.specs.HostedLine.{CallsNone, CallsSlot, HostedCall, KeepsOtherGuests, TakesCall, TakesQuietly, Told}
 use Rattle.board.specs.Machine.{at_rest}
 use Rattle.board.specs.Slot.{SlotState}
 use Rattle.board.proofs.HostedSeats.{calls_missing}
-use Rattle.board.proofs.Waiting.{own_next, untied}
+use Rattle.board.proofs.Waiting.{Beside, Lands, Looks, Rests, Stands, Waits, Way, untied, way}
 use Rattle.board.proofs.Lists.{others_kept}
 use Rattle.session.specs.declared.refusal.Refusal.{Refusal}
 use Rattle.session.specs.declared.refusal.Refusal.TheVariants as refusal
@@ -149,31 +149,22 @@ beside_suits old what outcome h =
     suits_too what outcome.reply (untied old.slot what at_rest at_rest _ h.given).free
     (given_suits old.slot what at_rest at_rest _ h.given)
 
-rest_suits : {A : Type 0} (old : HostedState) (what : EventKind A) (outcome : HostedOutcome A) (b : Bool)
-    → notifies_block what old.slot ≡ b → GivesAtRest b old what outcome → SuitsHosted what outcome.reply
-rest_suits {A} old what outcome true is gives =
-    told_suits what outcome.reply Done (ap (λ (o : HostedOutcome A). o.reply) gives.1)
-    (rings_write what old.slot is)
-rest_suits old what outcome false is gives = beside_suits old what outcome gives
+done_suits : {A : Type 0} (old : HostedState) (what : EventKind A) (state : HostedState)
+    (outcome : HostedOutcome A) → notifies_block what old.slot ≡ true → outcome ≡ answers state Done
+    → SuitsHosted what outcome.reply
+done_suits {A} old what state outcome rings h =
+    told_suits what outcome.reply Done (ap (λ (o : HostedOutcome A). o.reply) h)
+    (rings_write what old.slot rings)
 
-flying_suits : {A : Type 0} (old : HostedState) (what : EventKind A) (outcome : HostedOutcome A) (b : Bool)
-    → notifies_block what old.slot ≡ b → GivesInFlight b old what outcome → SuitsHosted what outcome.reply
-flying_suits {A} old what outcome true is gives =
-    told_suits what outcome.reply Done (ap (λ (o : HostedOutcome A). o.reply) gives)
-    (rings_write what old.slot is)
-flying_suits old what outcome false is gives = beside_suits old what outcome gives
-
-waiting_suits : {A : Type 0} (old : HostedState) (what : EventKind A) (outcome : HostedOutcome A) (b : Bool)
-    → must_wait what ≡ b → WaitsOrGives b old what outcome → SuitsHosted what outcome.reply
-waiting_suits {A} old what outcome true is gives =
-    told_suits what outcome.reply Busy (ap (λ (o : HostedOutcome A). o.reply) gives) (waits_write what is)
-waiting_suits old what outcome false is gives =
-    flying_suits old what outcome (notifies_block what old.slot) refl gives
-
-own_suits : {A : Type 0} (old : HostedState) (what : EventKind A) (outcome : HostedOutcome A)
-    (flight : Option InFlight) → OwnGives flight old what outcome → SuitsHosted what outcome.reply
-own_suits old what outcome None gives = rest_suits old what outcome (notifies_block what old.slot) refl gives
-own_suits old what outcome (Some here) gives = waiting_suits old what outcome (must_wait what) refl gives
+own_suits : {A : Type 0} (old : HostedState) (what : EventKind A) (outcome : HostedOutcome A) → IsOwn what
+    → Way old what outcome → SuitsHosted what outcome.reply
+own_suits {A} old what outcome own (Waits here flies waits h) =
+    told_suits what outcome.reply Busy (ap (λ (o : HostedOutcome A). o.reply) h) (waits_write what waits)
+own_suits old what outcome own (Beside free quiet h) = beside_suits old what outcome h
+own_suits old what outcome own (Looks none rings looks h) = done_suits old what outcome.state outcome rings h
+own_suits old what outcome own (Stands here flies free rings h) = done_suits old what _ outcome rings h
+own_suits old what outcome own (Rests verdict completes none h) = absurd (cc)
+own_suits old what outcome own (Lands verdict completes here flies lands h) = absurd (cc)
 
 completed_suits : {A : Type 0} (old : HostedState) (verdict : Verdict) (outcome : HostedOutcome A)
     (flight : Option InFlight) → CompletionGives flight old verdict outcome → SuitsCompletion outcome.reply
@@ -191,8 +182,7 @@ own_at {A} slots h what limit waiting told new None own calls =
     told_suits what told.reply BadSlot (ap (λ (t : Told A). t.reply) calls.told_is) tt
 own_at {A} slots h what limit waiting told new (Some state) own calls =
     told_suits what told.reply calls.outcome.reply (ap (λ (t : Told A). t.reply) calls.told_is)
-    (own_suits state what calls.outcome state.flight
-    (own_next state what calls.outcome own calls.next.next))
+    (own_suits state what calls.outcome own (way state what calls.outcome calls.next.next))
 
 pub suits_hosted : {A : Type 0} (slots : List HostedState) (h : ℕ) (what : EventKind A) (limit : Option ℕ)
     (reply : Reply A) (block console : ℕ) (waiting left : List ℕ) (new : List HostedState) → IsOwn what

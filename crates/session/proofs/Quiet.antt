@@ -19,12 +19,13 @@ use Rattle.session.specs.declared.response.Response.{Response}
 use Rattle.session.specs.declared.response.Response.TheVariants.{Answered, More, Busy, Idle}
 use Rattle.session.specs.Pacing.{Handle, PacedState, Responds, paced_world}
 use Rattle.session.specs.Answering.{SuitsCall}
+use Rattle.session.specs.Course.{paced_world_of}
 use Rattle.session.specs.Pausing.{IsCall, IsEventCall, IsWhole}
 use Rattle.session.specs.Session.{HasNoRead, SessionState, Waiting}
 use Rattle.session.proofs.Calls.{called_past}
-use Rattle.session.proofs.Waiting.{stays_there}
+use Rattle.session.proofs.Places.{set_same}
 use Rattle.session.proofs.Unchanged.{missing}
-use Rattle.session.proofs.Steps.{as_many, called, paced_of, shown, suits_call, whole}
+use Rattle.session.proofs.Steps.{as_many, called, shown, suits_call, whole}
 
 -- ---- an event that puts nothing out, whose call touches no output
 
@@ -119,8 +120,8 @@ module _ {A X : Type 0} (p p' : PacedState (MemoryImage X)) (outputs : List Wait
       same is = ap (λ (q : PacedState (MemoryImage X)). at_budget q p.budget) is
 
       told_at : (waiting : Waiting)
-          → Responds p.budget (paced_of before_it) (Handle its_event) response waiting.bytes waiting.bytes
-          (paced_of behind_it)
+          → Responds p.budget (paced_world_of before_it) (Handle its_event) response waiting.bytes waiting.bytes
+          (paced_world_of behind_it)
       told_at waiting = record {
         output = says.responds.output;
         block = says.responds.block;
@@ -142,7 +143,7 @@ module _ {A X : Type 0} (p p' : PacedState (MemoryImage X)) (outputs : List Wait
             suits = rw is tt;
           }
       handled_at (Some waiting) here =
-          let same_outputs = stays_there outputs slot waiting here in
+          let same_outputs = set_same outputs slot waiting waiting here refl in
           let told = told_at waiting in
           let suited = suits_call A p.board.slots p'.board.slots _ _ _ _ outputs p.paused
           p'.paused p.budget slot

@@ -1,5 +1,5 @@
 -- What the board answers, as a step of the session.
-use Rattle.std.proofs.Common.{◌≡◌, ℕ, zero, suc, ◌+◌, ◌<◌, ◌≤◌, Bool, ◌↔◌, List, [], ◌∷◌, ◌++◌, length, map, Option, Some, None, refl, sym, ◌∙◌, ap, append-nil, arith}
+use Rattle.std.proofs.Common.{◌≡◌, ℕ, zero, suc, ◌<◌, ◌≤◌, Bool, ◌↔◌, List, [], ◌∷◌, ◌++◌, length, map, Option, Some, None, refl, sym, ◌∙◌, ap, append-nil, arith}
 use Rattle.std.specs.Prelude.{slice_set, IsSomeAnd, unwrap_or}
 use Rattle.std.specs.List.{slice_get}
 use Rattle.std.proofs.lemmas.List.{length-map}
@@ -16,7 +16,7 @@ use Rattle.board.specs.declared.pause.Turn.TheVariants as turn
 use Rattle.board.specs.declared.reply.Reply.{Reply}
 use Rattle.board.specs.declared.reply.Reply.TheVariants.{BadSlot, BadRange, NoMemory}
 use Rattle.board.specs.declared.pause.Service.TheVariants.{Block, Receive, Transmit}
-use Rattle.board.specs.Extent.{outside_of, outside_from}
+use Rattle.board.specs.Extent.{outside_of}
 use Rattle.board.specs.Image.{Health, bytes_of}
 use Rattle.board.specs.Machine.{task_at, with_write}
 use Rattle.board.specs.Pausing.{Begins, GoesOn, HasLimit}
@@ -28,16 +28,18 @@ use Rattle.board.specs.Within.{BeginsWithin, GoesOnWithin, IsPuttingOut, MayPutO
 use Rattle.board.proofs.Answered.{ended_within, handled}
 use Rattle.board.proofs.Runs.{answered}
 use Rattle.board.proofs.Lists.{others_kept}
+use Rattle.board.proofs.Outside.{length-outside}
 use Rattle.session.specs.declared.response.Response.{Response}
 use Rattle.session.specs.declared.response.Response.TheVariants.{Answered, More, Busy, Idle}
 use Rattle.session.specs.Pacing.{GoOn, Handle, PacedWorld, Responds, paused_by, response_to}
 use Rattle.session.specs.Pacing as paced
 use Rattle.session.specs.Answering.{SuitsCall}
+use Rattle.session.specs.Course.{paced_world_of}
 use Rattle.session.specs.Pausing.{ComesTo, IsCall, IsTurn, IsWhole}
 use Rattle.session.specs.Session.{IsStep, HasNoRead, SessionState, Waiting, none_waiting, limit_of, output_of, world_of}
-use Rattle.session.proofs.Places.{is_there, stays}
+use Rattle.session.proofs.Places.{is_there, set_same}
 use Rattle.session.proofs.Suiting.{paused_suits, silent, suits}
-use Rattle.session.proofs.Waiting.{limits_set, same_outlet, set_there, stays_there}
+use Rattle.session.proofs.Waiting.{limits_set, same_outlet, set_there}
 
 -- ---- an event that the board answered
 
@@ -46,11 +48,6 @@ at_image : {A : Type 0} (o : Option BoardSlot) (image : List ℕ) (what : EventK
     → IsSomeAnd o (λ slot. MayLackMemory (state_of image slot) what)
 at_image None image what never = absurd never
 at_image (Some slot) image what lacks = lacks image
-
-length-outside : (extents : List Extent) (i : ℕ) (bytes : List ℕ)
-    → length (outside_from extents i bytes) ≡ length bytes
-length-outside extents i [] = refl
-length-outside extents i (byte ∷ bytes) = ap suc (length-outside extents (i + 1) bytes)
 
 -- where the bytes outside some extents are those outside others, both images are equally long
 same_size : (extents extents' : List Extent) (bytes bytes' : List ℕ)
@@ -135,10 +132,6 @@ within_at what reply s s' t t' limit limit' before before' after after' p q l b 
 
 -- ---- a turn of the board
 
--- all that can be seen of a session, but what waits
-abbrev pub paced_of : SessionState → PacedWorld
-paced_of s = record { world = world_of s; paused = s.paused }
-
 within_for : {A : Type 0} (Within : ℕ → SlotState → SlotState → List ℕ → List ℕ → Turn A → Type 0)
     (s s' t t' : SlotState) (limit limit' : ℕ)
     (before before' after after' : List ℕ) (turn : Turn A)
@@ -187,7 +180,7 @@ module _ (A : Type 0) (slots slots' : List BoardSlot) (image image' : List ℕ) 
       (Within : ℕ → SlotState → SlotState → List ℕ → List ℕ → Turn A → Type 0) (response : Response A)
       (output : List ℕ)
       (block console : ℕ)
-      → paced.IsTurn Comes (paced_of was) slot response output block console (paced_of now)
+      → paced.IsTurn Comes (paced_world_of was) slot response output block console (paced_world_of now)
       → after.bytes ≡ before.bytes ++ output → Decides Within response
       → IsTurn Comes Within was slot response now
   turned Comes Within response output block console t appended decided = record {
@@ -219,7 +212,7 @@ module _ (A : Type 0) (slots slots' : List BoardSlot) (image image' : List ℕ) 
       let quiet : after ≡ before =
       same_outlet after before (appended ∙ ap (λ (bytes : List ℕ). before.bytes ++ bytes) silent
       ∙ append-nil before.bytes) same_limit in
-      rw (quiet, stays_there outputs slot before here) same
+      rw (quiet, set_same outputs slot before before here refl) same
 
   -- ---- a service that goes on
 
@@ -229,7 +222,7 @@ module _ (A : Type 0) (slots slots' : List BoardSlot) (image image' : List ℕ) 
       → Decides (λ limit found later. GoesOnWithin limit pause budget found later) response)
       → (response ≡ Idle → session slots' image' dirty' outputs paused' budget ≡ was)
       → after.bytes ≡ before.bytes ++ output
-      → paced.ComesTo budget (GoOn slot) o (paced_of was) response output block console (paced_of now)
+      → paced.ComesTo budget (GoOn slot) o (paced_world_of was) response output block console (paced_world_of now)
       → ComesTo (GoOn slot) o was response now
   went_at response None output block console there decided idle appended comes = absurd (there refl)
   went_at response (Some None) output block console there decided idle appended comes =
@@ -241,7 +234,7 @@ module _ (A : Type 0) (slots slots' : List BoardSlot) (image image' : List ℕ) 
   pub went_on : (response : Response A) → ((pause : Pause) → slice_get paused slot ≡ Some (Some pause)
       → Decides (λ limit found later. GoesOnWithin limit pause budget found later) response)
       → (response ≡ Idle → session slots' image' dirty' outputs paused' budget ≡ was)
-      → Responds budget (paced_of was) (GoOn slot) response before.bytes after.bytes (paced_of now)
+      → Responds budget (paced_world_of was) (GoOn slot) response before.bytes after.bytes (paced_world_of now)
       → IsCall was (GoOn slot) response now
   went_on response decided idle r =
       went_at response (slice_get paused slot) r.output r.block r.console
@@ -259,7 +252,7 @@ module _ (A : Type 0) (slots slots' : List BoardSlot) (image image' : List ℕ) 
         → (response ≡ More → HasLimit budget)
         → (response ≡ Busy → session slots' image' dirty' outputs paused' budget ≡ was)
         → after.bytes ≡ before.bytes ++ output
-        → paced.ComesTo budget (Handle event) o (paced_of was) response output block console (paced_of now)
+        → paced.ComesTo budget (Handle event) o (paced_world_of was) response output block console (paced_world_of now)
         → ComesTo (Handle event) o was response now
     begun_at response None output block console there decided limited busy appended comes =
         absurd (there refl)
@@ -275,7 +268,7 @@ module _ (A : Type 0) (slots slots' : List BoardSlot) (image image' : List ℕ) 
         → Decides (λ limit found later. BeginsWithin limit what budget found later) response
         → (response ≡ More → HasLimit budget)
         → (response ≡ Busy → session slots' image' dirty' outputs paused' budget ≡ was)
-        → Responds budget (paced_of was) (Handle event) response before.bytes after.bytes (paced_of now)
+        → Responds budget (paced_world_of was) (Handle event) response before.bytes after.bytes (paced_world_of now)
         → IsCall was (Handle event) response now
     called response decided limited busy r =
         begun_at response (slice_get paused slot) r.output r.block r.console
@@ -284,8 +277,8 @@ module _ (A : Type 0) (slots slots' : List BoardSlot) (image image' : List ℕ) 
     -- the turn of an event that is answered
     answered_at : (reply : Reply A) (o : Option (Option Pause)) (output : List ℕ) (block console : ℕ)
         → (o ≡ None → ⊥) → slice_get paused slot ≡ o → after.bytes ≡ before.bytes ++ output
-        → paced.ComesTo budget (Handle event) o (paced_of was) (Answered reply) output block
-        console (paced_of now)
+        → paced.ComesTo budget (Handle event) o (paced_world_of was) (Answered reply) output block
+        console (paced_world_of now)
         → (Answers (world_of was) event reply before.bytes after.bytes (world_of now)) × (paused' ≡ paused)
     answered_at reply None output block console there is appended comes = absurd (there refl)
     answered_at reply (Some None) output block console there is appended comes =
@@ -294,13 +287,13 @@ module _ (A : Type 0) (slots slots' : List BoardSlot) (image image' : List ℕ) 
               before.bytes after.bytes
               (record { output = output; taken = rw (← same) comes.taken; appended = appended })),
           comes.paused ∙ ap (λ (t : Turn A). slice_set paused slot (paused_by t)) same
-              ∙ stays paused slot None is,
+              ∙ set_same paused slot None None is refl,
         )
     answered_at reply (Some (Some pause)) output block console there is appended comes = absurd (cc (comes.0))
 
     abbrev Told : Response A → Type 0
-    Told response = Responds budget (paced_of was) (Handle event) response before.bytes
-        after.bytes (paced_of now)
+    Told response = Responds budget (paced_world_of was) (Handle event) response before.bytes
+        after.bytes (paced_world_of now)
 
     told_answers : (reply : Reply A) → Told (Answered reply)
         → (Answers (world_of was) event reply before.bytes after.bytes (world_of now)) × (paused' ≡ paused)
@@ -344,13 +337,13 @@ module _ (A : Type 0) (slots slots' : List BoardSlot) (image image' : List ℕ) 
               absurd (omega (arith, as_many, past, here_too));
           bad_range_keeps = λ is. let quiet : after ≡ before =
               same_outlet after before (silent both.0 is) same_limit in
-              rw (quiet, stays_there outputs slot before here, both.1) (range is);
+              rw (quiet, set_same outputs slot before before here refl, both.1) (range is);
           no_memory = λ is. at_image (slice_get slots slot) image what (memory is);
         }
       where
         told_outside : (o : Option (Option Pause)) (output : List ℕ) (block console : ℕ) → (o ≡ None → ⊥)
-            → paced.ComesTo budget (Handle event) o (paced_of was) (Answered reply) output block
-            console (paced_of now)
+            → paced.ComesTo budget (Handle event) o (paced_world_of was) (Answered reply) output block
+            console (paced_world_of now)
             → (world_of now).outside ≡ (world_of was).outside
         told_outside None output block console there comes = absurd (there refl)
         told_outside (Some None) output block console there comes = comes.taken.outside
@@ -376,7 +369,7 @@ module _ (A : Type 0) (slots slots' : List BoardSlot) (image image' : List ℕ) 
     -- ---- and its response is one of those that it may get
 
     more_at : (o : Option (Option Pause)) (output : List ℕ) (block console : ℕ) → (o ≡ None → ⊥)
-        → paced.ComesTo budget (Handle event) o (paced_of was) More output block console (paced_of now)
+        → paced.ComesTo budget (Handle event) o (paced_world_of was) More output block console (paced_world_of now)
         → SuitsCall {A = A} what More
     more_at None output block console there comes = absurd (there refl)
     more_at (Some None) output block console there comes =

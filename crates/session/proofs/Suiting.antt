@@ -20,8 +20,8 @@ use Rattle.board.specs.Pausing.{Begins}
 use Rattle.board.specs.Slot.{SlotState}
 use Rattle.board.specs.declared.task.Task.{Task}
 use Rattle.board.specs.declared.task.Task.TheVariants.{Nothing, Serve, PutOut}
-use Rattle.board.specs.Task.{Finishes}
 use Rattle.board.specs.World.{World, Answers, IsCutShort, MayGive, MissingStep, SlotStep}
+use Rattle.board.proofs.Waiting.{finished_done}
 use Rattle.session.specs.declared.response.Response.TheVariants.{More}
 use Rattle.session.specs.Pacing.{response_to}
 use Rattle.session.specs.Answering.{Suits, SuitsCall}
@@ -35,20 +35,6 @@ is_done window offset width value outcome is = rw is tt
 is_without_memory : {A : Type 0} (window : DeviceKind) (offset width value : ℕ) (outcome : Outcome A)
     → outcome.reply ≡ NoMemory → Suits (Write window offset width value) outcome.reply
 is_without_memory window offset width value outcome is = rw is tt
-
-finished_suits : {A : Type 0} (window : DeviceKind) (offset width value : ℕ) (task : Task) (state : SlotState)
-    (before after : Health) (outcome : Outcome A) → Finishes task state before after outcome
-    → Suits (Write window offset width value) outcome.reply
-finished_suits {A} window offset width value Nothing state before after outcome f =
-    is_done window offset width value outcome (ap (λ (o : Outcome A). o.reply) f.alike)
-finished_suits {A} window offset width value (Serve Block) state before after outcome f =
-    is_done window offset width value outcome (ap (λ (o : Outcome A). o.reply) f.is)
-finished_suits {A} window offset width value (Serve Receive) state before after outcome f =
-    is_done window offset width value outcome (ap (λ (o : Outcome A). o.reply) f.is)
-finished_suits {A} window offset width value (Serve Transmit) state before after outcome f =
-    is_done window offset width value outcome (ap (λ (o : Outcome A). o.reply) f.is)
-finished_suits {A} window offset width value (PutOut byte) state before after outcome f =
-    is_done window offset width value outcome (ap (λ (o : Outcome A). o.reply) f.alike)
 
 cut_suits : {A : Type 0} (window : DeviceKind) (offset width value : ℕ) (task : Task) (state : SlotState)
     (before after : Health) (outcome : Outcome A) → IsCutShort task state before after outcome
@@ -85,7 +71,7 @@ pub given_suits : {A : Type 0} (state : SlotState) (what : EventKind A) (old new
     (outcome : Outcome A) → MayGive state what old new outcome → Suits what outcome.reply
 given_suits state (Read window offset width) old new outcome (inl served) = rw served.alike.alike tt
 given_suits state (Write window offset width value) old new outcome (inl served) =
-    finished_suits window offset width value _ _ old new outcome served.alike
+    is_done window offset width value outcome (finished_done _ _ old new outcome served.alike)
 given_suits {A} state (MemRead addr len) old new outcome (inl served) =
     rw served.alike.alike (read_suits A state addr len _ _)
 given_suits {A} state (MemWrite addr bytes) old new outcome (inl served) =

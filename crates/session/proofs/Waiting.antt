@@ -2,8 +2,8 @@
 use Rattle.std.proofs.Common.{◌≡◌, ◌≢◌, ℕ, zero, suc, ◌<◌, List, [], ◌∷◌, length, Option, Some, refl, sym, ap, arith}
 use Rattle.std.specs.Prelude.{slice_set, unwrap_or}
 use Rattle.std.specs.List.{slice_get}
-use Rattle.std.proofs.lemmas.List.{set-get_or, length-set, get_or-set_same}
-use Rattle.std.proofs.lemmas.Option.{get_or_from_slice_get, unwrap_or-slice_get, same_Some}
+use Rattle.std.proofs.lemmas.List.{length-set, get_or-set_same}
+use Rattle.std.proofs.lemmas.Option.{unwrap_or-slice_get, same_Some}
 use Rattle.session.specs.Session.{KeepsOtherOutputs, Waiting, none_waiting, waiting_at}
 
 -- what waits of the others is the same
@@ -19,11 +19,6 @@ set_there outputs h new fits =
     rw (unwrap_or-slice_get (slice_set outputs h new) h (none_waiting 0))
     (get_or-set_same outputs h new (none_waiting 0) fits)
 
-pub stays_there : (outputs : List Waiting) (h : ℕ) (old : Waiting) → slice_get outputs h ≡ Some old
-    → slice_set outputs h old ≡ outputs
-stays_there outputs h old here =
-    rw (← get_or_from_slice_get outputs h old old here) (set-get_or outputs h old)
-
 pub limits_set : (outputs : List Waiting) (h : ℕ) (before after : Waiting) → slice_get outputs h ≡ Some before
     → after.limit ≡ before.limit → (slot : ℕ) →
     (unwrap_or (slice_get (slice_set outputs h after) slot) (none_waiting 0)).limit
@@ -36,7 +31,7 @@ limits_set (o ∷ outputs) (suc h) before after here same zero = refl
 limits_set (o ∷ outputs) (suc h) before after here same (suc slot) =
     limits_set outputs h before after here same slot
 
-pub rebuilt : (l k : List ℕ) (m n : ℕ) → l ≡ k → m ≡ n
+rebuilt : (l k : List ℕ) (m n : ℕ) → l ≡ k → m ≡ n
     → ◌≡◌ {A = Waiting} (record { bytes = l; limit = m }) (record { bytes = k; limit = n })
 rebuilt l k m n p q = rw (p, q) refl
 

@@ -1,0 +1,91 @@
+-- An event that was refused was so in one of four ways.
+use Rattle.std.proofs.Common.{◌≡◌, ◌⊎◌, inl, inr, ℕ, zero, suc, ◌%◌, ◌==◌, Bool, true, false, refl}
+use Rattle.std.specs.Prelude.{if◌then◌else◌, ◌^◌}
+use Rattle.mmio_window.specs.declared.action.Action.{Action}
+use Rattle.mmio_window.specs.declared.action.Action.TheVariants as action
+use Rattle.mmio_window.specs.declared.device_kind.DeviceKind.TheVariants.{Block, Console}
+use Rattle.mmio_window.specs.Window.{WindowState}
+use Rattle.board.specs.declared.event.EventKind.{EventKind}
+use Rattle.board.specs.declared.event.EventKind.TheVariants.{Read, Write, MemRead, MemWrite, Input, Resize, Restore, Complete}
+use Rattle.board.specs.declared.reply.Reply.TheVariants.{NoMemory}
+use Rattle.board.specs.Image.{Health}
+use Rattle.board.specs.Machine.{action_at, with_write}
+use Rattle.board.specs.Outcome.{Outcome, IsDetermined, replies}
+use Rattle.board.specs.Slot.{SlotState}
+use Rattle.board.specs.Task.{Nothing, PutOut, emergency_write, task_of}
+use Rattle.board.specs.Within.{IsPuttingOut, MayPutOut}
+use Rattle.board.specs.World.{IsCutShort, IsFailedService, IsRefused, IsRefusedTransmit}
+
+-- Calls of the image failed; or there was no memory for the bytes of a chain, for one byte, or for a read.
+pub data WasRefused {A : Type 0} (state : SlotState) (what : EventKind A) (old new : Health)
+    (outcome : Outcome A) : Type 0 where
+  Failed :
+      (block : WindowState) → IsFailedService (record state { block = block }) old new outcome
+      → WasRefused state what old new outcome
+  Unsent :
+      (console : WindowState) → MayPutOut state what
+      → IsRefusedTransmit (record state { console = console }) old new outcome
+      → WasRefused state what old new outcome
+  Unput :
+      (console : WindowState) → MayPutOut state what
+      → IsDetermined outcome (replies (record state { console = console }) NoMemory) old new
+      → WasRefused state what old new outcome
+  Unread :
+      (addr len : ℕ) → what ≡ MemRead addr len → IsDetermined outcome (replies state NoMemory) old new
+      → WasRefused state what old new outcome
+
+block_refused : {A : Type 0} (act : Action) (state : SlotState) (old new : Health) (outcome : Outcome A)
+    → IsCutShort (task_of Block act) state old new outcome → IsFailedService state old new outcome
+block_refused (action.Notify zero) state old new outcome h = h
+block_refused (action.Notify (suc q)) state old new outcome h = absurd h
+block_refused action.Reset state old new outcome h = absurd h
+block_refused (action.ConfigWrite offset width value) state old new outcome h = absurd h
+block_refused action.None state old new outcome h = absurd h
+
+-- what the console had no memory for
+abbrev IsUnput : {A : Type 0} → SlotState → Health → Health → Outcome A → Type 0
+IsUnput state old new outcome = IsRefusedTransmit state old new outcome
+    ⊎ IsDetermined outcome (replies state NoMemory) old new
+
+byte_refused : {A : Type 0} (is : Bool) (byte : ℕ) (state : SlotState) (old new : Health) (outcome : Outcome A)
+    → IsCutShort (if is then PutOut byte else Nothing) state old new outcome
+    → IsUnput state old new outcome × IsPuttingOut (if is then PutOut byte else Nothing)
+byte_refused true byte state old new outcome h = (inr h, tt)
+byte_refused false byte state old new outcome h = absurd h
+
+console_refused : {A : Type 0} (act : Action) (state : SlotState) (old new : Health) (outcome : Outcome A)
+    → IsCutShort (task_of Console act) state old new outcome
+    → IsUnput state old new outcome × IsPuttingOut (task_of Console act)
+console_refused (action.Notify zero) state old new outcome h = absurd h
+console_refused (action.Notify (suc zero)) state old new outcome h = (inl h, tt)
+console_refused (action.Notify (suc (suc q))) state old new outcome h = absurd h
+console_refused action.Reset state old new outcome h = absurd h
+console_refused (action.ConfigWrite offset width value) state old new outcome h =
+    byte_refused (offset == emergency_write) (value % 2 ^ 8) state old new outcome h
+console_refused action.None state old new outcome h = absurd h
+
+unput : {A : Type 0} (state : SlotState) (what : EventKind A) (console : WindowState) (old new : Health)
+    (outcome : Outcome A) → IsUnput (record state { console = console }) old new outcome → MayPutOut state what
+    → WasRefused state what old new outcome
+unput state what console old new outcome (inl unsent) puts = Unsent console puts unsent
+unput state what console old new outcome (inr silent) puts = Unput console puts silent
+
+pub was_refused : {A : Type 0} (state : SlotState) (what : EventKind A) (old new : Health)
+    (outcome : Outcome A) → IsRefused state what old new outcome → WasRefused state what old new outcome
+was_refused state (Read window offset width) old new outcome h = absurd h
+was_refused state (Write Block offset width value) old new outcome h =
+    Failed (with_write Block offset width value state).block
+    (block_refused (action_at Block offset width value state) (with_write Block offset width value state) old new
+    outcome h)
+was_refused state (Write Console offset width value) old new outcome h =
+    let came = console_refused (action_at Console offset width value state)
+    (with_write Console offset width value state) old new outcome h in
+    unput state (Write Console offset width value) (with_write Console offset width value state).console old new
+    outcome came.0 came.1
+was_refused state (MemRead addr len) old new outcome h =
+    Unread addr len refl (record { alike = h.unchanged; image = h.image })
+was_refused state (MemWrite addr bytes) old new outcome h = absurd h
+was_refused state (Input bytes) old new outcome h = absurd h
+was_refused state (Resize cols rows) old new outcome h = absurd h
+was_refused state (Restore bytes) old new outcome h = absurd h
+was_refused state (Complete verdict) old new outcome h = absurd h
