@@ -7,7 +7,6 @@ use Rattle.sector_cache.specs.Disk.{Disk, IsWhole}
 use Rattle.sector_cache.specs.Sector.{extent_of}
 use Rattle.mmio_window.specs.declared.device_kind.DeviceKind.{DeviceKind}
 use Rattle.mmio_window.specs.Window.{WindowState}
-use Rattle.mmio_window.specs.Writing.{written}
 use Rattle.block_device.specs.declared.device.BlockDevice.{BlockDevice}
 use Rattle.block_device.specs.declared.extent.Extent.{Extent}
 use Rattle.block_device.specs.declared.operation.Verdict.{Verdict}
@@ -62,10 +61,6 @@ counted_device slot count = record (device_at slot) { extent = record { start = 
 -- the slot after its block device served it
 abbrev pub block_served : BoardSlot → Memory → WindowState → BoardSlot
 block_served slot memory block = record slot { memory = memory; block = block }
-
--- the slot with its block window written
-abbrev mid : ℕ → ℕ → ℕ → BoardSlot → WindowState
-mid offset width value slot = written offset width value slot.memory slot.block
 
 -- ---- events
 

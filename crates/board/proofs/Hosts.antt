@@ -4,7 +4,7 @@ use Rattle.std.specs.Prelude.{◌&&◌, IsSome, is_some}
 use Rattle.board.specs.declared.event.EventKind.{EventKind}
 use Rattle.board.specs.declared.pause.Turn.TheVariants as turn
 use Rattle.board.specs.declared.reply.Reply.{Reply}
-use Rattle.board.specs.declared.reply.Reply.TheVariants.{Busy, Done}
+use Rattle.board.specs.declared.reply.Reply.TheVariants.{Done}
 use Rattle.block_device.specs.declared.device.BlockDevice.{BlockDevice}
 use Rattle.block_device.specs.declared.extent.Extent.{Extent}
 use Rattle.board.specs.Image.{Health, sectors_of}
@@ -17,23 +17,6 @@ use Rattle.board.proofs.Answered.{ended_within}
 use Rattle.board.proofs.Flights.{own_count}
 use Rattle.board.proofs.Waiting.{next_own}
 use Rattle.board.proofs.Whole.{whole}
-
--- the event waits
-waits_at : {A : Type 0} (old : HostedState) (what : EventKind A) (flight : Option InFlight)
-    → (is_some flight && must_wait what) ≡ true → OwnGives flight old what (answers old Busy)
-waits_at old what None waits = absurd (cc)
-waits_at old what (Some here) waits =
-    subst (λ (b : Bool). WaitsOrGives b old what (answers old Busy)) (sym waits) refl
-
-pub busy : {A : Type 0} (old : HostedState) (what : EventKind A) (out : List ℕ) → IsOwn what
-    → (is_some old.flight && must_wait what) ≡ true → TakesHosted old what old Busy out out
-busy old what out own waits =
-    record {
-      output = [];
-      next = next_own old what (answers old Busy) own
-          (waits_at old what old.flight waits);
-      appended = sym (append-nil out);
-    }
 
 -- the disk has no part in it
 pub beside_at : {A : Type 0} (old : HostedState) (what : EventKind A) (outcome : HostedOutcome A)

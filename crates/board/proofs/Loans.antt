@@ -1,7 +1,7 @@
 -- Memories over bytes that a host lends: what is known after some regions, and some slots, took theirs.
-use Rattle.std.proofs.Common.{◌≡◌, Result, Ok, Err, ℕ, ◌+◌, ◌<◌, ◌≤◌, List, [], ◌∷◌, ◌++◌, length, map, drop, get_or, refl, sym, ◌∙◌, ap, subst, arith, append_assoc, append-nil, length-drop}
+use Rattle.std.proofs.Common.{◌≡◌, Result, Ok, Err, ℕ, ◌+◌, ◌<◌, ◌≤◌, List, [], ◌∷◌, ◌++◌, length, map, drop, get_or, refl, sym, ◌∙◌, ap, subst, arith, append_assoc, length-drop}
 use Rattle.std.specs.Prelude.{IfOk, IsOkAnd}
-use Rattle.std.proofs.lemmas.List.{drop_all, drop_more, drop-drop}
+use Rattle.std.proofs.lemmas.List.{drop_more, drop-drop}
 use Rattle.guest_memory.specs.declared.spec.RegionSpec.{RegionSpec}
 use Rattle.guest_memory.specs.Memory.{Memory}
 use Rattle.guest_memory.specs.Regions.{Region, memory_of}
@@ -23,11 +23,6 @@ pub record Took (regions : List RegionSpec) (all : List (List ℕ)) (count : ℕ
   pub left : rest ≡ drop count all
   pub begin : BeginWith (drop count regions) rest
   pub few : count ≤ length regions
-
--- none did yet
-pub took_none : (regions : List RegionSpec) (all : List (List ℕ)) → BeginWith regions all
-    → Took regions all 0 [] all
-took_none regions all begin = record { are = refl; left = refl; begin = begin; few = omega arith }
 
 -- there is a run for the next region, of its length, and then one more has its bytes
 pub took_next : (regions : List RegionSpec) (all : List (List ℕ)) (count : ℕ) (d : RegionSpec)
@@ -78,18 +73,6 @@ took_some regions all count made rest below took =
     some (region ∷ regions) [] below begin = absurd begin
     some (region ∷ regions) (run ∷ rest) below begin = omega arith
 
--- all took them
-pub took_all : (regions : List RegionSpec) (all : List (List ℕ)) (count : ℕ) (made : List Region)
-    (rest : List (List ℕ)) → length regions ≤ count
-    → Took regions all count made rest → (made ≡ with_bytes regions all) × (rest ≡ drop (length regions) all)
-took_all regions all count made rest over took =
-    let none : drop count regions ≡ [] = drop_all count regions over in
-    let whole : count ≡ length regions = omega (arith, over, took.few) in (
-      sym (append-nil made) ∙ sym (ap (λ (rs : List RegionSpec). made ++ with_bytes rs rest) none)
-          ∙ sym took.are,
-      took.left ∙ ap (λ (n : ℕ). drop n all) whole,
-    )
-
 -- ---- the slots
 
 -- the first of the bytes of some slots are the first slot's, and the others those of the others
@@ -109,13 +92,6 @@ pub record Opened {X : Type 0} (made : SlotSpec → Memory → X) (slots : List 
     (count : ℕ) (opened : List X) (rest : List (List ℕ)) : Type 0 where
   pub are : made_over made slots all ≡ opened ++ made_over made (drop count slots) rest
   pub bytes : AreBytesOf (drop count slots) rest
-
--- none did yet
-pub opened_none : {X : Type 0} (made : SlotSpec → Memory → X) (slots : List SlotSpec)
-    (all rest : List (List ℕ)) → rest ≡ all → AreBytesOf slots all
-    → Opened made slots all 0 [] rest
-opened_none made slots all rest same bytes =
-    record { are = ap (made_over made slots) (sym same); bytes = subst (AreBytesOf slots) (sym same) bytes }
 
 -- the next takes its own
 pub opened_next : {X : Type 0} (made : SlotSpec → Memory → X) (slots : List SlotSpec) (all : List (List ℕ))
@@ -150,16 +126,6 @@ opened_next {X} made slots all count opened spec rest below is before =
         bytes = subst (AreBytesOf (drop (count + 1) slots)) (sym left_is) first.1;
       },
     )
-
--- all took them
-pub opened_all : {X : Type 0} (made : SlotSpec → Memory → X) (slots : List SlotSpec) (all : List (List ℕ))
-    (count : ℕ) (opened : List X)
-    (rest : List (List ℕ)) → length slots ≤ count → Opened made slots all count opened rest
-    → opened ≡ made_over made slots all
-opened_all made slots all count opened rest over took =
-    let none : drop count slots ≡ [] = drop_all count slots over in
-    sym (append-nil opened) ∙ sym (ap (λ (ss : List SlotSpec). opened ++ made_over made ss rest) none)
-    ∙ sym took.are
 
 -- a board that was made is one of the slots that were opened
 pub made_of : {S X B E F : Type 0} (items : S → X) (board : X → B) (made : Result B E) (opened : Result S F)

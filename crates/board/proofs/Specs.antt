@@ -11,12 +11,9 @@ use Rattle.board.specs.declared.spec.SlotSpec.{SlotSpec}
 use Rattle.block_device.specs.declared.extent.Extent.{Extent}
 use Rattle.block_device.specs.Extent.{IsWithin}
 use Rattle.board.specs.Extent.{IsApart, AreSound}
-use Rattle.board.specs.Fault.{IsGoodSlot, GoodBelow, AreGood, Refuses, cache_refusal}
+use Rattle.board.specs.Fault.{IsGoodSlot, GoodBelow, AreGood}
 use Rattle.board.specs.Slot.{opened}
 use Rattle.board.specs.World.{extents_of}
-use Rattle.sector_cache.specs.Fault.{RefusesCapacity}
-use Rattle.sector_cache.specs.declared.fault.CacheFault.{CacheFault}
-use Rattle.sector_cache.specs.declared.fault.CacheFault.TheVariants.{BadCapacity, NoMemory}
 
 -- the slots before a place all lie in the image
 pub within_below : (sectors : ℕ) (slots : List SlotSpec) (n : ℕ) → n ≤ length slots
@@ -55,13 +52,6 @@ pub memories : (sectors : ℕ) (slots : List SlotSpec) → AreGood sectors slots
     → All (λ spec. AreGoodRegions spec.regions) slots
 memories sectors slots good k d below =
     (good.each k (get_or slots k d) below (slice_get-get_or slots k d below)).memory
-
--- a cache that is refused refuses the board
-pub refused_cache : (sectors : ℕ) (slots : List SlotSpec) (cache : ℕ) (why : CacheFault)
-    → AreGood sectors slots → RefusesCapacity cache why → Refuses sectors slots cache (cache_refusal why)
-refused_cache sectors slots cache BadCapacity good (inl none) = (good, (λ fits. omega arith, refl))
-refused_cache sectors slots cache BadCapacity good (inr many) = (good, (λ fits. omega arith, refl))
-refused_cache sectors slots cache NoMemory good refuses = (good, refuses)
 
 pub extents_of-opened : (slots : List SlotSpec)
     → extents_of (map opened slots) ≡ map (λ (spec : SlotSpec). spec.extent) slots

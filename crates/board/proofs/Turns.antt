@@ -32,7 +32,6 @@ use Rattle.mmio_window.specs.declared.device_kind.DeviceKind.{DeviceKind}
 use Rattle.board.specs.declared.event.EventKind.{EventKind}
 use Rattle.board.specs.declared.event.EventKind.TheVariants.{Write}
 use Rattle.board.specs.declared.pause.Pause.{Pause}
-use Rattle.board.specs.declared.pause.Service.{Service}
 use Rattle.board.specs.declared.pause.Service.TheVariants.{Block, Transmit}
 use Rattle.board.specs.declared.pause.Turn.{Turn}
 use Rattle.board.specs.declared.pause.Turn.TheVariants.{Answered}
@@ -44,7 +43,7 @@ use Rattle.board.specs.Slot.{SlotState, BoardSlot, state_of}
 use Rattle.board.specs.Machine.{task_at, with_write}
 use Rattle.board.specs.Outcome.{Outcome as Came, replies, does}
 use Rattle.board.specs.Task.{Task, Nothing, PutOut, Finishes, device_of, puts_out}
-use Rattle.board.specs.Within.{BeginsWithin, IsSentPiece, PieceBy, PieceWithin, PutsOutWithin, PutsWithin, SendsWithin, TurnWithin}
+use Rattle.board.specs.Within.{BeginsWithin, PieceWithin, PutsOutWithin, PutsWithin, TurnWithin}
 use Rattle.board.specs.World.{HasBytesToPutOut, IsCutShort, MayGive, Serves}
 use Rattle.board.proofs.Alike.{PieceAs, RefusedAs, piece_as, refused_as}
 use Rattle.board.specs.Hosting.{device_at}
@@ -457,35 +456,3 @@ put_out_within {A} limit o state window offset width value byte budget waiting l
     waiting left (Answered reply)) (sym (ap asked_by is))
     (subst (λ (t : Task). PutsOutWithin limit t mid mid waiting left reply) (sym is)
     (put_within limit o byte mid waiting left r reply limited put fits kept past done none))
-
-sent_at : (A : Type 0) (limit : ℕ) (pause : Pause) (stage : Stage) (budget : Budget) (progress : Progress)
-    (old new : SlotState) (waiting left : List ℕ)
-    → IsSentPiece limit stage budget progress old new waiting left
-    → SendsWithin {A = A} limit pause stage budget old new waiting left (turn_of pause progress)
-sent_at A limit pause stage budget progress.Done old new waiting left h = inl (refl, h)
-sent_at A limit pause stage budget progress.More old new waiting left h = h
-
-pub sent_within : (A : Type 0) (limit : ℕ) (o : Option ℕ) (pause : Pause) (stage : Stage) (budget : Budget)
-    (progress : Progress) (state : SlotState) (memory : Memory) (console : WindowState)
-    (waiting left : List ℕ) → o ≡ Some limit → pause.service ≡ Transmit
-    → ServesTo stage (transmit_fitting o) budget 1 (queue_at 1 state.console) progress state.memory memory
-    state.console console waiting left
-    → PieceWithin {A = A} limit pause stage budget state (sent state memory console) waiting left
-    (turn_of pause progress)
-sent_within A limit o pause stage budget progress state memory console waiting left limited is h =
-    subst (λ (service : Service). PieceBy {A = A} service limit pause stage budget state
-    (sent state memory console) waiting left (turn_of pause progress)) (sym is)
-    (sent_at A limit pause stage budget progress state (sent state memory console) waiting left
-    (record { served = rw limited at h; is = refl }))
-
-pub unsent_within : (A : Type 0) (limit : ℕ) (o : Option ℕ) (pause : Pause) (stage : Stage) (budget : Budget)
-    (state : SlotState) (memory : Memory) (console : WindowState) (waiting left : List ℕ) → o ≡ Some limit
-    → pause.service ≡ Transmit
-    → IsRefusedAt stage (transmit_within o) budget 1 (queue_at 1 state.console) state.memory memory
-    state.console console waiting left
-    → PieceWithin {A = A} limit pause stage budget state (sent state memory console) waiting left
-    (Answered NoMemory)
-unsent_within A limit o pause stage budget state memory console waiting left limited is h =
-    subst (λ (service : Service). PieceBy {A = A} service limit pause stage budget state
-    (sent state memory console) waiting left (Answered NoMemory)) (sym is)
-    (inr (refl, record { refused = rw limited at h; is = refl }))
