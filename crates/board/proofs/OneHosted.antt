@@ -25,7 +25,7 @@ use Rattle.board.specs.World.{MayGive}
 use Rattle.board.proofs.Alone.{served}
 use Rattle.board.proofs.OneRun.{next_once}
 use Rattle.board.proofs.OneSeat.{seat_once}
-use Rattle.board.proofs.Refusals.{Failed, Unput, Unread, Unsent, WasRefused, was_refused}
+use Rattle.board.proofs.Refusals.{lacking_puts, was_refused}
 use Rattle.board.proofs.Steps.{answered_once}
 use Rattle.board.proofs.Waiting.{same_hosted}
 
@@ -146,23 +146,14 @@ beside_exact {A} old what one other p q x y =
     (ap (λ (o : Outcome A). o.state) same) (x.flight ∙ sym y.flight))
     (ap (λ (o : Outcome A). o.reply) same) (ap (λ (o : Outcome A). o.output) same)
 
--- only what puts something out is refused
-refused_puts : {A : Type 0} (state : SlotState) (what : EventKind A) (outcome : Outcome A) (limit : ℕ)
-    → FindsMemory (Some limit) what outcome.reply → WasRefused state what at_rest at_rest outcome
-    → outcome.reply ≡ NoMemory → MayPutOut state what
-refused_puts {A} state what outcome limit found (Failed block h) is = let done =
-    ap (λ (o : Outcome A). o.reply) h.service.is in absurd (cc)
-refused_puts state what outcome limit found (Unsent console puts h) is = puts
-refused_puts state what outcome limit found (Unput console puts h) is = puts
-refused_puts {A} state what outcome limit found (Unread addr len read h) is =
-    absurd (subst (λ (w : EventKind A). FindsMemory (Some limit) w outcome.reply) read found is)
-
 given_puts : {A : Type 0} (state : SlotState) (what : EventKind A) (outcome : Outcome A) (limit : ℕ)
     → FindsMemory (Some limit) what outcome.reply → MayGive state what at_rest at_rest outcome
     → outcome.reply ≡ NoMemory → MayPutOut state what
 given_puts state what outcome limit found (inl served) is = absurd (served.answered is)
-given_puts state what outcome limit found (inr refused) is =
-    refused_puts state what outcome limit found (was_refused state what at_rest at_rest outcome refused) is
+given_puts {A} state what outcome limit found (inr refused) is =
+    lacking_puts state what at_rest at_rest outcome
+    (λ addr len read. subst (λ (w : EventKind A). FindsMemory (Some limit) w outcome.reply) read found is)
+    (was_refused state what at_rest at_rest outcome refused) is
 
 -- a call of it with its outlet
 abbrev seat_of : HostedState → List ℕ → Seat

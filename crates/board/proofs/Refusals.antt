@@ -1,5 +1,5 @@
 -- An event that was refused was so in one of four ways.
-use Rattle.std.proofs.Common.{◌≡◌, ◌⊎◌, inl, inr, ℕ, zero, suc, ◌%◌, ◌==◌, Bool, true, false, refl}
+use Rattle.std.proofs.Common.{◌≡◌, ◌⊎◌, inl, inr, ℕ, zero, suc, ◌%◌, ◌==◌, Bool, true, false, refl, ap}
 use Rattle.std.specs.Prelude.{if◌then◌else◌, ◌^◌}
 use Rattle.mmio_window.specs.declared.action.Action.{Action}
 use Rattle.mmio_window.specs.declared.action.Action.TheVariants as action
@@ -89,3 +89,13 @@ was_refused state (Input bytes) old new outcome h = absurd h
 was_refused state (Resize cols rows) old new outcome h = absurd h
 was_refused state (Restore bytes) old new outcome h = absurd h
 was_refused state (Complete verdict) old new outcome h = absurd h
+
+-- only what puts something out finds no memory, and a read
+pub lacking_puts : {A : Type 0} (state : SlotState) (what : EventKind A) (old new : Health) (outcome : Outcome A)
+    → ((addr len : ℕ) → what ≡ MemRead addr len → ⊥) → WasRefused state what old new outcome
+    → outcome.reply ≡ NoMemory → MayPutOut state what
+lacking_puts {A} state what old new outcome other (Failed block h) is = let done =
+    ap (λ (o : Outcome A). o.reply) h.service.is in absurd (cc)
+lacking_puts state what old new outcome other (Unsent console puts h) is = puts
+lacking_puts state what old new outcome other (Unput console puts h) is = puts
+lacking_puts state what old new outcome other (Unread addr len read h) is = absurd (other addr len read)

@@ -1,24 +1,20 @@
 -- What waits for what is in flight, and what doesn't end it.
-use Rattle.std.proofs.Common.{◌≡◌, inl, inr, ℕ, Bool, true, false, Option, Some, None, List, [], length, refl, sym, ◌∙◌, ap, subst}
-use Rattle.std.specs.Prelude.{⊤, ◌&&◌, if◌then◌else◌, is_some}
-use Rattle.guest_memory.specs.Memory.{Memory, is_inside, part_of, put}
+use Rattle.std.proofs.Common.{◌≡◌, Bool, true, false, Option, Some, None, [], refl, sym, ◌∙◌, ap, subst}
+use Rattle.std.specs.Prelude.{◌&&◌, is_some}
 use Rattle.block_device.specs.declared.operation.Verdict.{Verdict}
 use Rattle.board.specs.declared.event.EventKind.{EventKind}
-use Rattle.board.specs.declared.event.EventKind.TheVariants.{Read, Write, MemRead, MemWrite, Input, Resize, Restore, Complete}
 use Rattle.board.specs.declared.reply.Reply.{Reply}
-use Rattle.board.specs.declared.reply.Reply.TheVariants.{BadRange, BadState, Bytes, Busy, Done, Idle, NoMemory, Took, Value}
-use Rattle.board.specs.declared.pause.Service.TheVariants.{Block, Receive, Transmit}
+use Rattle.board.specs.declared.reply.Reply.TheVariants.{Busy, Done, Idle}
 use Rattle.board.specs.Hosting.{CompletesOrGives, CompletionGives, GivesAtRest, GivesInFlight, HostedOutcome, HostedState, InFlight, IsBesideDisk, IsHostedNext, IsOwn, LooksAtQueue, OwnGives, WaitsOrGives, answers, must_wait, notifies_block, verdict_in}
 use Rattle.board.specs.Hosting as hosting
 use Rattle.board.specs.Pausing.{readied}
 use Rattle.board.specs.Image.{Health}
 use Rattle.board.specs.Machine.{at_rest}
-use Rattle.board.specs.Outcome.{Outcome, does, replies}
-use Rattle.board.specs.Restoring.{IsRestoring}
+use Rattle.board.specs.Outcome.{Outcome, replies}
+use Rattle.board.specs.Replies.{MayReply}
 use Rattle.board.specs.Slot.{SlotState}
-use Rattle.board.specs.Task.{Task, Nothing, Serve, PutOut, Finishes}
 use Rattle.board.specs.World.{MayGive}
-use Rattle.board.proofs.Refusals.{Failed, Unput, Unread, Unsent, WasRefused, was_refused}
+use Rattle.board.proofs.Replies.{given_replies, idle_completes, never_busy}
 
 -- ---- an own event, and a completion
 
@@ -113,90 +109,17 @@ pub record IsUntied {A : Type 0} (state : SlotState) (outcome : Outcome A) : Typ
   pub kept : outcome.reply ≡ Idle → outcome.state ≡ state
   pub silent : outcome.reply ≡ Idle → outcome.output ≡ []
 
--- a reply that says neither
-abbrev IsPlain : {A : Type 0} → Reply A → Type 0
-IsPlain Busy = ⊥
-IsPlain Idle = ⊥
-IsPlain reply = ⊤
-
-told : {A : Type 0} (state : SlotState) (outcome : Outcome A) (reply : Reply A) → outcome.reply ≡ reply
-    → IsPlain reply → IsUntied state outcome
-told {A} state outcome reply is plain = record {
-  free = λ busy. subst (λ (r : Reply A). IsPlain r) (sym is ∙ busy) plain;
-  kept = λ idle. absurd (subst (λ (r : Reply A). IsPlain r) (sym is ∙ idle) plain);
-  silent = λ idle. absurd (subst (λ (r : Reply A). IsPlain r) (sym is ∙ idle) plain);
-}
-
--- a task that is finished is done
-pub finished_done : {A : Type 0} (task : Task) (state : SlotState) (before after : Health)
-    (outcome : Outcome A) → Finishes task state before after outcome → outcome.reply ≡ Done
-finished_done {A} Nothing state before after outcome f = ap (λ (o : Outcome A). o.reply) f.alike
-finished_done {A} (Serve Block) state before after outcome f = ap (λ (o : Outcome A). o.reply) f.is
-finished_done {A} (Serve Receive) state before after outcome f = ap (λ (o : Outcome A). o.reply) f.is
-finished_done {A} (Serve Transmit) state before after outcome f = ap (λ (o : Outcome A). o.reply) f.is
-finished_done {A} (PutOut byte) state before after outcome f = ap (λ (o : Outcome A). o.reply) f.alike
-
-refused_untied : {A : Type 0} (state : SlotState) (what : EventKind A) (old new : Health)
-    (outcome : Outcome A) → WasRefused state what old new outcome → IsUntied state outcome
-refused_untied {A} state what old new outcome (Failed block f) =
-    told state outcome Done (ap (λ (o : Outcome A). o.reply) f.service.is) tt
-refused_untied {A} state what old new outcome (Unsent console puts f) =
-    told state outcome NoMemory (ap (λ (o : Outcome A). o.reply) f.is) tt
-refused_untied {A} state what old new outcome (Unput console puts f) =
-    told state outcome NoMemory (ap (λ (o : Outcome A). o.reply) f.alike) tt
-refused_untied {A} state what old new outcome (Unread addr len is f) =
-    told state outcome NoMemory (ap (λ (o : Outcome A). o.reply) f.alike) tt
-
-read_untied : {A : Type 0} (state : SlotState) (bytes : List ℕ) (outcome : Outcome A) (inside : Bool)
-    → outcome ≡ (if inside then replies state (Bytes bytes) else replies state BadRange)
-    → IsUntied state outcome
-read_untied {A} state bytes outcome true is =
-    told state outcome (Bytes bytes) (ap (λ (o : Outcome A). o.reply) is) tt
-read_untied {A} state bytes outcome false is =
-    told state outcome BadRange (ap (λ (o : Outcome A). o.reply) is) tt
-
-write_untied : {A : Type 0} (state : SlotState) (memory : Memory) (outcome : Outcome A) (inside : Bool)
-    → outcome ≡ (if inside then does (record state { memory = memory }) else replies state BadRange)
-    → IsUntied state outcome
-write_untied {A} state memory outcome true is =
-    told state outcome Done (ap (λ (o : Outcome A). o.reply) is) tt
-write_untied {A} state memory outcome false is =
-    told state outcome BadRange (ap (λ (o : Outcome A). o.reply) is) tt
-
-restore_untied : {A : Type 0} (state : SlotState) (bytes : List ℕ) (outcome : Outcome A)
-    → IsRestoring state bytes outcome → IsUntied state outcome
-restore_untied {A} state bytes outcome (inl taken) =
-    told state outcome Done (ap (λ (o : Outcome A). o.reply) taken.1) tt
-restore_untied {A} state bytes outcome (inr refused) =
-    told state outcome BadState (ap (λ (o : Outcome A). o.reply) refused.1) tt
-
 pub untied : {A : Type 0} (state : SlotState) (what : EventKind A) (old new : Health) (outcome : Outcome A)
     → MayGive state what old new outcome → IsUntied state outcome
-untied {A} state (Read window offset width) old new outcome (inl served) =
-    told state outcome (Value _) (ap (λ (o : Outcome A). o.reply) served.alike.alike) tt
-untied state (Write window offset width value) old new outcome (inl served) =
-    told state outcome Done (finished_done _ _ old new outcome served.alike) tt
-untied state (MemRead addr len) old new outcome (inl served) =
-    read_untied state (part_of state.memory addr len) outcome
-    (is_inside state.memory addr len) served.alike.alike
-untied state (MemWrite addr bytes) old new outcome (inl served) =
-    write_untied state (put state.memory addr bytes) outcome
-    (is_inside state.memory addr (length bytes)) served.alike.alike
-untied {A} state (Input bytes) old new outcome (inl served) =
-    told state outcome (Took _) (ap (λ (o : Outcome A). o.reply) served.alike.is) tt
-untied {A} state (Resize cols rows) old new outcome (inl served) =
-    told state outcome Done (ap (λ (o : Outcome A). o.reply) served.alike.alike) tt
-untied state (Restore bytes) old new outcome (inl served) =
-    restore_untied state bytes outcome served.alike.alike
-untied {A} state (Complete verdict) old new outcome (inl served) =
-    let is = ap (λ (o : Outcome A). o.reply) served.alike.alike in
+untied {A} state what old new outcome h =
+    let may = given_replies state what old new outcome h in
+    let idles : outcome.reply ≡ Idle → outcome ≡ replies state Idle =
+    λ idle. idle_completes state what old new outcome (subst (λ (r : Reply A). MayReply what r) idle may) h in
     record {
-      free = λ busy. absurd (cc);
-      kept = λ idle. ap (λ (o : Outcome A). o.state) served.alike.alike;
-      silent = λ idle. ap (λ (o : Outcome A). o.output) served.alike.alike;
+      free = λ busy. never_busy what (subst (λ (r : Reply A). MayReply what r) busy may);
+      kept = λ idle. ap (λ (o : Outcome A). o.state) (idles idle);
+      silent = λ idle. ap (λ (o : Outcome A). o.output) (idles idle);
     }
-untied state what old new outcome (inr refused) =
-    refused_untied state what old new outcome (was_refused state what old new outcome refused)
 
 pub same_hosted : (s t : SlotState) (f g : Option InFlight) → s ≡ t → f ≡ g
     → ◌≡◌ {A = HostedState} (record { slot = s; flight = f }) (record { slot = t; flight = g })

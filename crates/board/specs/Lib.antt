@@ -9,6 +9,7 @@ pub mod Image
 pub mod Extent
 pub mod Slot
 pub mod Outcome
+pub mod Replies
 pub mod Saved
 pub mod Restoring
 pub mod Task

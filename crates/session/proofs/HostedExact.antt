@@ -1,24 +1,25 @@
 -- When each refusal of a session comes whose disks the host serves.
-use Rattle.std.proofs.Common.{◌≡◌, ◌≢◌, ◌↔◌, inl, inr, ℕ, ◌≤◌, Bool, true, false, List, length, Option, Some, None, refl, sym, ◌∙◌, ap, subst, arith}
-use Rattle.std.specs.Prelude.{◌&&◌, is_some, if◌then◌else◌, IsErrOf, IsSomeAnd, Result, Ok, Err}
+use Rattle.std.proofs.Common.{◌≡◌, ◌≢◌, ◌↔◌, inl, inr, ℕ, ◌≤◌, true, false, List, length, Option, Some, None, refl, sym, ◌∙◌, ap, subst, arith}
+use Rattle.std.specs.Prelude.{◌&&◌, is_some, IsErrOf, IsSomeAnd, Result, Ok, Err}
 use Rattle.std.specs.List.{slice_get}
 use Rattle.std.proofs.lemmas.Option.{slice_get_within, slice_get_cases, same_Some}
 use Rattle.block_device.specs.declared.operation.Verdict.{Verdict}
 use Rattle.board.specs.declared.event.EventKind.{EventKind}
-use Rattle.board.specs.declared.event.EventKind.TheVariants.{Read, Write, MemRead, MemWrite, Input, Resize, Restore, Complete}
+use Rattle.board.specs.declared.event.EventKind.TheVariants.{Complete}
 use Rattle.board.specs.declared.reply.Reply.{Reply}
 use Rattle.board.specs.declared.reply.Reply.TheVariants as reply
 use Rattle.board.specs.declared.reply.Reply.TheVariants.{Done, Bytes, BadSlot, BadRange, NoMemory, Busy, Idle}
 use Rattle.board.specs.Hosting.{CompletionGives, HostedOutcome, HostedState, InFlight, IsOwn, must_wait}
 use Rattle.board.specs.Image.{Health}
 use Rattle.board.specs.Machine.{at_rest}
-use Rattle.board.specs.Outcome.{Outcome, replies}
-use Rattle.board.specs.Restoring.{IsRestoring}
+use Rattle.board.specs.Outcome.{Outcome}
+use Rattle.board.specs.Replies.{MayReply}
 use Rattle.board.specs.Slot.{SlotState}
 use Rattle.board.specs.Within.{MayPutOut}
 use Rattle.board.specs.World.{MayGive}
-use Rattle.board.proofs.Refusals.{Failed, Unput, Unread, Unsent, WasRefused, was_refused}
-use Rattle.board.proofs.Waiting.{Beside, Lands, Looks, Rests, Stands, Waits, Way, finished_done, untied, way}
+use Rattle.board.proofs.Refusals.{lacking_puts, was_refused}
+use Rattle.board.proofs.Replies.{given_replies, never_missing}
+use Rattle.board.proofs.Waiting.{Beside, Lands, Looks, Rests, Stands, Waits, Way, untied, way}
 use Rattle.session.specs.declared.hosted.progress.HostedProgress.{HostedProgress}
 use Rattle.session.specs.declared.refusal.Refusal.{Refusal}
 use Rattle.session.specs.declared.refusal.Refusal.TheVariants as refusal
@@ -27,73 +28,16 @@ use Rattle.session.specs.Hosted.{HoldsUp, HostedSessionState, IsAtRest, IsHosted
 use Rattle.session.specs.Session.{HasNoRead}
 use Rattle.session.proofs.HostedLaws.{came_to, told_none}
 
--- ---- a slot that is there is never said to be missing
+-- ---- a slot that is there is never said to be missing, nor without memory for nothing
 
--- what an event is answered: never that there is no slot, and out of memory only where it puts something out
-abbrev Fair : {A : Type 0} → SlotState → EventKind A → Reply A → Type 0
-Fair state what reply = (reply ≢ BadSlot) × (reply ≡ NoMemory → HasNoRead what → MayPutOut state what)
-
-fair_done : {A : Type 0} (state : SlotState) (what : EventKind A) (reply : Reply A) → reply ≡ Done
-    → Fair state what reply
-fair_done state what reply is = (λ no. absurd (cc), λ no any. absurd (cc))
-
-read_fair : {A : Type 0} (state : SlotState) (addr len : ℕ) (reply : Reply A) (bytes : List ℕ) (inside : Bool)
-    → reply ≡ (if inside then replies {A = A} state (Bytes bytes) else replies state BadRange).reply
-    → Fair {A = A} state (MemRead addr len) reply
-read_fair state addr len reply bytes true is = (λ no. absurd (cc), λ no any. absurd any)
-read_fair state addr len reply bytes false is = (λ no. absurd (cc), λ no any. absurd any)
-
-write_fair : {A : Type 0} (state after : SlotState) (what : EventKind A) (reply : Reply A) (inside : Bool)
-    → reply ≡ (if inside then replies {A = A} after Done else replies state BadRange).reply
-    → Fair state what reply
-write_fair state after what reply true is = (λ no. absurd (cc), λ no any. absurd (cc))
-write_fair state after what reply false is = (λ no. absurd (cc), λ no any. absurd (cc))
-
-lacking_fair : {A : Type 0} (state : SlotState) (what : EventKind A) (reply : Reply A) → reply ≡ NoMemory
-    → (HasNoRead what → MayPutOut state what) → Fair state what reply
-lacking_fair state what reply is puts = (λ no. absurd (cc), λ no any. puts any)
-
-refused_fair : {A : Type 0} (state : SlotState) (what : EventKind A) (old new : Health) (outcome : Outcome A)
-    → WasRefused state what old new outcome → Fair state what outcome.reply
-refused_fair {A} state what old new outcome (Failed block h) =
-    fair_done state what outcome.reply (ap (λ (o : Outcome A). o.reply) h.service.is)
-refused_fair {A} state what old new outcome (Unsent console puts h) =
-    lacking_fair state what outcome.reply (ap (λ (o : Outcome A). o.reply) h.is) (λ any. puts)
-refused_fair {A} state what old new outcome (Unput console puts h) =
-    lacking_fair state what outcome.reply (ap (λ (o : Outcome A). o.reply) h.alike) (λ any. puts)
-refused_fair {A} state what old new outcome (Unread addr len is h) =
-    lacking_fair state what outcome.reply (ap (λ (o : Outcome A). o.reply) h.alike)
-    (λ any. absurd (subst (λ (w : EventKind A). HasNoRead w) is any))
-
-restore_fair : {A : Type 0} (state : SlotState) (bytes : List ℕ) (outcome : Outcome A)
-    → IsRestoring state bytes outcome → Fair state (Restore bytes) outcome.reply
-restore_fair {A} state bytes outcome (inl taken) =
-    fair_done state (Restore bytes) outcome.reply (ap (λ (o : Outcome A). o.reply) taken.1)
-restore_fair {A} state bytes outcome (inr refused) = let is = ap (λ (o : Outcome A). o.reply) refused.1 in
-    (λ no. absurd (cc), λ no any. absurd (cc))
-
-given_fair : {A : Type 0} (state : SlotState) (what : EventKind A) (old new : Health) (outcome : Outcome A)
-    → MayGive state what old new outcome → Fair state what outcome.reply
-given_fair {A} state (Read window offset width) old new outcome (inl served) = let is =
-    ap (λ (o : Outcome A). o.reply) served.alike.alike in (λ no. absurd (cc), λ no any. absurd (cc))
-given_fair state (Write window offset width value) old new outcome (inl served) =
-    fair_done state (Write window offset width value) outcome.reply
-    (finished_done _ _ old new outcome served.alike)
-given_fair {A} state (MemRead addr len) old new outcome (inl served) =
-    read_fair state addr len outcome.reply _ _ (ap (λ (o : Outcome A). o.reply) served.alike.alike)
-given_fair {A} state (MemWrite addr bytes) old new outcome (inl served) =
-    write_fair state _ (MemWrite addr bytes) outcome.reply _
-    (ap (λ (o : Outcome A). o.reply) served.alike.alike)
-given_fair {A} state (Input bytes) old new outcome (inl served) = let is =
-    ap (λ (o : Outcome A). o.reply) served.alike.is in (λ no. absurd (cc), λ no any. absurd (cc))
-given_fair {A} state (Resize cols rows) old new outcome (inl served) =
-    fair_done state (Resize cols rows) outcome.reply (ap (λ (o : Outcome A). o.reply) served.alike.alike)
-given_fair state (Restore bytes) old new outcome (inl served) =
-    restore_fair state bytes outcome served.alike.alike
-given_fair {A} state (Complete verdict) old new outcome (inl served) = let is =
-    ap (λ (o : Outcome A). o.reply) served.alike.alike in (λ no. absurd (cc), λ no any. absurd (cc))
-given_fair state what old new outcome (inr refused) =
-    refused_fair state what old new outcome (was_refused state what old new outcome refused)
+-- an event is out of memory only where it puts something out
+given_room : {A : Type 0} (state : SlotState) (what : EventKind A) (old new : Health) (outcome : Outcome A)
+    → HasNoRead what → MayGive state what old new outcome → outcome.reply ≡ NoMemory → MayPutOut state what
+given_room state what old new outcome any (inl served) none = absurd (served.answered none)
+given_room {A} state what old new outcome any (inr refused) none =
+    lacking_puts state what old new outcome
+    (λ addr len read. subst (λ (w : EventKind A). HasNoRead w) read any)
+    (was_refused state what old new outcome refused) none
 
 -- ---- and so with a disk that the host serves
 
@@ -126,11 +70,11 @@ own_fair {A} old what outcome own (Waits here flies waits h) =
       busy = λ busy. rw (flies, waits) refl;
       waits = λ yes. told;
     }
-own_fair old what outcome own (Beside free quiet h) =
-    let fair = given_fair old.slot what at_rest at_rest _ h.given in
+own_fair {A} old what outcome own (Beside free quiet h) =
+    let may = given_replies old.slot what at_rest at_rest _ h.given in
     record {
-      there = fair.0;
-      room = fair.1;
+      there = λ no. never_missing what (subst (λ (r : Reply A). MayReply what r) no may);
+      room = λ no any. given_room old.slot what at_rest at_rest _ any h.given no;
       busy = λ no. absurd ((untied old.slot what at_rest at_rest _ h.given).free no);
       waits = λ no. absurd (cc);
     }

@@ -15,7 +15,6 @@ pub mod Calls
 pub mod Quiet
 pub mod SessionTurns
 pub mod Restoring
-pub mod Courses
 pub mod PacedCourses
 pub mod Alone
 pub mod Made

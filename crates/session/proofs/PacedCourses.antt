@@ -1,5 +1,5 @@
 -- A guest of a session that had room is answered what it would be answered alone, however its services pause.
-use Rattle.std.proofs.Common.{◌≡◌, ◌≢◌, ◌⊎◌, inl, inr, ℕ, eqb, true, false, List, [], ◌∷◌, ◌++◌, map, Option, Some, None, refl, sym, ◌∙◌, ap, subst, append_assoc, append-nil}
+use Rattle.std.proofs.Common.{◌≡◌, ◌≢◌, ◌⊎◌, inl, inr, ℕ, eqb, true, false, List, [], ◌∷◌, ◌++◌, map, Option, Some, None, refl, sym, ◌∙◌, ap, subst, drop, take-append-drop, append_assoc, append-nil}
 use Rattle.std.specs.Prelude.{slice_set}
 use Rattle.std.specs.List.{slice_get}
 use Rattle.std.proofs.lemmas.Bool.{cases_eq}
@@ -24,11 +24,10 @@ use Rattle.session.specs.Pacing as pacing
 use Rattle.board.proofs.Lists.{get_set}
 use Rattle.board.proofs.Steps.{Passes, alone, each_along, kept_along}
 use Rattle.session.proofs.PacedAlone.{Begun, Ended, IsStalled, OwnMove, Sits, Stayed, WentOn, events_from, events_of_others, others_at, others_move, out_of, own_move}
-use Rattle.session.specs.Course.{SessionStep, HadRoom, Happens, IsCalled, IsCourse, NeverPauses, RunsAlone, ended_by, events_begun, output_taken, paced_world_of, put_out, replies_ended}
+use Rattle.session.specs.Course.{SessionStep, HadRoom, Happens, IsCalled, IsCourse, IsTaken, NeverPauses, RunsAlone, ended_by, events_begun, output_taken, paced_world_of, put_out, replies_ended}
 use Rattle.session.specs.Pausing.{ComesTo, IsCall, IsTurn}
 use Rattle.session.specs.Session.{KeepsOtherOutputs, SessionState, Waiting, limit_of, output_of, world_of}
 use Rattle.session.specs.Steps.{Called, IsAnsweredSo, Took, after_step, slot_of}
-use Rattle.session.proofs.Courses.{taken_first}
 use Rattle.session.proofs.Waiting.{others_wait}
 
 -- ---- a call as a move
@@ -119,6 +118,14 @@ move_of old call response after h =
       console_irq = s.console;
       after = paced_world_of after;
     }
+
+-- what was taken stood before what is left
+taken_first : (slot room : ℕ) (old after : SessionState) (bytes : List ℕ)
+    → IsTaken old slot room bytes after → output_of slot old ≡ bytes ++ output_of slot after
+taken_first slot room old after bytes h =
+    sym (take-append-drop room (output_of slot old))
+    ∙ (ap (λ (l : List ℕ). l ++ drop room (output_of slot old)) (sym h.first)
+    ∙ ap (λ (l : List ℕ). bytes ++ l) (sym h.left))
 
 -- ---- how a guest sits in a session
 

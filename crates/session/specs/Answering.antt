@@ -3,9 +3,10 @@ use Rattle.std.specs.Prelude.{ℕ, List, ⊤, Result, Ok, Err}
 use Rattle.chain.specs.declared.budget.Progress.{Progress}
 use Rattle.chain.specs.declared.budget.Progress.TheVariants as progress
 use Rattle.board.specs.declared.event.EventKind.{EventKind}
-use Rattle.board.specs.declared.event.EventKind.TheVariants.{Read, Write, MemRead, MemWrite, Input, Resize, Restore, Complete}
+use Rattle.board.specs.declared.event.EventKind.TheVariants.{Write, Input}
 use Rattle.board.specs.declared.reply.Reply.{Reply}
 use Rattle.board.specs.declared.reply.Reply.TheVariants as reply
+use Rattle.board.specs.Replies.{MayReply}
 use Rattle.session.specs.declared.paced.turn_kind.TurnKind.{TurnKind}
 use Rattle.session.specs.declared.paced.turn_kind.TurnKind.TheVariants.{Begin, Resume}
 use Rattle.session.specs.declared.response.Response.{Response}
@@ -80,23 +81,10 @@ went_on_to response.More = Ok progress.More
 went_on_to response.Busy = Err Busy
 went_on_to response.Idle = Ok progress.Done
 
--- the replies that each event may get
+-- the replies that each event may get, of whichever slot
 abbrev pub Suits : {A : Type 0} → EventKind A → Reply A → Type 0
 Suits what reply.BadSlot = ⊤
-Suits (Read window offset width) (reply.Value value) = ⊤
-Suits (Write window offset width value) reply.Done = ⊤
-Suits (Write window offset width value) reply.NoMemory = ⊤
-Suits (MemRead addr len) (reply.Bytes bytes) = ⊤
-Suits (MemRead addr len) reply.BadRange = ⊤
-Suits (MemRead addr len) reply.NoMemory = ⊤
-Suits (MemWrite addr bytes) reply.Done = ⊤
-Suits (MemWrite addr bytes) reply.BadRange = ⊤
-Suits (Input bytes) (reply.Took taken) = ⊤
-Suits (Resize cols rows) reply.Done = ⊤
-Suits (Restore bytes) reply.Done = ⊤
-Suits (Restore bytes) reply.BadState = ⊤
-Suits (Complete verdict) reply.Idle = ⊤
-Suits what answer = ⊥
+Suits what answer = MayReply what answer
 
 -- the responses
 abbrev pub SuitsCall : {A : Type 0} → EventKind A → Response A → Type 0
