@@ -3,7 +3,7 @@ use Rattle.std.proofs.Common.{◌≡◌, ℕ, ◌<◌, ◌≤◌, false, List, [
 use Rattle.std.specs.Prelude.{OnSome}
 use Rattle.std.specs.List.{AllByRecursion, join_with_byte}
 use Rattle.std.proofs.lemmas.Bool.{eq-eqb, ne_eqb}
-use Rattle.std.proofs.lemmas.List.{append-nil, append_assoc, get_or-map, length-append, length-map, map-append}
+use Rattle.std.proofs.lemmas.List.{append-nil, get_or-map, length-append, length-map}
 use Rattle.std.proofs.lemmas.List.Elements.{All-from_recursion}
 use Rattle.std.proofs.lemmas.List.Splits.{join_with_byte-slice_split, length-slice_split, slice_split_at, slice_split_none}
 use Rattle.hexadecimal.specs.Fields.{IsNum, SpellsNumber}
@@ -190,18 +190,6 @@ module _ (field : List ℕ) (items : List RegionSpec) (rest : Option (List ℕ))
       ∙ get_or-map region_text regions (length items) no_region [] below in
       none (get_or regions (length items) no_region)
       (record { fits = is.fits (length items) no_region below; spelled = here })
-
-  -- one more
-  pub one_more : (list part : List ℕ) (after : Option (List ℕ)) (region : RegionSpec) → rest ≡ Some list
-      → parts 44 list ≡ part ∷ parts_left 44 after → IsRegionField part region
-      → parts 44 field ≡ map region_text (items ++ region ∷ []) ++ parts_left 44 after
-  one_more list part after region some cut is =
-      subst (λ (r : Option (List ℕ)). parts 44 field ≡ map region_text items ++ parts_left 44 r) some so_far
-      ∙ ap (λ (xs : List (List ℕ)). map region_text items ++ xs) (cut
-      ∙ ap (λ (x : List ℕ). x ∷ parts_left 44 after) is.spelled)
-      ∙ sym (append_assoc (map region_text items) (region_text region ∷ []) (parts_left 44 after))
-      ∙ ap (λ (xs : List (List ℕ)). xs
-      ++ parts_left 44 after) (sym (map-append region_text items (region ∷ [])))
 
   -- all of them
   pub all_read : rest ≡ None → length items ≤ 8 → All RegionInRange items → IsRegionsField field items

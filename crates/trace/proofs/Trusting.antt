@@ -471,11 +471,6 @@ slot_bytes text b =
       | inr two ↦ rw two.1 (record { long = omega arith; first = a_digit (b.slot / 16) (omega arith) })
     ]
 
--- the slot that is there is long enough
-pub slot_long : (text : List ℕ) (slot : ℕ) (after : List ℕ) → HasSlot text slot after → 2 ≤ length text
-slot_long text slot after h =
-    (slot_bytes text (record { slot = slot; after = after; has = h })).long
-
 above_zero : (d : ℕ) → d < 16 → 0 < d → digit d ≢ 48
 above_zero d lt pos e =
     elim (digit_cases d lt) [ inl low ↦ omega (arith, low, e) | inr high ↦ omega (arith, high, e) ]
@@ -580,10 +575,6 @@ number_begun text b = record {
 module _ (text : List ℕ) (i n : ℕ) (so : NumberSoFar text i n) where
   few : length (num so.total) ≤ 16
   few = let small = so.has.small in length_num 16 so.total (omega arith) (omega arith)
-
-  pub number_long : i < length text
-  number_long = let within = so.within in
-      omega (arith, ap length so.has.is, length-append (num so.total) (32 ∷ so.after))
 
   -- a byte that is no space is a digit more
   more : get_or text i 0 ≢ 32 → i < length (num so.total)

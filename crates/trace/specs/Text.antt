@@ -1,5 +1,5 @@
 -- The one text of a trace: its lines in order, each ended by a line feed.
-use Rattle.std.specs.Prelude.{ℕ, ◌+◌, ◌*◌, List, [], ◌∷◌, ◌++◌, map, codes}
+use Rattle.std.specs.Prelude.{ℕ, ◌*◌, List, [], ◌∷◌, ◌++◌, map, codes}
 use Rattle.std.specs.List.{flat_map, join_with_byte}
 use Rattle.mmio_window.specs.declared.device_kind.DeviceKind.{DeviceKind}
 use Rattle.board.specs.declared.event.Event.{Event}

@@ -59,10 +59,6 @@ validation j = record {
   longest_line = j.longest_line;
 }
 
--- the trace without its events
-abbrev pub kept : (A : Type 0) → Validation → Content A
-kept A j = record { format = j.format; disks = j.disks; slots = j.slots; events = [] }
-
 -- the text is that of one trace, of which this is kept
 pub record IsValidated (A : Type 0) (text : List ℕ) (j : Validation) : Type 0 where
   pub trace : Content A
