@@ -41,18 +41,18 @@ CHOICES = {"win": ["b", "c"], "wid": ["1", "2", "4"], "mode": ["rw", "ro"], "ver
 
 def fault_of(text):
     """The first line with a fault and its kind, as (line, kind), or none where `text` (bytes) is a trace."""
-    rest, line, had_event = text.decode("latin-1"), 0, False
-    first = rest.partition("\n")[0]
-    while rest or line < 2:
+    text, line, had_event, at = text.decode("latin-1"), 0, False, 0
+    first = text.partition("\n")[0]
+    while at < len(text) or line < 2:
         line += 1
-        cut = rest.find("\n")
+        cut = text.find("\n", at)
         if cut < 0:
             return line, "Cut"
-        kind = fault_in(rest[:cut], line, had_event, first)
+        kind = fault_in(text[at:cut], line, had_event, first)
         if kind:
             return line, kind
-        had_event = had_event or line > 2 and not rest.startswith("slot ")
-        rest = rest[cut + 1:]
+        had_event = had_event or line > 2 and not text.startswith("slot ", at)
+        at = cut + 1
     return None
 
 
