@@ -108,6 +108,54 @@ def give(queue, memory, chain, length, wrote):
     queue.passed += 1
 
 
+def serve(slot, window, index):
+    """A service: here one of a console's split queue, in a memory of one region, whose chains have mostly one buffer; else the model serves."""
+    queue = slot.windows[window].queues[index]
+    if window == "b" or queue.packed or len(slot.memory.regions) > 1:
+        return SERVE(slot, window, index)
+    texts, fault = [], False
+    try:
+        queue.open(slot.memory)
+        while index or slot.pending:
+            serve_plain(slot, queue, index, texts)
+            chain = queue.take(slot.memory) if index or slot.pending else None
+            if chain is None:
+                break
+            texts.append(chain.readable() if index else b"")
+            queue.give(slot.memory, chain, *((0, False) if index else slot.receive(chain)))
+    except model.Fault:
+        fault = True
+    slot.close(window, queue, fault)
+    return b"".join(texts) if index else b""
+
+
+def serve_plain(slot, queue, index, texts):
+    """Serves chains of one buffer, up to the first that is another."""
+    region, number, areas = slot.memory.regions[0], queue.number, queue.areas
+    content, base = region.bytes, region.base
+    table, heads, used = (area - base for area in areas)
+    while queue.left and (index or slot.pending):
+        at = queue.place % number
+        head, = HALF.unpack_from(content, heads + 4 + 2 * at)
+        if head >= number:
+            return
+        address, length, flags, _ = DESCRIPTOR.unpack_from(content, table + 16 * head)
+        if flags & (model.NEXT | model.INDIRECT) or address < base or address + length > region.end:
+            return
+        count = 0
+        if index and not flags & model.WRITE:
+            texts.append(content[address - base:address - base + length])
+        elif not index and flags & model.WRITE:
+            part = slot.pending[:length]
+            slot.pending, count = slot.pending[len(part):], len(part)
+            content[address - base:address - base + count] = part
+        USED_ENTRY.pack_into(content, used + 4 + 8 * at, head, count)
+        queue.place = (queue.place + 1) % 65536
+        HALF.pack_into(content, used + 2, queue.place)
+        queue.left -= 1
+        queue.passed += 1
+
+
 @functools.lru_cache(maxsize=1 << 15)
 def fault_in_one(text, place, had_event, first):
     return FAULT_IN(text, place, had_event, first)
@@ -121,7 +169,7 @@ def fault_in(text, line, had_event, first):
 def use():
     """Puts these in the places of the model's and the reader's own."""
     model.Memory, model.descriptor, reader.fault_in = Memory, descriptor, fault_in
-    model.Queue.take, model.Queue.give = take, give
+    model.Queue.take, model.Queue.give, model.Slot.serve = take, give, serve
 
 
-FAULT_IN, TAKE, GIVE = reader.fault_in, model.Queue.take, model.Queue.give
+FAULT_IN, TAKE, GIVE, SERVE = reader.fault_in, model.Queue.take, model.Queue.give, model.Slot.serve
