@@ -134,19 +134,29 @@ class Story:
 
     # --- files
 
+    def head(self):
+        """The lines before the slots."""
+        return [f"vreplay {self.version}", f"cache {self.cache:x}"]
+
     def trace(self):
-        head = [f"vreplay {self.version}", f"cache {self.cache:x}"]
-        return "\n".join(head + [slot.line() for slot in self.slots] + self.lines) + "\n"
+        return "\n".join(self.head() + [slot.line() for slot in self.slots] + self.lines) + "\n"
+
+    def before(self):
+        """The image before."""
+        return bytes(self.zeros * SECTOR) if self.zeros else self.image if self.image is not None else plain_image()
+
+    def replayed(self, text, before):
+        """The model's records, its status, and the image that it leaves."""
+        return model.replay(text.encode(), before, set(self.fails or ()), (), reader.fault_of)
 
     def files(self):
         """The scenario's files by their endings; raises Disagrees where the model's answer isn't what is said."""
-        before = bytes(self.zeros * SECTOR) if self.zeros else self.image if self.image is not None else plain_image()
-        text = self.trace().encode()
-        output, status, image = model.replay(text, before, set(self.fails or ()), (), reader.fault_of)
+        before, text = self.before(), self.trace()
+        output, status, image = self.replayed(text, before)
         self.compare(output, status)
         if self.leaves and self.leaves != (bytes(image.bytes), image.flushes):
             raise Disagrees(f"{self.name}: the model leaves another image, or {image.flushes} flushes")
-        found = {".trace": text.decode(), ".records": f"{output}status {status}\n"}
+        found = {".trace": text, ".records": f"{output}status {status}\n"}
         if self.zeros:
             found[".before"] = f"zeros {self.zeros}\n"
         elif self.image is not None and self.image != plain_image():

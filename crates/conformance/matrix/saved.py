@@ -1,0 +1,82 @@
+"""Snapshots of a slot, spelled as crates/snapshot/README.md says, with any field in another's place."""
+import copy
+import dataclasses
+import typing
+
+from .drivers import number
+
+
+@dataclasses.dataclass
+class SavedQueue:
+    """`place` counts of a ready queue alone, and so do what its service left and passed."""
+
+    number: int = 0
+    areas: typing.List[int] = dataclasses.field(default_factory=lambda: [0, 0, 0])
+    ready: bool = False
+    place: int = 0
+    left: int = 0
+    passed: int = 0
+
+    def spelled(self):
+        text = number(self.number, 4) + b"".join(number(area, 8) for area in self.areas) + bytes([self.ready])
+        return text + (number(self.place, 2) + number(self.left, 2) + number(self.passed, 2) if self.ready else b"")
+
+
+@dataclasses.dataclass
+class SavedWindow:
+    offered: int
+    status: int
+    accepted: int
+    selectors: typing.List[int]
+    queues: typing.List[SavedQueue]
+    interrupts: int
+    generation: int
+
+    def spelled(self):
+        front = number(self.offered, 8) + bytes([self.status]) + number(self.accepted, 8)
+        selectors, queues = (number(one, 4) for one in self.selectors), (queue.spelled() for queue in self.queues)
+        return b"".join([front, *selectors, *queues, bytes([self.interrupts]), number(self.generation, 4)])
+
+
+@dataclasses.dataclass
+class Saved:
+    base: int
+    span: int
+    sectors: int
+    read_only: bool
+    identity: bytes
+    size: typing.List[int]
+    windows: dict
+    pending: bytes
+
+    def spelled(self):
+        front = b"KALYUBOS" + number(1, 4) + number(self.base, 8) + number(self.span, 8) + number(self.sectors, 8)
+        size = b"".join(number(one, 2) for one in self.size)
+        windows = b"".join(self.windows[name].spelled() for name in "bc")
+        return b"".join([front, bytes([self.read_only]), self.identity, size, windows, number(len(self.pending), 4), self.pending])
+
+    def but(self, change):
+        """The same with a change."""
+        other = copy.deepcopy(self)
+        change(other)
+        return other
+
+
+def saved(guest):
+    """What the guest's slot would be saved as; nothing has been written to SHMSel."""
+    slot = guest.life.board[guest.slot]
+    base, span = slot.memory.span()
+    windows = {name: saved_window(window) for name, window in slot.windows.items()}
+    return Saved(base, span, slot.count, slot.read_only, slot.identity, [slot.cols, slot.rows], windows, slot.pending)
+
+
+def saved_window(window):
+    queues = [SavedQueue(queue.number, list(queue.areas), queue.ready, queue.place) for queue in window.queues]
+    selectors = [window.device_sel, window.driver_sel, window.queue_sel, 0]
+    return SavedWindow(window.offered_bits(), window.status, window.driver_features, selectors,
+                       (queues + [SavedQueue()])[:2], window.interrupts,
+                       window.generation)
+
+
+def restore(guest, snapshot):
+    return guest.do("st", snapshot.spelled().hex())
