@@ -127,6 +127,7 @@ def make(names, known, jobs):
             files = {path: what for one in answers for path, what in one.items()}
             scenarios = [(story.name, story.about, folder_of(story), is_in_both(story)) for story in stories]
             remember(known, name, entry(name, files, scenarios, folders=table.FOLDERS, page=page.part_of(table, stories)))
+    made.stamps_in.cache_clear()
     return wrong
 
 

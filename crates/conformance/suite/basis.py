@@ -45,19 +45,12 @@ def load(suite):
 
 def judged(suite):
     """The basis of each scenario, and what is wrong with the page: a name goes before a pattern, and either is one."""
-    names, patterns = {}, []
-    wrong = []
-    for cell, text in rows("Scenarios"):
-        for word in NAME.findall(cell):
-            if "*" in word:
-                patterns.append((word, Basis(text)))
-            elif word in names:
-                wrong.append(f"{word} stands twice")
-            else:
-                names[word] = Basis(text)
+    names, patterns, wrong = tabled()
     found, used = {}, set()
+    subjects = {scenario.subject for scenario in suite}
+    near = {subject: [one for one in patterns if may_fit(one[0], subject)] for subject in subjects}
     for scenario in suite:
-        fitting = [(word, basis) for word, basis in patterns if fnmatch.fnmatchcase(scenario.name, word)]
+        fitting = [(word, basis) for word, basis in near[scenario.subject] if fnmatch.fnmatchcase(scenario.name, word)]
         used.update(word for word, _ in fitting)
         if scenario.name not in names and not fitting:
             wrong.append(f"{scenario.name} has no row")
@@ -68,6 +61,26 @@ def judged(suite):
     wrong += [f"{name} is no scenario" for name in names if name not in found]
     wrong += [f"no scenario fits {word}" for word, _ in patterns if word not in used]
     return found, wrong
+
+
+def tabled():
+    """The page's scenarios: the names, the patterns, and the names that stand twice."""
+    names, patterns, wrong = {}, [], []
+    for cell, text in rows("Scenarios"):
+        for word in NAME.findall(cell):
+            if "*" in word:
+                patterns.append((word, Basis(text)))
+            elif word in names:
+                wrong.append(f"{word} stands twice")
+            else:
+                names[word] = Basis(text)
+    return names, patterns, wrong
+
+
+def may_fit(pattern, subject):
+    """Whether a pattern may name a scenario of a subject."""
+    of_subject, slash, _ = pattern.partition("/")
+    return not slash or fnmatch.fnmatchcase(subject, of_subject)
 
 
 def of_headings():

@@ -78,23 +78,31 @@ def state():
         return {}
 
 
-def sizes_below(folders):
-    """The sizes of the files of some folders of data, by their paths below it."""
+@functools.lru_cache(maxsize=None)
+def stamps_in(folder):
+    """The files of a folder of data by their names, each with its size and when it was written."""
     found = {}
-    for folder in folders:
-        try:
-            with os.scandir(os.path.join(DATA, folder)) as entries:
-                found.update({f"{folder}/{entry.name}": entry.stat().st_size for entry in entries if entry.is_file()})
-        except OSError:
-            pass
+    try:
+        with os.scandir(os.path.join(DATA, folder)) as entries:
+            for entry in entries:
+                if entry.is_file():
+                    what = entry.stat()
+                    found[entry.name] = (what.st_size, what.st_mtime_ns)
+    except OSError:
+        pass
     return found
+
+
+def is_there(path, size):
+    """Whether a file of data has this size."""
+    folder, _, name = path.rpartition("/")
+    return stamps_in(folder).get(name, (None,))[0] == size
 
 
 def stale(known):
     """The tables that must be made, by what is known of those that are made."""
-    sizes = sizes_below({path.rpartition("/")[0] for one in known.values() for path in one["files"]})
     return [table for table in tables() if table not in known or known[table]["key"] != key_of(table)
-            or any(sizes.get(path) != size for path, size in known[table]["files"].items())]
+            or not all(is_there(path, size) for path, size in known[table]["files"].items())]
 
 
 def files():
@@ -109,5 +117,6 @@ def ensure():
     if set(known) == set(tables()) and not stale(known) and all(map(os.path.exists, PAGES)):
         return
     ran = subprocess.run([sys.executable, os.path.join(MATRIX, "make"), "--needed"], stdout=subprocess.PIPE, text=True)
+    stamps_in.cache_clear()
     if ran.returncode:
         raise Unmade(f"the scenarios of the tables can't be made: {ran.stdout.strip()}")

@@ -4,7 +4,7 @@ import functools
 import os
 import re
 
-from . import made, trace
+from . import index, made, trace
 
 CRATE = os.path.dirname(os.path.dirname(os.path.abspath(__file__)))
 # The worked scenarios, those that are made from tables, and those of these with a large image, which the gate's program doesn't replay.
@@ -26,6 +26,11 @@ class Scenario:
         self.subject, self.part = name.split("/")[0], os.path.basename(folder)
         self.path = os.path.join(folder, name)
 
+    def stamp(self, end):
+        """The size of one of its files and when it was written, or None where it has no such file."""
+        folder, _, name = self.name.rpartition("/")
+        return made.stamps_in(f"{self.part}/{folder}").get(name + end)
+
     def read(self, end):
         try:
             with open(self.path + end, "rb") as file:
@@ -46,12 +51,19 @@ class Scenario:
     def events(self):
         return trace.events_of(self.text)
 
-    @functools.cached_property
+    @property
     def features(self):
-        found = trace.features_of(self.text, self.records.split("\n"))
-        if self.fails is not None:
-            found.add("fails")
-        return found
+        return self.known.features
+
+    @property
+    def is_refused(self):
+        """Whether its trace or its board is refused."""
+        return self.known.is_refused
+
+    @functools.cached_property
+    def known(self):
+        """What the index has of it."""
+        return index.of(self)
 
     @functools.cached_property
     def image(self):
@@ -119,6 +131,6 @@ def load_folder(folder):
         raise Broken(f"{folder}/README.md lists no scenario")
     for scenario in found:
         for end in (".trace", ".records"):
-            if not os.path.exists(scenario.path + end):
+            if not scenario.stamp(end):
                 raise Broken(f"{scenario.name}{end} is missing")
     return found

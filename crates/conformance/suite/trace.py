@@ -44,9 +44,14 @@ def bit_name(window, bit):
     return EVERY_FEATURE.get(bit) or FEATURES[window].get(bit) or f"bit_{bit}"
 
 
+# The first line of an extended trace.
+EXTENDED = "kalyubos 1\n"
+
 # Every name that a scenario's features may have.
-NAMED = {"guests", "hosted", "ro", "input", "resize", "size", "restore", "vendor", "offer", "fails"} \
-    | {feature for fields in FIELDS.values() for _, _, feature in fields} | {bit_name(window, bit) for window in WINDOWS for bit in range(64)}
+BESIDE_BITS = {"guests", "extended", "hosted", "ro", "input", "resize", "size", "restore", "vendor", "offer", "fails",
+               "calls"}
+NAMED = BESIDE_BITS | {feature for fields in FIELDS.values() for _, _, feature in fields} \
+    | {bit_name(window, bit) for window in WINDOWS for bit in range(64)}
 
 
 @dataclasses.dataclass(frozen=True)
@@ -79,19 +84,19 @@ class Event:
         return f"writes {value} to {place(window, offset)}" + ("" if width == "4" else f", with width {width}")
 
     def say_mr(self, address, length):
-        return f"looks at {int(length, 16)} bytes of its memory at {address}"
+        return f"looks at {counted(int(length, 16))} of its memory at {address}"
 
     def say_mw(self, address, data):
-        return f"puts {bytes_in(data)} bytes into its memory at {address}"
+        return f"puts {counted(bytes_in(data))} into its memory at {address}"
 
     def say_in(self, data):
-        return f"is typed {bytes_in(data)} bytes"
+        return f"is typed {counted(bytes_in(data))}"
 
     def say_sz(self, columns, rows):
         return f"gets a console of {int(columns, 16)} by {int(rows, 16)}"
 
     def say_st(self, data):
-        return f"is restored from {bytes_in(data)} bytes"
+        return f"is restored from {counted(bytes_in(data))}"
 
     def say_io(self, verdict):
         return f"has its disk's operation {verdict}"
@@ -99,6 +104,10 @@ class Event:
 
 def bytes_in(field):
     return 0 if field == "-" else len(field) // 2
+
+
+def counted(count):
+    return f"{count} byte" + ("" if count == 1 else "s")
 
 
 def place(window, offset):
@@ -142,9 +151,10 @@ def features_of(text, replies):
     They are the features that a driver takes or asks for (DriverFeatures), those that a device shows (the expected
     answers of DeviceFeatures), and those whose configuration fields are touched. Others are no bits: `offer`, all
     offered features are read; `vendor`, VendorID is; `resize`, `input` and `restore`, the host does that; `hosted`, it
-    serves the disks; `guests`, there are more than one; `ro`, a slot is read-only.
+    serves the disks; `guests`, there are more than one; `ro`, a slot is read-only; `extended`, the trace is of no
+    version that a plain one has.
     """
-    found = set()
+    found = {"extended"} if text.startswith(EXTENDED) else set()
     slots = slots_of(text)
     if len(slots) > 1:
         found.add("guests")
