@@ -29,7 +29,7 @@ def in_one_process():
     with tempfile.TemporaryDirectory() as folder:
         for flags, sources, words in (
             ([], [], []),
-            (["-DHOSTED"], ["disks.c"], ["--fails", "--fails", "--table", IN_PROCESS / "HOSTED.md"]),
+            (["-DHOSTED"], ["disks.c"], ["--fails", "--fails", "--calls", "--table", IN_PROCESS / "HOSTED.md"]),
         ):
             device = f"{folder}/device"
             own = [IN_PROCESS / name for name in ("run.c", "trace.c", "kalyubos.c", *sources)]

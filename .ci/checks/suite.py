@@ -1,11 +1,13 @@
 """What stays true of the suite: its rules, its matrix and the examples agree with the model, `against` finds a wrong device, and
 a tool that can't run a device says so."""
+import pathlib
 import shutil
 import tempfile
 
 from .common import TOP, called, script
 
 AGAINST, MODEL = "crates/conformance/against", "crates/conformance/mutants/model.py"
+RUN_ON, WRONG = "crates/conformance/run-on", "crates/conformance/mutants/wrong"
 
 
 def against():
@@ -26,7 +28,7 @@ def against():
 def no_device():
     """Tools that run a device say in a sentence that it can't be run, and end with a status of their own."""
     tries = [([AGAINST, "--judge", MODEL, device], 2) for device in ("./no-such-device", "./README.md", "false")]
-    tries += [(["crates/conformance/run-on", "--only", "registers", device], 2) for device in ("./no-such-device", "./README.md")]
+    tries += [([RUN_ON, "--only", "registers", device], 2) for device in ("./no-such-device", "./README.md")]
     tries += [(["fuzz/run", "1", "--program", device], 1) for device in ("./no-such-device", shutil.which("false"))]
     wrong = []
     for words, status in tries:
@@ -36,12 +38,47 @@ def no_device():
     return not wrong, wrong or [f"{len(tries)} calls end by a sentence and a status"]
 
 
+# Devices that aren't meant for all scenarios: one that takes each line for good, and one that knows no extended trace.
+TAKES_ALL = """#!/bin/sh
+awk '$1 ~ /^(r|w|mr|mw|in|sz|st|io)$/ { print "0 done - 0 0" }' "$1"
+"""
+TAKES_PLAIN = f"""#!/bin/sh
+[ "$(head -n 1 "$1")" != "kalyubos 1" ] || {{ echo "fault trace 1 Header"; exit 1; }}
+exec {TOP / MODEL} "$@"
+"""
+
+
+def reports():
+    """`run-on` reports on a device that takes what is no trace, leaves out what another has no word for, and says whose a
+    status is."""
+    wrong = []
+    with tempfile.TemporaryDirectory() as folder:
+        takes_all, takes_plain = pathlib.Path(folder, "takes-all"), pathlib.Path(folder, "takes-plain")
+        for path, text in ((takes_all, TAKES_ALL), (takes_plain, TAKES_PLAIN)):
+            path.write_text(text)
+            path.chmod(0o755)
+        for words, status, said in (
+            (["--only", "versions", "--only", "texts/*_behind_*", takes_all], 1, "\ntexts "),
+            (["--only", "restores/a_*", takes_plain], 1, "\n  found    fault trace 1 Header\n"),
+            (["--only", "versions", "--without", "extended", takes_plain], 0, " 0 differ, "),
+            (["--only", "requests/type_2_is_unsupported", WRONG, "IOERR is 2 and UNSUPP 1"], 1,
+             " is the status of the request of type 2 that line 26 served: UNSUPP expected, IOERR found\n"),
+        ):
+            found = called(RUN_ON, *words)
+            if found.returncode != status or found.stderr or said not in found.stdout:
+                wrong += [f"{' '.join(map(str, words))}: status {found.returncode}"]
+                wrong += (found.stdout + found.stderr).splitlines()[-5:]
+    return not wrong, wrong or ["devices that take all, or plain traces alone, get a report, and a status is said to be a request's"]
+
+
 # The scenarios that tables make, and their pages, are made by the first check, so that no two others make them at once.
-AFTER = {name: ["matrix"] for name in ("links", "named", "words", "rules", "against", "no device", "helps", "release")}
+AFTER = {name: ["matrix"] for name in ("links", "named", "words", "rules", "against", "no device", "reports", "helps",
+                                       "release")}
 CHECKS = {
     "matrix": lambda: script(TOP / "crates/conformance/matrix/make"),
     "rules": lambda: script(TOP / "crates/conformance/check-rules"),
     "examples": lambda: script(TOP / "examples/check"),
     "against": against,
     "no device": no_device,
+    "reports": reports,
 }

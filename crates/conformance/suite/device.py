@@ -1,4 +1,4 @@
-"""A device's run over one scenario, and in what it differs from what must be."""
+"""A device's run over one scenario."""
 import dataclasses
 import os
 import subprocess
@@ -92,68 +92,3 @@ class Outcome:
         """The text to compare with the records: the output and a line with the status."""
         ended = "" if self.output == "" or self.output.endswith("\n") else "\n"
         return f"{self.output}{ended}status {self.status}\n"
-
-
-@dataclasses.dataclass(frozen=True)
-class Difference:
-    """The first thing that differs: at which record, of which event, what was expected and what was found."""
-
-    expected: str
-    found: str
-    record: Optional[int] = None
-    event: Optional[object] = None
-
-    def lines(self):
-        """It for a reader."""
-        if self.event:
-            yield f"line {self.event.line}: {shortened(self.event.text)}: {self.event.in_words()}"
-        yield f"expected {shortened(self.expected)}"
-        yield f"found    {shortened(self.found)}"
-
-
-def shortened(text, most=100):
-    return text if len(text) <= most else f"{text[:most]}.. ({len(text)} characters)"
-
-
-def difference(scenario, outcome, seconds):
-    """The first difference of an outcome from what the scenario's files say, or None."""
-    if outcome.late:
-        return Difference("an answer", f"none after {seconds:g} seconds")
-    different = first_line(scenario, outcome)
-    if different or not outcome.tells_image:
-        return different
-    return different_image(scenario, outcome)
-
-
-def first_line(scenario, outcome):
-    expected, found = scenario.records.split("\n"), outcome.found().split("\n")
-    for number in range(max(len(expected), len(found))):
-        wanted = expected[number] if number < len(expected) else "no more lines"
-        has = found[number] if number < len(found) else "no more lines"
-        if wanted != has:
-            event = scenario.events[number] if number < len(scenario.events) else None
-            return Difference(wanted, told(has, outcome), number, event)
-    return None
-
-
-def told(line, outcome):
-    """A line that was found, and what the device said of a failure."""
-    if line.startswith("status ") and outcome.error.strip():
-        return f"{line} ({shortened(outcome.error.strip().splitlines()[-1])})"
-    return line
-
-
-def different_image(scenario, outcome):
-    if outcome.image is None:
-        if outcome.status:
-            return None
-        return Difference("an image afterwards", "none")
-    wanted, has = scenario.image_after, outcome.image
-    if len(wanted) != len(has):
-        return Difference(f"an image of {len(wanted)} bytes afterwards", f"one of {len(has)}")
-    for start in range(0, len(wanted), SECTOR):
-        if wanted[start:start + SECTOR] != has[start:start + SECTOR]:
-            byte = next(i for i in range(start, start + SECTOR) if wanted[i] != has[i])
-            return Difference(f"sector {start // SECTOR} of the image afterwards, from byte {byte - start} on: "
-                              f"{wanted[byte:byte + 8].hex()}", has[byte:byte + 8].hex())
-    return None
