@@ -7,7 +7,7 @@ use Rattle.board.specs.declared.event.EventKind.{EventKind}
 use Rattle.board.specs.declared.reply.Reply.TheVariants.{NoMemory}
 use Rattle.board.specs.declared.reply.Record.{Record}
 use Rattle.board.specs.Image.{Health}
-use Rattle.board.specs.Machine.{Gives, IsTold, RunsOnItsOwn}
+use Rattle.board.specs.Machine.{Gives, IsToldAlone, RunsOnItsOwn}
 use Rattle.board.specs.Outcome.{Outcome}
 use Rattle.board.specs.Slot.{SlotState}
 use Rattle.board.specs.World.{World, MayGive, SlotStep, MissingStep, Step}
@@ -64,7 +64,7 @@ other_at g old event written new (Some s) other step =
 record CameOut {A : Type 0} (g : ℕ) (state : SlotState) (what : EventKind A) (written : Record A)
     (new : World) : Type 0 where
   last : SlotState
-  told : IsTold g state what written last
+  told : IsToldAlone g state what written last
   there : slice_get new.slots g ≡ Some last
 
 own : {A : Type 0} (old : World) (move : Move A) (state : SlotState)

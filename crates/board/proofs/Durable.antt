@@ -1,15 +1,13 @@
 -- While no call of the image fails a clean image stays clean; so a stop leaves what the guests see.
-use Rattle.std.proofs.Common.{◌≡◌, inl, inr, ℕ, Bool, Option, Some, None, List, [], ◌∷◌, length, map, refl, sym, ap, ◌∙◌, arith}
+use Rattle.std.proofs.Common.{◌≡◌, inl, inr, ℕ, Option, Some, None, List, [], ◌∷◌, length, map, refl, sym, ap, ◌∙◌, arith}
 use Rattle.std.specs.Prelude.{IfSome, IsSome, MatchOption, false, unwrap_or}
 use Rattle.std.specs.List.{slice_get}
 use Rattle.guest_memory.specs.Memory.{Memory}
-use Rattle.chain.specs.declared.fault.Fault.{Fault}
 use Rattle.chain.specs.Bytes.{readable_of, writable_of}
-use Rattle.chain.specs.Service.{Ending, Faulted, IsService, Refused, Served, ServesAll, Site, Spent, Works, after, open_site, stop}
+use Rattle.chain.specs.Service.{after}
 use Rattle.sector_cache.specs.Disk.{Disk, LeavesContents}
 use Rattle.sector_cache.specs.Sector.{extent_of}
 use Rattle.mmio_window.specs.declared.queue.Queue.{Queue}
-use Rattle.mmio_window.specs.Queue.{queue_kind}
 use Rattle.mmio_window.specs.Serving.{IsNotified}
 use Rattle.mmio_window.specs.Window.{WindowState, queue_at}
 use Rattle.block_device.specs.declared.device.BlockDevice.{BlockDevice}
@@ -28,50 +26,24 @@ use Rattle.board.specs.Outcome.{Outcome}
 use Rattle.board.specs.Slot.{BoardSlot, SlotState, state_of}
 use Rattle.board.specs.Task.{Finishes, Nothing, PutOut, Serve, Task, device_of}
 use Rattle.board.specs.World.{MayGive, MissingStep, SlotStep, World, seen}
+use Rattle.board.proofs.Chains.{kept}
 use Rattle.board.proofs.Refusals.{Failed, Unput, Unread, Unsent, WasRefused, was_refused}
 use Rattle.board.proofs.Runs.{line_failures, step_failures}
 
 -- ---- a service of the disk in which no call fails
 
-passes_clean : (device : BlockDevice) (start at : Site Queue Disk) (chains : List (Served Disk))
-    → start.state.dirty ≡ false → ServesAll queue_kind (exact_device device) start chains at
-    → at.state.dirty ≡ false
-passes_clean device start at [] clean p = ap (λ (s : Site Queue Disk). s.state.dirty) (sym p) ∙ clean
-passes_clean device start at (s ∷ chains) clean p =
-    passes_clean device (after queue_kind (exact_device device) start s) at chains
-    (exact_clean device start.state (readable_of start.memory s.buffers) (length (writable_of s.buffers))
-    s.given clean p.0.gives) p.1
-
-stop_clean : (device : BlockDevice) (at last : Site Queue Disk) (ending : Ending) → at.state.dirty ≡ false
-    → last ≡ stop queue_kind (exact_device device) at ending → last.state.dirty ≡ false
-stop_clean device at last Spent clean is = ap (λ (s : Site Queue Disk). s.state.dirty) is ∙ clean
-stop_clean device at last (Faulted fault) clean is = ap (λ (s : Site Queue Disk). s.state.dirty) is ∙ clean
-stop_clean device at last Refused clean is = ap (λ (s : Site Queue Disk). s.state.dirty) is ∙ clean
-
-works_clean : (device : BlockDevice) (fault : Option Fault) (start last : Site Queue Disk) (ending : Ending)
-    → start.state.dirty ≡ false → Works queue_kind (exact_device device) fault start ending last
-    → last.state.dirty ≡ false
-works_clean device (Some fault) start last ending clean h =
-    ap (λ (s : Site Queue Disk). s.state.dirty) h.1 ∙ clean
-works_clean device None start last ending clean h =
-    stop_clean device h.at last ending (passes_clean device start h.at h.chains clean h.serves) h.stands
-
-service_clean : (device : BlockDevice) (old new : Site Queue Disk) (ending : Ending) (wanted : Bool)
-    → old.state.dirty ≡ false → IsService queue_kind (exact_device device) old new ending wanted
-    → new.state.dirty ≡ false
-service_clean device old new ending wanted clean h =
-    ap (λ (s : Site Queue Disk). s.state.dirty) h.closed
-    ∙ works_clean device _ (open_site queue_kind (exact_device device) old) h.last ending clean h.works
-
 notified_clean : (device : BlockDevice) (queue : Option Queue) (old new : Memory) (before after : WindowState)
     (s t : Disk) → s.dirty ≡ false
     → IsNotified (exact_device device) 0 queue old new before after s t → t.dirty ≡ false
-notified_clean device None old new before after s t clean h =
-    ap (λ (d : Disk). d.dirty) h.notified.1.state ∙ clean
-notified_clean device (Some queue) old new before after s t clean h =
-    service_clean device (record { memory = old; ring = queue; state = s })
-    (record { memory = new; ring = h.notified.last; state = t }) h.ending h.notified.wanted
-    clean h.notified.service
+notified_clean device queue old new before after s t clean h =
+    kept (exact_device device) (λ (m : Memory) (d : Disk). d.dirty ≡ false)
+    (record {
+      chain = λ start served serves stays.
+          exact_clean device start.state (readable_of start.memory served.buffers)
+          (length (writable_of served.buffers)) served.given stays serves.gives;
+      closed = λ memory ring d stays. stays;
+    })
+    0 queue h.ending old new before after s t h.notified clean
 
 -- ---- an event
 

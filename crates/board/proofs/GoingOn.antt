@@ -2,7 +2,7 @@
 use Rattle.std.proofs.Common.{◌≡◌, ◌∙◌, ℕ, List, Some, refl, ap}
 use Rattle.std.specs.List.{slice_get}
 use Rattle.board.specs.Line.{IsLine, IsQuiet, Move, RanOnBoth, events_of, own_events, own_records, records_of}
-use Rattle.board.specs.Machine.{IsTold}
+use Rattle.board.specs.Machine.{IsToldAlone}
 use Rattle.board.specs.Saved.{HasBytesOf, IsAs}
 use Rattle.board.specs.Slot.{BoardSlot, SlotState, state_of}
 use Rattle.board.specs.World.{World}
@@ -24,7 +24,7 @@ ran_on_both g old new old' new' moves moves' state line quiet line' quiet' there
     let second = alone g old' moves' new' line' quiet' first.last (same ∙ first.state_after) in
     record {
       last = second.last;
-      own = answers_join (IsTold g) state first.last second.last (own_events g (events_of moves))
+      own = answers_join (IsToldAlone g) state first.last second.last (own_events g (events_of moves))
           (own_events g (events_of moves')) (own_records g (records_of moves))
           (own_records g (records_of moves')) first.own second.own;
       state_after = second.state_after;

@@ -1,8 +1,6 @@
 -- An honest host serves the model's block device.
-use Rattle.std.proofs.Common.{◌≡◌, inl, inr, ℕ, Bool, true, false, Some, List, [], ◌∷◌, refl, sym, ◌∙◌, ap, subst, arith}
-use Rattle.std.specs.Prelude.{if◌then◌else◌}
+use Rattle.std.proofs.Common.{◌≡◌, inl, inr, ℕ, false, Some, List, [], ◌∷◌, sym, ◌∙◌, ap, subst, arith}
 use Rattle.std.proofs.lemmas.Option.{same_Some}
-use Rattle.guest_memory.specs.Memory.{Memory}
 use Rattle.chain.specs.declared.segment.Buffer.{Buffer}
 use Rattle.chain.specs.declared.segment.Segment.{Segment}
 use Rattle.mmio_window.specs.declared.device_kind.DeviceKind.{DeviceKind}
@@ -25,20 +23,20 @@ use Rattle.block_device.specs.Hosting.{HostsTo, IsGivenBack, StopsAt, at_disk, w
 use Rattle.block_device.proofs.Unasked.{honest_host_serves}
 use Rattle.board.specs.declared.event.EventKind.{EventKind}
 use Rattle.board.specs.declared.event.EventKind.TheVariants.{Read, Write, MemRead, MemWrite, Input, Resize, Restore, Complete}
-use Rattle.board.specs.declared.reply.Reply.TheVariants.{Bytes, BadRange}
 use Rattle.board.specs.declared.pause.Service.TheVariants as service
 use Rattle.board.specs.Honest.{AreOwn, IsFlown, IsHonestlyServed}
 use Rattle.board.specs.Hosting.{HostedOutcome, HostedState, InFlight, IsHostedNext, IsOwn, flight_by, in_rooms, is_block_task, must_wait, notifies_block, unlimited}
 use Rattle.board.specs.HostedLine.{HostedCall, IsHostedCourse, Told}
 use Rattle.board.specs.Image.{Health}
 use Rattle.board.specs.Machine.{at_rest, with_write}
-use Rattle.board.specs.Outcome.{Outcome, does, replies}
+use Rattle.board.specs.Outcome.{Outcome}
 use Rattle.board.specs.Pausing.{readied}
 use Rattle.board.specs.Slot.{SlotState}
 use Rattle.board.specs.Task.{Task, Nothing, Serve, PutOut, Finishes, device_of}
 use Rattle.board.specs.World.{MayGive}
 use Rattle.board.proofs.Flights.{keeps_all}
 use Rattle.board.proofs.Refusals.{Failed, Unput, Unread, Unsent, WasRefused, was_refused}
+use Rattle.board.proofs.Replies.{of_read, of_write}
 use Rattle.board.proofs.Waiting.{Beside, Lands, Looks, Rests, Stands, Waits, Way, outlasts, way}
 
 -- ---- the guest's own events leave the queue where it is
@@ -74,18 +72,6 @@ write_keeps A Console offset width value state free = keeps_all state.block
 same_keeps : (old new : WindowState) → new ≡ old → KeepsQueues old new
 same_keeps old new same = subst (λ (w : WindowState). KeepsQueues old w) (sym same) (keeps_all old)
 
-read_stays : (A : Type 0) (state : SlotState) (bytes : List ℕ) (inside : Bool)
-    → (if inside then replies {A = A} state (Bytes bytes) else replies state BadRange).state.block
-    ≡ state.block
-read_stays A state bytes true = refl
-read_stays A state bytes false = refl
-
-write_stays : (A : Type 0) (state : SlotState) (memory : Memory) (inside : Bool)
-    → (if inside then does {A = A} (record state { memory = memory }) else replies state BadRange).state.block
-    ≡ state.block
-write_stays A state memory true = refl
-write_stays A state memory false = refl
-
 given_keeps : {A : Type 0} (state : SlotState) (what : EventKind A) (outcome : Outcome A)
     → must_wait what ≡ false → notifies_block what state ≡ false → MayGive state what at_rest at_rest outcome
     → KeepsQueues state.block outcome.state.block
@@ -96,11 +82,11 @@ given_keeps {A} state (Write window offset width value) outcome free other (inl 
     (sym (finished_block _ _ at_rest at_rest outcome other served.alike))
     (write_keeps A window offset width value state free)
 given_keeps {A} state (MemRead addr len) outcome free other (inl served) =
-    same_keeps state.block outcome.state.block (ap (λ (o : Outcome A). o.state.block) served.alike.alike
-    ∙ read_stays A state _ _)
+    of_read (λ (o : Outcome A). KeepsQueues state.block o.state.block) state addr len outcome served.alike.alike
+    (keeps_all state.block) (keeps_all state.block)
 given_keeps {A} state (MemWrite addr bytes) outcome free other (inl served) =
-    same_keeps state.block outcome.state.block (ap (λ (o : Outcome A). o.state.block) served.alike.alike
-    ∙ write_stays A state _ _)
+    of_write (λ (o : Outcome A). KeepsQueues state.block o.state.block) state addr bytes outcome served.alike.alike
+    (keeps_all state.block) (keeps_all state.block)
 given_keeps {A} state (Input bytes) outcome free other (inl served) =
     same_keeps state.block outcome.state.block (ap (λ (o : Outcome A). o.state.block) served.alike.is)
 given_keeps {A} state (Resize cols rows) outcome free other (inl served) =

@@ -1,25 +1,24 @@
 -- No event changes an identity.
-use Rattle.std.proofs.Common.{◌≡◌, inl, inr, ℕ, Bool, true, false, Option, Some, None, List, [], ◌∷◌, length, refl, sym, ap, ◌∙◌}
-use Rattle.std.specs.Prelude.{if◌then◌else◌, MatchOption}
+use Rattle.std.proofs.Common.{◌≡◌, inl, inr, ℕ, Option, Some, None, List, [], ◌∷◌, refl, sym, ap, ◌∙◌}
+use Rattle.std.specs.Prelude.{MatchOption}
 use Rattle.std.specs.List.{slice_get}
 use Rattle.std.proofs.Math.Seq.{map-set_same}
-use Rattle.guest_memory.specs.Memory.{is_inside, part_of, put}
 use Rattle.mmio_window.specs.declared.device_kind.DeviceKind.{DeviceKind}
 use Rattle.mmio_window.specs.declared.device_kind.DeviceKind.TheVariants.{Block, Console}
 use Rattle.board.specs.declared.event.Event.{Event}
 use Rattle.board.specs.declared.event.EventKind.{EventKind}
 use Rattle.board.specs.declared.event.EventKind.TheVariants.{Read, Write, MemRead, MemWrite, Input, Resize, Restore, Complete}
-use Rattle.board.specs.declared.reply.Reply.TheVariants.{Bytes, BadRange}
 use Rattle.board.specs.declared.reply.Record.{Record}
 use Rattle.board.specs.declared.pause.Service.TheVariants as service
 use Rattle.board.specs.Image.{Health}
 use Rattle.board.specs.Line.{Move, IsLine}
 use Rattle.board.specs.Machine.{task_at, with_write, Gives}
-use Rattle.board.specs.Outcome.{Outcome, does, replies}
+use Rattle.board.specs.Outcome.{Outcome}
 use Rattle.board.specs.Slot.{SlotState}
 use Rattle.board.specs.Task.{Task, Nothing, Serve, PutOut, Finishes}
 use Rattle.board.specs.World.{World, MayGive, SlotStep, MissingStep, Step, identities_of}
 use Rattle.std.proofs.lemmas.Option.{get_or_from_slice_get}
+use Rattle.board.proofs.Replies.{of_read, of_write}
 use Rattle.board.proofs.Restoring.{restored_named}
 use Rattle.board.proofs.Refusals.{Failed, Unput, Unread, Unsent, WasRefused, was_refused}
 
@@ -43,19 +42,6 @@ finished_named (Serve service.Receive) state old new outcome h = named outcome _
 finished_named (Serve service.Transmit) state old new outcome h = named outcome _ h.is
 finished_named (PutOut byte) state old new outcome h = named outcome _ h.alike
 
--- an access to memory, whether or not it lies in it
-read_named : (A : Type 0) (state : SlotState) (addr len : ℕ) (inside : Bool)
-    → (if inside then replies {A = A} state (Bytes (part_of state.memory addr len)) else replies state
-    BadRange).state.identity ≡ state.identity
-read_named A state addr len true = refl
-read_named A state addr len false = refl
-
-put_named : (A : Type 0) (state : SlotState) (addr : ℕ) (bytes : List ℕ) (inside : Bool)
-    → (if inside then does {A = A} (record state { memory = put state.memory addr bytes }) else replies state
-    BadRange).state.identity ≡ state.identity
-put_named A state addr bytes true = refl
-put_named A state addr bytes false = refl
-
 -- an event of the slot
 served_named : {A : Type 0} (state : SlotState) (what : EventKind A) (old new : Health) (outcome : Outcome A)
     → Gives state what old new outcome → outcome.state.identity ≡ state.identity
@@ -63,10 +49,10 @@ served_named state (Read window offset width) old new outcome h = named outcome 
 served_named state (Write window offset width value) old new outcome h =
     finished_named (task_at window offset width value state) (with_write window offset width value state) old
     new outcome h ∙ write_named window offset width value state
-served_named {A} state (MemRead addr len) old new outcome h = named outcome _ h.alike
-    ∙ read_named A state addr len (is_inside state.memory addr len)
-served_named {A} state (MemWrite addr bytes) old new outcome h = named outcome _ h.alike
-    ∙ put_named A state addr bytes (is_inside state.memory addr (length bytes))
+served_named {A} state (MemRead addr len) old new outcome h =
+    of_read (λ (o : Outcome A). o.state.identity ≡ state.identity) state addr len outcome h.alike refl refl
+served_named {A} state (MemWrite addr bytes) old new outcome h =
+    of_write (λ (o : Outcome A). o.state.identity ≡ state.identity) state addr bytes outcome h.alike refl refl
 served_named state (Input bytes) old new outcome h = named outcome _ h.is
 served_named state (Resize cols rows) old new outcome h = named outcome _ h.alike
 served_named state (Restore bytes) old new outcome h = restored_named state bytes outcome h.alike

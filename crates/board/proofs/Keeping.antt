@@ -7,9 +7,8 @@ use Rattle.std.specs.Option.{option_map}
 use Rattle.guest_memory.specs.Memory.{Memory, SameRange, put, put_num}
 use Rattle.guest_memory.proofs.Ranges.{put_range, same_trans}
 use Rattle.byteorder.specs.Endian.{little_bytes}
-use Rattle.chain.specs.declared.fault.Fault.{Fault}
 use Rattle.chain.specs.Bytes.{readable_of, writable_of}
-use Rattle.chain.specs.Service.{Entry, Given, Device, Site, Served, Ending, Spent, Faulted, Refused, scattered, used_len, wrote, after, ServesAll, stop, Works, open_site, IsService}
+use Rattle.chain.specs.Service.{Entry, Given, Device, Site, Served, Ending, Refused, scattered, used_len, wrote, after, ServesAll}
 use Rattle.sector_cache.specs.Disk.{Disk, written}
 use Rattle.sector_cache.specs.Sector.{with_sector}
 use Rattle.sector_cache.proofs.Sectors.{length-with_sector}
@@ -45,6 +44,7 @@ use Rattle.board.specs.Slot.{SlotState, KeepsBesideDisk, KeepsBesideTransmit}
 use Rattle.board.specs.Task.{task_of, emergency_write, device_of}
 use Rattle.board.specs.World.{World, IsFailedService, IsRefusedTransmit, IsCutShort, IsRefused, MayGive, SlotStep, MissingStep, Step, KeepsBoard}
 use Rattle.board.proofs.Beside.{same_range}
+use Rattle.board.proofs.Chains.{kept}
 use Rattle.board.proofs.Lists.{get_set, set_same}
 use Rattle.board.proofs.Refusals.{Failed, Unput, Unread, Unsent, WasRefused, was_refused}
 
@@ -201,97 +201,37 @@ gives_many n device disk readable (suc room) given small many h =
 
 -- ---- a service of a queue
 
-module _ {State : Type 0} (device : Device State) where
-  -- along its chains the memory keeps its range
-  passes_range : (start at : Site Queue State) (chains : List (Served State))
-      → ServesAll queue_kind device start chains at → SameRange start.memory at.memory
-  passes_range start at [] p =
-      subst (λ (s : Site Queue State). SameRange start.memory s.memory) p (same_range start.memory)
-  passes_range start at (s ∷ chains) p =
-      let next : Site Queue State = after queue_kind device start s in
-      let written : Memory = scattered start.memory (writable_of s.buffers) s.given.written in
-      same_trans start.memory next.memory at.memory
-      (same_trans start.memory written next.memory
-      (scattered_range start.memory (writable_of s.buffers) s.given.written)
-      (used_range written start.ring s.entry (used_len s.given.written) (wrote s.given.written)))
-      (passes_range next at chains p.1)
+-- along it the memory keeps its range
+notified_range : {State : Type 0} (device : Device State) (q : ℕ) (queue : Option Queue) (ending : Ending)
+    (old new : Memory) (before after : WindowState) (s t : State)
+    → Notified device q queue ending old new before after s t → SameRange old new
+notified_range {State} device q queue ending old new before after s t h =
+    kept device (λ (m : Memory) (d : State). SameRange old m)
+    (record {
+      chain = λ start served serves same.
+          let written = scattered start.memory (writable_of served.buffers) served.given.written in
+          same_trans old start.memory _ same
+          (same_trans start.memory written _
+          (scattered_range start.memory (writable_of served.buffers) served.given.written)
+          (used_range written start.ring served.entry (used_len served.given.written)
+          (wrote served.given.written)));
+      closed = λ memory ring d same. same_trans old memory _ same (closed_range memory ring);
+    })
+    q queue ending old new before after s t h (same_range old)
 
-  stop_range : (start : Memory) (at last : Site Queue State) (ending : Ending) → SameRange start at.memory
-      → last ≡ stop queue_kind device at ending → SameRange start last.memory
-  stop_range start at last Spent same is =
-      subst (λ (s : Site Queue State). SameRange start s.memory) (sym is) same
-  stop_range start at last (Faulted fault) same is =
-      subst (λ (s : Site Queue State). SameRange start s.memory) (sym is) same
-  stop_range start at last Refused same is =
-      subst (λ (s : Site Queue State). SameRange start s.memory) (sym is) same
-
-  works_range : (fault : Option Fault) (start last : Site Queue State) (ending : Ending)
-      → Works queue_kind device fault start ending last → SameRange start.memory last.memory
-  works_range (Some fault) start last ending h =
-      subst (λ (s : Site Queue State). SameRange start.memory s.memory) (sym h.1) (same_range start.memory)
-  works_range None start last ending h =
-      stop_range start.memory h.at last ending (passes_range start h.at h.chains h.serves) h.stands
-
-  service_range : (old new : Site Queue State) (ending : Ending) (wanted : Bool)
-      → IsService queue_kind device old new ending wanted → SameRange old.memory new.memory
-  service_range old new ending wanted h =
-      let worked = works_range _ (open_site queue_kind device old) h.last ending h.works in
-      subst (λ (s : Site Queue State). SameRange old.memory s.memory) (sym h.closed)
-      (same_trans old.memory h.last.memory _ worked (closed_range h.last.memory h.last.ring))
-
-  notified_range : (q : ℕ) (queue : Option Queue) (ending : Ending) (old new : Memory)
-      (before after : WindowState) (s t : State) → Notified device q queue ending old new before after s t
-      → SameRange old new
-  notified_range q None ending old new before after s t h =
-      subst (λ (m : Memory). SameRange old m) (sym h.1.memory) (same_range old)
-  notified_range q (Some queue) ending old new before after s t h =
-      service_range (record { memory = old; ring = queue; state = s })
-      (record { memory = new; ring = h.last; state = t }) ending h.wanted h.service
-
--- along the requests of the block device the disk tells as many bytes as before
-passes_many : (n : ℕ) (device : BlockDevice) (start at : Site Queue Disk) (chains : List (Served Disk))
-    → 512 * device.extent.count ≤ n → TellsMany n start.state
-    → ServesAll queue_kind (block_device device) start chains at → TellsMany n at.state
-passes_many n device start at [] small many p = subst (λ (s : Site Queue Disk). TellsMany n s.state) p many
-passes_many n device start at (s ∷ chains) small many p =
-    passes_many n device (after queue_kind (block_device device) start s) at chains small
-    (gives_many n device start.state (readable_of start.memory s.buffers) (length (writable_of s.buffers))
-    s.given small many p.0.gives) p.1
-
-stop_many : (n : ℕ) (device : BlockDevice) (at last : Site Queue Disk) (ending : Ending)
-    → TellsMany n at.state → last ≡ stop queue_kind (block_device device) at ending → TellsMany n last.state
-stop_many n device at last Spent many is = subst (λ (s : Site Queue Disk). TellsMany n s.state) (sym is) many
-stop_many n device at last (Faulted fault) many is =
-    subst (λ (s : Site Queue Disk). TellsMany n s.state) (sym is) many
-stop_many n device at last Refused many is =
-    subst (λ (s : Site Queue Disk). TellsMany n s.state) (sym is) many
-
-works_many : (n : ℕ) (device : BlockDevice) (fault : Option Fault) (start last : Site Queue Disk)
-    (ending : Ending) → 512 * device.extent.count ≤ n → TellsMany n start.state
-    → Works queue_kind (block_device device) fault start ending last → TellsMany n last.state
-works_many n device (Some fault) start last ending small many h =
-    subst (λ (s : Site Queue Disk). TellsMany n s.state) (sym h.1) many
-works_many n device None start last ending small many h =
-    stop_many n device h.at last ending
-    (passes_many n device start h.at h.chains small many h.serves) h.stands
-
-service_many : (n : ℕ) (device : BlockDevice) (old new : Site Queue Disk) (ending : Ending) (wanted : Bool)
-    → 512 * device.extent.count ≤ n → TellsMany n old.state
-    → IsService queue_kind (block_device device) old new ending wanted → TellsMany n new.state
-service_many n device old new ending wanted small many h =
-    subst (λ (s : Site Queue Disk). TellsMany n s.state) (sym h.closed)
-    (works_many n device _ (open_site queue_kind (block_device device) old) h.last ending
-    small many h.works)
-
+-- and along the requests of the block device the disk tells as many bytes as before
 notified_many : (n : ℕ) (device : BlockDevice) (queue : Option Queue) (old new : Memory)
     (before after : WindowState) (s t : Disk) → 512 * device.extent.count ≤ n → TellsMany n s
     → IsNotified (block_device device) 0 queue old new before after s t → TellsMany n t
-notified_many n device None old new before after s t small many h =
-    subst (λ (d : Disk). TellsMany n d) (sym h.notified.1.state) many
-notified_many n device (Some queue) old new before after s t small many h =
-    service_many n device (record { memory = old; ring = queue; state = s })
-    (record { memory = new; ring = h.notified.last; state = t }) h.ending h.notified.wanted small
-    many h.notified.service
+notified_many n device queue old new before after s t small many h =
+    kept (block_device device) (λ (m : Memory) (d : Disk). TellsMany n d)
+    (record {
+      chain = λ start served serves tells.
+          gives_many n device start.state (readable_of start.memory served.buffers)
+          (length (writable_of served.buffers)) served.given small tells serves.gives;
+      closed = λ memory ring d tells. tells;
+    })
+    0 queue h.ending old new before after s t h.notified many
 
 -- ---- an event
 

@@ -9,6 +9,7 @@ pub mod Seats
 pub mod Steps
 pub mod Alone
 pub mod Refusals
+pub mod Chains
 pub mod Replies
 pub mod Failures
 pub mod Durable

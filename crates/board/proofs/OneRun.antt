@@ -22,7 +22,7 @@ use Rattle.board.specs.declared.reply.Reply.TheVariants.{Done, Took}
 use Rattle.board.specs.declared.reply.Record.{Record}
 use Rattle.board.specs.declared.pause.Service.TheVariants.{Block, Receive, Transmit}
 use Rattle.board.specs.Image.{Health, disk_with}
-use Rattle.board.specs.Machine.{task_at, with_write, with_input, Gives, IsNext, IsTold, RunsOnItsOwn, record_of, at_rest}
+use Rattle.board.specs.Machine.{task_at, with_write, with_input, Gives, IsNext, IsToldAlone, RunsOnItsOwn, record_of, at_rest}
 use Rattle.board.specs.Outcome.{Outcome, replies, does}
 use Rattle.board.specs.Slot.{SlotState}
 use Rattle.board.specs.Task.{Task, Nothing, Serve, PutOut, device_of, IsBlockService, IsReceiveService, IsTransmitService, Finishes}
@@ -234,7 +234,7 @@ next_once state (Restore bytes) one other a b =
 next_once state (Complete verdict) one other a b = a.gives.alike ∙ sym b.gives.alike
 
 told_once : {A : Type 0} (g : ℕ) (state one other : SlotState) (what : EventKind A) (p q : Record A)
-    → IsTold g state what p one → IsTold g state what q other → (p ≡ q) × (one ≡ other)
+    → IsToldAlone g state what p one → IsToldAlone g state what q other → (p ≡ q) × (one ≡ other)
 told_once {A} g state one other what p q x y =
     let same = next_once state what x.outcome y.outcome x.is_next y.is_next in (
       x.recorded ∙ (ap (λ (o : Outcome A). record_of g o) same ∙ sym y.recorded),
@@ -246,4 +246,4 @@ pub one_run : {A : Type 0} (g : ℕ) (state one other : SlotState) (events : Lis
     (records records' : List (Record A)) → RunsOnItsOwn g state events records one
     → RunsOnItsOwn g state events records' other → (records ≡ records') × (one ≡ other)
 one_run g state one other events records records' a b =
-    one_course (IsTold g) (told_once g) state events records records' one other a b
+    one_course (IsToldAlone g) (told_once g) state events records records' one other a b

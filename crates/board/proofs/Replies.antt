@@ -1,6 +1,7 @@
 -- Which replies an event of a slot may get.
-use Rattle.std.proofs.Common.{◌≡◌, inl, inr, ℕ, Bool, true, false, List, sym, ap, subst}
+use Rattle.std.proofs.Common.{◌≡◌, inl, inr, ℕ, Bool, true, false, List, length, sym, ap, subst}
 use Rattle.std.specs.Prelude.{if◌then◌else◌}
+use Rattle.guest_memory.specs.Memory.{is_inside, part_of, put}
 use Rattle.mmio_window.specs.declared.device_kind.DeviceKind.{DeviceKind}
 use Rattle.board.specs.declared.event.EventKind.{EventKind}
 use Rattle.board.specs.declared.event.EventKind.TheVariants.{Read, Write, MemRead, MemWrite, Input, Resize, Restore, Complete}
@@ -8,7 +9,8 @@ use Rattle.board.specs.declared.reply.Reply.{Reply}
 use Rattle.board.specs.declared.reply.Reply.TheVariants.{Done, Bytes, BadRange, BadSlot, BadState, Busy, Idle, NoMemory}
 use Rattle.board.specs.declared.pause.Service.TheVariants.{Block, Receive, Transmit}
 use Rattle.board.specs.Image.{Health}
-use Rattle.board.specs.Outcome.{Outcome, replies}
+use Rattle.board.specs.Machine.{memory_read, memory_written}
+use Rattle.board.specs.Outcome.{Outcome, does, replies}
 use Rattle.board.specs.Replies.{MayReply}
 use Rattle.board.specs.Restoring.{IsRestoring}
 use Rattle.board.specs.Slot.{SlotState}
@@ -29,17 +31,27 @@ by_reply : {A : Type 0} (what : EventKind A) (reply told : Reply A) → reply �
     → MayReply what reply
 by_reply {A} what reply told is may = subst (λ (r : Reply A). MayReply what r) (sym is) may
 
-read_replies : (A : Type 0) (state : SlotState) (addr len : ℕ) (bytes : List ℕ) (inside : Bool)
-    → MayReply {A = A} (MemRead addr len) (if inside then replies {A = A} state (Bytes bytes) else replies
-    state BadRange).reply
-read_replies A state addr len bytes true = tt
-read_replies A state addr len bytes false = tt
+-- what holds of an access to memory, whether or not it lies in it
+of_access : {A : Type 0} (P : Outcome A → Type 0) (state : SlotState) (hit : Outcome A) (inside : Bool)
+    (outcome : Outcome A) → outcome ≡ (if inside then hit else replies state BadRange) → P hit
+    → P (replies state BadRange) → P outcome
+of_access P state hit true outcome is h missed = subst P (sym is) h
+of_access P state hit false outcome is h missed = subst P (sym is) missed
 
-write_replies : (A : Type 0) (state after : SlotState) (addr : ℕ) (bytes : List ℕ) (inside : Bool)
-    → MayReply {A = A} (MemWrite addr bytes)
-    (if inside then replies {A = A} after Done else replies state BadRange).reply
-write_replies A state after addr bytes true = tt
-write_replies A state after addr bytes false = tt
+pub of_read : {A : Type 0} (P : Outcome A → Type 0) (state : SlotState) (addr len : ℕ) (outcome : Outcome A)
+    → outcome ≡ memory_read state addr len → P (replies state (Bytes (part_of state.memory addr len)))
+    → P (replies state BadRange) → P outcome
+of_read P state addr len outcome =
+    of_access P state (replies state (Bytes (part_of state.memory addr len)))
+    (is_inside state.memory addr len) outcome
+
+pub of_write : {A : Type 0} (P : Outcome A → Type 0) (state : SlotState) (addr : ℕ) (bytes : List ℕ)
+    (outcome : Outcome A) → outcome ≡ memory_written state addr bytes
+    → P (does (record state { memory = put state.memory addr bytes }))
+    → P (replies state BadRange) → P outcome
+of_write P state addr bytes outcome =
+    of_access P state (does (record state { memory = put state.memory addr bytes }))
+    (is_inside state.memory addr (length bytes)) outcome
 
 restore_replies : {A : Type 0} (state : SlotState) (bytes : List ℕ) (outcome : Outcome A)
     → IsRestoring state bytes outcome → MayReply (Restore bytes) outcome.reply
@@ -66,9 +78,10 @@ given_replies state (Write window offset width value) old new outcome (inl serve
     by_reply (Write window offset width value) outcome.reply Done
     (finished_done _ _ old new outcome served.alike) tt
 given_replies {A} state (MemRead addr len) old new outcome (inl served) =
-    rw served.alike.alike (read_replies A state addr len _ _)
+    of_read (λ (o : Outcome A). MayReply (MemRead addr len) o.reply) state addr len outcome served.alike.alike tt tt
 given_replies {A} state (MemWrite addr bytes) old new outcome (inl served) =
-    rw served.alike.alike (write_replies A state _ addr bytes _)
+    of_write (λ (o : Outcome A). MayReply (MemWrite addr bytes) o.reply) state addr bytes outcome served.alike.alike tt
+    tt
 given_replies {A} state (Input bytes) old new outcome (inl served) =
     rw (ap (λ (o : Outcome A). o.reply) served.alike.is) tt
 given_replies state (Resize cols rows) old new outcome (inl served) = rw served.alike.alike tt

@@ -2,8 +2,9 @@
 -- is answered.
 use Rattle.std.proofs.Common.{◌≡◌, ◌≢◌, ◌⊎◌, ◌↔◌, inl, inr, ℕ, eqb, true, false, List, [], ◌∷◌, ◌++◌, map, refl, sym, ◌∙◌, subst}
 use Rattle.std.specs.Prelude.{⊤}
+use Rattle.std.specs.List.{AllByRecursion}
 use Rattle.std.proofs.lemmas.Bool.Decides.{eqb_tells}
-use Rattle.board.specs.Steps.{Each, HoldsAlong, IsAnsweredBy, LeadTo, own_steps}
+use Rattle.board.specs.Steps.{HoldsAlong, IsAnsweredBy, LeadTo, own_steps}
 
 module _ {S M : Type 0} (IsStep : S → M → Type 0) (after : M → S) where
   -- two lines, the second from where the first ends, are one
@@ -18,7 +19,7 @@ module _ {S M : Type 0} (IsStep : S → M → Type 0) (after : M → S) where
   pub kept_along : (Keeps : S → Type 0) (Holds : M → Type 0)
       → ((old : S) (step : M) → IsStep old step → Keeps old → Holds step × Keeps (after step))
       → (old : S) (steps : List M) (new : S) → LeadTo IsStep after old steps new → Keeps old
-      → Each Holds steps × Keeps new
+      → AllByRecursion Holds steps × Keeps new
   kept_along Keeps Holds each old [] new line keeps = (tt, subst Keeps (sym line) keeps)
   kept_along Keeps Holds each old (step ∷ steps) new line keeps =
       let first = each old step line.0 keeps in
@@ -26,7 +27,7 @@ module _ {S M : Type 0} (IsStep : S → M → Type 0) (after : M → S) where
       ((first.0, rest.0), rest.1)
 
   -- what holds of each step holds along the steps
-  pub each_along : (Holds : M → Type 0) (old : S) (steps : List M) → Each Holds steps
+  pub each_along : (Holds : M → Type 0) (old : S) (steps : List M) → AllByRecursion Holds steps
       → HoldsAlong (λ was step. Holds step) after old steps
   each_along Holds old [] each = tt
   each_along Holds old (step ∷ steps) each = (each.0, each_along Holds (after step) steps each.1)

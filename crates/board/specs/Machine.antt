@@ -130,7 +130,7 @@ record_of g outcome = record {
 }
 
 -- guest g, alone in this state, does this: what comes of it, the record of that, and the state after it
-pub record IsTold {A : Type 0} (g : ℕ) (state : SlotState) (what : EventKind A) (written : Record A)
+pub record IsToldAlone {A : Type 0} (g : ℕ) (state : SlotState) (what : EventKind A) (written : Record A)
     (after : SlotState) : Type 0 where
   pub outcome : Outcome A
   pub is_next : IsNext state what outcome
@@ -141,4 +141,4 @@ pub record IsTold {A : Type 0} (g : ℕ) (state : SlotState) (what : EventKind A
 -- afterwards is the last one.
 abbrev pub RunsOnItsOwn : {A : Type 0} → ℕ → SlotState → List (EventKind A) → List (Record A) → SlotState
     → Type 0
-RunsOnItsOwn g state events records last = IsAnsweredBy (IsTold g) state events records last
+RunsOnItsOwn g state events records last = IsAnsweredBy (IsToldAlone g) state events records last

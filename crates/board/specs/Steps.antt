@@ -11,11 +11,6 @@ abbrev pub HoldsAlong : {S M : Type 0} → (S → M → Type 0) → (M → S) �
 HoldsAlong Holds after old [] = ⊤
 HoldsAlong Holds after old (step ∷ steps) = Holds old step × HoldsAlong Holds after (after step) steps
 
--- this holds of each step, whatever the state
-abbrev pub Each : {M : Type 0} → (M → Type 0) → List M → Type 0
-Each Holds [] = ⊤
-Each Holds (step ∷ steps) = Holds step × Each Holds steps
-
 -- the steps of guest g, in order
 abbrev pub own_steps : {M : Type 0} → (M → ℕ) → ℕ → List M → List M
 own_steps slot_of g steps = filter (λ step. slot_of step == g) steps

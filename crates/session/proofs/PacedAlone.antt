@@ -13,7 +13,7 @@ use Rattle.board.specs.declared.reply.Reply.{Reply}
 use Rattle.board.specs.declared.reply.Reply.TheVariants.{NoMemory}
 use Rattle.board.specs.declared.reply.Record.{Record}
 use Rattle.board.specs.Image.{Health}
-use Rattle.board.specs.Machine.{IsNext, IsTold, RunsOnItsOwn, record_of}
+use Rattle.board.specs.Machine.{IsNext, IsToldAlone, RunsOnItsOwn, record_of}
 use Rattle.board.specs.Outcome.{Outcome}
 use Rattle.board.specs.Pausing.{Begins, GoesOn, TurnsTo, asked, readied, reply_of}
 use Rattle.board.specs.Slot.{SlotState}
@@ -183,7 +183,7 @@ pub data OwnMove {A : Type 0} (g : ℕ) (state : SlotState) (begun : Option (Beg
       → OwnMove g state begun call response move
   Ended :
       (event : Begun A) → Serves g begun call response event → (reply : Reply A) → response ≡ Answered reply
-      → (last : SlotState) → IsTold g state event.what (record_at g event.out move reply) last
+      → (last : SlotState) → IsToldAlone g state event.what (record_at g event.out move reply) last
       → Sits {A = A} g last None move.after → OwnMove g state begun call response move
 
 module _ {A : Type 0} (budget : Budget) (old : PacedWorld) (move : Move A) (state : SlotState)
@@ -324,7 +324,7 @@ stalled_told g out move More rest stalled = absurd stalled
 stalled_told g out move Busy rest stalled = refl
 stalled_told g out move Idle rest stalled = refl
 
-run_as : {A : Type 0} (g : ℕ) (state last : SlotState) (events events' : List (EventKind A))
+pub run_as : {A : Type 0} (g : ℕ) (state last : SlotState) (events events' : List (EventKind A))
     (records records' : List (Record A)) → events' ≡ events → records' ≡ records
     → RunsOnItsOwn g state events records last → RunsOnItsOwn g state events' records' last
 run_as g state last events events' records records' p q own = rw (p, q) own

@@ -4,7 +4,6 @@ use Rattle.std.specs.Prelude.{slice_set}
 use Rattle.std.specs.List.{slice_get}
 use Rattle.std.proofs.lemmas.Bool.{cases_eq}
 use Rattle.chain.specs.declared.budget.Budget.{Budget}
-use Rattle.board.specs.declared.event.EventKind.{EventKind}
 use Rattle.board.specs.declared.pause.Pause.{Pause}
 use Rattle.board.specs.declared.pause.Turn.{Turn}
 use Rattle.board.specs.declared.pause.Turn.TheVariants as turn
@@ -23,7 +22,7 @@ use Rattle.session.specs.Pacing.{Call, Handle, GoOn, Move, slot_in}
 use Rattle.session.specs.Pacing as pacing
 use Rattle.board.proofs.Lists.{get_set}
 use Rattle.board.proofs.Steps.{Passes, alone, each_along, kept_along}
-use Rattle.session.proofs.PacedAlone.{Begun, Ended, IsStalled, OwnMove, Sits, Stayed, WentOn, events_from, events_of_others, others_at, others_move, out_of, own_move}
+use Rattle.session.proofs.PacedAlone.{Begun, Ended, IsStalled, OwnMove, Sits, Stayed, WentOn, events_from, events_of_others, others_at, others_move, out_of, own_move, run_as}
 use Rattle.session.specs.Course.{SessionStep, HadRoom, Happens, IsCalled, IsCourse, IsTaken, NeverPauses, RunsAlone, ended_by, events_begun, output_taken, paced_world_of, put_out, replies_ended}
 use Rattle.session.specs.Pausing.{ComesTo, IsCall, IsTurn}
 use Rattle.session.specs.Session.{KeepsOtherOutputs, SessionState, Waiting, limit_of, output_of, world_of}
@@ -172,11 +171,6 @@ sits_at g state begun old new world paused sits =
       paused = ap (λ (ps : List (Option Pause)). slice_get ps g) paused;
     }) sits
 
-run_from : {A : Type 0} (g : ℕ) (state last : SlotState) (events events' : List (EventKind A))
-    (records : List (Record A)) → events' ≡ events → RunsOnItsOwn g state events records last
-    → RunsOnItsOwn g state events' records last
-run_from g state last events events' records same own = rw same own
-
 module _ {A : Type 0} (new : SessionState) where
   abbrev Passing : ℕ → Place A → SessionStep A → Type 0
   Passing g place step = Passes Happens after_step (slot_of slot_in) SitsIn (Comes new) g place step
@@ -189,7 +183,7 @@ module _ {A : Type 0} (new : SessionState) where
     records = c.records;
     later = c.later;
     last = c.last;
-    own = run_from g place.state c.last _ _ c.records (ap (events_from place.begun) events) c.own;
+    own = run_as g place.state c.last _ _ c.records c.records (ap (events_from place.begun) events) refl c.own;
     replies = replies ∙ c.replies;
     puts = c.puts;
     output = c.output ∙ ap (λ (l : List ℕ). l ++ output_of g new) (sym taken);
@@ -227,8 +221,8 @@ module _ {A : Type 0} (new : SessionState) where
           records = c.records;
           later = s.output ++ c.later;
           last = c.last;
-          own = run_from (slot_in call) place.state c.last _ _ c.records
-              (serves.events (events_begun (slot_in call) steps)) c.own;
+          own = run_as (slot_in call) place.state c.last _ _ c.records c.records
+              (serves.events (events_begun (slot_in call) steps)) refl c.own;
           replies = rw (test, said) c.replies;
           puts = rw (serves.out) (c.puts ∙ append_assoc event.out s.output c.later);
           output = sym (append_assoc place.waiting s.output c.later) ∙ c.output;
@@ -245,8 +239,9 @@ module _ {A : Type 0} (new : SessionState) where
           records = written ∷ c.records;
           later = s.output ++ c.later;
           last = c.last;
-          own = run_from (slot_in call) place.state c.last (event.what ∷ events_begun (slot_in call) steps) _
-              (written ∷ c.records) (serves.events (events_begun (slot_in call) steps)) (last, told, c.own);
+          own = run_as (slot_in call) place.state c.last (event.what ∷ events_begun (slot_in call) steps) _
+              (written ∷ c.records) _ (serves.events (events_begun (slot_in call) steps)) refl
+              (last, told, c.own);
           replies = rw (test, said) (ap (λ (rs : List (Reply A)). reply ∷ rs) c.replies);
           puts = rw (serves.out) (ap (λ (l : List ℕ). (event.out ++ s.output) ++ l) c.puts
               ∙ append_assoc event.out s.output c.later);

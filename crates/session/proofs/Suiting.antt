@@ -1,6 +1,6 @@
 -- Which replies an event may get, and what it then puts out.
-use Rattle.std.proofs.Common.{◌≡◌, inl, inr, ℕ, Bool, true, false, List, [], ◌++◌, Option, Some, None, refl, sym, ◌∙◌, ap, subst, append-nil}
-use Rattle.std.specs.Prelude.{if◌then◌else◌, MatchOption}
+use Rattle.std.proofs.Common.{◌≡◌, inl, inr, ℕ, List, [], ◌++◌, Option, Some, None, refl, sym, ◌∙◌, ap, subst, append-nil}
+use Rattle.std.specs.Prelude.{MatchOption}
 use Rattle.std.specs.List.{slice_get}
 use Rattle.chain.specs.declared.budget.Budget.{Budget}
 use Rattle.board.specs.declared.event.Event.{Event}
@@ -13,12 +13,12 @@ use Rattle.board.specs.declared.reply.Reply.TheVariants.{Done, Bytes, BadSlot, B
 use Rattle.board.specs.declared.reply.Record.{Record}
 use Rattle.board.specs.Image.{Health}
 use Rattle.board.specs.declared.reply.Reply.TheVariants as reply
-use Rattle.board.specs.Outcome.{Outcome, replies}
+use Rattle.board.specs.Outcome.{Outcome}
 use Rattle.board.specs.Replies.{MayReply}
 use Rattle.board.specs.Pausing.{Begins}
 use Rattle.board.specs.Slot.{SlotState}
 use Rattle.board.specs.World.{World, Answers, MayGive, MissingStep, SlotStep}
-use Rattle.board.proofs.Replies.{given_replies}
+use Rattle.board.proofs.Replies.{given_replies, of_read, of_write}
 use Rattle.session.specs.declared.response.Response.TheVariants.{More}
 use Rattle.session.specs.Pacing.{response_to}
 use Rattle.session.specs.Answering.{Suits, SuitsCall}
@@ -63,26 +63,16 @@ suits {A} {old} {event} {reply} {before} {after} {new} answers =
 
 -- ---- what is refused for its range puts nothing out
 
-read_is_silent : (A : Type 0) (state : SlotState) (bytes : List ℕ) (inside : Bool)
-    → (if inside then replies {A = A} state (Bytes bytes) else replies state BadRange).output ≡ []
-read_is_silent A state bytes true = refl
-read_is_silent A state bytes false = refl
-
-write_is_silent : (A : Type 0) (state after : SlotState) (inside : Bool)
-    → (if inside then replies {A = A} after Done else replies state BadRange).output ≡ []
-write_is_silent A state after true = refl
-write_is_silent A state after false = refl
-
 given_silent : {A : Type 0} (state : SlotState) (what : EventKind A) (old new : Health) (outcome : Outcome A)
     → MayReply what BadRange → MayGive state what old new outcome → outcome.output ≡ []
 given_silent state (Read window offset width) old new outcome may h = absurd may
 given_silent state (Write window offset width value) old new outcome may h = absurd may
 given_silent {A} state (MemRead addr len) old new outcome may (inl served) =
-    ap (λ (o : Outcome A). o.output) served.alike.alike ∙ read_is_silent A state _ _
+    of_read (λ (o : Outcome A). o.output ≡ []) state addr len outcome served.alike.alike refl refl
 given_silent {A} state (MemRead addr len) old new outcome may (inr unread) =
     ap (λ (o : Outcome A). o.output) unread.unchanged
 given_silent {A} state (MemWrite addr bytes) old new outcome may (inl served) =
-    ap (λ (o : Outcome A). o.output) served.alike.alike ∙ write_is_silent A state _ _
+    of_write (λ (o : Outcome A). o.output ≡ []) state addr bytes outcome served.alike.alike refl refl
 given_silent state (MemWrite addr bytes) old new outcome may (inr never) = absurd never
 given_silent state (Input bytes) old new outcome may h = absurd may
 given_silent state (Resize cols rows) old new outcome may h = absurd may

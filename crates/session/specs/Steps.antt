@@ -1,7 +1,7 @@
 -- What happens to a session of either kind, one step after another, and what one guest has of it: its own
 -- steps.
 use Rattle.std.specs.Prelude.{◌≡◌, ℕ, ⊤, List}
-use Rattle.board.specs.Steps.{Each}
+use Rattle.std.specs.List.{AllByRecursion}
 
 -- Something that happened, and the session after it: a call was answered so, or these bytes of what a slot's
 -- console put out were taken, where there was room for so many.
@@ -47,4 +47,4 @@ IsAnsweredSo slot_in IsFair g (Took slot room bytes after) = ⊤
 
 -- what holds of each response to a call of guest g
 abbrev pub AreAnswered : {C R S : Type 0} → (C → ℕ) → (R → Type 0) → ℕ → List (CourseStep C R S) → Type 0
-AreAnswered slot_in IsFair g steps = Each (IsAnsweredSo slot_in IsFair g) steps
+AreAnswered slot_in IsFair g steps = AllByRecursion (IsAnsweredSo slot_in IsFair g) steps
