@@ -22,7 +22,7 @@ abbrev pub joined : List Field → List ℕ
 joined [] = []
 joined (f ∷ fs) = f.bytes ++ joined fs
 
--- a field of a slot
+-- a field of a slot: wrong bytes are a choice that there isn't
 abbrev pub field : List ℕ → Field
 field bytes = record { bytes = bytes; wrong = Choice }
 
