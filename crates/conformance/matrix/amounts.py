@@ -1,4 +1,5 @@
-"""More than usual of what has no small limit: sectors of a request, bytes put out, looked at and typed, kept sectors, and cuts of a sector."""
+"""More than usual of what has no small limit: sectors of a request, bytes put out, looked at and typed, kept sectors,
+and buffers of a sector."""
 from .by_hand import written_out
 from .drivers import INDIRECT_DESC, KINDS, SERVED, WRITE, Buffer, Split, number
 from .places import shown
@@ -7,8 +8,9 @@ from .segments import IOERR, OK
 from .story import BADRANGE, BASE, SECTOR, USED, Slot, Story
 
 TITLE = "Amounts"
-HOW = ("Requests of more than 1,024 sectors, whose used length has bits from 20 up; a service that puts out more than 128 KiB; a memory of more than 1 MiB "
-       "looked at as a whole; caches of more than 256 sectors, full and more; a sector in up to 253 buffers; input that fills its 4096 bytes.")
+HOW = ("Requests of more than 1,024 sectors, whose used length has bits from 20 up; a service that puts out more than "
+       "128 KiB; a memory of more than 1 MiB, looked at as a whole; caches of more than 256 sectors, full and more; a "
+       "sector in up to 253 buffers; input that fills its 4096 bytes.")
 COLUMNS = ("What", "How much")
 FOLDERS = {"amounts": "Larger amounts than drivers mostly have.",
            "amounts_cached": "Caches of more than 256 sectors that are full: which reads call the image."}
@@ -22,21 +24,25 @@ MIB = 1 << 20
 
 def stories():
     yield from shown("pending input that is full", "at 4095 bytes, by hand", [the_last_byte_of_input()])
-    yield from shown("sectors of a read, and the used len", "1,024 to 65,536; bits 20 to 25", map(reads, KINDS.values()))
+    yield from shown("sectors of a read, and the used len", "1,024 to 65,536; bits 20 to 25",
+                     map(reads, KINDS.values()))
     yield from shown("sectors of a write", "1,024 to 65,536", map(writes, KINDS.values()))
     yield from shown("sectors of 32 segments together", "65,536 to 196,608", [zeroes()])
     yield from shown("bytes put out in one service", "128 KiB and 1 MiB, and beside them", map(texts, KINDS.values()))
     yield from shown("bytes of `mr` and `mw`", "1 MiB, and a whole memory", [whole_memory()])
     yield from shown("kept sectors", "255 to 300", map(kept, (255, 256, 257, 300)))
     yield from shown("kept sectors", "4,097, 65,536", map(many_kept, (4097, 65536)))
-    yield from shown("buffers of a sector", "16 to 253", [one(kind) for one in (cut_reads, cut_writes) for kind in KINDS.values()])
+    yield from shown("buffers of a sector", "16 to 253",
+                     [one(kind) for one in (cut_reads, cut_writes) for kind in KINDS.values()])
     yield from shown("pending input that is full", "from each place of 4096 bytes", map(full, KINDS.values()))
     yield from shown("typed bytes", "4095 to 8192, where a queue waits", map(typed, KINDS.values()))
 
 
 def the_last_byte_of_input():
     """4095 bytes wait, then one of two more; a buffer of 4096 bytes takes them all."""
-    return written_out("amounts/the_last_byte_of_pending_input", "Of two bytes that are typed behind 4095 the first is taken, and no other until a buffer took them.", """
+    return written_out("amounts/the_last_byte_of_pending_input",
+                       "Of two bytes that are typed behind 4095 the first is taken, and no other until a buffer took "
+                       "them.", """
         in 0 {61*4095} > 0 took:fff - 0 0
         in 0 6263 > 0 took:1 - 0 0
         in 0 64 > 0 took:0 - 0 0
@@ -83,7 +89,8 @@ class Disk:
         queue.look_at_used(length, **({"count": len(chain)} if queue.is_packed else {}))
 
     def reads(self, sector, count, status=OK, length=None, at=DATA):
-        self.request(IN, status, SECTOR * count + 1 if length is None else length, sector, [Buffer(at, SECTOR * count, WRITE)])
+        self.request(IN, status, SECTOR * count + 1 if length is None else length, sector,
+                     [Buffer(at, SECTOR * count, WRITE)])
 
     def writes(self, sector, content, status=OK):
         self.queue.put(DATA, content)
@@ -104,9 +111,13 @@ def large_disk(name, about):
 
 def reads(kind):
     """A mark stands at the last sector of each read: it is read, and nothing behind it."""
-    story = large_disk(named(kind, "reads_of_1024_to_65536_sectors"), "Reads of 1,024 sectors and more: each byte of the used len counts, and the last sector is there.")
+    story = large_disk(named(kind, "reads_of_1024_to_65536_sectors"),
+                       "Reads of 1,024 sectors and more: each byte of the used len counts, and the last sector is "
+                       "there.")
     disk = Disk(story, kind)
-    counts = (1023, 1025, 2047, 2049, 43691) if kind.is_packed else (1024, 1025, 2047, 2048, 4096, 8192, 16384, 32768, 65536)
+    counts = (1024, 1025, 2047, 2048, 4096, 8192, 16384, 32768, 65536)
+    if kind.is_packed:
+        counts = (1023, 1025, 2047, 2049, 43691)
     for turn, count in enumerate(counts, 1):
         mark = number(0x5a00 + turn, 2)
         disk.writes(count - 1, mark + bytes(SECTOR - 2))
@@ -124,10 +135,13 @@ def reads(kind):
 
 def writes(kind):
     """A write's first and last sectors, and those at 1,023, 1,024 and 65,535, have marks; all others are zeros."""
-    story = large_disk(named(kind, "writes_of_1024_to_65536_sectors"), "Writes of 1,024 sectors and more are written up to the last one, and no further.")
+    story = large_disk(named(kind, "writes_of_1024_to_65536_sectors"),
+                       "Writes of 1,024 sectors and more are written up to the last one, and no further.")
     disk = Disk(story, kind)
-    for turn, (sector, count) in enumerate(((3, 1024), (3, 1025), (0, 2049), (16, 65535 if kind.is_packed else 65536)), 1):
-        marks = {at: number(0x6000 + 256 * turn + at % 251, 2) for at in (0, 1023, 1024, 1025, count - 2, count - 1) if at < count}
+    ranges = ((3, 1024), (3, 1025), (0, 2049), (16, 65535 if kind.is_packed else 65536))
+    for turn, (sector, count) in enumerate(ranges, 1):
+        marks = {at: number(0x6000 + 256 * turn + at % 251, 2) for at in (0, 1023, 1024, 1025, count - 2, count - 1)
+                 if at < count}
         disk.writes(sector + count - 1, b"\x77" * 2 + bytes(SECTOR - 2))
         if sector + count < MANY:
             disk.writes(sector + count, b"\x78" * 2 + bytes(SECTOR - 2))
@@ -147,10 +161,12 @@ def writes(kind):
 
 def zeroes():
     """Segments that have more sectors together than each may have."""
-    story = large_disk("amounts/segments_of_196608_sectors", "Segments of more than 65,536 sectors together: each is zeroed.")
+    story = large_disk("amounts/segments_of_196608_sectors",
+                       "Segments of more than 65,536 sectors together: each is zeroed.")
     disk = Disk(story, Split)
     marked = [0, 1, 2047, 2048, 32767, 65534, 65535, 65536, MANY - 1]
-    for segments in ([(0, 65535, 0), (65535, 2, 0)], [(1, 65536, 0), (0, 65536, 1), (16, 65536, 0)], [(2048 * at, 2049, 0) for at in range(32)]):
+    for segments in ([(0, 65535, 0), (65535, 2, 0)], [(1, 65536, 0), (0, 65536, 1), (16, 65536, 0)],
+                     [(2048 * at, 2049, 0) for at in range(32)]):
         for sector in marked:
             disk.writes(sector, b"\x55" + bytes(SECTOR - 1))
         disk.queue.put(HEADER + 16, b"".join(segment(*one) for one in segments))
@@ -164,21 +180,24 @@ def zeroes():
 # --- bytes
 
 def texts(kind):
-    """Buffers that lie over one another, so that a small memory has room for all; each byte of 4099 is another than its neighbours."""
-    story = Story(named(kind, "texts_of_128_kib_and_more"), "128 KiB and more go out in one service, by one chain and by several.",
+    """Buffers that lie over one another, so that a small memory has room for all; no byte is that of its neighbours."""
+    story = Story(named(kind, "texts_of_128_kib_and_more"),
+                  "128 KiB and more go out in one service, by one chain and by several.",
                   [Slot(length=0x40000, identity=IDENTITY)])
     queue = kind(story, "c", 1, 256, areas=list(AREAS)).bring_up()
     content = bytes(at * 7 % 251 for at in range(0x8000))
     queue.put(DATA, content)
     whole = lambda count: [Buffer(DATA, 0x8000)] * count
-    for chains in ([whole(3) + [Buffer(DATA, 0x7fff)]], [whole(4)], [whole(4) + [Buffer(DATA + 5, 1)]], [whole(2), whole(2) + [Buffer(DATA + 9, 3)]],
+    for chains in ([whole(3) + [Buffer(DATA, 0x7fff)]], [whole(4)], [whole(4) + [Buffer(DATA + 5, 1)]],
+                   [whole(2), whole(2) + [Buffer(DATA + 9, 3)]],
                    [whole(30), whole(1), [Buffer(DATA + 1, 0x7fff)], [Buffer(DATA + 3, 3)]]):
         output = b""
         for chain in chains:
             offer(queue, chain)
             output += b"".join(content[one.address - DATA:one.address - DATA + one.length] for one in chain)
         queue.notify(output=output)
-        queue.look_at_used(0, **({"wrote": False, "count": len(chains[-1])} if queue.is_packed else {"head": queue.head}))
+        queue.look_at_used(0,
+                           **({"wrote": False, "count": len(chains[-1])} if queue.is_packed else {"head": queue.head}))
     return story
 
 
@@ -193,7 +212,9 @@ def offer(queue, chain):
 
 def whole_memory():
     length = MIB + 0x1000
-    story = Story("amounts/a_memory_of_more_than_1_mib", "1 MiB, a byte more, and the whole of a memory are looked at, and written, at once.", [Slot(length=length, identity=IDENTITY)])
+    story = Story("amounts/a_memory_of_more_than_1_mib",
+                  "1 MiB, a byte more, and the whole of a memory are looked at, and written, at once.",
+                  [Slot(length=length, identity=IDENTITY)])
     content = bytearray(length)
     for at in (0, 1, 4095, 4096, 65535, 65536, MIB - 1, MIB, MIB + 1, length - 1):
         content[at] = 1 + at % 251
@@ -217,10 +238,13 @@ def sectors(count):
 
 
 def kept(capacity):
-    """The cache is filled by one read of many sectors; a new sector takes the room of the first, another that of the second."""
+    """The cache is filled by one read of many sectors; a new sector takes the first one's room, and so on."""
     count = capacity + 4
-    story = Story(f"amounts_cached/a_full_cache_of_{capacity}", "A cache is filled by one read, and two sectors more drop the first two: the rest is read without a call.",
-                  [Slot(length=0x80000, count=count, identity=IDENTITY)], cache=capacity, image=sectors(count), fails=[capacity + 2, capacity + 4])
+    story = Story(f"amounts_cached/a_full_cache_of_{capacity}",
+                  "A cache is filled by one read, and two sectors more drop the first two: the rest is read without a "
+                  "call.",
+                  [Slot(length=0x80000, count=count, identity=IDENTITY)], cache=capacity, image=sectors(count),
+                  fails=[capacity + 2, capacity + 4])
     disk = Disk(story, Split)
     disk.reads(0, capacity)
     look_at_sectors(disk, range(capacity))
@@ -249,8 +273,10 @@ def look_at_sectors(disk, range_of):
 
 def many_kept(capacity):
     """The same by many reads in one, of zeros: calls alone tell which are kept."""
-    story = Story(f"amounts_cached/a_full_cache_of_{capacity}", "A cache is filled by one read, and a sector more drops the first: the rest is read without a call.",
-                  [Slot(length=1 << 26, count=MANY, identity=IDENTITY)], cache=capacity, zeros=MANY, fails=[capacity + 1])
+    story = Story(f"amounts_cached/a_full_cache_of_{capacity}",
+                  "A cache is filled by one read, and a sector more drops the first: the rest is read without a call.",
+                  [Slot(length=1 << 26, count=MANY, identity=IDENTITY)], cache=capacity, zeros=MANY,
+                  fails=[capacity + 1])
     disk = Disk(story, Split)
     disk.reads(0, capacity)
     disk.reads(capacity, 1)
@@ -266,7 +292,7 @@ CUTS = (16, 17, 31, 32, 33, 64, 65, 128, 253)
 
 
 def parts(count):
-    """Lengths of so many buffers with 512 bytes together, none of them 0: the first ones differ, the last has what is left."""
+    """Lengths of so many buffers with 512 bytes together, none of them 0: the last has what is left."""
     lengths = [1 + at % 2 if count > 128 else 1 + at % 5 if count > 64 else 1 + at % 7 for at in range(count - 1)]
     return lengths + [SECTOR - sum(lengths)]
 
@@ -275,7 +301,7 @@ PATTERN = bytes((at * 3 + at // 256) % 253 for at in range(SECTOR))
 
 
 def pieces(count, flags):
-    """The buffers of a sector: the k-th lies behind the (k + 1)-th, a byte apart. And where each begins, with its bytes of the sector."""
+    """The buffers of a sector, each with its bytes: they lie one before another, a byte apart."""
     found, at, place = [], DATA + 0x800, 0
     for length in parts(count):
         at -= length + 1
@@ -285,7 +311,9 @@ def pieces(count, flags):
 
 
 def cut_reads(kind):
-    story = Story(named(kind, "reads_into_16_to_253_buffers"), "A sector is read into up to 253 buffers: each byte is in its place, and none between them is touched.",
+    story = Story(named(kind, "reads_into_16_to_253_buffers"),
+                  "A sector is read into up to 253 buffers: each byte is in its place, and none between them is "
+                  "touched.",
                   [Slot(length=0x40000, identity=IDENTITY)])
     disk = Disk(story, kind, INDIRECT_DESC)
     disk.writes(5, PATTERN)
@@ -300,7 +328,8 @@ def cut_reads(kind):
 
 
 def cut_writes(kind):
-    story = Story(named(kind, "writes_from_16_to_253_buffers"), "A sector is written from up to 253 buffers: it has each byte in its place.",
+    story = Story(named(kind, "writes_from_16_to_253_buffers"),
+                  "A sector is written from up to 253 buffers: it has each byte in its place.",
                   [Slot(length=0x40000, identity=IDENTITY)])
     disk = Disk(story, kind, INDIRECT_DESC)
     for turn, count in enumerate(CUTS):
@@ -322,7 +351,9 @@ def text(first, count):
 
 def full(kind):
     """So many bytes are typed and taken first; then 4095, the 4096th, and one that finds no room."""
-    story = Story(named(kind, "input_that_is_full_from_each_place"), "Input fills its 4096 bytes, the last of them alone, behind so many that were taken before: their order stays.",
+    story = Story(named(kind, "input_that_is_full_from_each_place"),
+                  "Input fills its 4096 bytes, the last of them alone, behind so many that were taken before: their "
+                  "order stays.",
                   [Slot(identity=IDENTITY)])
     queue, count = kind(story, "c", 0, 4, areas=list(AREAS)).bring_up(), 0
 
@@ -331,7 +362,9 @@ def full(kind):
         queue.notify()
         queue.look_at_used(size)
         queue.look(DATA - 0x18000, size, text(first, size))
-    for before in (1, 2046, 2049, 4094, 4095, 4096):
+    # So much was taken in all when the room is filled, modulo 4096.
+    for at in (1, 2047, 2048, 4093, 4094, 4095, 0):
+        before = (at - count - 1) % 4096 + 1
         story.type(text(count, before), took=before)
         take(before, count)
         count += before
@@ -349,13 +382,18 @@ def full(kind):
 
 def typed(kind):
     """A queue waits with more room than may be pending: what is more than 4096 bytes is gone all the same."""
-    story = Story(named(kind, "typed_bytes_where_a_queue_waits"), "Buffers wait for more bytes than may be pending: of what is typed at once 4096 are taken, the next are taken again.",
+    story = Story(named(kind, "typed_bytes_where_a_queue_waits"),
+                  "Buffers wait for more bytes than may be pending: of what is typed at once 4096 are taken, the next "
+                  "are taken again.",
                   [Slot(length=0x40000, identity=IDENTITY)])
     queue = kind(story, "c", 0, 4, areas=list(AREAS)).bring_up()
-    for turn, (room, length) in enumerate(((8192, 4095), (8192, 4096), (8192, 4097), (8192, 8192), (3000, 4097), (4096, 5000), (4095, 4097), (8192, 65536))):
+    rows = ((8192, 4095), (8192, 4096), (8192, 4097), (8192, 8192), (3000, 4097), (4096, 5000), (4095, 4097),
+            (8192, 65536))
+    for turn, (room, length) in enumerate(rows):
         queue.put(DATA, b"\xee" * 0x4001)
         for place in range(2):
-            queue.offer([Buffer(DATA + place * room, room, WRITE)], **({} if queue.is_packed else {"head": queue.offered % 4}))
+            queue.offer([Buffer(DATA + place * room, room, WRITE)],
+                        **({} if queue.is_packed else {"head": queue.offered % 4}))
         took = min(4096, length)
         story.type(text(turn, length), took=took, told=USED)
         queue.look(DATA, min(took, 2 * room) + 1, text(turn, took) + b"\xee")

@@ -4,7 +4,8 @@ from .story import Said, Story
 
 
 def written_out(name, about, text, **more):
-    """Each line is an event and its record with ` > ` between them; `N * ` before it has it N times, `{61*9}` is nine times 61."""
+    """Each line is an event and its record with ` > ` between them; `N * ` before it has it N times, `{61*9}` is nine
+    times 61."""
     story = Story(name, about, **more)
     for line in text.strip().split("\n"):
         event, _, record = spelled(line.strip()).decode().rstrip("\n").rpartition(" > ")

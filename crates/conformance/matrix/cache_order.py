@@ -1,4 +1,5 @@
-"""Reads, writes, zeroes and flushes of the same sectors in one service, over caches that just hold them, and with each call of the image failing."""
+"""Reads, writes, zeroes and flushes of the same sectors in one service, over caches that just hold them, and with each
+call of the image failing."""
 from .by_hand import written_out
 from .drivers import NEXT, WRITE, Buffer, Split, number
 from .places import shown
@@ -7,17 +8,21 @@ from .segments import IOERR, OK
 from .story import BASE, SECTOR, Slot, Story, plain_image
 
 TITLE = "The order of reads and writes over a cache"
-HOW = ("Reads (r), writes (w), zeroes (z) and flushes (f) of sectors a to d are one service, over caches of 1 to 4 sectors. Each read gives what was written last, "
-       "also where one call of the image fails; which calls there are, [the worked scenarios](data/scenarios/README.md#what-a-pair-is) say.")
+HOW = ("Reads (r), writes (w), zeroes (z) and flushes (f) of sectors a to d are one service, over caches of 1 to 4 "
+       "sectors. Each read gives what was written last, also where one call of the image fails; which calls there are, "
+       "[the worked scenarios](data/scenarios/README.md#what-a-pair-is) say.")
 COLUMNS = ("What", "Over caches of")
 FOLDERS = {"cache_order": "What reads give behind writes in one service, over small caches.",
            "cache_calls": "The same where each call of the image fails in turn, so which calls there are decides."}
 
 # A word is a request: what it does, and the sectors, one behind another.
 ORDERS = {
-    "one_sector": ["ra wa ra", "ra wa ra ra", "wa ra wa ra", "wa wa ra", "ra ra za ra ra", "za ra wa ra", "wa za ra", "ra f ra wa f ra"],
-    "two_sectors": ["ra rb wa ra rb", "ra wb ra rb wa rb ra", "wab rb ra", "rab wa rab", "zab rab zb rab", "ra wb za rab wab ra rb"],
-    "more_sectors": ["ra rb rc ra", "ra rb ra rc ra rb", "ra rb wa rc ra rb", "ra wb ra wc ra rb", "rab rcd rab", "wab rb ra rc ra", "rabcd wbc rabcd ra"],
+    "one_sector": ["ra wa ra", "ra wa ra ra", "wa ra wa ra", "wa wa ra", "ra ra za ra ra", "za ra wa ra", "wa za ra",
+                   "ra f ra wa f ra"],
+    "two_sectors": ["ra rb wa ra rb", "ra wb ra rb wa rb ra", "wab rb ra", "rab wa rab", "zab rab zb rab",
+                    "ra wb za rab wab ra rb"],
+    "more_sectors": ["ra rb rc ra", "ra rb ra rc ra rb", "ra rb wa rc ra rb", "ra wb ra wc ra rb", "rab rcd rab",
+                     "wab rb ra rc ra", "rabcd wbc rabcd ra"],
 }
 CAPACITIES, LETTERS = (1, 2, 3, 4), "abcdefgh"
 HEADERS, STATUSES, TABLES, ROOMS, MARKS = BASE + 0x4000, BASE + 0x5000, BASE + 0x1000, BASE + 0x6000, BASE + 0xc000
@@ -34,8 +39,9 @@ def stories():
 
 
 def the_first_call():
-    """The first read fails; the write and the read behind it don't, and of these the read makes no call: call 3 is that of sector 1."""
-    return written_out("cache_calls/a_read_that_fails_before_a_write_and_a_read", "A read fails; a write of the sector and another read of it, in the same service, don't.", """
+    """The first read fails; the write behind it makes two calls, the read behind that none: call 3 is sector 1's."""
+    return written_out("cache_calls/a_read_that_fails_before_a_write_and_a_read",
+                       "A read fails; a write of the sector and another read of it, in the same service, don't.", """
         w 0 b 070 4 00000003 > 0 done - 0 0
         w 0 b 024 4 00000001 > 0 done - 0 0
         w 0 b 020 4 00000001 > 0 done - 0 0
@@ -72,7 +78,7 @@ def the_first_call():
 
 
 class Sectors:
-    """What the sectors hold, which are kept, and how often the image was called: by the table of the worked scenarios."""
+    """What the sectors hold, which are kept, and how often the image was called, by the worked scenarios' page."""
 
     def __init__(self, capacity, fails=()):
         self.capacity, self.fails, self.calls, self.flushes, self.kept = capacity, fails, 0, 0, []
@@ -134,9 +140,11 @@ class Disk:
         queue, entries, headers, answers = self.queue, b"", b"", []
         for at, (what, which) in enumerate(map(meant, words)):
             kind = {"r": IN, "w": OUT, "z": WRITE_ZEROES, "f": FLUSH}[what]
-            headers += header(kind, which[0] if what in "rw" else 0) + (segment(which[0], len(which)) if what == "z" else bytes(16))
+            headers += header(kind, which[0] if what in "rw" else 0)
+            headers += segment(which[0], len(which)) if what == "z" else bytes(16)
             self.mark = (self.mark + len(which)) % 20
-            data, size = MARKS + SECTOR * self.mark if what == "w" else ROOMS + 4 * SECTOR * at, SECTOR * len(which) if what in "rw" else 0
+            data = MARKS + SECTOR * self.mark if what == "w" else ROOMS + 4 * SECTOR * at
+            size = SECTOR * len(which) if what in "rw" else 0
             first = Buffer(HEADERS + 32 * at, 32 if what == "z" else 16, NEXT, 3 * at + 1)
             second = Buffer(data, size, NEXT | (WRITE if what == "r" else 0), 3 * at + 2)
             entries += b"".join(queue.entry(one, 0) for one in (first, second, Buffer(STATUSES + at, 1, WRITE, 0)))
@@ -176,7 +184,8 @@ class Disk:
 
 
 def story_of(name, about, sectors, **more):
-    return Story(name, about, [Slot(identity=b"cached" + bytes(14))], cache=sectors.capacity, image=plain_image(), **more)
+    return Story(name, about, [Slot(identity=b"cached" + bytes(14))], cache=sectors.capacity, image=plain_image(),
+                 **more)
 
 
 def left(story, sectors):
@@ -187,7 +196,9 @@ def left(story, sectors):
 def in_order(capacity):
     """All orders, one behind another; no call fails."""
     sectors = Sectors(capacity)
-    story = story_of(f"cache_order/all_over_a_cache_of_{capacity}", "Reads, writes, zeroes and flushes of one service: each read gives what was written last.", sectors)
+    story = story_of(f"cache_order/all_over_a_cache_of_{capacity}",
+                     "Reads, writes, zeroes and flushes of one service: each read gives what was written last.",
+                     sectors)
     disk = Disk(story, sectors)
     for orders in ORDERS.values():
         for order in orders:
@@ -214,7 +225,8 @@ def failing(group, capacity):
     """Each order again and again: its first call fails, then the second, up to the last."""
     fails = set()
     sectors = Sectors(capacity, fails)
-    story = story_of(f"cache_calls/{group}_over_a_cache_of_{capacity}", "Each call of a service's requests fails in turn: just that request is IOERR.", sectors)
+    story = story_of(f"cache_calls/{group}_over_a_cache_of_{capacity}",
+                     "Each call of a service's requests fails in turn: just that request is IOERR.", sectors)
     disk = Disk(story, sectors)
     disk.sees_all()
     for order in ORDERS[group]:

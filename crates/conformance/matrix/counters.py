@@ -1,15 +1,16 @@
 """What counts, and what a device may count, 256 and 65,536 times: a counter of 8 or of 16 bits begins again there."""
 from .by_hand import written_out
-from .drivers import (ACKNOWLEDGE, DRIVER, DRIVER_FEATURES, DRIVER_OK, DRIVER_SEL, EVENT_IDX, FAULT, FEATURES_OK, INDIRECT_DESC, KINDS, QUEUE_NUM,
-                      QUEUE_READY, SERVED, STATUS, VERSION_1, WRITE, Buffer, Packed, Split, number)
+from .drivers import (ACKNOWLEDGE, DRIVER, DRIVER_FEATURES, DRIVER_OK, DRIVER_SEL, EVENT_IDX, FAULT, FEATURES_OK,
+                      INDIRECT_DESC, KINDS, QUEUE_NUM, QUEUE_READY, SERVED, STATUS, VERSION_1, WRITE, Buffer, Packed,
+                      Split, number)
 from .places import HEADER, ROOM, STATUS_BYTE, TEXT, content, shown
 from .requests import FLUSH, GET_ID, IN, OUT, header
 from .segments import IOERR, OK
 from .story import BASE, SECTOR, USED, Slot, Story, plain_image
 
 TITLE = "Counters of 8 and of 16 bits"
-HOW = ("Each thing that a device counts, or may count, is done 256 and 65,536 times, and a few times less and more: what comes of it is each time "
-       "the same.")
+HOW = ("Each thing that a device counts, or may count, is done 256 and 65,536 times, and a few times less and more: "
+       "what comes of it is each time the same.")
 COLUMNS = ("What", "How often")
 FOLDERS = {"counters": "The 256th and the 65,536th of each thing, and those beside it."}
 
@@ -105,8 +106,11 @@ def works(queue):
 def is_new(queue):
     """What is read of a window after a reset; a notify does nothing."""
     story, window = queue.story, queue.window
-    for offset, found in ((STATUS, 0), (QUEUE_READY, 0), (0x060, 0), (0x034, 256), (0x010, 0x30004244 if window == "b" else 0x30000005)):
+    for offset, found in ((STATUS, 0), (QUEUE_READY, 0), (0x060, 0), (0x034, 256),
+                          (0x010, 0x30004244 if window == "b" else 0x30000005)):
         story.read(window, offset, found)
+    story.write(window, STATUS, FEATURES_OK)
+    story.read(window, STATUS, 0)
     queue.offer_head(0)
     queue.write(0x050, queue.index)
     queue.look(queue.areas[2] + 2, 2, number(1, 2))
@@ -140,7 +144,8 @@ def is_empty(queue):
 
 
 def resets(window):
-    story = story_of(f"resets_of_a_{'block' if window == 'b' else 'console'}_window", "After 255, 256 and 257 resets in a row nothing of the life before is left.")
+    story = story_of(f"resets_of_a_{'block' if window == 'b' else 'console'}_window",
+                     "After 255, 256 and 257 resets in a row nothing of the life before is left.")
     for count in (BYTE - 1, BYTE, BYTE + 1):
         queue = lived(story, window)
         again(story, count, lambda: queue.write(STATUS, 0))
@@ -163,13 +168,16 @@ def many_resets():
 
 
 def the_last_of_many_resets():
-    """The 65,536th since the board was made."""
-    story = story_of("resets_65536_and_a_life_before_the_last", "The 65,536th reset clears what every reset clears.")
-    again(story, HALF - 1, lambda: story.write("b", STATUS, 0))
-    for _ in range(2):
-        queue = lived(story, "b")
-        queue.write(STATUS, 0)
-        is_new(queue)
+    """Those from the 254th and from the 65,534th since the board was made."""
+    story, done = story_of("resets_65536_with_a_life_before_the_last",
+                           "The 256th reset and the 65,536th, and those beside them, clear what every reset clears."), 0
+    for most in (BYTE, HALF):
+        again(story, most - 3 - done, lambda: story.write("b", STATUS, 0))
+        for _ in range(5):
+            queue = lived(story, "b")
+            queue.write(STATUS, 0)
+            is_new(queue)
+        done = most + 2
     is_empty(queue)
     return story
 
@@ -193,29 +201,31 @@ def resizes():
 
 
 def services_of_nothing(kind):
-    """Notifies of a queue with nothing on offer: each closes the queue, and tells nobody."""
-    most = BYTE if kind.is_packed else HALF
-    story = story_of(f"{'packed' if kind.is_packed else 'split'}_services_of_nothing", f"Chains before and behind {most:,} services of nothing are served and told.")
+    """Notifies of a queue with nothing on offer: each closes the queue, and tells nobody. Those near 256 and 65,536 have
+    a chain each."""
+    story = story_of(f"{'packed' if kind.is_packed else 'split'}_services_of_nothing",
+                     "Chains behind 253 services of nothing, and behind 65,533, are served and told, one by one.")
+    done = 0
     queue = kind(story, "c", 1, 4, low=EVENT_IDX).bring_up()
-    for count in sorted({BYTE, most}):
-        if not kind.is_packed:
-            queue.put(queue.areas[1] + 12, number(queue.offered, 2))
-        works(queue)
-        queue.acknowledge()
-        again(story, count - 2, lambda: queue.write(0x050, 1))
+    for most in (BYTE,) if kind.is_packed else (BYTE, HALF):
+        again(story, most - 6 - done, lambda: queue.write(0x050, 1))
         for _ in range(3):
             queue.put(queue.areas[2], b"\xee\xee")
             queue.write(0x050, 1)
             queue.look(queue.areas[2], 2, bytes(2))
-    if not kind.is_packed:
-        queue.put(queue.areas[1] + 12, number(queue.offered, 2))
-    works(queue)
+        for _ in range(5):
+            if not kind.is_packed:
+                queue.put(queue.areas[1] + 12, number(queue.offered, 2))
+            works(queue)
+            queue.acknowledge()
+        done = most + 2
     return story
 
 
 def inputs():
     """A byte typed for each chain of a ring of 256: a service, a chain and a used entry each, and 256 rounds."""
-    story = story_of("split_inputs", "65,537 bytes are typed one by one, each into a chain of its own: only those at place 0 are told.")
+    story = story_of("split_inputs",
+                     "65,537 bytes are typed one by one, each into a chain of its own: only those at place 0 are told.")
     queue = Split(story, "c", 0, 256, low=EVENT_IDX).bring_up()
     queue.put(queue.areas[0], b"".join(queue.entry(Buffer(TEXT + at, 1, WRITE), at) for at in range(256)))
     queue.put(queue.areas[1] + 4, b"".join(number(head, 2) for head in range(256)))
@@ -243,27 +253,34 @@ def inputs():
 
 
 def packed_inputs():
-    story = story_of("packed_inputs", "65,537 bytes are typed one by one, each into a list of its own.")
+    story = story_of("packed_inputs", "65,539 bytes are typed one by one, each into a list of its own.")
     queue = Packed(story, "c", 0, 256).bring_up()
     for rounds in range(256):
         queue.put_chain([Buffer(TEXT + at, 1, WRITE, at) for at in range(256)])
         queue.offered = (queue.offered + 256) % 512
         typed = bytes([rounds % 251 + 1])
-        again(story, 256, lambda: story.type(typed, took=1, told=USED))
+        again(story, 253, lambda: story.type(typed, took=1, told=USED))
+        for _ in range(3):
+            queue.acknowledge()
+            story.type(typed, took=1, told=USED)
         queue.after(SERVED)
         if rounds in (0, 1, 127, 254, 255):
             queue.look_at_used(1, link=255)
             queue.look(TEXT, 256, typed * 256)
-    queue.offer([Buffer(TEXT, 1, WRITE)], link=0x1234)
-    story.type(b"!", took=1, told=USED)
-    queue.after(SERVED)
-    queue.look_at_used(1, link=0x1234)
+    for turn in range(3):
+        queue.offer([Buffer(TEXT, 1, WRITE)], link=0x1234 + turn)
+        queue.acknowledge()
+        story.type(b"!", took=1, told=USED)
+        queue.after(SERVED)
+        queue.look_at_used(1, link=0x1234 + turn)
     return story
 
 
 def dropped():
     """What finds no room is gone, however much it is; then 65,536 bytes are taken."""
-    story = story_of("input_that_is_dropped", "65,536 bytes are typed at once and 65,536 more find no room: 4096 wait. Then 65,537 are taken in order.")
+    story = story_of("input_that_is_dropped",
+                     "65,536 bytes are typed at once and 65,536 more find no room: 4096 wait. Then 65,537 are taken in "
+                     "order.")
     queue = Split(story, "c", 0, 4).bring_up()
     story.type(bytes(at % 251 for at in range(HALF)), took=4096)
     again(story, BYTE, lambda: story.type(b"\xee" * BYTE, took=0))
@@ -282,12 +299,15 @@ def dropped():
 
 def used_event_of_0():
     """used_event names place 0: it is passed in the first service, and where 16 bits begin again."""
-    story = story_of("used_event_of_0", "used_event is 0: the service that passes place 0 is told, in the first and in the second lap, and no other.")
+    story = story_of("used_event_of_0",
+                     "used_event is 0: the service that passes place 0 is told, in the first and in the second lap, "
+                     "and no other.")
     queue = Split(story, "c", 1, 256, low=EVENT_IDX).bring_up()
     queue.put(TEXT, content())
     queue.put(queue.areas[0], b"".join(queue.entry(Buffer(TEXT + at, 1), at) for at in range(256)))
     queue.put(queue.areas[1] + 4, b"".join(number(head, 2) for head in range(256)))
-    for count, told in [(1, 1), (1, 0), (254, 0), *[(256, 0)] * 254, (255, 0), (1, 0), (1, 1), (1, 0), (253, 0), *[(256, 0)] * 255, (255, 1)]:
+    for count, told in [(1, 1), (1, 0), (254, 0), *[(256, 0)] * 254, (255, 0), (1, 0), (1, 1), (1, 0), (253, 0),
+                        *[(256, 0)] * 255, (255, 1)]:
         first, queue.offered = queue.offered % BYTE, (queue.offered + count) % HALF
         queue.put(queue.areas[1] + 2, number(queue.offered, 2))
         queue.notify(told=told, output=(content() * 2)[first:first + count])
@@ -305,7 +325,9 @@ CHAINS = {0: (IN, 3), 4: (OUT, 5), 8: (FLUSH, 0), 12: (GET_ID, 0)}
 
 def requests():
     """Services of 256 requests, 64 of each of four types; each has a buffer and a status of its own."""
-    story = story_of("requests", "65,536 requests in services of 256: a read, a write, a flush and an identity in turn.", image=plain_image())
+    story = story_of("requests",
+                     "65,536 requests in services of 256: a read, a write, a flush and an identity in turn.",
+                     image=plain_image())
     queue = disk(story, CHAINS)
     for turn in range(256):
         marked = bytes([turn % 251 + 1]) * SECTOR
@@ -330,10 +352,12 @@ def disk(story, chains):
     queue = Split(story, "b", 0, 256).bring_up()
     for turn, (head, (kind, sector)) in enumerate(chains.items()):
         queue.put(HEADER + 16 * turn, header(kind, sector))
-        data = {IN: [Buffer(ROOM, SECTOR, WRITE)], OUT: [Buffer(ROOM + SECTOR, SECTOR)], GET_ID: [Buffer(ROOM + 2 * SECTOR, 20, WRITE)]}.get(kind, [])
+        data = {IN: [Buffer(ROOM, SECTOR, WRITE)], OUT: [Buffer(ROOM + SECTOR, SECTOR)],
+                GET_ID: [Buffer(ROOM + 2 * SECTOR, 20, WRITE)]}.get(kind, [])
         queue.offered = queue.place
         chain = [Buffer(HEADER + 16 * turn, 16), *data, Buffer(STATUS_BYTE + head, 1, WRITE)]
-        queue.put(queue.areas[0] + 16 * head, b"".join(queue.entry(Buffer(one.address, one.length, one.flags | (at < len(chain) - 1)), head + at)
+        queue.put(queue.areas[0] + 16 * head,
+                  b"".join(queue.entry(Buffer(one.address, one.length, one.flags | (at < len(chain) - 1)), head + at)
                                                        for at, one in enumerate(chain)))
     heads = list(chains)
     queue.put(queue.areas[1] + 4, b"".join(number(heads[at % len(heads)], 2) for at in range(256)))
@@ -348,8 +372,10 @@ def serve(queue, count):
 
 
 def kept(most):
-    """Sector 6 is read, then sectors 0 to 5 until a counter of reads has begun again: sector 7 takes the room of sector 6."""
-    story = story_of(f"kept_sectors_{most}", f"Of seven kept sectors one is read first, and the others {most:,} times: it is dropped for another, and read anew by call 8.",
+    """Sector 6 is read, then sectors 0 to 5 until a counter of reads has begun again: sector 7 takes 6's room."""
+    story = story_of(f"kept_sectors_{most}",
+                     f"Of seven kept sectors one is read first, then the others, {most:,} times: it is dropped for "
+                     "another one, and read anew by call 8.",
                      cache=7, fails=[8])
     queue, times = disk(story, {0: (IN, 6), 4: (IN, 0), 8: (IN, 7)}), most // 6 + 1
     queue.put(queue.areas[0] + 16 * 5 + 8, number(6 * SECTOR, 4))
@@ -372,7 +398,9 @@ def kept(most):
 
 def failures():
     """256 flushes fail in one service; what comes behind is tried all the same."""
-    story = story_of("failed_flushes", "256 flushes fail, one after another: each request is IOERR, and the next one is tried.", fails=[*range(256), 257])
+    story = story_of("failed_flushes",
+                     "256 flushes fail, one after another: each request is IOERR, and the next one is tried.",
+                     fails=[*range(256), 257])
     queue = disk(story, {8: (FLUSH, 0), 0: (IN, 3)})
     queue.put(queue.areas[1] + 4, number(8, 2) * 256)
     serve(queue, 256)
@@ -391,8 +419,10 @@ def failures():
 # --- laps, faults, stops
 
 def laps(size):
-    """Lists of a whole ring, whose first descriptor alone is offered anew, until 65,536 places were passed or 513 laps made."""
-    story = story_of(f"laps_of_a_packed_ring_of_{size}", "Lists of a whole ring are served in each of many laps: the wrap counter turns with each.")
+    """Lists of a whole ring, whose first descriptor alone is offered anew, in 513 laps: a ring of 255 has 65,536 places
+    in 257 of them."""
+    story = story_of(f"laps_of_a_packed_ring_of_{size}",
+                     "Lists of a whole ring are served in each of many laps: the wrap counter turns with each.")
     queue = Packed(story, "c", 1, size).bring_up()
     queue.put(TEXT, bytes(range(1, 9)))
     queue.put_chain([Buffer(TEXT + at % 8, int(at < 2), int(at < size - 1), 0x700 + at) for at in range(size)])
@@ -427,7 +457,9 @@ def laps_of_one():
 
 
 def faults(kind):
-    story = story_of(f"{'packed' if kind.is_packed else 'split'}_faults", "257 faults, each in another life of the window: each is told, and what stands before it is served.")
+    story = story_of(f"{'packed' if kind.is_packed else 'split'}_faults",
+                     "257 faults, each in another life of the window: each is told, and what stands before it is "
+                     "served.")
     queue = kind(story, "c", 1, 4)
     queue.put(TEXT, b"t")
     for turn in range(BYTE + 1):
@@ -442,22 +474,16 @@ def faults(kind):
 
 
 def stops(kind):
-    """A queue stopped and made ready again in a row: it begins at place 0, and a write of its number while it is stopped counts."""
-    story = story_of(f"{'packed' if kind.is_packed else 'split'}_stops", "A queue is stopped and made ready 255, 256 and 257 times: it begins at place 0, with its last size.")
+    """A queue is stopped and made ready in a row, and near the 256th time between chains."""
+    story = story_of(f"{'packed' if kind.is_packed else 'split'}_stops",
+                     "A queue is stopped and made ready up to 257 times: it begins at place 0, with its last size.")
     queue = kind(story, "c", 1, 4).bring_up()
+    again(story, BYTE - 4, lambda: starts(queue))
+    for _ in range(5):
+        begins_anew(queue)
     for count in (BYTE - 1, BYTE, BYTE + 1):
-        for _ in range(3):
-            works(queue)
-
-        def once():
-            queue.write(QUEUE_READY, 0)
-            queue.write(QUEUE_READY, 1)
-        again(story, count, once)
-        queue.clear()
-        queue.start_over()
-        story.read("c", QUEUE_READY, 1)
-        for _ in range(5):
-            works(queue)
+        again(story, count - 1, lambda: starts(queue))
+        begins_anew(queue)
         queue.write(QUEUE_READY, 0)
         story.read("c", QUEUE_READY, 0)
         queue.offer([Buffer(TEXT, 1)])
@@ -470,6 +496,21 @@ def stops(kind):
         for _ in range(9):
             works(queue)
     return story
+
+
+def starts(queue):
+    queue.write(QUEUE_READY, 0)
+    queue.write(QUEUE_READY, 1)
+
+
+def begins_anew(queue):
+    """Behind a stop and a start the queue is at place 0."""
+    starts(queue)
+    queue.clear()
+    queue.start_over()
+    queue.story.read("c", QUEUE_READY, 1)
+    for _ in range(5):
+        works(queue)
 
 
 def emergency_writes():

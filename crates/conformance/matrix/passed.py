@@ -1,14 +1,16 @@
-"""Which places a service passed: before a fault, in lists that take up more places than the ring has, and in lists and tables across its end."""
+"""Which places a service passed: before a fault, in lists that take up more places than the ring has, and in lists and
+tables across its end."""
 import dataclasses
 
 from .by_hand import written_out
-from .drivers import AVAIL, EVENT_IDX, FAULT, INDIRECT, INDIRECT_DESC, KINDS, NEXT, STATUS, USED_FLAG, WRITE, Buffer, Packed, number
+from .drivers import (AVAIL, EVENT_IDX, FAULT, INDIRECT, INDIRECT_DESC, KINDS, NEXT, STATUS, USED_FLAG, WRITE, Buffer,
+                      Packed, number)
 from .places import shown
 from .story import BASE, CHANGED, USED, Slot, Story
 
 TITLE = "Places that are passed"
-HOW = ("The driver names each place in turn: of a service that ends in a fault, of one that passes up to 2N - 1 places of a packed ring of N, and of one whose list "
-       "goes on at the ring's front, with a table behind it.")
+HOW = ("The driver names each place in turn: of a service that ends in a fault, of one that passes up to 2N - 1 places "
+       "of a packed ring of N, and of one whose list goes on at the ring's front, with a table behind it.")
 COLUMNS = ("What", "Which places are named")
 FOLDERS = {"passed": "Which places a service passed, and of which the driver is told."}
 
@@ -19,10 +21,12 @@ SLOT = Slot(identity=b"passed" + bytes(14))
 def stories():
     yield from shown("a fault", "its own, split", [the_place_of_a_fault()])
     for kind in KINDS:
-        yield from shown("a fault behind 0 to 3 chains", f"each near it, {kind}", [faults(kind, begin) for begin in (0, 3, 6)])
+        yield from shown("a fault behind 0 to 3 chains", f"each near it, {kind}",
+                         [faults(kind, begin) for begin in (0, 3, 6)])
         yield from shown("a fault behind 0 to 3 chains", f"none: by flags, {kind}", [flags_and_faults(kind)])
     yield from shown("N + 1 to 2N - 1 places", "each of 2N, packed", map(more_than_the_ring, (3, 4, 8)))
-    yield from shown("a list across the ring's end, and tables behind it", "each of 2N, packed", map(lists_and_tables, (3, 4, 5, 8)))
+    yield from shown("a list across the ring's end, and tables behind it", "each of 2N, packed",
+                     map(lists_and_tables, (3, 4, 5, 8)))
 
 
 def the_place_of_a_fault():
@@ -42,7 +46,9 @@ def the_place_of_a_fault():
         w 0 c 044 4 00000001 > 0 done - 0 0
         w 0 c 070 4 0000000f > 0 done - 0 0
         """
-    return written_out("passed/the_place_of_a_fault", "used_event names the chain with the fault, which isn't passed; then the one before it, which is.", f"""
+    return written_out("passed/the_place_of_a_fault",
+                       "used_event names the chain with the fault, which isn't passed; then the one before it, which "
+                       "is.", f"""
         mw 0 80005000 74 > 0 done - 0 0
         mw 0 80001000 00500080000000000100000000000000 > 0 done - 0 0
         {up.strip()}
@@ -78,7 +84,8 @@ def text(queue, at, **more):
 
 
 def wrong(queue, which):
-    """Offers a chain that is a fault: a range, a table that wasn't negotiated, or what can't be reached; its list has two places in a packed ring."""
+    """Offers a chain that is a fault: a range, a table that wasn't negotiated, or a head that is none; in a packed ring
+    a list whose second buffer is outside."""
     head = {} if queue.is_packed else {"head": queue.offered % queue.size}
     if which == 0:
         queue.offer([Buffer(0, 1)], **head)
@@ -102,8 +109,10 @@ def begun(queue, begin):
 
 
 def faults(kind, begin):
-    """In a ring of 8 a service begins at a place, passes `count` places and comes to a fault, and each place near them is named."""
-    story = Story(f"passed/{kind}_faults_from_place_{begin}", "A fault ends a service: the place named is told if a chain before the fault passed it, and not if it is the fault's.", [SLOT])
+    """In a ring of 8 a service begins at a place, passes some and comes to a fault; each place near is named."""
+    story = Story(f"passed/{kind}_faults_from_place_{begin}",
+                  "A fault ends a service: the place named is told if a chain before the fault passed it, and not if "
+                  "it is the fault's.", [SLOT])
     queue = queue_of(story, kind, EVENT_IDX, 8)
     for count in range(4):
         for away in range(-1, count + 3):
@@ -122,7 +131,9 @@ def faults(kind, begin):
 
 def flags_and_faults(kind):
     """Where no place is named: the flags decide if anything was passed."""
-    story = Story(f"passed/{kind}_faults_by_flags", "A fault ends a service: by the flags a notification is wanted if a chain before the fault was used.", [SLOT])
+    story = Story(f"passed/{kind}_faults_by_flags",
+                  "A fault ends a service: by the flags a notification is wanted if a chain before the fault was used.",
+                  [SLOT])
     queue = queue_of(story, kind, 0, 8)
     for count in range(4):
         for flags in range(4):
@@ -142,10 +153,11 @@ def flags_and_faults(kind):
 # --- packed rings
 
 def more_than_the_ring(size):
-    """N - 2 bytes go to a chain each. Then a chain's table has the descriptors behind the ring's end as its buffers, and what is typed joins them: the Nth chain's list
-    goes over used places, one after another, and ends at the last that has no NEXT."""
-    story = Story(f"passed/packed_lists_over_used_places_of_a_ring_of_{size}", "The last list of a service goes over places that the same service has used: up to 2N - 1 are passed, and "
-                  "the next one isn't.", [SLOT])
+    """N - 2 bytes go to a chain each. The next chain's table has descriptors of used places as its buffers, and what is
+    typed joins these; so the Nth chain's list goes on over used places, to the first without NEXT."""
+    story = Story(f"passed/packed_lists_over_used_places_of_a_ring_of_{size}",
+                  "The last list of a service goes over places that the same service has used: up to 2N - 1 are "
+                  "passed, and the next one isn't.", [SLOT])
     queue = Packed(story, "c", 0, size, low=EVENT_IDX | INDIRECT_DESC).bring_up()
     for more in range(1, size):
         for away in range(2 * size):
@@ -155,18 +167,22 @@ def more_than_the_ring(size):
             for at in range(size - 2):
                 queue.offer([Buffer(OTHER + at, 1, WRITE)], link=at)
             # The table's buffers are the descriptors of the first places, which those then are again.
-            again = [(queue.areas[0] + 16 * positions[at], Buffer(OTHER + 0x20 + at, 1, WRITE | (NEXT if at < more - 1 else 0), 0x50 + at)) for at in range(min(more, size - 2))]
-            queue.offer([dataclasses.replace(queue.table(TABLE, [Buffer(at, 16, WRITE) for at, _ in again]), link=0x40)])
+            again = [(queue.areas[0] + 16 * positions[at],
+                      Buffer(OTHER + 0x20 + at, 1, WRITE | (NEXT if at < more - 1 else 0), 0x50 + at))
+                      for at in range(min(more, size - 2))]
+            queue.offer([dataclasses.replace(queue.table(TABLE, [Buffer(at, 16, WRITE) for at, _ in again]),
+                                             link=0x40)])
             queue.offer([Buffer(OTHER + 0x40, 1, WRITE | NEXT)], link=0x41)
             typed = b"x" * (size - 2) + b"".join(queue.entry(one, 0) for _, one in again) + b"y" + b"z" * len(again)
-            # Where the list comes to the table's own place, that has been used with as many bytes; it is the last of the list.
+            # The table's own place, if the list comes to it, has the table's address and used len, and ends the list.
             rest = b"w" * 16 * len(again) if more == size - 1 else b""
             story.type(typed + rest, took=len(typed + rest), told=USED if away < size + more else 0)
             queue.look(OTHER + 0x20, size, b"z" * len(again) + bytes(size - len(again)))
             last = (first + size - 1) % (2 * size)
             mark = (AVAIL | USED_FLAG if last < size else 0) | WRITE
             link = 0x40 if more == size - 1 else 0x50 + more - 1
-            queue.look(queue.areas[0] + 16 * (last % size) + 8, 8, number(1 + len(again) + len(rest), 4) + number(link, 2) + number(mark, 2))
+            queue.look(queue.areas[0] + 16 * (last % size) + 8, 8,
+                       number(1 + len(again) + len(rest), 4) + number(link, 2) + number(mark, 2))
             queue.offered = queue.place = (first + size + more) % (2 * size)
             queue.put(OTHER + 0x20, bytes(size))
             queue.clear()
@@ -175,8 +191,10 @@ def more_than_the_ring(size):
 
 
 def lists_and_tables(size):
-    """Texts in a list that begins at each of the ring's last places, in a table, in a list of one, and in a table again."""
-    story = Story(f"passed/packed_lists_across_the_end_and_tables_in_a_ring_of_{size}", "A list across the ring's end, and tables behind it in the same service: each used entry has the wrap "
+    """Texts in a list that begins at one of the ring's last places, in a table, a list of one, and a table again."""
+    story = Story(f"passed/packed_lists_across_the_end_and_tables_in_a_ring_of_{size}",
+                  "A list across the ring's end, and tables behind it in the same service: each used entry has the "
+                  "wrap "
                   "counter of its own first place, and each place named is told if it was passed.", [SLOT])
     queue = queue_of(story, "packed", EVENT_IDX | INDIRECT_DESC, size)
     queue.bring_up()
@@ -190,18 +208,22 @@ def lists_and_tables(size):
                     text(queue, 0)
                     queue.notify(output=b"a", told=0)
                 first, chains, turn = queue.offered, [], turn + 1
-                offer_list(queue, [Buffer(TEXT + at, 1) for at in range(count)], 0x100 + turn, chains, b"abcdefgh"[:count])
+                offer_list(queue, [Buffer(TEXT + at, 1) for at in range(count)], 0x100 + turn, chains,
+                           b"abcdefgh"[:count])
                 for at in range(min(3, size - count)):
                     entries = [Buffer(TEXT + 1 + at, 1), Buffer(TEXT + 4, 2)][:1 + (turn + at) % 2]
-                    output = b"".join(b"abcdefgh"[one.address - TEXT:one.address - TEXT + one.length] for one in entries)
+                    output = b"".join(b"abcdefgh"[one.address - TEXT:one.address - TEXT + one.length]
+                                      for one in entries)
                     one = [queue.table(TABLE + 0x40 * at, entries)] if at != 1 else entries[:1]
-                    offer_list(queue, [Buffer(one[0].address, one[0].length, one[0].flags)], 0x200 + 16 * at, chains, output if at != 1 else output[:1])
+                    offer_list(queue, [Buffer(one[0].address, one[0].length, one[0].flags)], 0x200 + 16 * at, chains,
+                               output if at != 1 else output[:1])
                 passed = (queue.offered - first) % (2 * size)
                 name(queue, first + away)
                 queue.notify(output=b"".join(output for _, _, output in chains), told=USED if away < passed else 0)
                 for place, link, _ in chains:
                     mark = AVAIL | USED_FLAG if place < size else 0
-                    queue.look(queue.areas[0] + 16 * (place % size) + 8, 8, number(0, 4) + number(link, 2) + number(mark, 2))
+                    queue.look(queue.areas[0] + 16 * (place % size) + 8, 8,
+                               number(0, 4) + number(link, 2) + number(mark, 2))
                 queue.acknowledge()
     return story
 

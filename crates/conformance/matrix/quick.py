@@ -1,4 +1,5 @@
-"""The model's memory, its split ring and the reader of its traces, made quicker for the making: the same answers by fewer calls.
+"""The model's memory, its split ring, a console's services and the reader of traces, made quicker for the making: the
+same answers by fewer calls.
 
 `make mutants` runs the model itself over all that is made.
 """
@@ -109,7 +110,7 @@ def give(queue, memory, chain, length, wrote):
 
 
 def serve(slot, window, index):
-    """A service: here one of a console's split queue, in a memory of one region, whose chains have mostly one buffer; else the model serves."""
+    """A service: here of a console's split queue, in a memory of one region; else the model serves."""
     queue = slot.windows[window].queues[index]
     if window == "b" or queue.packed or len(slot.memory.regions) > 1:
         return SERVE(slot, window, index)

@@ -9,34 +9,42 @@ from .segments import OK
 from .story import BASE, SECTOR, USED, Slot, Story
 
 TITLE = "Memory that a service changes"
-HOW = ("What a service writes, data, typed bytes, used entries and closing writes, lies over what it has read, and over what it reads later: a header, "
+HOW = ("What a service writes, data, typed bytes, used entries and closing writes, lies over what it has read, and "
+       "over what it reads later: a header, "
        "descriptors, tables, the available ring, the used ring, event suppression.")
 COLUMNS = ("What is written", "Over what")
 FOLDERS = {"within": "Memory that changes within a service."}
 
-TEXT, HEADER, STATUS, DATA, TABLE, OTHER = BASE + 0x5000, BASE + 0x6000, BASE + 0x7000, BASE + 0x8000, BASE + 0xa000, BASE + 0xb000
+TEXT, HEADER, STATUS, DATA, TABLE, OTHER = (BASE + at for at in (0x5000, 0x6000, 0x7000, 0x8000, 0xa000, 0xb000))
 UNTOUCHED = b"\xee"
 
 
 def stories():
     yield from shown("used entries", "the used ring, put out", [texts_of_the_used_ring()])
     for kind in KINDS:
-        yield from shown("sectors of a read", "the header", [header_under_data(kind, in_table) for in_table in (False, True)])
+        yield from shown("sectors of a read", "the header",
+                         [header_under_data(kind, in_table) for in_table in (False, True)])
         yield from shown("sectors of a read", "the header of the chain behind", [header_of_the_next(kind)])
-        yield from shown("sectors of a read", "the descriptors of the chain, and of the one behind", [descriptors_under_data(kind)])
+        yield from shown("sectors of a read", "the descriptors of the chain, and of the one behind",
+                         [descriptors_under_data(kind)])
         yield from shown("sectors of a read", "a table that the chain behind names", [table_that_was_read(kind)])
         yield from shown("typed bytes", "a table that the chain behind names", [table_that_was_typed(kind)])
         yield from shown("typed bytes", "the descriptor of the chain behind", [descriptor_that_was_typed(kind)])
-        yield from shown("typed bytes", "the driver's event suppression", [typed_events(kind, low) for low in (0, EVENT_IDX)])
-        yield from shown("used entries and closing writes", "texts over the rings", [rings_put_out(kind, low) for low in (0, EVENT_IDX)])
-        yield from shown("closing writes", "a descriptor of the next service", [closed_over_a_descriptor(kind, low) for low in (0, EVENT_IDX)])
+        yield from shown("typed bytes", "the driver's event suppression",
+                         [typed_events(kind, low) for low in (0, EVENT_IDX)])
+        yield from shown("used entries and closing writes", "texts over the rings",
+                         [rings_put_out(kind, low) for low in (0, EVENT_IDX)])
+        yield from shown("closing writes", "a descriptor of the next service",
+                         [closed_over_a_descriptor(kind, low) for low in (0, EVENT_IDX)])
     yield from shown("typed bytes", "the available ring", [heads_that_were_typed(), idx_that_was_typed()])
     yield from shown("used entries", "the descriptor of the chain behind", [used_entries_over_descriptors()])
 
 
 def texts_of_the_used_ring():
     """Three texts of the used ring's first 12 bytes, in one service: what the device has written so far."""
-    return written_out("within/three_texts_of_the_used_ring", "Three texts of one service are the used ring: each shows the idx and the entries before it.", """
+    return written_out("within/three_texts_of_the_used_ring",
+                       "Three texts of one service are the used ring: each shows the idx and the entries before it.",
+                       """
         w 0 c 070 4 00000003 > 0 done - 0 0
         w 0 c 024 4 00000001 > 0 done - 0 0
         w 0 c 020 4 00000001 > 0 done - 0 0
@@ -63,7 +71,9 @@ def story_of(kind, name, about, **more):
 
 def used(queue, length, count=1, wrote=True, **more):
     """The used entry of the last chain, which had so many descriptors in the ring."""
-    queue.look_at_used(length, **({"count": count, "wrote": wrote, **more} if queue.is_packed else {key: one for key, one in more.items() if key != "link"}))
+    queue.look_at_used(length,
+                       **({"count": count, "wrote": wrote, **more} if queue.is_packed
+                          else {key: one for key, one in more.items() if key != "link"}))
 
 
 def beside(queue, chain, at):
@@ -79,9 +89,10 @@ def units(*headers):
 
 
 def header_under_data(kind, in_table):
-    """Each sector is made of headers that would read or write others: of a read of sectors 2 to 5 the header lies in each sector's room."""
+    """Sectors are made of headers that ask for others; that of a read of sectors 2 to 5 lies in each one's room."""
     image = units(*(header(OUT if sector % 2 else IN, 7 * (sector % 2), 0x1000 + sector) for sector in range(8)))
-    story = story_of(f"{kind}_table" if in_table else kind, "header_under_the_data", "A read of four sectors writes other headers over its own: it goes on as the first one said.",
+    story = story_of(f"{kind}_table" if in_table else kind, "header_under_the_data",
+                     "A read of four sectors writes other headers over its own: it goes on as the first one said.",
                      image=image)
     queue = KINDS[kind](story, "b", 0, 8, low=INDIRECT_DESC).bring_up()
     for sector in range(4):
@@ -89,7 +100,8 @@ def header_under_data(kind, in_table):
             queue.put(DATA, UNTOUCHED * 4 * SECTOR)
             queue.put(DATA + SECTOR * sector + at, header(IN, 2))
             queue.put(STATUS, UNTOUCHED)
-            chain = [Buffer(DATA + SECTOR * sector + at, 16), *(Buffer(DATA + SECTOR * one, SECTOR, WRITE) for one in range(4)), Buffer(STATUS, 1, WRITE)]
+            chain = [Buffer(DATA + SECTOR * sector + at, 16),
+                     *(Buffer(DATA + SECTOR * one, SECTOR, WRITE) for one in range(4)), Buffer(STATUS, 1, WRITE)]
             chain = [queue.table(TABLE, chain)] if in_table else chain
             queue.offer(chain)
             queue.notify()
@@ -103,7 +115,8 @@ def header_under_data(kind, in_table):
 def header_of_the_next(kind):
     """The header of the second chain is of no known type, until the first chain's sectors lie over it."""
     image = units(*(header(IN, 7 - sector, 0x2000 + sector) for sector in range(8)))
-    story = story_of(kind, "header_of_the_next_chain", "A read writes a header that the chain behind it, of the same service, begins with.", image=image)
+    story = story_of(kind, "header_of_the_next_chain",
+                     "A read writes a header that the chain behind it, of the same service, begins with.", image=image)
     queue = KINDS[kind](story, "b", 0, 8).bring_up()
     for sector in range(3):
         for at in (0, 256, 496):
@@ -138,11 +151,12 @@ def identity_at(place):
 
 def image_with(content):
     """An image whose sector 1 begins so."""
-    return bytes([0x10]) * SECTOR + content + bytes(SECTOR - len(content)) + b"".join(bytes([0x10 + sector]) * SECTOR for sector in range(2, 8))
+    return bytes([0x10]) * SECTOR + content + bytes(SECTOR - len(content)) + b"".join(bytes([0x10 + sector]) * SECTOR
+                                                                                      for sector in range(2, 8))
 
 
 def descriptors_under_data(kind):
-    """Sector 1 is descriptors: those of the chain that reads it say otherwise from then on, and those at 4 are the chain behind."""
+    """Sector 1 has descriptors: they lie over those of the chain that reads it, and are those of the chain behind."""
     queue = KINDS[kind](None, "b", 0, 8)
     wrong = [Buffer(OTHER + 64 * at, 32, WRITE) for at in range(4)]
     right = linked(identity_at(OTHER + 0x400))
@@ -150,7 +164,9 @@ def descriptors_under_data(kind):
         right = [dataclasses.replace(one, flags=one.flags | queue.mark(4), link=0x77) for one in right]
     content = entries(queue, linked(wrong) + right)
     image = image_with(content)
-    story = story_of(kind, "descriptors_under_the_data", "A read writes other descriptors over its own, which goes on as it was, and over those of the chain behind, "
+    story = story_of(kind, "descriptors_under_the_data",
+                     "A read writes other descriptors over its own, which goes on as it was, and over those of the "
+                     "chain behind, "
                      "which is the new one.", image=image)
     queue = KINDS[kind](story, "b", 0, 8).bring_up()
     ring = queue.areas[0]
@@ -210,7 +226,8 @@ def receive(kind, name, about, low=0):
 
 
 def table_that_was_typed(kind):
-    story, queue = receive(kind, "table_that_was_typed", "What is typed is first a table, and then fills the buffers that it names.", INDIRECT_DESC)
+    story, queue = receive(kind, "table_that_was_typed",
+                           "What is typed is first a table, and then fills the buffers that it names.", INDIRECT_DESC)
     for turn in range(3):
         table = [Buffer(OTHER + 0x20 * turn, 3, WRITE), Buffer(OTHER + 0x100 + 0x20 * turn, 8, WRITE)]
         content = entries(queue, table if queue.is_packed else linked(table))
@@ -229,7 +246,8 @@ def table_that_was_typed(kind):
 
 def descriptor_that_was_typed(kind):
     """In a packed ring the place behind isn't offered before."""
-    story, queue = receive(kind, "descriptor_that_was_typed", "What is typed is first the descriptor of the chain behind, and then fills its buffer.")
+    story, queue = receive(kind, "descriptor_that_was_typed",
+                           "What is typed is first the descriptor of the chain behind, and then fills its buffer.")
     for turn in range(10):
         at = (queue.offered + 1) % 8 if queue.is_packed else 5
         place = queue.areas[0] + 16 * at
@@ -251,15 +269,18 @@ def descriptor_that_was_typed(kind):
 
 # What the driver's area says: in a packed ring of 8 the first place that a service passes is `p`.
 SAYS = {
-    "split": {0: [(0, True), (1, False), (2, True), (0xfffe, True), (0xffff, False)], EVENT_IDX: [("p", True), ("p-1", False), ("p+1", None), ("p+2", False)]},
+    "split": {0: [(0, True), (1, False), (2, True), (0xfffe, True), (0xffff, False)],
+              EVENT_IDX: [("p", True), ("p-1", False), ("p+1", None), ("p+2", False)]},
     "packed": {0: [((0, 0), True), ((0, 1), False), (("p+4", 2), True), ((0, 3), True)],
-               EVENT_IDX: [((0, 0), True), ((0, 1), False), (("p", 2), True), (("p-1", 2), False), (("p+1", 2), None), (("p+2", 2), False), (("p+8", 2), False)]},
+               EVENT_IDX: [((0, 0), True), ((0, 1), False), (("p", 2), True), (("p-1", 2), False), (("p+1", 2), None),
+                           (("p+2", 2), False), (("p+8", 2), False)]},
 }
 
 
 def typed_events(kind, low):
-    """Of one chain, and of two that say otherwise: what stands there last counts. None is what counts of two chains alone."""
-    story, queue = receive(kind, "events_that_were_typed" + ("_with_event_idx" if low else ""), "What is typed goes over the driver's event suppression: it counts as it then stands.", low)
+    """Of one chain, and of two that say otherwise: what stands there last counts. None is told of two chains alone."""
+    story, queue = receive(kind, "events_that_were_typed" + ("_with_event_idx" if low else ""),
+                           "What is typed goes over the driver's event suppression: it counts as it then stands.", low)
     area = queue.areas[1] + (4 + 16 if low and not queue.is_packed else 0)
     size = 4 if queue.is_packed else 2
     for last, told in SAYS[kind][low]:
@@ -310,7 +331,8 @@ class Mirror:
 def rings_put_out(kind, low):
     """Texts that are the used ring, or the descriptor ring and the device's area."""
     story = story_of(kind, "rings_that_are_put_out" + ("_with_event_idx" if low else ""),
-                     "Texts of one service are what the device writes: used entries and idx show at once, the closing writes behind the service.")
+                     "Texts of one service are what the device writes: used entries and idx show at once, the closing "
+                     "writes behind the service.")
     queue = KINDS[kind](story, "c", 1, 8, low=low)
     if queue.is_packed:
         mirrors = [Mirror(queue, queue.areas[0], 128, b""), Mirror(queue, queue.areas[2], 4, UNTOUCHED * 4)]
@@ -321,8 +343,10 @@ def rings_put_out(kind, low):
     queue.bring_up()
     for turn, count in enumerate((1, 2, 3, 1, 3, 2, 3, 1)):
         place = queue.offered
-        named = number(place, 2) if not queue.is_packed else number(place % 8 | (0x8000 if place < 8 else 0), 2) + number(2, 2)
-        queue.put(queue.areas[1] + (20 if low and not queue.is_packed else 0), named if low or queue.is_packed else bytes(2))
+        named = number(place, 2) if not queue.is_packed else number(place % 8 | (0x8000 if place < 8 else 0),
+                                                                    2) + number(2, 2)
+        queue.put(queue.areas[1] + (20 if low and not queue.is_packed else 0),
+                  named if low or queue.is_packed else bytes(2))
         for at in range(count):
             beside(queue, chain, (turn + at) % 8)
         output = b""
@@ -347,7 +371,8 @@ def rings_put_out(kind, low):
 
 def closed_over_a_descriptor(kind, low):
     """What a closing writes is part of a descriptor, which the driver doesn't write again."""
-    story = story_of(kind, "closing_writes_over_a_descriptor" + ("_with_event_idx" if low else ""), "What the service before has written behind its chains is part of a descriptor.")
+    story = story_of(kind, "closing_writes_over_a_descriptor" + ("_with_event_idx" if low else ""),
+                     "What the service before has written behind its chains is part of a descriptor.")
     queue = KINDS[kind](story, "c", 1, 4, low=low)
     queue.put(TEXT, b"abcdefgh")
     ring = queue.areas[0]
@@ -385,7 +410,9 @@ def closed_over_a_descriptor(kind, low):
 
 def heads_that_were_typed():
     """The first chain's buffer is the entries of those behind it."""
-    story, queue = receive("split", "heads_that_were_typed", "What is typed is first the heads of the chains behind, which are read when their turn comes.")
+    story, queue = receive("split", "heads_that_were_typed",
+                           "What is typed is first the heads of the chains behind, which are read when their turn "
+                           "comes.")
     queue.put_chain([Buffer(OTHER + 0x10 * at, 2, WRITE) for at in range(8)])
     for turn in range(6):
         heads = [(turn + 3 * at) % 7 for at in range(2)]
@@ -410,8 +437,11 @@ def heads_that_were_typed():
 
 def idx_that_was_typed():
     """The idx is read once: what is typed over it counts in the next service."""
-    story, queue = receive("split", "idx_that_was_typed", "What is typed goes over the available idx: it counts in the next service, and there it may be the fault Jump.")
-    queue.put_chain([Buffer(queue.areas[1] + 2, 2, WRITE), *(Buffer(OTHER + 0x10 * at, 2, WRITE) for at in range(1, 8))])
+    story, queue = receive("split", "idx_that_was_typed",
+                           "What is typed goes over the available idx: it counts in the next service, and there it may "
+                           "be the fault Jump.")
+    queue.put_chain([Buffer(queue.areas[1] + 2, 2, WRITE),
+                     *(Buffer(OTHER + 0x10 * at, 2, WRITE) for at in range(1, 8))])
     queue.put(queue.areas[1] + 4, b"".join(number(head, 2) for head in (0, 1, 2, 3, 0, 5, 6, 7)))
     queue.put(queue.areas[1] + 2, number(1, 2))
     story.type(number(4, 2) + b"abcdef", took=8, told=USED)
@@ -429,8 +459,11 @@ def idx_that_was_typed():
 
 
 def used_entries_over_descriptors():
-    """In a memory from 0 on a used entry is an address there: entry 0 is the address of descriptor 2, entry 1 its length and flags, entry 2 the next address."""
-    story = Story("within/split_used_entries_over_descriptors", "Used entries lie over the descriptors of the chains behind, which are read when their turn comes.", [Slot(base=0)])
+    """In a memory from 0 on a used entry is an address there: entry 0 is that of descriptor 2, entry 1 its length and
+    flags, entry 2 the address of descriptor 3."""
+    story = Story("within/split_used_entries_over_descriptors",
+                  "Used entries lie over the descriptors of the chains behind, which are read when their turn comes.",
+                  [Slot(base=0)])
     queue = Split(story, "c", 1, 4, areas=[0x1000, 0x2000, 0x101c]).bring_up()
     queue.put(0, b"abcdefgh")
     for first in (1, 0):
@@ -440,6 +473,7 @@ def used_entries_over_descriptors():
         queue.put(0x1020, queue.entry(Buffer(0x8000, 4), 2) + queue.entry(Buffer(0x8000, 3), 3))
         for head in (first, 2, 2, 3):
             queue.offer_head(head)
-        queue.notify(output=(b"g", b"h")[1 - first] + b"abcdefgh"[first:first + 4] + b"abcdefgh"[first:first + 2] + b"cde")
+        queue.notify(output=(b"g",
+                             b"h")[1 - first] + b"abcdefgh"[first:first + 4] + b"abcdefgh"[first:first + 2] + b"cde")
         queue.look(0x101c, 36, bytes(2) + number(4, 2) + number(first, 8) + number(2, 8) + number(2, 8) + number(3, 8))
     return story
