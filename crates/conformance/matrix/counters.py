@@ -365,9 +365,10 @@ def disk(story, chains):
 
 
 def serve(queue, count):
-    """So many more of the chains on the ring."""
+    """So many more of the chains on the ring, of which the driver is told."""
     queue.offered = (queue.offered + count) % HALF
     queue.put(queue.areas[1] + 2, number(queue.offered, 2))
+    queue.acknowledge()
     queue.notify()
 
 
