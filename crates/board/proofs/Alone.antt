@@ -60,6 +60,15 @@ other_at g old event written new (Some s) other step =
     ap (λ (slots : List SlotState). slice_get slots g) step.slots
     ∙ get_set_other old.slots event.slot g step.outcome.state other
 
+-- the slot's own step
+pub slot_step : {A : Type 0} (old : World) (e : Event A) (written : Record A) (new : World) (state :
+    SlotState)
+    → slice_get old.slots e.slot ≡ Some state → Step old e written new
+    → SlotStep old e.slot state e.what written new
+slot_step old e written new state here step =
+    subst (λ (o : Option SlotState). MatchOption o (MissingStep old e.slot written new)
+    (λ s. SlotStep old e.slot s e.what written new)) here step
+
 -- what a guest's own event comes to, where it met no refusal
 record CameOut {A : Type 0} (g : ℕ) (state : SlotState) (what : EventKind A) (written : Record A)
     (new : World) : Type 0 where
@@ -72,9 +81,7 @@ own : {A : Type 0} (old : World) (move : Move A) (state : SlotState)
     → IsUndisturbed move.event.slot old move
     → CameOut move.event.slot state move.event.what move.written move.after
 own old move state here taken undisturbed =
-    let step : SlotStep old move.event.slot state move.event.what move.written move.after =
-    subst (λ (o : Option SlotState). MatchOption o (MissingStep old move.event.slot move.written move.after)
-    (λ s. SlotStep old move.event.slot s move.event.what move.written move.after)) here taken in
+    let step = slot_step old move.event move.written move.after state here taken in
     let said : move.written.reply ≡ step.outcome.reply = ap (λ w. w.reply) step.recorded in
     let gives : Gives state move.event.what old.health move.after.health step.outcome =
     served state move.event.what old.health move.after.health step.outcome step.given

@@ -51,7 +51,8 @@ module _ {State : Type 0} (device : Device State) (Keeps : Memory → State → 
       (before after : WindowState) (s t : State) → Notified device q queue ending old new before after s t
       → Keeps old s → Keeps new t
   kept each q None ending old new before after s t h keeps =
-      subst (λ (m : Memory). Keeps m t) (sym h.1.memory) (subst (λ (d : State). Keeps old d) (sym h.1.state) keeps)
+      subst (λ (m : Memory). Keeps m t) (sym h.1.memory)
+      (subst (λ (d : State). Keeps old d) (sym h.1.state) keeps)
   kept each q (Some queue) ending old new before after s t h keeps =
       kept_by_service each (record { memory = old; ring = queue; state = s })
       (record { memory = new; ring = h.last; state = t }) ending h.wanted h.service keeps

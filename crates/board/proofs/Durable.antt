@@ -27,7 +27,7 @@ use Rattle.board.specs.Slot.{BoardSlot, SlotState, state_of}
 use Rattle.board.specs.Task.{Finishes, Nothing, PutOut, Serve, Task, device_of}
 use Rattle.board.specs.World.{MayGive, MissingStep, SlotStep, World, seen}
 use Rattle.board.proofs.Chains.{kept}
-use Rattle.board.proofs.Refusals.{Failed, Unput, Unread, Unsent, WasRefused, was_refused}
+use Rattle.board.proofs.Refusals.{Failed, Unput, Unread, Unsent, was_refused}
 use Rattle.board.proofs.Runs.{line_failures, step_failures}
 
 -- ---- a service of the disk in which no call fails
@@ -74,21 +74,17 @@ served_clean state (event.Resize cols rows) old new outcome clean h = same_dirty
 served_clean state (event.Restore bytes) old new outcome clean h = same_dirty old new h.image clean
 served_clean state (event.Complete verdict) old new outcome clean h = same_dirty old new h.image clean
 
-refused_clean : {A : Type 0} (state : SlotState) (what : EventKind A) (old new : Health) (outcome : Outcome A)
-    → new.failures ≡ old.failures → old.dirty ≡ false → WasRefused state what old new outcome
-    → new.dirty ≡ false
-refused_clean state what old new outcome same clean (Failed block h) =
-    absurd (omega (arith, h.failures, same))
-refused_clean state what old new outcome same clean (Unsent console puts h) = same_dirty old new h.image clean
-refused_clean state what old new outcome same clean (Unput console puts h) = same_dirty old new h.image clean
-refused_clean state what old new outcome same clean (Unread addr len is h) = same_dirty old new h.image clean
-
 given_clean : {A : Type 0} (state : SlotState) (what : EventKind A) (old new : Health) (outcome : Outcome A)
     → new.failures ≡ old.failures → old.dirty ≡ false → MayGive state what old new outcome → new.dirty ≡ false
 given_clean state what old new outcome same clean (inl h) =
     served_clean state what old new outcome clean h.alike
 given_clean state what old new outcome same clean (inr h) =
-    refused_clean state what old new outcome same clean (was_refused state what old new outcome h)
+    elim (was_refused state what old new outcome h) [
+      | Failed block h ↦ absurd (omega (arith, h.failures, same))
+      | Unsent console puts h ↦ same_dirty old new h.image clean
+      | Unput console puts h ↦ same_dirty old new h.image clean
+      | Unread addr len is h ↦ same_dirty old new h.image clean
+    ]
 
 -- ---- a line
 

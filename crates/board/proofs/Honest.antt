@@ -82,10 +82,12 @@ given_keeps {A} state (Write window offset width value) outcome free other (inl 
     (sym (finished_block _ _ at_rest at_rest outcome other served.alike))
     (write_keeps A window offset width value state free)
 given_keeps {A} state (MemRead addr len) outcome free other (inl served) =
-    of_read (λ (o : Outcome A). KeepsQueues state.block o.state.block) state addr len outcome served.alike.alike
+    of_read (λ (o : Outcome A). KeepsQueues state.block o.state.block) state addr len outcome
+    served.alike.alike
     (keeps_all state.block) (keeps_all state.block)
 given_keeps {A} state (MemWrite addr bytes) outcome free other (inl served) =
-    of_write (λ (o : Outcome A). KeepsQueues state.block o.state.block) state addr bytes outcome served.alike.alike
+    of_write (λ (o : Outcome A). KeepsQueues state.block o.state.block) state addr bytes outcome
+    served.alike.alike
     (keeps_all state.block) (keeps_all state.block)
 given_keeps {A} state (Input bytes) outcome free other (inl served) =
     same_keeps state.block outcome.state.block (ap (λ (o : Outcome A). o.state.block) served.alike.is)

@@ -20,7 +20,7 @@ use Rattle.board.specs.World.{World, MayGive, SlotStep, MissingStep, Step, ident
 use Rattle.std.proofs.lemmas.Option.{get_or_from_slice_get}
 use Rattle.board.proofs.Replies.{of_read, of_write}
 use Rattle.board.proofs.Restoring.{restored_named}
-use Rattle.board.proofs.Refusals.{Failed, Unput, Unread, Unsent, WasRefused, was_refused}
+use Rattle.board.proofs.Refusals.{Failed, Unput, Unread, Unsent, was_refused}
 
 -- an outcome that is this one has its identity
 named : {A : Type 0} (outcome wanted : Outcome A) → outcome ≡ wanted
@@ -58,18 +58,16 @@ served_named state (Resize cols rows) old new outcome h = named outcome _ h.alik
 served_named state (Restore bytes) old new outcome h = restored_named state bytes outcome h.alike
 served_named state (Complete verdict) old new outcome h = named outcome _ h.alike
 
-refused_named : {A : Type 0} (state : SlotState) (what : EventKind A) (old new : Health) (outcome : Outcome A)
-    → WasRefused state what old new outcome → outcome.state.identity ≡ state.identity
-refused_named state what old new outcome (Failed block h) = named outcome _ h.service.is
-refused_named state what old new outcome (Unsent console puts h) = named outcome _ h.is
-refused_named state what old new outcome (Unput console puts h) = named outcome _ h.alike
-refused_named state what old new outcome (Unread addr len is h) = named outcome _ h.alike
-
 given_named : {A : Type 0} (state : SlotState) (what : EventKind A) (old new : Health) (outcome : Outcome A)
     → MayGive state what old new outcome → outcome.state.identity ≡ state.identity
 given_named state what old new outcome (inl h) = served_named state what old new outcome h.alike
 given_named state what old new outcome (inr h) =
-    refused_named state what old new outcome (was_refused state what old new outcome h)
+    elim (was_refused state what old new outcome h) [
+      | Failed block h ↦ named outcome _ h.service.is
+      | Unsent console puts h ↦ named outcome _ h.is
+      | Unput console puts h ↦ named outcome _ h.alike
+      | Unread addr len is h ↦ named outcome _ h.alike
+    ]
 
 -- an event of the board
 step_at : {A : Type 0} (old : World) (event : Event A) (written : Record A) (new : World)

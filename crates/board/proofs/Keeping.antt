@@ -43,10 +43,11 @@ use Rattle.board.specs.Outcome.{Outcome as Came, replies}
 use Rattle.board.specs.Slot.{SlotState, KeepsBesideDisk, KeepsBesideTransmit}
 use Rattle.board.specs.Task.{task_of, emergency_write, device_of}
 use Rattle.board.specs.World.{World, IsFailedService, IsRefusedTransmit, IsCutShort, IsRefused, MayGive, SlotStep, MissingStep, Step, KeepsBoard}
+use Rattle.board.proofs.Alone.{slot_step}
 use Rattle.board.proofs.Beside.{same_range}
 use Rattle.board.proofs.Chains.{kept}
 use Rattle.board.proofs.Lists.{get_set, set_same}
-use Rattle.board.proofs.Refusals.{Failed, Unput, Unread, Unsent, WasRefused, was_refused}
+use Rattle.board.proofs.Refusals.{Failed, Unput, Unread, Unsent, was_refused}
 
 -- ---- the memory keeps its range
 
@@ -258,36 +259,22 @@ never : (before after : Health) → before.failures < after.failures → after �
 never before after rose is = let same : after.failures ≡ before.failures =
     ap (λ (h : Health). h.failures) is in omega arith
 
-refused_beside : {A : Type 0} (state : SlotState) (what : EventKind A) (before after : Health)
-    (outcome : Came A) → before.failures < after.failures → WasRefused state what before after outcome
-    → KeepsBesideDisk state outcome.state
-refused_beside state what before after outcome rose (Failed block h) =
-    let kept = service_beside (record state { block = block }) before after outcome h in
-    record { rest = kept.rest; memory = kept.memory; extent = kept.extent }
-refused_beside state what before after outcome rose (Unsent console puts h) =
-    absurd (never before after rose h.image)
-refused_beside state what before after outcome rose (Unput console puts h) =
-    absurd (never before after rose h.image)
-refused_beside state what before after outcome rose (Unread addr len is h) =
-    absurd (never before after rose h.image)
-
 given_beside : {A : Type 0} (state : SlotState) (what : EventKind A) (before after : Health)
     (outcome : Came A) → before.failures < after.failures → MayGive state what before after outcome
     → KeepsBesideDisk state outcome.state
 given_beside state what before after outcome rose (inl h) = let same : after.failures ≡ before.failures =
     h.failures in absurd (omega arith)
 given_beside state what before after outcome rose (inr h) =
-    refused_beside state what before after outcome rose (was_refused state what before after outcome h)
+    elim (was_refused state what before after outcome h) [
+      | Failed block h ↦
+          let kept = service_beside (record state { block = block }) before after outcome h in
+          record { rest = kept.rest; memory = kept.memory; extent = kept.extent }
+      | Unsent console puts h ↦ absurd (never before after rose h.image)
+      | Unput console puts h ↦ absurd (never before after rose h.image)
+      | Unread addr len is h ↦ absurd (never before after rose h.image)
+    ]
 
--- the slot's own step
-slot_step : {A : Type 0} (old : World) (e : Event A) (written : Record A) (new : World) (state : SlotState)
-    → slice_get old.slots e.slot ≡ Some state → Step old e written new
-    → SlotStep old e.slot state e.what written new
-slot_step old e written new state here step =
-    subst (λ (o : Option SlotState). MatchOption o (MissingStep old e.slot written new)
-    (λ s. SlotStep old e.slot s e.what written new)) here step
-
--- leaves it as it is then
+-- the slot's own step leaves it as it is then
 left_as : {A : Type 0} (old new : World) (e : Event A) (written : Record A) (before after : SlotState)
     → (taken : SlotStep old e.slot before e.what written new) → slice_get old.slots e.slot ≡ Some before
     → slice_get new.slots e.slot ≡ Some after
@@ -418,25 +405,21 @@ record Lacks {A : Type 0} (state : SlotState) (old new : Health) (outcome : Came
   slot : KeepsBesideTransmit state outcome.state
   image : new ≡ old
 
-refused_lacks : {A : Type 0} (state : SlotState) (what : EventKind A) (old new : Health) (outcome : Came A)
-    → outcome.reply ≡ NoMemory → WasRefused state what old new outcome → Lacks state old new outcome
--- the block device is never without memory
-refused_lacks state what old new outcome lacks (Failed block h) =
-    let said = sym (ap (λ o. o.reply) h.service.is) ∙ lacks in absurd (cc said)
-refused_lacks state what old new outcome lacks (Unsent console puts h) =
-    let kept = transmit_beside (record state { console = console }) old new outcome h in
-    record { slot = record { rest = kept.rest; memory = kept.memory }; image = h.image }
-refused_lacks state what old new outcome lacks (Unput console puts h) =
-    let kept = unchanged_beside (record state { console = console }) outcome h.alike in
-    record { slot = record { rest = kept.rest; memory = kept.memory }; image = h.image }
-refused_lacks state what old new outcome lacks (Unread addr len is h) =
-    record { slot = unchanged_beside state outcome h.alike; image = h.image }
-
 given_lacks : {A : Type 0} (state : SlotState) (what : EventKind A) (old new : Health) (outcome : Came A)
     → outcome.reply ≡ NoMemory → MayGive state what old new outcome → Lacks state old new outcome
 given_lacks state what old new outcome lacks (inl h) = absurd (h.answered lacks)
 given_lacks state what old new outcome lacks (inr h) =
-    refused_lacks state what old new outcome lacks (was_refused state what old new outcome h)
+    elim (was_refused state what old new outcome h) [
+      -- the block device is never without memory
+      | Failed block h ↦ let said = sym (ap (λ o. o.reply) h.service.is) ∙ lacks in absurd (cc said)
+      | Unsent console puts h ↦
+          let kept = transmit_beside (record state { console = console }) old new outcome h in
+          record { slot = record { rest = kept.rest; memory = kept.memory }; image = h.image }
+      | Unput console puts h ↦
+          let kept = unchanged_beside (record state { console = console }) outcome h.alike in
+          record { slot = record { rest = kept.rest; memory = kept.memory }; image = h.image }
+      | Unread addr len is h ↦ record { slot = unchanged_beside state outcome h.alike; image = h.image }
+    ]
 
 pub lacking_event_keeps : {A : Type 0} (old new : World) (e : Event A) (written : Record A)
     (before after : SlotState) → Step old e written new → written.reply ≡ NoMemory

@@ -53,7 +53,8 @@ pub noted_exactly : (flags flags' : List Bool) (h g : ℕ) (m : Bool) (Had Stood
     ↔ ((slice_get flags g ≡ Some false) × ((h ≡ g → Had) × (h ≡ g → Stood)))
 noted_exactly flags flags' h g m Had Stood is met = rw is (by (cases_eq h g) m met)
   where
-    by : (h ≡ g) ⊎ (h ≢ g) → (b : Bool) → (b ≡ false) ↔ (Had × Stood) → (slice_get (noted h b flags) g ≡ Some false)
+    by : (h ≡ g) ⊎ (h ≢ g) → (b : Bool) → (b ≡ false) ↔ (Had × Stood)
+        → (slice_get (noted h b flags) g ≡ Some false)
         ↔ ((slice_get flags g ≡ Some false) × ((h ≡ g → Had) × (h ≡ g → Stood)))
     by same false met =
         (λ found. (found, (λ mine. (met.0 refl).0, λ mine. (met.0 refl).1)), λ found. found.0)
@@ -75,7 +76,8 @@ Notes g old move = (slice_get move.after.disturbed g ≡ Some false)
 
 notes : {A : Type 0} (g : ℕ) (old : World) (move : Move A) (m : Bool)
     → move.after.disturbed ≡ noted move.event.slot m old.disturbed
-    → (m ≡ false) ↔ ((move.written.reply ≢ reply.NoMemory) × (move.after.health.failures ≡ old.health.failures))
+    → (m ≡ false) ↔ ((move.written.reply ≢ reply.NoMemory)
+    × (move.after.health.failures ≡ old.health.failures))
     → Notes g old move
 notes g old move m is met =
     let exactly = noted_exactly old.disturbed move.after.disturbed move.event.slot g m _ _ is met in (

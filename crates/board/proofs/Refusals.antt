@@ -47,7 +47,8 @@ abbrev IsUnput : {A : Type 0} → SlotState → Health → Health → Outcome A 
 IsUnput state old new outcome = IsRefusedTransmit state old new outcome
     ⊎ IsDetermined outcome (replies state NoMemory) old new
 
-byte_refused : {A : Type 0} (is : Bool) (byte : ℕ) (state : SlotState) (old new : Health) (outcome : Outcome A)
+byte_refused : {A : Type 0} (is : Bool) (byte : ℕ) (state : SlotState) (old new : Health) (outcome : Outcome
+    A)
     → IsCutShort (if is then PutOut byte else Nothing) state old new outcome
     → IsUnput state old new outcome × IsPuttingOut (if is then PutOut byte else Nothing)
 byte_refused true byte state old new outcome h = (inr h, tt)
@@ -65,7 +66,8 @@ console_refused (action.ConfigWrite offset width value) state old new outcome h 
 console_refused action.None state old new outcome h = absurd h
 
 unput : {A : Type 0} (state : SlotState) (what : EventKind A) (console : WindowState) (old new : Health)
-    (outcome : Outcome A) → IsUnput (record state { console = console }) old new outcome → MayPutOut state what
+    (outcome : Outcome A) → IsUnput (record state { console = console }) old new outcome
+    → MayPutOut state what
     → WasRefused state what old new outcome
 unput state what console old new outcome (inl unsent) puts = Unsent console puts unsent
 unput state what console old new outcome (inr silent) puts = Unput console puts silent
@@ -75,12 +77,14 @@ pub was_refused : {A : Type 0} (state : SlotState) (what : EventKind A) (old new
 was_refused state (Read window offset width) old new outcome h = absurd h
 was_refused state (Write Block offset width value) old new outcome h =
     Failed (with_write Block offset width value state).block
-    (block_refused (action_at Block offset width value state) (with_write Block offset width value state) old new
+    (block_refused (action_at Block offset width value state) (with_write Block offset width value state) old
+    new
     outcome h)
 was_refused state (Write Console offset width value) old new outcome h =
     let came = console_refused (action_at Console offset width value state)
     (with_write Console offset width value state) old new outcome h in
-    unput state (Write Console offset width value) (with_write Console offset width value state).console old new
+    unput state (Write Console offset width value) (with_write Console offset width value state).console old
+    new
     outcome came.0 came.1
 was_refused state (MemRead addr len) old new outcome h =
     Unread addr len refl (record { alike = h.unchanged; image = h.image })
@@ -91,7 +95,8 @@ was_refused state (Restore bytes) old new outcome h = absurd h
 was_refused state (Complete verdict) old new outcome h = absurd h
 
 -- only what puts something out finds no memory, and a read
-pub lacking_puts : {A : Type 0} (state : SlotState) (what : EventKind A) (old new : Health) (outcome : Outcome A)
+pub lacking_puts : {A : Type 0} (state : SlotState) (what : EventKind A) (old new : Health) (outcome :
+    Outcome A)
     → ((addr len : ℕ) → what ≡ MemRead addr len → ⊥) → WasRefused state what old new outcome
     → outcome.reply ≡ NoMemory → MayPutOut state what
 lacking_puts {A} state what old new outcome other (Failed block h) is = let done =

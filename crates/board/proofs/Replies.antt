@@ -61,14 +61,18 @@ restore_replies {A} state bytes outcome (inr refused) =
     by_reply (Restore bytes) outcome.reply BadState (ap (λ (o : Outcome A). o.reply) refused.1) tt
 
 refused_replies : {A : Type 0} (window : DeviceKind) (offset width value : ℕ) (state : SlotState)
-    (old new : Health) (outcome : Outcome A) → WasRefused state (Write window offset width value) old new outcome
+    (old new : Health) (outcome : Outcome A) → WasRefused state (Write window offset width value) old new
+    outcome
     → MayReply (Write window offset width value) outcome.reply
 refused_replies {A} window offset width value state old new outcome (Failed block h) =
-    by_reply (Write window offset width value) outcome.reply Done (ap (λ (o : Outcome A). o.reply) h.service.is) tt
+    by_reply (Write window offset width value) outcome.reply Done (ap (λ (o : Outcome A). o.reply)
+    h.service.is) tt
 refused_replies {A} window offset width value state old new outcome (Unsent console puts h) =
-    by_reply (Write window offset width value) outcome.reply NoMemory (ap (λ (o : Outcome A). o.reply) h.is) tt
+    by_reply (Write window offset width value) outcome.reply NoMemory (ap (λ (o : Outcome A). o.reply) h.is)
+    tt
 refused_replies {A} window offset width value state old new outcome (Unput console puts h) =
-    by_reply (Write window offset width value) outcome.reply NoMemory (ap (λ (o : Outcome A). o.reply) h.alike) tt
+    by_reply (Write window offset width value) outcome.reply NoMemory (ap (λ (o : Outcome A). o.reply)
+    h.alike) tt
 refused_replies window offset width value state old new outcome (Unread addr len is h) = absurd (cc)
 
 pub given_replies : {A : Type 0} (state : SlotState) (what : EventKind A) (old new : Health)
@@ -78,9 +82,11 @@ given_replies state (Write window offset width value) old new outcome (inl serve
     by_reply (Write window offset width value) outcome.reply Done
     (finished_done _ _ old new outcome served.alike) tt
 given_replies {A} state (MemRead addr len) old new outcome (inl served) =
-    of_read (λ (o : Outcome A). MayReply (MemRead addr len) o.reply) state addr len outcome served.alike.alike tt tt
+    of_read (λ (o : Outcome A). MayReply (MemRead addr len) o.reply) state addr len outcome
+    served.alike.alike tt tt
 given_replies {A} state (MemWrite addr bytes) old new outcome (inl served) =
-    of_write (λ (o : Outcome A). MayReply (MemWrite addr bytes) o.reply) state addr bytes outcome served.alike.alike tt
+    of_write (λ (o : Outcome A). MayReply (MemWrite addr bytes) o.reply) state addr bytes outcome
+    served.alike.alike tt
     tt
 given_replies {A} state (Input bytes) old new outcome (inl served) =
     rw (ap (λ (o : Outcome A). o.reply) served.alike.is) tt

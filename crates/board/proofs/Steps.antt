@@ -1,5 +1,5 @@
--- Each guest is alone, whatever the machine: a step changes nothing of other guests'. And what a guest that is alone
--- is answered.
+-- Each guest is alone, whatever the machine: a step changes nothing of other guests'.
+-- And what a guest that is alone is answered.
 use Rattle.std.proofs.Common.{◌≡◌, ◌≢◌, ◌⊎◌, ◌↔◌, inl, inr, ℕ, eqb, true, false, List, [], ◌∷◌, ◌++◌, map, refl, sym, ◌∙◌, subst}
 use Rattle.std.specs.Prelude.{⊤}
 use Rattle.std.specs.List.{AllByRecursion}
@@ -37,8 +37,8 @@ module _ {S M : Type 0} (IsStep : S → M → Type 0) (after : M → S) where
   always old [] = tt
   always old (step ∷ steps) = (tt, always (after step) steps)
 
-  -- What is noted of a guest says after each step whether it was so before, and this holds of the step: so it does
-  -- after all of them.
+  -- Where what is noted of a guest after each step is that it was so before and that this holds of the step,
+  -- it is that after all of them.
   pub noted_along : (IsNoted : S → Type 0) (Holds : S → M → Type 0)
       → ((old : S) (step : M) → IsStep old step → IsNoted (after step) ↔ (IsNoted old × Holds old step))
       → (old : S) (steps : List M) (new : S) → LeadTo IsStep after old steps new
@@ -54,7 +54,7 @@ module _ {S M : Type 0} (IsStep : S → M → Type 0) (after : M → S) where
 
   -- ---- each guest is alone
 
-  -- The guest of each slot sits so in a state, and a list of steps comes to this for one that sits so at its begin.
+  -- A guest sits so in a state, and steps come to this for one that sits so before them.
   module _ {T : Type 0} (slot_of : M → ℕ) (Sits : ℕ → T → S → Type 0) (Comes : ℕ → T → List M → Type 0) where
     -- how a step leaves a guest, and what it adds for it to what the steps behind it come to
     pub record Passes (g : ℕ) (seat : T) (step : M) : Type 0 where
@@ -155,7 +155,7 @@ module _ {S M T Q P : Type 0} (IsStep : S → M → Type 0) (after : M → S) (s
         (map answer (own_steps slot_of g steps)) last
     pub sits : Sits g last new
 
-  -- a guest whose own steps are these, and whom no other guest's step changes, is left by all steps as by its own
+  -- a guest that no other guest's step changes is left by all steps as by its own
   pub own_alone : (IsFair : ℕ → S → M → Type 0)
       → ((old : S) (step : M) (seat : T) → IsStep old step → IsFair (slot_of step) old step
       → Sits (slot_of step) seat old → IsOwn seat step)
@@ -172,7 +172,11 @@ module _ {S M T Q P : Type 0} (IsStep : S → M → Type 0) (after : M → S) (s
               next = came.last;
               sits = came.sits;
               comes = λ more rest.
-                  record { last = rest.last; own = rw test (came.last, came.next, rest.own); sits = rest.sits };
+                  record {
+                    last = rest.last;
+                    own = rw test (came.last, came.next, rest.own);
+                    sits = rest.sits;
+                  };
             };
         others = λ k was step here test other h there.
             record {

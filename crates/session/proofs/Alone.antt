@@ -1,6 +1,5 @@
 -- Each guest of a session, as its own calls decide it.
 use Rattle.std.proofs.Common.{◌≡◌, ◌≢◌, ℕ, Option, Some, None, List, ◌++◌, take, drop, refl, sym, ◌∙◌, ap, subst}
-use Rattle.std.specs.Prelude.{MatchOption}
 use Rattle.std.specs.List.{slice_get}
 use Rattle.board.specs.declared.event.Event.{Event}
 use Rattle.board.specs.declared.event.EventKind.{EventKind}
@@ -8,9 +7,9 @@ use Rattle.board.specs.declared.reply.Reply.{Reply}
 use Rattle.board.specs.declared.reply.Record.{Record}
 use Rattle.board.specs.Machine.{IsNext}
 use Rattle.board.specs.Slot.{SlotState}
-use Rattle.board.specs.World.{World, MissingStep, SlotStep}
+use Rattle.board.specs.World.{World}
 use Rattle.board.specs.Within.{Seat, IsNextWithin}
-use Rattle.board.proofs.Alone.{served, get_set}
+use Rattle.board.proofs.Alone.{served, slot_step, get_set}
 use Rattle.board.proofs.OneRun.{next_of}
 use Rattle.board.proofs.OneSeat.{seat_once}
 use Rattle.board.proofs.Steps.{IsOwn, each_along, one_course, own_alone}
@@ -42,10 +41,7 @@ own_event : {A : Type 0} (old new : SessionState) (event : Event A) (reply : Rep
 own_event {A} old new event reply state h here =
     let answers = h.answers in
     let written = answers.written in
-    let step : SlotStep (world_of old) event.slot state event.what written (world_of new) =
-    subst (λ (o : Option SlotState). MatchOption o
-    (MissingStep (world_of old) event.slot written (world_of new))
-    (λ s. SlotStep (world_of old) event.slot s event.what written (world_of new))) here answers.step in
+    let step = slot_step (world_of old) event written (world_of new) state here answers.step in
     let outcome = step.outcome in
     let said : outcome.reply ≡ reply = sym (ap (λ (w : Record A). w.reply) step.recorded) ∙ answers.replied in
     let put : written.output ≡ outcome.output = ap (λ (w : Record A). w.output) step.recorded in

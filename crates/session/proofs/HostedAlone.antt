@@ -36,7 +36,8 @@ module _ {A : Type 0} (limit : ℕ) where
       (IsNextAsking limit) seat step
 
   own_called : (old : HostedSessionState) (event : Event A) (reply : Reply A) (after : HostedSessionState)
-      (seat : HostedSeat) → IsHostedCall old event.slot event.what reply after → Sits limit event.slot seat old
+      (seat : HostedSeat) → IsHostedCall old event.slot event.what reply after
+      → Sits limit event.slot seat old
       → Came seat (Called event reply after)
   own_called old event reply after seat is sits =
       let came = came_to old after event.slot event.what reply seat.state sits.there is in

@@ -79,7 +79,8 @@ own_fair {A} old what outcome own (Beside free quiet h) =
       waits = λ no. absurd (cc);
     }
 own_fair {A} old what outcome own (Looks none rings looks h) =
-    hosted_done_fair old what old.flight outcome.reply (rw none refl) (ap (λ (o : HostedOutcome A). o.reply) h)
+    hosted_done_fair old what old.flight outcome.reply (rw none refl)
+    (ap (λ (o : HostedOutcome A). o.reply) h)
 own_fair {A} old what outcome own (Stands here flies free rings h) =
     hosted_done_fair old what old.flight outcome.reply (rw (flies, free) refl)
     (ap (λ (o : HostedOutcome A). o.reply) h)

@@ -85,8 +85,8 @@ notes : {A : Type 0} (g : ℕ) (old : PacedWorld) (move : Move A) (m : Bool)
     → (m ≡ false) ↔ ((move.response ≢ Answered NoMemory)
     × (move.after.world.health.failures ≡ old.world.health.failures)) → Notes g old move
 notes g old move m is met =
-    let exactly = noted_exactly old.world.disturbed move.after.world.disturbed (slot_in move.call) g m _ _ is met
-    in (
+    let exactly =
+    noted_exactly old.world.disturbed move.after.world.disturbed (slot_in move.call) g m _ _ is met in (
       λ found. let now = exactly.0 found in (now.0, record { memory = now.1.0; image = now.1.1 }),
       λ found. exactly.1 (found.0, (found.1.memory, found.1.image)),
     )
@@ -109,7 +109,8 @@ notes_turn : {A : Type 0} (Does : SlotState → Health → Health → SlotState 
     → Notes g old move
 notes_turn Does rises g h old move is t =
     let rose : old.world.health.failures ≤ move.after.world.health.failures =
-    rises t.taken.state old.world.health move.after.world.health t.taken.after move.output t.turn t.taken.comes in
+    rises t.taken.state old.world.health move.after.world.health t.taken.after move.output t.turn
+    t.taken.comes in
     notes g old move _ (rw is t.taken.disturbed) (
       λ none.
           let both = turn_unmet t.turn old.world.health.failures move.after.world.health.failures rose none in
@@ -139,5 +140,6 @@ pub line_noted : {A : Type 0} (g : ℕ) (budget : Budget) (old new : PacedWorld)
 line_noted {A} g budget old new moves line =
     noted_along (IsMove {A = A} budget) (λ (move : Move A). move.after)
     (λ world. slice_get world.world.disturbed g ≡ Some false) (IsUndisturbed g)
-    (λ was move step. notes_at g budget was move move.call (slice_get was.paused (slot_in move.call)) refl step)
+    (λ was move step.
+    notes_at g budget was move move.call (slice_get was.paused (slot_in move.call)) refl step)
     old moves new line

@@ -42,7 +42,8 @@ pub record Stands (g : ℕ) (world : PacedWorld) (state : SlotState) : Type 0 wh
   pub idle : slice_get world.paused g ≡ Some None
 
 -- or it is in the middle of an event that it began in this state
-pub record IsMidway {A : Type 0} (g : ℕ) (world : PacedWorld) (state : SlotState) (event : Begun A) : Type 0 where
+pub record IsMidway {A : Type 0} (g : ℕ) (world : PacedWorld) (state : SlotState) (event : Begun A)
+    : Type 0 where
   pub pause : Pause
   pub now : SlotState
   pub there : slice_get world.world.slots g ≡ Some now
@@ -92,7 +93,8 @@ others_at g budget (GoOn slot) (Some (Some pause)) old response output block con
     of_others (GoesOn pause budget) g slot old response output block console new other c
 
 -- a move of another slot begins no event of the guest's
-pub events_of_others : {A : Type 0} (g : ℕ) (call : Call A) (response : Response A) (rest : List (EventKind A))
+pub events_of_others : {A : Type 0} (g : ℕ) (call : Call A) (response : Response A)
+    (rest : List (EventKind A))
     → eqb (slot_in call) g ≡ false → begun_by g call response rest ≡ rest
 events_of_others g (Handle event) (Answered reply) rest other = rw other refl
 events_of_others g (Handle event) More rest other = rw other refl
@@ -175,7 +177,8 @@ pub record Serves {A : Type 0} (g : ℕ) (begun : Option (Begun A)) (call : Call
 pub data OwnMove {A : Type 0} (g : ℕ) (state : SlotState) (begun : Option (Begun A)) (call : Call A)
     (response : Response A) (move : Move A) : Type 0 where
   Stayed :
-      IsStalled response → move.output ≡ [] → ((rest : List (EventKind A)) → begun_by g call response rest ≡ rest)
+      IsStalled response → move.output ≡ [] → ((rest : List (EventKind A))
+      → begun_by g call response rest ≡ rest)
       → Sits g state begun move.after → OwnMove g state begun call response move
   WentOn :
       (event : Begun A) → Serves g begun call response event → response ≡ More
@@ -191,7 +194,8 @@ module _ {A : Type 0} (budget : Budget) (old : PacedWorld) (move : Move A) (stat
     (stood : move.after.world.health.failures ≡ old.world.health.failures) where
   -- an event that the guest begins
   begins : (event : Event A) (t : Turned (Begins event.what budget) event.slot old move state) (turn : Turn A)
-      → eqb event.slot event.slot ≡ true → t.turn ≡ turn → Begins event.what budget state old.world.health move.after.world.health t.after
+      → eqb event.slot event.slot ≡ true → t.turn ≡ turn → Begins event.what budget state old.world.health
+      move.after.world.health t.after
       move.output turn → OwnMove event.slot state None (Handle event) move.response move
   begins event t (turn.Answered reply) test is does =
       let said : move.response ≡ Answered reply = t.told ∙ ap response_to is in
@@ -258,7 +262,8 @@ module _ {A : Type 0} (budget : Budget) (old : PacedWorld) (move : Move A) (stat
   ComesOf call p =
       ComesTo budget call p old move.response move.output move.block_irq move.console_irq move.after
 
-  own_at : (call : Call A) (begun : Option (Begun A)) → eqb (slot_in call) (slot_in call) ≡ true → ComesOf call (slice_get old.paused (slot_in call))
+  own_at : (call : Call A) (begun : Option (Begun A)) → eqb (slot_in call) (slot_in call) ≡ true
+      → ComesOf call (slice_get old.paused (slot_in call))
       → Sits (slot_in call) state begun old → OwnMove (slot_in call) state begun call move.response move
   own_at (Handle event) None test c s =
       let t = turned (Begins event.what budget) event.slot old move state None s.there s.idle
@@ -310,7 +315,8 @@ abbrev SitsAt : {A : Type 0} → ℕ → PacedSeat A → PacedWorld → Type 0
 SitsAt g seat world = Sits g seat.state seat.begun world
 
 -- what comes of moves for a guest that sits so before them
-record Comes {A : Type 0} (new : PacedWorld) (g : ℕ) (seat : PacedSeat A) (moves : List (Move A)) : Type 0 where
+record Comes {A : Type 0} (new : PacedWorld) (g : ℕ) (seat : PacedSeat A) (moves : List (Move A))
+    : Type 0 where
   last : SlotState
   own :
       RunsOnItsOwn g seat.state (events_from seat.begun (own_events g moves))
@@ -376,7 +382,8 @@ module _ {A : Type 0} (budget : Budget) (new : PacedWorld) where
       → Comes new g (record { state = state; begun = begun }) []
   ends g idle state None sits = record { last = state; own = refl; state_after = sits.there }
   ends g idle state (Some event) sits =
-      let no : ◌≡◌ {A = Option (Option Pause)} (Some None) (Some (Some sits.pause)) = sym idle ∙ sits.paused in
+      let no : ◌≡◌ {A = Option (Option Pause)} (Some None) (Some (Some sits.pause)) = sym idle ∙ sits.paused
+      in
       absurd (cc)
 
 -- A guest that is quiet in a line, and idle before and after it, is alone in it.
@@ -384,7 +391,8 @@ pub alone : {A : Type 0} (g : ℕ) (budget : Budget) (old new : PacedWorld) (mov
     (state : SlotState) → IsLine budget old moves new → IsQuiet g old moves → IsIdle g old → IsIdle g new
     → slice_get old.world.slots g ≡ Some state → RunsAlone g state moves new
 alone {A} g budget old new moves state line quiet starts idle here =
-    let c = steps.alone (IsMove {A = A} budget) (λ (m : Move A). m.after) (λ (m : Move A). slot_in m.call) SitsAt
+    let c = steps.alone (IsMove {A = A} budget) (λ (m : Move A). m.after) (λ (m : Move A). slot_in m.call)
+    SitsAt
     (Comes new) IsUndisturbed
     (record {
       own = λ was move seat test step undisturbed sits.

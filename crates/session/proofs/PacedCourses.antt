@@ -157,7 +157,8 @@ stalled_ended More rest stalled = absurd stalled
 stalled_ended Busy rest stalled = refl
 stalled_ended Idle rest stalled = refl
 
-behind_none : (before after : List ℕ) (output : List ℕ) → after ≡ before ++ output → output ≡ [] → after ≡ before
+behind_none : (before after : List ℕ) (output : List ℕ) → after ≡ before ++ output → output ≡ []
+    → after ≡ before
 behind_none before after output is none = is ∙ (ap (λ (l : List ℕ). before ++ l) none ∙ append-nil before)
 
 -- where the board and what is paused of it stay, the guest sits as it did
@@ -183,7 +184,8 @@ module _ {A : Type 0} (new : SessionState) where
     records = c.records;
     later = c.later;
     last = c.last;
-    own = run_as g place.state c.last _ _ c.records c.records (ap (events_from place.begun) events) refl c.own;
+    own = run_as g place.state c.last _ _ c.records c.records (ap (events_from place.begun) events) refl
+        c.own;
     replies = replies ∙ c.replies;
     puts = c.puts;
     output = c.output ∙ ap (λ (l : List ℕ). l ++ output_of g new) (sym taken);
@@ -201,7 +203,8 @@ module _ {A : Type 0} (new : SessionState) where
     sits = record {
       seat = sits;
       waits = behind_none (output_of (slot_in call) old) (output_of (slot_in call) after)
-          (step_of old call response after h).output (step_of old call response after h).behind silent ∙ waits;
+          (step_of old call response after h).output (step_of old call response after h).behind silent
+          ∙ waits;
     };
     comes = λ steps.
         unseen (slot_in call) place steps (Called call response after ∷ steps)
@@ -257,11 +260,15 @@ module _ {A : Type 0} (new : SessionState) where
   own_step old (Called call response after) place test h had sits =
       let is = by_pause old call response after h in
       called old call response after is place test sits.waits
-      (own_move old.budget (paced_world_of old) (move_of old call response after is) place.state place.begun test
+      (own_move old.budget (paced_world_of old) (move_of old call response after is) place.state
+      place.begun test
       (step_of old call response after is).comes (record { memory = had; image = λ mine. refl }) sits.seat)
   own_step old (Took slot room bytes after) place test h had sits = record {
     next = record { state = place.state; begun = place.begun; waiting = output_of slot after };
-    sits = record { seat = sits_at slot place.state place.begun old after h.world h.paused sits.seat; waits = refl };
+    sits = record {
+      seat = sits_at slot place.state place.begun old after h.world h.paused sits.seat;
+      waits = refl;
+    };
     comes = λ steps c. record {
       records = c.records;
       later = c.later;
@@ -269,7 +276,8 @@ module _ {A : Type 0} (new : SessionState) where
       own = c.own;
       replies = c.replies;
       puts = c.puts;
-      output = rw test (ap (λ (l : List ℕ). l ++ c.later) (sym sits.waits ∙ taken_first slot room old after bytes h)
+      output = rw test (ap (λ (l : List ℕ). l ++ c.later)
+          (sym sits.waits ∙ taken_first slot room old after bytes h)
           ∙ (append_assoc bytes (output_of slot after) c.later
           ∙ (ap (λ (l : List ℕ). bytes ++ l) c.output
           ∙ sym (append_assoc bytes (output_taken slot steps) (output_of slot new)))));
@@ -319,7 +327,8 @@ module _ {A : Type 0} (new : SessionState) where
     state_after = sits.there;
   }
   ends g idle place (Some event) is sits waits =
-      let no : ◌≡◌ {A = Option (Option Pause)} (Some None) (Some (Some sits.pause)) = sym idle ∙ sits.paused in
+      let no : ◌≡◌ {A = Option (Option Pause)} (Some None) (Some (Some sits.pause)) = sym idle ∙ sits.paused
+      in
       absurd (cc)
 
 -- ---- the law
@@ -402,7 +411,8 @@ keeps_idle g old (Called call response after) h stays =
           (ap (λ (k : ℕ). slice_get old.paused k) mine ∙ stays.idle) is),
       record {
         unlimited = λ limit. stays.unlimited (subst (λ (b : Budget). HasLimit b) s.budget limit);
-        idle = called_idle g call old response after (cases_eq (slot_in call) g) stays.unlimited stays.idle is;
+        idle =
+            called_idle g call old response after (cases_eq (slot_in call) g) stays.unlimited stays.idle is;
       },
     )
 keeps_idle g old (Took slot room bytes after) h stays = (

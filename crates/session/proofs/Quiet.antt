@@ -120,7 +120,8 @@ module _ {A X : Type 0} (p p' : PacedState (MemoryImage X)) (outputs : List Wait
       same is = ap (λ (q : PacedState (MemoryImage X)). at_budget q p.budget) is
 
       told_at : (waiting : Waiting)
-          → Responds p.budget (paced_world_of before_it) (Handle its_event) response waiting.bytes waiting.bytes
+          → Responds p.budget (paced_world_of before_it) (Handle its_event) response waiting.bytes
+          waiting.bytes
           (paced_world_of behind_it)
       told_at waiting = record {
         output = says.responds.output;

@@ -222,7 +222,8 @@ module _ (A : Type 0) (slots slots' : List BoardSlot) (image image' : List ℕ) 
       → Decides (λ limit found later. GoesOnWithin limit pause budget found later) response)
       → (response ≡ Idle → session slots' image' dirty' outputs paused' budget ≡ was)
       → after.bytes ≡ before.bytes ++ output
-      → paced.ComesTo budget (GoOn slot) o (paced_world_of was) response output block console (paced_world_of now)
+      → paced.ComesTo budget (GoOn slot) o (paced_world_of was) response output block console
+      (paced_world_of now)
       → ComesTo (GoOn slot) o was response now
   went_at response None output block console there decided idle appended comes = absurd (there refl)
   went_at response (Some None) output block console there decided idle appended comes =
@@ -234,7 +235,8 @@ module _ (A : Type 0) (slots slots' : List BoardSlot) (image image' : List ℕ) 
   pub went_on : (response : Response A) → ((pause : Pause) → slice_get paused slot ≡ Some (Some pause)
       → Decides (λ limit found later. GoesOnWithin limit pause budget found later) response)
       → (response ≡ Idle → session slots' image' dirty' outputs paused' budget ≡ was)
-      → Responds budget (paced_world_of was) (GoOn slot) response before.bytes after.bytes (paced_world_of now)
+      → Responds budget (paced_world_of was) (GoOn slot) response before.bytes after.bytes
+      (paced_world_of now)
       → IsCall was (GoOn slot) response now
   went_on response decided idle r =
       went_at response (slice_get paused slot) r.output r.block r.console
@@ -252,7 +254,8 @@ module _ (A : Type 0) (slots slots' : List BoardSlot) (image image' : List ℕ) 
         → (response ≡ More → HasLimit budget)
         → (response ≡ Busy → session slots' image' dirty' outputs paused' budget ≡ was)
         → after.bytes ≡ before.bytes ++ output
-        → paced.ComesTo budget (Handle event) o (paced_world_of was) response output block console (paced_world_of now)
+        → paced.ComesTo budget (Handle event) o (paced_world_of was) response output block console
+        (paced_world_of now)
         → ComesTo (Handle event) o was response now
     begun_at response None output block console there decided limited busy appended comes =
         absurd (there refl)
@@ -268,7 +271,8 @@ module _ (A : Type 0) (slots slots' : List BoardSlot) (image image' : List ℕ) 
         → Decides (λ limit found later. BeginsWithin limit what budget found later) response
         → (response ≡ More → HasLimit budget)
         → (response ≡ Busy → session slots' image' dirty' outputs paused' budget ≡ was)
-        → Responds budget (paced_world_of was) (Handle event) response before.bytes after.bytes (paced_world_of now)
+        → Responds budget (paced_world_of was) (Handle event) response before.bytes after.bytes
+        (paced_world_of now)
         → IsCall was (Handle event) response now
     called response decided limited busy r =
         begun_at response (slice_get paused slot) r.output r.block r.console
@@ -369,7 +373,8 @@ module _ (A : Type 0) (slots slots' : List BoardSlot) (image image' : List ℕ) 
     -- ---- and its response is one of those that it may get
 
     more_at : (o : Option (Option Pause)) (output : List ℕ) (block console : ℕ) → (o ≡ None → ⊥)
-        → paced.ComesTo budget (Handle event) o (paced_world_of was) More output block console (paced_world_of now)
+        → paced.ComesTo budget (Handle event) o (paced_world_of was) More output block console
+        (paced_world_of now)
         → SuitsCall {A = A} what More
     more_at None output block console there comes = absurd (there refl)
     more_at (Some None) output block console there comes =
