@@ -130,7 +130,7 @@ static void power_on(struct guest *guest, const char *path, uint32_t block)
     *guest = (struct guest){ .path = path, .block = block, .blocks = (uint64_t)file.st_size / block };
     struct kalyubos_slot slot = {
         .size = sizeof slot, .regions = { { MEMORY, (DATA + (uint64_t)RING * block + 0xfff) & ~(uint64_t)0xfff } },
-        .count = (uint64_t)file.st_size / SECTOR,
+        .count = (uint64_t)file.st_size / SECTOR, .read_only = true,
     };
     size_t len;
     need(kalyubos_create_hosted(&guest->board, &slot, 1) == KALYUBOS_DONE, "create_hosted");

@@ -91,20 +91,27 @@ static void open_disk(struct guest *guest)
     unlink(path);
 }
 
+/* What the disk came to, which may begin a next operation. */
+static void go_on_with_disk(struct guest *guest)
+{
+    struct kalyubos_pending pending;
+    bool failed;
+    uint32_t answer;
+    do {
+        if (!file_disk_go_on(&guest->disk, &failed))
+            return;
+        answer = kalyubos_completed(&board, guest->slot, failed, &pending);
+        guest->in_flight = answer == KALYUBOS_IO;
+        must(guest->in_flight ? KALYUBOS_DONE : answer, "completed");
+    } while (guest->in_flight && !file_disk_begin(&guest->disk)); /* the kernel doesn't take it: it has failed */
+}
+
 /* Between two turns, and where a store waits for it: at most a moment, in which the disk may have ended. */
 static void look_at_disk(struct guest *guest)
 {
     struct pollfd wake = { .fd = guest->disk.ready, .events = POLLIN };
-    struct kalyubos_pending pending;
-    bool failed;
-    bool can_go_on = guest->in_flight && (guest->disk.is_refused || poll(&wake, 1, 1) > 0);
-    if (!can_go_on || !file_disk_go_on(&guest->disk, &failed))
-        return;
-    uint32_t answer = kalyubos_completed(&board, guest->slot, failed, &pending);
-    guest->in_flight = answer == KALYUBOS_IO;
-    if (guest->in_flight)
-        file_disk_begin(&guest->disk);
-    must(guest->in_flight ? KALYUBOS_DONE : answer, "completed");
+    if (guest->in_flight && poll(&wake, 1, 1) > 0)
+        go_on_with_disk(guest);
 }
 
 /* ---- stores */
@@ -129,8 +136,9 @@ static void window_store(uc_engine *cpu, uint64_t offset, unsigned width, uint64
             look_at_disk(guest);
     } while (answer == KALYUBOS_BUSY || (answer == KALYUBOS_NO_ROOM && show(guest)));
     if (answer == KALYUBOS_IO) {
-        file_disk_begin(&guest->disk);
         guest->in_flight = true;
+        if (!file_disk_begin(&guest->disk))
+            go_on_with_disk(guest);
     } else if (answer != KALYUBOS_NO_ROOM) {
         must(answer, "write");
     }

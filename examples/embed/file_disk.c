@@ -201,6 +201,7 @@ bool file_disk_go_on(struct file_disk *disk, bool *failed)
     int32_t result = -1;
     if (!disk->is_refused && !disk->way->has_result(disk, &result))
         return false;
+    disk->is_refused = false;
     *failed = result < 0 || (result == 0 && disk->step.len > 0);
     if (*failed)
         return true;

@@ -32,7 +32,7 @@ struct file_disk {
     struct kalyubos_run runs[KALYUBOS_RUNS];
     uint64_t len, done; /* how many bytes all runs have, and how many of them are done */
     bool unsynced;      /* a sync is wanted at the end */
-    bool is_refused;    /* the kernel hasn't taken its first step: it fails */
+    bool is_refused;    /* the kernel hasn't taken its first step, and nobody was told */
     struct file_step step;
 
     const struct file_way *way;
@@ -48,7 +48,8 @@ struct file_way {
     void (*close)(struct file_disk *disk);  /* behind the end of a step that the kernel works on */
 };
 extern const struct file_way file_thread; /* of file_disk.c */
-extern const struct file_way file_ring;   /* of file_ring.c: io_uring, or a thread where that isn't to be had */
+extern const struct file_way file_ring;   /* of file_ring.c: io_uring, or a thread where that isn't to be had. The
+                                           * thread that begins a step lives until its end. */
 
 /* Serves a slot's disk from a file of at least `len` bytes, which is opened for reading alone for a slot that is read-only.
  * Answers NULL, or what is wrong; then nothing is left open. */

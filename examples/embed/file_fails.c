@@ -249,6 +249,19 @@ static void warm_up(const char *path, const struct file_way *way)
     is_all_gone(&left);
 }
 
+/* A disk that is closed while the kernel works on a step leaves nothing either. */
+static void try_close_in_flight(const char *path, const struct file_way *way)
+{
+    struct left before = look();
+    struct file_disk disk;
+    need(file_disk_open(&disk, NULL, 0, path, DISK_LEN, false, way) == NULL, "a disk to be closed in flight can't be opened");
+    runs[0] = (struct kalyubos_run){ 0, 0x1000 };
+    asked = (struct kalyubos_operation){ .kind = KALYUBOS_OUT, .stable = true, .runs = 1 };
+    need(file_disk_begin(&disk), "an operation to be left in flight");
+    file_disk_close(&disk);
+    need(is_all_gone(&before), "a close in flight leaves something");
+}
+
 /* A file that may be read alone is a disk for a read-only slot: reads are done, and a write fails. */
 static void try_read_only(const char *path, const struct file_way *way)
 {
@@ -269,6 +282,7 @@ int main(void)
         unsigned long all = try(path, ways[way], 0);
         for (unsigned long number = 1; number <= all; number++)
             try(path, ways[way], number);
+        try_close_in_flight(path, ways[way]);
         try_read_only(path, ways[way]);
         printf("%s: each of %lu calls fails in turn\n", ways[way]->name, all);
     }

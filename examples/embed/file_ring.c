@@ -19,10 +19,11 @@ struct ring {
     struct io_uring_sqe *order;
     struct io_uring_cqe *results;
     bool writes_zeros; /* the file system has no call that zeroes */
+    int tries;         /* how often this step was submitted */
     bool is_busy;      /* the kernel works on a step */
 };
 
-/* How often a step is handed over while the kernel lacks memory for it. */
+/* How often a step is handed over, or submitted again, while the kernel lacks memory for it. */
 enum { TRIES = 1000 };
 
 /* The call of the kernel for a step. */
@@ -66,8 +67,10 @@ static bool submit(struct file_disk *disk)
 static bool is_again(struct file_disk *disk, int32_t result)
 {
     struct ring *ring = disk->kept;
-    if (disk->step.kind != KALYUBOS_ZEROES || ring->writes_zeros || result != -EOPNOTSUPP)
-        return result == -EINTR || result == -EAGAIN;
+    if (result == -EINTR || result == -EAGAIN)
+        return ++ring->tries < TRIES;
+    if (disk->step.kind != KALYUBOS_ZEROES || ring->writes_zeros || result >= 0)
+        return false;
     return ring->writes_zeros = true;
 }
 
@@ -82,6 +85,7 @@ static bool has_result(struct file_disk *disk, int32_t *result)
     ring->is_busy = false;
     if (is_again(disk, *result) && submit(disk))
         return false;
+    ring->tries = 0;
     if (*result == 0 && disk->step.kind == KALYUBOS_ZEROES && !ring->writes_zeros)
         *result = (int32_t)disk->step.len;
     return true;

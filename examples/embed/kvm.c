@@ -185,20 +185,21 @@ static void open_disk(struct guest *guest)
 static bool disk_can_go_on(const struct guest *guest, int milliseconds)
 {
     struct pollfd wake = { .fd = guest->disk.ready, .events = POLLIN };
-    return guest->disk.is_refused || poll(&wake, 1, milliseconds) > 0;
+    return poll(&wake, 1, milliseconds) > 0;
 }
 
 /* What the disk came to. This may complete what the guest asked for, so it is a call for the guest. */
 static void go_on_with_disk(struct guest *guest)
 {
     bool failed;
-    if (!file_disk_go_on(&guest->disk, &failed))
-        return;
-    uint32_t answer = kalyubos_completed(&board, guest->slot, failed, &guest->lines);
-    guest->in_flight = answer == KALYUBOS_IO;
-    if (guest->in_flight)
-        file_disk_begin(&guest->disk);
-    must_do(guest->in_flight ? KALYUBOS_DONE : answer, "completed");
+    uint32_t answer;
+    do {
+        if (!file_disk_go_on(&guest->disk, &failed))
+            return;
+        answer = kalyubos_completed(&board, guest->slot, failed, &guest->lines);
+        guest->in_flight = answer == KALYUBOS_IO;
+        must_do(guest->in_flight ? KALYUBOS_DONE : answer, "completed");
+    } while (guest->in_flight && !file_disk_begin(&guest->disk)); /* the kernel doesn't take it: it has failed */
 }
 
 /* Waits so many milliseconds for the disk, -1 without end, and goes on with it. */
@@ -271,8 +272,9 @@ static void store(struct guest *guest, uint8_t window, uint16_t offset, uint8_t 
             answer = go_on(guest);
     } while (makes_way(guest, answer));
     if (answer == KALYUBOS_IO) {
-        file_disk_begin(&guest->disk);
         guest->in_flight = true;
+        if (!file_disk_begin(&guest->disk))
+            go_on_with_disk(guest);
     } else if (answer != KALYUBOS_NO_ROOM) {
         must_do(answer, "write");
     }
