@@ -28,7 +28,7 @@ use Rattle.block_device.specs.Device.{GivesBy}
 use Rattle.block_device.specs.Extent.{extent_disk}
 use Rattle.block_device.specs.declared.hosting.Flight.{Flight}
 use Rattle.block_device.specs.Hosting.{AsksAt, HostsTo, IfAsks, hosted_by, hosted_device, site_of}
-use Rattle.block_device.specs.Operation.{IsTold}
+use Rattle.block_device.specs.Operation.{IsToldToHost}
 use Rattle.block_device.specs.Outcome.{Completes, Outcome}
 use Rattle.block_device.specs.Request.{payload_of, request_of}
 use Rattle.block_device.proofs.OneLook.{completes_from}
@@ -99,7 +99,7 @@ hosted_anywhere device disk = record {
 pub asks_at : (device : BlockDevice) (stage : Stage) (budget : Budget) (m m' : Memory) (queue last : Queue)
     (buffers : List Buffer) (runs : List Segment) (refused : Refused Request)
     → RefusesAt (hosted_device device)
-    (λ state memory buffers request. IsTold device memory buffers request runs)
+    (λ state memory buffers request. IsToldToHost device memory buffers request runs)
     stage budget (site_at m queue tt) (site_at m' last tt) buffers refused
     → (disk : Disk) → AsksAt device stage (site_of device m queue disk) (site_of device m' last disk) buffers
     refused.token refused.why

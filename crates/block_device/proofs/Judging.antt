@@ -14,7 +14,7 @@ use Rattle.block_device.specs.declared.segments.WriteZeroesSegment.{WriteZeroesS
 use Rattle.block_device.specs.declared.request.Request.TheVariants.{Rejected, WriteZeroes}
 use Rattle.block_device.specs.declared.request.RequestStatus.{RequestStatus}
 use Rattle.block_device.specs.declared.request.RequestStatus.TheVariants.{IoError, Unsupported}
-use Rattle.block_device.specs.Asking.{IsAsked, IsRejected, IsUnread}
+use Rattle.block_device.specs.Asking.{IsAsked, IsRejected, HasUnreadSegments}
 use Rattle.block_device.specs.Request.{AreJudged, AreRead, payload_of, request_of, sector_in, type_of, typed_request, write_zeroes_request_of}
 use Rattle.block_device.specs.Zeroes.{are_segments, has_known_flags, has_sectors_within, segment_at, segment_of, segments_in}
 
@@ -146,7 +146,7 @@ module _ (device : BlockDevice) (payload : List ℕ) (segments : List WriteZeroe
 
 -- a chain whose segments were judged asks the image
 pub judged_asks : (device : BlockDevice) (m : Memory) (buffers : List Buffer) (len : ℕ)
-    (segments : List WriteZeroesSegment) → IsUnread device m buffers len
+    (segments : List WriteZeroesSegment) → HasUnreadSegments device m buffers len
     → AreJudged device (payload_of (readable_of m buffers)) segments
     → IsAsked device m buffers (WriteZeroes (length segments))
 judged_asks device m buffers len segments unread judged = record {
@@ -162,7 +162,7 @@ judged_asks device m buffers len segments unread judged = record {
 
 -- or can't be served
 pub judged_rejected : (device : BlockDevice) (m : Memory) (buffers : List Buffer) (len : ℕ)
-    (status : RequestStatus) → IsUnread device m buffers len
+    (status : RequestStatus) → HasUnreadSegments device m buffers len
     → write_zeroes_request_of device (payload_of (readable_of m buffers)) ≡ Rejected status
     → IsRejected device m buffers status
 judged_rejected device m buffers len status unread is =

@@ -25,7 +25,7 @@ use Rattle.block_device.specs.declared.request.Request.{Request}
 use Rattle.block_device.specs.declared.request.Request.TheVariants.{Rejected, Read, Write, Flush, GetId, WriteZeroes}
 use Rattle.block_device.specs.declared.segments.WriteZeroesSegment.{WriteZeroesSegment}
 use Rattle.block_device.specs.Asking.{IsAsked, asks_image, has_segments}
-use Rattle.block_device.specs.Operation.{IsTold, LiesInside, OnDisk, disk_run, disk_runs, operation_of, runs_for}
+use Rattle.block_device.specs.Operation.{IsToldToHost, LiesInside, OnDisk, disk_run, disk_runs, operation_of, runs_for}
 use Rattle.block_device.specs.Progress.{IsServable}
 use Rattle.block_device.specs.Request.{are_sectors, get_id_request_of, in_request_of, out_request_of, payload_of, request_of, sector_in, type_of, typed_request, write_zeroes_request_of}
 use Rattle.block_device.specs.Zeroes.{are_segments, has_known_flags, has_sectors_within, segment_at, segments_in}
@@ -180,7 +180,7 @@ runs_few_before segments n runs some h =
 -- a WRITE_ZEROES left them
 pub runs_left : (device : BlockDevice) (m : Memory) (buffers : List Buffer) (request : Request)
     (runs : List Segment) (segments : ℕ) → request ≡ WriteZeroes segments
-    → IsTold device m buffers request runs → runs ≡ runs_for request m buffers
+    → IsToldToHost device m buffers request runs → runs ≡ runs_for request m buffers
 runs_left device m buffers request runs segments is told = told.zeroes (ap has_segments is)
 
 -- ---- nothing lies outside

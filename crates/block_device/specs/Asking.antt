@@ -66,7 +66,7 @@ IsHeaded device readable room (Known request) = IsKnown device readable room req
 IsHeaded device readable room (headed.Zeroes len) = IsZeroes device readable room len
 
 -- The chain of these buffers is such a WRITE_ZEROES, with a place for its status.
-pub record IsUnread (device : BlockDevice) (m : Memory) (buffers : List Buffer) (len : ℕ) : Type 0 where
+pub record HasUnreadSegments (device : BlockDevice) (m : Memory) (buffers : List Buffer) (len : ℕ) : Type 0 where
   pub room : ℕ
   pub all : length (writable_of buffers) ≡ room + 1
   pub zeroes : IsZeroes device (readable_of m buffers) room len
@@ -94,7 +94,7 @@ Begins device old new buffers (Answered used) =
     (disk : Disk) → Does (unasked_device device) old new buffers disk disk used.len used.wrote
 Begins device old new buffers (Asks request) = IsAsked device old buffers request × (new ≡ old)
     × (has_segments request ≡ false)
-Begins device old new buffers (begun.Zeroes len) = IsUnread device old buffers len × (new ≡ old)
+Begins device old new buffers (begun.Zeroes len) = HasUnreadSegments device old buffers len × (new ≡ old)
 
 -- the used len of a chain of so many writable places, of which these many first ones and the last one are
 -- written

@@ -52,7 +52,7 @@ runs_for (WriteZeroes segments) m buffers = zeroes_in (payload_of (readable_of m
 runs_for request m buffers = []
 
 -- The chain asks for the disk, and of a WRITE_ZEROES these are the runs.
-pub record IsTold (device : BlockDevice) (m : Memory) (buffers : List Buffer) (request : Request)
+pub record IsToldToHost (device : BlockDevice) (m : Memory) (buffers : List Buffer) (request : Request)
     (runs : List Segment) : Type 0 where
   pub asked : IsAsked device m buffers request
   pub zeroes : has_segments request ≡ true → runs ≡ runs_for request m buffers

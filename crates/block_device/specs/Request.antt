@@ -56,14 +56,14 @@ write_zeroes_request_of device payload =
     then Rejected IoError
     else WriteZeroes (length payload / segment_len)
 
--- These are its segments, and it passes the checks that come before theirs.
+-- the segments of a WRITE_ZEROES with this payload, which passes the checks that come before theirs
 pub record AreRead (device : BlockDevice) (payload : List ℕ)
     (segments : List WriteZeroesSegment) : Type 0 where
   pub are : segments ≡ segments_in payload
   pub writable : device.read_only ≡ false
   pub fit : are_segments (length payload) ≡ true
 
--- These are its segments, and it can be served: each of them lies on the disk.
+-- the segments of a WRITE_ZEROES with this payload, which can be served: each of them lies on the disk
 pub record AreJudged (device : BlockDevice) (payload : List ℕ)
     (segments : List WriteZeroesSegment) : Type 0 where
   pub are : segments ≡ segments_in payload

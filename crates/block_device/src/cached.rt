@@ -4,7 +4,7 @@ ghost use Rattle.std.specs.Prelude.{◌≡◌};
 ghost use Rattle.guest_memory.specs.Memory.{SameRange};
 ghost use Rattle.chain.specs.Buffers.{Good};
 ghost use Rattle.chain.specs.Service.{Does};
-ghost use Rattle.block_device.specs.Asking.{IsUnread};
+ghost use Rattle.block_device.specs.Asking.{HasUnreadSegments};
 ghost use Rattle.block_device.specs.Extent.{IsWithin};
 ghost use Rattle.block_device.specs.Keeping.{KeepsImage};
 ghost use Rattle.block_device.specs.Touching.{device_over};
@@ -86,7 +86,7 @@ impl Cached {
     ) -> Used
         requires good { Good mem.old chain.now }
         requires lies { IsWithin (I.disk cache.old).sector_count self.old.device.extent }
-        requires unread { IsUnread self.old.device mem.old chain.now len }
+        requires unread { HasUnreadSegments self.old.device mem.old chain.now len }
         ensures does { Does (device_over I.disk I.moment I.may_leave I.left_since self.old.device) mem.old mem.new
             chain.now cache.old cache.new result.len result.wrote }
         ensures keeps { KeepsImage I.disk I.moment I.may_leave I.left_since self.old.device self.new.device

@@ -5,9 +5,9 @@ ghost use Rattle.guest_memory.specs.Memory.{SameRange};
 ghost use Rattle.chain.specs.Buffers.{Good};
 ghost use Rattle.chain.specs.Service.{Does};
 ghost use Rattle.sector_cache.specs.Disk.{Disk};
-ghost use Rattle.block_device.specs.Asking.{IsUnread, unasked_device};
+ghost use Rattle.block_device.specs.Asking.{HasUnreadSegments, unasked_device};
 ghost use Rattle.block_device.specs.Extent.{sector_len};
-ghost use Rattle.block_device.specs.Operation.{IsTold};
+ghost use Rattle.block_device.specs.Operation.{IsToldToHost};
 
 use crate::answer::Begun;
 use crate::device::BlockDevice;
@@ -30,7 +30,7 @@ impl Device<Runs> for OnHost {
     ghost use Rattle.block_device.specs.declared.device.BlockDevice.{BlockDevice};
     ghost use Rattle.block_device.specs.Extent.{sector_len};
     ghost use Rattle.block_device.specs.Hosting.{hosted_device};
-    ghost use Rattle.block_device.specs.Operation.{IsTold};
+    ghost use Rattle.block_device.specs.Operation.{IsToldToHost};
 
     ghost State = { Unit {0} };
 
@@ -42,7 +42,7 @@ impl Device<Runs> for OnHost {
 
     ghost device = { λ fixed. hosted_device fixed };
 
-    ghost Refuses = { λ fixed runs state memory buffers request. IsTold fixed memory buffers request runs };
+    ghost Refuses = { λ fixed runs state memory buffers request. IsToldToHost fixed memory buffers request runs };
 
     ghost IsReady = { λ here runs. sector_len * here.device.extent.count < 2 ^ 64 };
 
@@ -79,10 +79,10 @@ impl OnHost {
     ) -> Result<Used, Request>
         requires good { Good mem.old chain.now }
         requires disk { sector_len * self.now.device.extent.count < 2 ^ 64 }
-        requires unread { IsUnread self.now.device mem.old chain.now len }
+        requires unread { HasUnreadSegments self.now.device mem.old chain.now len }
         ensures does { IfOk result (λ used. (disk : Disk) →
             Does (unasked_device self.now.device) mem.old mem.new chain.now disk disk used.len used.wrote) }
-        ensures told { IfErr result (λ request. IsTold self.now.device mem.old chain.now request runs.new) }
+        ensures told { IfErr result (λ request. IsToldToHost self.now.device mem.old chain.now request runs.new) }
         ensures unwritten { OnErr result (mem.new ≡ mem.old) }
         ensures range { SameRange mem.old mem.new }
     {

@@ -3,7 +3,7 @@
 ghost use Rattle.std.specs.Prelude.{◌≡◌, ◌*◌, ◌^◌, ◌<◌};
 ghost use Rattle.guest_memory.specs.Memory.{Memory};
 ghost use Rattle.block_device.specs.Extent.{sector_len};
-ghost use Rattle.block_device.specs.Operation.{IsTold, WasAsked, operation_of, runs_for};
+ghost use Rattle.block_device.specs.Operation.{IsToldToHost, WasAsked, operation_of, runs_for};
 
 use crate::device::BlockDevice;
 use crate::header::HEADER_LEN;
@@ -67,7 +67,7 @@ impl BlockDevice {
         requires disk { sector_len * self.now.extent.count < 2 ^ 64 }
         requires asked { WasAsked self.now chain.now request }
         ensures operation { result ≡ operation_of stable request }
-        ensures runs { (m : Memory) → IsTold self.now m chain.now request runs.old →
+        ensures runs { (m : Memory) → IsToldToHost self.now m chain.now request runs.old →
             runs.new ≡ runs_for request m chain.now }
     {
         match request {

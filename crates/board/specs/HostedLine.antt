@@ -65,7 +65,7 @@ AreFound [] told = ⊤
 AreFound (call ∷ calls) [] = ⊤
 AreFound (call ∷ calls) (told ∷ rest) = FindsMemory call.limit call.event told.reply × AreFound calls rest
 
--- what it is told, and the state after it
+-- one call of a guest that is alone: what it is told, and the state after it
 pub record IsHostedTold {A : Type 0} (old : HostedState) (call : HostedCall A) (told : Told A)
     (new : HostedState) : Type 0 where
   pub outcome : HostedOutcome A

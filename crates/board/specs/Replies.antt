@@ -1,4 +1,4 @@
--- Which replies a slot that is there gives to each event.
+-- Which replies a slot over an image may give to each event.
 use Rattle.std.specs.Prelude.{⊤}
 use Rattle.board.specs.declared.event.EventKind.{EventKind}
 use Rattle.board.specs.declared.event.EventKind.TheVariants.{Read, Write, MemRead, MemWrite, Input, Resize, Restore, Complete}

@@ -117,8 +117,8 @@ impl<I: Image, A: Allocator + Copy> SectorCache<I, A> {
     }
 
     #[tactic(auto, using(crate::proofs::Coherence::coherent_forgotten, crate::proofs::Coherence::coherent_written, crate::proofs::Coherence::coherent_torn))]
-    /// Writes a sector. After an `Err` that sector may hold any 512 bytes. `from` is read once, since it may lie where
-    /// a guest writes meanwhile: the image gets a copy, and that one is kept.
+    /// Writes a sector. After an `Err` that sector may hold any 512 bytes. `from` is read once: the image gets a copy, and the
+    /// copy is kept.
     pub fn write(&mut self, sector: u64, from: &[u8; 512]) -> Result<(), ImageError>
         requires { sector < (I.disk self.old).sector_count }
         ensures ok { OnOk result (I.disk self.new ≡ written sector from.now (I.disk self.old)) }

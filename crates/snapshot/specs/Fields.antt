@@ -97,6 +97,6 @@ count_field count = record { bytes = to_le_bytes w32 count; wrong = TooMuchInput
 unfoldable pub head_fields : SavedSlot → ℕ → List Field
 head_fields s count = opening_fields ++ (slot_fields s ++ (count_field count ∷ []))
 
--- the fields of a slot's snapshot with this pending input
+-- The fields of a slot's snapshot with this pending input. That may be any bytes, so its fault is never told.
 abbrev pub snapshot_fields : SavedSlot → List ℕ → List Field
 snapshot_fields s pending = head_fields s (length pending) ++ (field pending ∷ [])

@@ -1,5 +1,5 @@
 -- How the reader goes from left to right: what its private functions give. What comes of it is said by
--- `IsSnapshot` and `IsFirstFault`: no public clause cites this.
+-- `IsSnapshot` and `IsFirstFault`; a public clause cites `Gives` of this file alone.
 use Rattle.std.specs.Prelude.{◌≡◌, ◌==◌, ℕ, zero, suc, Bool, true, false, List, [], ◌∷◌, length, take, drop, Option, Some, None, Result, Ok, Err, nat_lt, if◌then◌else◌}
 use Rattle.std.specs.Int.{Width, w16, w32, w64, byte_len, from_le_bytes}
 use Rattle.mmio_window.specs.declared.interrupts.Interrupts.{Interrupts}
