@@ -5,7 +5,7 @@ from .drivers import (DEVICE_SEL, DRIVER_FEATURES, DRIVER_SEL, INTERRUPT_ACK, NO
                       STATUS, WRITE,
                       Buffer)
 from .follows import TEXT, Guest, Life, Setup
-from .histories import LEGS
+from .histories import LEGS, outside
 from .story import Slot, plain_image
 
 TITLE = "Registers between a driver's accesses"
@@ -29,22 +29,21 @@ REGISTERS = {DEVICE_SEL: "device_features_sel", DRIVER_FEATURES: "driver_feature
              0x0ac: "shm_sel"}
 READ = [0x000, 0x004, 0x008, 0x00c, 0x010, 0x034, 0x044, 0x060, 0x070, 0x0b0, 0x0fc, 0x100, 0x104, 0x114, 0x020, 0x030,
         0x038]
-EVENTS = ["mr 0 80000000 4", "mw 0 8000f000 41", "in 0 -", "sz 0 50 19", "mr 0 0 1", "mw 0 0 41", "r 5 b 070 4",
-          "w 5 b 070 4 00000000", "w 1 c 108 1 21",
-          "in 1 41", "sz 1 1 1", "w 0 c 108 4 00000022"]
+EVENTS = ["mr 0 480000000 4", "mw 0 48000f000 41", "in 0 -", "sz 0 50 19", "mr 0 0 1", "mw 0 0 41", "r 5 b 070 4",
+          "w 5 b 070 4 00000000", "w 1 c 108 1 21", "in 1 41", "sz 1 1 1", "w 0 c 108 4 00000022"]
 
 
 class Interrupted(Guest):
-    """A driver before each of whose accesses comes what `between` gives for its number."""
+    """A driver before each of whose accesses come these lines."""
 
     def __init__(self, life, between):
         super().__init__(life)
-        self.between, self.step = between, 0
+        self.between = between
 
     def do(self, word, fields):
         if word in "rw":
-            self.life.do(self.between(self.step))
-            self.step += 1
+            for line in self.between:
+                self.life.do(line)
         return super().do(word, fields)
 
 
@@ -67,7 +66,7 @@ def stories():
             yield of_other_slot(turn, window, offset, values)
     for window in "bc":
         for words, between in others(window):
-            yield story_of(f"between_others/{words}_between_a_{DEVICES[window]}_s_accesses", window, [between] * 2,
+            yield story_of(f"between_others/{words}_between_a_{DEVICES[window]}_s_accesses", window, [between] * (2 if len(between) < 8 else 1),
                            words.replace("_", " "), "its own window, the other one, another slot")
 
 
@@ -75,65 +74,55 @@ def of_other_window(turn, window, offset, values):
     other, name = LEGS[window][0], REGISTERS[offset]
     lines = [f"w 0 {other} {offset:03x} 4 {value:08x}" for value in values]
     return story_of(f"between_writes/{name}_of_the_{DEVICES[other]}_between_a_{DEVICES[window]}_s_accesses", window,
-                    [always(line) for line in lines],
-                    name, "the slot's other window", turn)
+                    [[line] for line in lines], name, "the slot's other window", turn)
 
 
 def of_other_slot(turn, window, offset, values):
     name = REGISTERS[offset]
     lines = [f"w 1 {window} {offset:03x} 4 {value:08x}" for value in values]
     return story_of(f"between_writes/{name}_of_another_slot_between_a_{DEVICES[window]}_s_accesses", window,
-                    [always(line) for line in lines],
-                    name, "another slot", turn + 1)
-
-
-def always(line):
-    return lambda step: line
-
-
-def in_turn(lines):
-    """Another line each time; an odd number of them, so that each comes at each place."""
-    return lambda step: lines[step % len(lines)]
+                    [[line] for line in lines], name, "another slot", turn + 1)
 
 
 def others(window):
     """Accesses that change nothing of the driver's window, by what they are."""
     other = LEGS[window][0]
-    yield "reads_of_its_registers", in_turn([f"r 0 {window} {offset:03x} 4" for offset in READ])
-    yield "reads_of_the_other_window", in_turn([f"r 0 {other} {offset:03x} 4" for offset in READ])
-    yield "reads_of_another_slot", in_turn([f"r 1 {window} {offset:03x} 4" for offset in READ])
-    for width in (1, 2):
-        lines = [f"w 0 {window} {offset:03x} {width} {'01' * width}" for offset in VALUES]
-        yield f"writes_of_width_{width}", in_turn(lines)
-    for more in (1, 2):
-        lines = [f"w 0 {window} {offset + more:03x} 4 00000001" for offset in VALUES]
-        yield f"writes_{more}_beside_a_register", in_turn(lines)
-    named = set(VALUES)
-    nothing = [offset for offset in range(0, 0x108, 4) if offset not in named]
-    yield "writes_that_are_ignored", in_turn([f"w 0 {window} {offset:03x} 4 ffffffff" for offset in nothing])
-    yield "other_events", in_turn(EVENTS)
+    yield "reads_of_its_registers", [f"r 0 {window} {offset:03x} 4" for offset in READ]
+    yield "reads_of_the_other_window", [f"r 0 {other} {offset:03x} 4" for offset in READ]
+    yield "reads_of_another_slot", [f"r 1 {window} {offset:03x} 4" for offset in READ]
+    for offset, name in REGISTERS.items():
+        narrow = [f"w 0 {window} {offset:03x} {width} {'01' * width}" for width in (1, 2)]
+        beside = [f"w 0 {window} {offset + more:03x} 4 00000001" for more in (1, 2, 3)]
+        yield f"writes_beside_{name}", narrow + beside
+    nothing = [offset for offset in range(0, 0x108, 4) if offset not in REGISTERS]
+    yield "writes_that_are_ignored", [f"w 0 {window} {offset:03x} 4 ffffffff" for offset in nothing[:20] + nothing[-4:]]
+    yield "other_events", EVENTS
 
 
-def neighbours_live(life, window):
-    """The slot's other window and the other slot's same one come up, and have a chain on offer."""
+def neighbours_live(life, window, have_faults):
+    """The slot's other window and the other slot's same one come up, and have a chain on offer, or one with a fault behind them."""
     for slot, (other, index) in (0, LEGS[window]), (1, LEGS[LEGS[window][0]]):
         guest = Guest(life, slot)
         guest.bring_up(other, Setup(size=2))
         serves_each(guest, other)
-        guest.offer(other, index, [Buffer(guest.room + TEXT, 1, WRITE if other == "b" else 0)])
+        if have_faults:
+            outside(guest, other, index)
+            guest.notify(other, index)
+        else:
+            guest.offer(other, index, [Buffer(guest.room + TEXT, 1, WRITE if other == "b" else 0)])
 
 
 def story_of(name, window, betweens, what, where, turn=0):
     def script(life):
         for number, between in enumerate(betweens):
             guest = Interrupted(life, between)
-            if number:
-                neighbours_live(life, window)
+            if number or len(betweens) == 1:
+                neighbours_live(life, window, number == 2)
             lives(guest, window, Setup((turn + number) % 2 == 0, (turn // 2 + number) % 2 == 0, 4, number % 2))
         for slot, other in (0, LEGS[window][0]), (1, window):
             reads_registers(Guest(life, slot), other, None)
 
-    slots = [Slot(count=4), Slot(start=4, count=4)]
+    slots = [Slot(base=0x480000000, count=4), Slot(start=4, count=4)]
     return Life(name, f"{what.replace('_', ' ').capitalize()}, of {where}, before each access of a driver.", script,
                 slots, image=plain_image(),
                 shows=[(what.replace("_", " "), "each access of a driver")])

@@ -149,11 +149,19 @@ def features_refused(guest, window, setup):
     """Features that aren't offered: FEATURES_OK is refused, and DRIVER_OK written all the same."""
     guest.reset(window)
     guest.write(window, STATUS, ACKNOWLEDGE | DRIVER)
-    for selector, value in ((1, 0x80000001), (0, 0xffffffff)):
+    for selector, value in ((1, 0x41), (0, 0xffffffff)):
         guest.write(window, DRIVER_SEL, selector)
         guest.write(window, DRIVER_FEATURES, value)
     guest.write(window, STATUS, 0xf)
     guest.make_ready(window, INDICES[window][-1], setup)
+
+
+def half_of_the_features(guest, window, setup):
+    """The high word of the features, whose selector stays, and no FEATURES_OK."""
+    guest.reset(window)
+    guest.write(window, STATUS, ACKNOWLEDGE | DRIVER)
+    guest.write(window, DRIVER_SEL, 1)
+    guest.write(window, DRIVER_FEATURES, 0x41)
 
 
 def queue_refused(guest, window, setup):
@@ -236,6 +244,16 @@ def the_other_window_lives(guest, window, setup):
     serves(guest, other, index)
 
 
+def the_other_window_faults(guest, window, setup):
+    """A life; then a fault of the other window."""
+    guest.bring_up(window, setup)
+    serves_each(guest, window)
+    other, index = LEGS[window]
+    guest.bring_up(other, Setup(not setup.rich, not setup.packed, 4, 1 - setup.home))
+    outside(guest, other, index)
+    guest.notify(other, index)
+
+
 def the_other_window_is_reset(guest, window, setup):
     """A life; then the other window is reset while its selectors are away."""
     guest.bring_up(window, setup)
@@ -265,8 +283,9 @@ def status_by_other_writes(guest, window, setup):
 
 
 BEFORE = [nothing, a_life, two_lives, failed, failed_early, failed_at_once, never_driver_ok, no_queue_ready, no_acknowledge,
-          features_refused, queue_refused, halves_written, selectors_away, interrupts_stand, stopped, on_offer, events_asked,
-          a_service_of_nothing, the_other_window_lives, the_other_window_is_reset, typed_and_resized, status_by_other_writes]
+          features_refused, half_of_the_features, queue_refused, halves_written, selectors_away, interrupts_stand, stopped,
+          on_offer, events_asked, a_service_of_nothing, the_other_window_lives, the_other_window_faults,
+          the_other_window_is_reset, typed_and_resized, status_by_other_writes]
 
 
 def after_fault(name):

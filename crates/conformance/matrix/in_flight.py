@@ -3,8 +3,8 @@ from .actions import event_at, offer_room, reads_registers, text
 from .first_rows import of_in_flight
 from .drivers import (INTERRUPT_ACK, NOTIFY, QUEUE_NUM, QUEUE_READY, QUEUE_SEL, STATUS, WRITE, Buffer, number)
 from .follows import DATA, DONE, HEADER, Guest, Life, Setup, Wide
-from .histories import LIVES
-from .requests import FLUSH, IN, OUT, WRITE_ZEROES, header, segment
+from .histories import LIVES, outside
+from .requests import FLUSH, GET_ID, IN, OUT, WRITE_ZEROES, header, segment
 from .saved import restore, saved
 from .story import SECTOR
 
@@ -150,16 +150,34 @@ def of_another_slot(guest):
 
 def another_offer(guest):
     """One more chain stands behind the one in flight."""
-    ring, at = guest.ring("b", 0), guest.room + 0x3d00
+    at = guest.room + 0x3d00
     guest.put(at, header(FLUSH) + b"\xee")
-    if not ring.is_packed and ring.ahead() < ring.number - 1:
-        ring.offer([Buffer(at, 16), Buffer(at + 16, 1, WRITE)])
+    guest.ring("b", 0).offer([Buffer(at, 16), Buffer(at + 16, 1, WRITE)])
+
+
+def a_fault_behind(guest):
+    """A chain with a fault stands behind the one in flight."""
+    outside(guest, "b", 0)
+
+
+def over_links(guest):
+    """The ids of a packed list, or the flags of a split chain's descriptors, are written."""
+    ring = guest.ring("b", 0)
+    for more in range(4):
+        guest.put(ring.areas[0] + 16 * ((ring.place + more) % ring.number) + 12, b"\x99\x99")
+
+
+def looked_at(guest):
+    """Nothing of the ring is written yet."""
+    guest.ring("b", 0).look()
+    guest.look(guest.done, 1)
 
 
 MEANWHILE = [
-    lambda guest: None, put_over(HEADER), put_over(DATA), put_over(HEADER + 16), put_over(DONE - 8),
-    put_over_ring(0, -1, b"\x11" * 12), put_over_ring(2, 0, b"\x22" * 4),
+    looked_at, put_over(HEADER), put_over(DATA), put_over(HEADER + 16), put_over(DONE - 8),
+    put_over_ring(0, -1, b"\x11" * 12), put_over_ring(2, 0, b"\x22" * 4), over_links,
     typed, typed_for_a_chain, a_text, notified, busy, registers, moved, resized, acknowledged, of_another_slot, another_offer,
+    a_fault_behind,
 ]
 
 
@@ -191,11 +209,22 @@ def meanwhile_of(name, is_packed, is_rich):
                 guest.bring_up("b", setup)
             for guest.completed in (0, 2):
                 guest.asks(name)
+        guest.meanwhile = looked_at
+        behind_another(guest, name)
 
     return Life(f"in_flight/{kind_of(is_packed)}_{name}_and_what_comes_meanwhile",
                 f"{name.replace('_', ' ').capitalize()}, done and failed, while each other thing comes.", script, TWO,
                 hosted=True,
                 shows=[(name.replace("_", " "), "in flight beside each other event")])
+
+
+def behind_another(guest, name):
+    """A request behind one that asks nothing: that one is used at once, and the queue is closed once, by the completion."""
+    guest.bring_up("b", guest.setup)
+    for _ in range(2):
+        guest.put(guest.ring("b", 0).areas[2], b"\xee\xee")
+        guest.request(header(GET_ID), 20, notifies=False)
+        guest.asks(name)
 
 
 def after(turn, name, history):

@@ -32,9 +32,8 @@ def stories():
             for way in (0, 2):
                 words = list(EACH_WAY)[way + (turn + other) % 2]
                 base = list(PLACES)[(turn + way // 2) % 2]
-                for part, work in PARTS.items():
-                    if part != "queues" or way // 2 == turn // 2 % 2:
-                        yield story_of(part, work, name, history, window, words, base)
+                for part in ("features", "queues" if way // 2 == turn // 2 % 2 else "work"):
+                    yield story_of(part, PARTS[part], name, history, window, words, base)
     for window in "bc":
         for kind in (False, True):
             yield many(window, kind)

@@ -99,15 +99,20 @@ class Console(Guest):
         for _ in range(5):
             serves(self, "c", index)
 
+    def both_go_on(self):
+        """Each queue has come two or three chains far."""
+        for which in (0, 1, 0, 1, 1):
+            serves(self, "c", which)
+
     def stops(self, index):
+        """One queue is stopped while the other is at a later place."""
+        self.both_go_on()
         self.write("c", QUEUE_SEL, index)
         self.write("c", QUEUE_READY, 0)
         self.ends("c", index)
 
     def starts_again(self, index):
-        """One queue has come three chains far, is stopped and begins anew."""
-        for _ in range(3):
-            serves(self, "c", index)
+        """One queue is stopped and begins anew."""
         self.stops(index)
         ring = self.ring("c", index)
         self.put(ring.areas[1], bytes(4))
@@ -163,7 +168,8 @@ def stories():
                 yield story_of(name, number_of, differing, is_packed)
     for is_packed in (False, True):
         for index in (0, 1):
-            yield one_alone(index, is_packed)
+            for has_tables in (False, True):
+                yield one_alone(index, is_packed, has_tables)
         yield across_four_gigabytes(is_packed)
 
 
@@ -181,10 +187,11 @@ def story_of(name, number_of, differing, is_packed):
                 shows=[(name.replace("_", " "), "split, packed")])
 
 
-def one_alone(index, is_packed):
+def one_alone(index, is_packed, has_tables):
     """One queue is never made ready; then it is, while the other is at work."""
     def script(life):
-        console = Console(life, Differing(sizes=(4, 2)), is_packed)
+        tables = Differing(sizes=(4, 2), rich=has_tables, tables=(has_tables, has_tables))
+        console = Console(life, tables, is_packed)
         console.come_up(order=(1 - index,))
         console.works()
         console.clear("c", console.setup_of(index))
@@ -192,7 +199,7 @@ def one_alone(index, is_packed):
         console.works()
 
     kind, which = "packed" if is_packed else "split", ("receive", "transmit")[index]
-    return Life(f"two_queues/{kind}_no_{which}_queue_at_first",
+    return Life(f"two_queues/{kind}_no_{which}_queue_at_first" + ("_with_tables" if has_tables else ""),
                 f"Only the other queue is ready; then the {which} queue is made ready too.", script,
                 shows=[("one that comes later", "split, packed")])
 

@@ -39,6 +39,7 @@ def stories():
                 yield of_window(name, writes, window, index, is_rich, (turn + is_rich) % 2 == 0)
     for window, index in QUEUES:
         for is_packed in (False, True):
+            yield ready_at_each_place(window, index, is_packed)
             yield made_elsewhere(window, index, is_packed)
             yield stopped_while_offers_stand(window, index, is_packed)
 
@@ -116,6 +117,22 @@ def of_window(name, writes, window, index, is_rich, is_packed):
     return Life(f"written_again/{kind_of(is_packed)}_{name}_of_a_live_{device}_with_{features}",
                 f"{words} written in a live window, which goes on as it was negotiated.", script,
                 shows=[(name.replace("_", " "), device)])
+
+
+def ready_at_each_place(window, index, is_packed):
+    """QueueReady is written 1 at each place of two rounds, and other registers with it."""
+    def script(life):
+        guest = Guest(life)
+        guest.bring_up(window, Setup(False, is_packed, 4, 0))
+        guest.write(window, QUEUE_SEL, index)
+        for turn in range(9):
+            for offset, value in ((QUEUE_NUM, 4 + turn), (0x080, 0), (QUEUE_READY, 1), (STATUS, 0xf)):
+                guest.write(window, offset, value)
+            serves(guest, window, index)
+
+    return Life(f"written_again/{kind_of(is_packed)}_{QUEUES[window, index]}_queue_made_ready_at_each_place",
+                "QueueReady 1 and DRIVER_OK are written at each place of two rounds: the queue goes on.", script,
+                shows=[("QueueReady at each place", QUEUES[window, index])])
 
 
 def made_elsewhere(window, index, is_packed):
