@@ -71,6 +71,8 @@ class Guest:
         self.dice, self.slot, self.wildness = dice, slot, wildness
         self.places = random.Random(f"places {slot}")
         self.events, self.expected, self.disk = [], {}, None
+        # what the suite's small model says that it is told, where the model made its events
+        self.told = None
         # of each block request: the event that reads its status, its type, whether it is refused, and runs of sectors with
         # what it writes to them
         self.looked = []

@@ -30,7 +30,7 @@ class Scene:
         self.seed, dice = seed, random.Random(seed)
         names, hosts = random.Random(f"identities {seed}"), random.Random(f"hosts {seed}")
         self.is_hosted = may_be_hosted and hosts.random() < HOSTED
-        self.first_line = EXTENDED if self.is_hosted else names.choice(FIRST_LINES)
+        self.first_line = EXTENDED if self.is_hosted else self.first_line_of(seed, names)
         self.cache = dice.choice(CACHES)
         self.guests, start = [], dice.randrange(3)
         for _ in range(dice.randrange(*self.GUESTS)):
@@ -50,6 +50,10 @@ class Scene:
             if self.is_hosted:
                 Host(guest, disk, hosts, hosts.random() < LATE).serve()
         self.lines = list(self.interleaved(dice))
+
+    def first_line_of(self, seed, dice):
+        """The first line of a trace over an image."""
+        return dice.choice(FIRST_LINES)
 
     def others(self, slot, dice):
         """The other regions of a guest's memory: above or below all that it has so far."""
