@@ -11,8 +11,10 @@ FOLDERS = {"bits_signs": "Numbers with a prefix or a sign.",
 
 IDENTITY = ("identity", "6469736b2d62" + "00" * 14)
 EXTENDED = "kalyubos 1"
-# The lines that an extended trace has alone: the first two fields of its slot line are parts of one.
-EXTENDED_LINES = {"st": [(8, "0"), ("bytes", "aabb")], "io": [(8, "0")]}
+# The lines that version 2 and an extended trace have otherwise than version 1.
+SLOT_OF_VERSION_2 = {"slot_of_version_2": [*SLOT, IDENTITY]}
+EXTENDED_LINES = {"slot_of_an_extended_trace": [("regions", "80000000+10000"), *SLOT[2:], IDENTITY],
+                  "st": [(8, "0"), ("bytes", "aabb")], "io": [(8, "0")]}
 VERDICT = "done"
 
 # What stands before, in or behind a number that is right but for that.
@@ -61,8 +63,9 @@ def stories():
 
 def lines():
     """The lines of each format, with their fields."""
-    yield from (("vreplay 1", name, fields) for name, fields in LINES.items() if name != "slot_of_version_2")
-    yield from ((EXTENDED, name, fields) for name, fields in EXTENDED_LINES.items())
+    plain = {name: fields for name, fields in LINES.items() if name not in SLOT_OF_VERSION_2}
+    for first, there in (("vreplay 1", plain), ("vreplay 2", SLOT_OF_VERSION_2), (EXTENDED, EXTENDED_LINES)):
+        yield from ((first, name, fields) for name, fields in there.items())
 
 
 def marked(kind, right):
@@ -106,15 +109,13 @@ def regions():
 
 
 def long_fields():
-    for first, word, fields in lines():
-        for count in COUNTS if word in ("mw", "in", "st") else ():
+    for first, name, fields in lines():
+        for count in COUNTS if name in ("mw", "in", "st") else ():
             right = bytes(0xa0 + at % 0x50 for at in range(count)).hex()
             for how, end in ENDS.items():
-                yield of_field(first, word, fields, len(fields) - 1, f"of_{count}_bytes_with_{how}", end(right),
+                yield of_field(first, name, fields, len(fields) - 1, f"of_{count}_bytes_with_{how}", end(right),
                                "Bytes", "bits_long_fields")
-    for first, name in (("vreplay 2", "slot_of_version_2"), (EXTENDED, "slot_of_an_extended_trace")):
-        fields = [*SLOT, IDENTITY] if first != EXTENDED else [("regions", "80000000+10000"), *SLOT[2:], IDENTITY]
-        for how, spelled in identities(IDENTITY[1]).items():
+        for how, spelled in identities(IDENTITY[1]).items() if IDENTITY in fields else ():
             yield of_field(first, name, fields, len(fields) - 1, how, spelled, "Bytes", "bits_long_fields")
 
 
