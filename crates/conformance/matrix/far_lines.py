@@ -58,6 +58,8 @@ def stories():
     for make in (guests.identities, guests.read_only, guests.extents, guests.counts, guests.memories, guests.bases,
                  guests.consoles):
         yield extended(make())
+    for make in (guests.identities, guests.memories, guests.bases, guests.consoles, disks):
+        yield hosted(make())
     yield regions_of_64_slots()
 
 
@@ -111,10 +113,32 @@ def bad_event(first, count, kind, line, fault):
 
 def extended(story):
     """A story of 64 slots in an extended trace: its records stay."""
-    lines = story.trace().split("\n")[1:-1]
+    lines = list(map(in_regions, story.trace().split("\n")[1:-1]))
     story.name = f"far/extended_{story.name.partition('/')[2]}"
     story.shows = [("each field of 64 slots", "in an extended trace")]
-    story.trace = lambda: text_of([EXTENDED, *map(in_regions, lines)])
+    story.trace = lambda: text_of([EXTENDED, *lines])
+    return story
+
+
+def hosted(story):
+    """A story of 64 slots that asks nothing, on a board whose disks the host serves: each record says so."""
+    _, _, *lines = extended(story).trace().split("\n")[:-1]
+    story.name = story.name.replace("/extended_", "/hosted_")
+    story.shows = [("each field of 64 slots", "in a hosted trace")]
+    story.trace = lambda: text_of([EXTENDED, "hosted", *lines])
+    story.compare = lambda output, status: Story.compare(story, output.replace(" -\n", "\n"), status)
+    return story
+
+
+def disks():
+    """Each disk has its own number of sectors, which no image bounds, and is read-only or not."""
+    slots = guests.board(start=lambda slot: slot, count=lambda slot: (slot << 40) + 0x1000 - slot,
+                         mode=lambda slot: "rw" if slot % 3 else "ro")
+    story = Story("positions_slots/disks_of_64_slots", "Each of 64 hosted disks has its own capacity and mode.", slots)
+    for slot in range(64):
+        story.read("b", 0x100, 0x1000 - slot, slot=slot)
+        story.read("b", 0x104, slot << 8, slot=slot)
+        story.read("b", 0x010, 0x30004244 if slot % 3 else 0x30004264, slot=slot)
     return story
 
 
