@@ -36,6 +36,7 @@ def stories():
     yield from shown("failed calls of the image", "256", [failures()])
     yield from shown("stops of a queue", "255, 256, 257", map(stops, KINDS.values()))
     yield from shown("emergency writes", "65,537", [emergency_writes()])
+    yield from shown("chains before a fault", "65,537", [a_fault_across_the_end()])
     yield from shown("used_event of 0", "the first and the second lap of 16 bits", [used_event_of_0()])
 
 
@@ -279,7 +280,7 @@ def packed_inputs():
 def dropped():
     """What finds no room is gone, however much it is; then 65,536 bytes are taken."""
     story = story_of("input_that_is_dropped",
-                     "65,536 bytes are typed at once and 65,536 more find no room: 4096 wait. Then 65,537 are taken in "
+                     "65,536 bytes are typed at once and 65,536 more find no room: 4096 wait. Then 65,536 are taken in "
                      "order.")
     queue = Split(story, "c", 0, 4).bring_up()
     story.type(bytes(at % 251 for at in range(HALF)), took=4096)
@@ -314,6 +315,27 @@ def used_event_of_0():
         if told:
             queue.acknowledge()
     queue.look(queue.areas[2] + 2, 2, number(254, 2))
+    return story
+
+
+def a_fault_across_the_end():
+    """65,534 chains are served. The next service passes places 65,534, 65,535 and 0, and its fourth chain is a fault."""
+    story = story_of("a_fault_across_65536",
+                     "A service that passes the place behind 65,535 ends in a fault: what it passed is used and told.")
+    queue = Split(story, "c", 1, 256, low=EVENT_IDX).bring_up()
+    queue.put(TEXT, content())
+    queue.put(queue.areas[0], b"".join(queue.entry(Buffer(TEXT + at, 1), at) for at in range(256)))
+    queue.put(queue.areas[1] + 4, b"".join(number(head, 2) for head in range(256)))
+    for count in (256,) * 255 + (254,):
+        first, queue.offered = queue.offered % BYTE, (queue.offered + count) % HALF
+        queue.put(queue.areas[1] + 2, number(queue.offered, 2))
+        queue.notify(told=int(first == 0 and queue.offered == 256), output=(content() * 2)[first:first + count])
+    queue.acknowledge()
+    queue.put(queue.areas[1] + 4 + 2, number(256, 2))
+    queue.put(queue.areas[1] + 2, number(2, 2))
+    queue.notify(FAULT, content()[254:256] + content()[:1], told=3)
+    story.read("c", STATUS, 0x4f)
+    queue.look(queue.areas[2] + 2, 2, number(1, 2))
     return story
 
 
@@ -437,7 +459,7 @@ def laps(size):
 
 
 def laps_of_one():
-    story = story_of("laps_of_a_packed_ring_of_1", "A ring of one descriptor is served in each of 65,538 laps.")
+    story = story_of("laps_of_a_packed_ring_of_1", "A ring of one descriptor is served in each of 65,540 laps.")
     queue = Packed(story, "c", 1, 1).bring_up()
     queue.put(TEXT, b"t")
 
@@ -477,7 +499,7 @@ def faults(kind):
 def stops(kind):
     """A queue is stopped and made ready in a row, and near the 256th time between chains."""
     story = story_of(f"{'packed' if kind.is_packed else 'split'}_stops",
-                     "A queue is stopped and made ready up to 257 times: it begins at place 0, with its last size.")
+                     "A queue is stopped and made ready up to 257 times: it begins at place 0, with its last size and areas.")
     queue = kind(story, "c", 1, 4).bring_up()
     again(story, BYTE - 4, lambda: starts(queue))
     for _ in range(5):
@@ -491,6 +513,9 @@ def stops(kind):
         queue.write(0x050, 1)
         queue.size = 8 if queue.size == 4 else 4
         queue.write(QUEUE_NUM, queue.size)
+        queue.areas = [at ^ 0x8000 for at in queue.areas]
+        for offset, at in zip((0x080, 0x090, 0x0a0), queue.areas):
+            queue.write(offset, at)
         queue.clear()
         queue.write(QUEUE_READY, 1)
         queue.start_over()

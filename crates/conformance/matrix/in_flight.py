@@ -193,6 +193,7 @@ def stories():
             yield events(is_packed, is_rich)
     for size in (1, 2, 3, 4, 5, 7):
         yield lists(size)
+    yield many()
 
 
 def kind_of(is_packed):
@@ -294,6 +295,18 @@ def lists(size):
     return Life(f"in_flight_lists/a_ring_of_{size}",
                 f"Lists of 1 to {size} descriptors in flight at each position of a ring of {size}.", script, [ONE],
                 hosted=True, shows=[("packed lists that end at each position", f"a ring of {size}")])
+
+
+def many():
+    """257 flushes of a disk, each asked, completed and used before the next one."""
+    def script(life):
+        guest = Asking(life)
+        guest.bring_up("b", Setup(size=4))
+        for _ in range(257):
+            guest.asks("a_flush")
+
+    return Life("in_flight/257_flushes", "257 operations in a row: each is asked, and each completion is taken.", script, [ONE],
+                hosted=True, shows=[("257 flushes", "one after another")])
 
 
 def asks_in_a_list(guest, length, turn):

@@ -20,6 +20,7 @@ SLOT = Slot(identity=b"passed" + bytes(14))
 
 def stories():
     yield from shown("a fault", "its own, split", [the_place_of_a_fault()])
+    yield from shown("a chain, then three", "none: by flags, split", [input_behind_the_last()])
     for kind in KINDS:
         yield from shown("a fault behind 0 to 3 chains", f"each near it, {kind}",
                          [faults(kind, begin) for begin in (0, 3, 6)])
@@ -60,6 +61,34 @@ def the_place_of_a_fault():
         {up.strip()}
         mw 0 8000200c 0000 > 0 done - 0 0
         w 0 c 050 4 00000001 > 0 done 74 0 3
+        """)
+
+
+def input_behind_the_last():
+    """The service of one byte leaves a chain. Behind it stand two more when three bytes are typed."""
+    return written_out("passed/input_behind_the_last_service",
+                       "A service ends once what was typed is gone; the next one sees what was offered since.", """
+        mw 0 80001000 00500080000000000100000002000000 > 0 done - 0 0
+        mw 0 80001010 01500080000000000100000002000000 > 0 done - 0 0
+        mw 0 80001020 02500080000000000100000002000000 > 0 done - 0 0
+        mw 0 80001030 03500080000000000100000002000000 > 0 done - 0 0
+        mw 0 80002000 000002000000010002000300 > 0 done - 0 0
+        w 0 c 070 4 00000003 > 0 done - 0 0
+        w 0 c 024 4 00000001 > 0 done - 0 0
+        w 0 c 020 4 00000001 > 0 done - 0 0
+        w 0 c 070 4 0000000b > 0 done - 0 0
+        w 0 c 038 4 00000004 > 0 done - 0 0
+        w 0 c 080 4 80001000 > 0 done - 0 0
+        w 0 c 090 4 80002000 > 0 done - 0 0
+        w 0 c 0a0 4 80003000 > 0 done - 0 0
+        w 0 c 044 4 00000001 > 0 done - 0 0
+        w 0 c 070 4 0000000f > 0 done - 0 0
+        in 0 61 > 0 took:1 - 0 1
+        mr 0 80003002 2 > 0 b:0100 - 0 1
+        mw 0 80002002 0400 > 0 done - 0 1
+        in 0 626364 > 0 took:3 - 0 1
+        mr 0 80003002 2 > 0 b:0400 - 0 1
+        mr 0 80005000 4 > 0 b:61626364 - 0 1
         """)
 
 

@@ -139,7 +139,7 @@ FIELDS = {
     "device_features_sel": of_selector(0, 1, 2), "driver_features_sel": of_selector(1, 0, 1, 2),
     "queue_sel": of_selector(2, 1, 2), "shm_sel": of_selector(3, 1, 0xffffffff),
     "number": of_queue("number", (2, True), (8, True), (2, False), (8, False), (300, False)),
-    "place": of_queue("place", (1, True), (3, True), (4, True), (7, True)),
+    "place": of_queue("place", (1, True), (3, True), (4, True), (7, True), (0x8002, True), (0xffff, True)),
     "ready": [none_ready, *of_queue("ready", (False, False))],
     "descriptor_area": of_area(0, 0x100), "driver_area": of_area(1, 0x80), "device_area": of_area(2, 0x80),
     "interrupts": of_window("interrupts", 1, 2, 3), "generation": of_window("generation", 0x80000001, 0xffffffff),
