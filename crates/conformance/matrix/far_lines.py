@@ -60,7 +60,8 @@ def stories():
         yield extended(make())
     for make in (guests.identities, guests.memories, guests.bases, guests.consoles, disks):
         yield hosted(make())
-    yield regions_of_64_slots()
+    yield regions_of_64_slots("eight_regions", "cache 8")
+    yield asking_nothing(regions_of_64_slots("hosted_eight_regions", "hosted"))
 
 
 # --- texts that are refused
@@ -126,6 +127,11 @@ def hosted(story):
     story.name = story.name.replace("/extended_", "/hosted_")
     story.shows = [("each field of 64 slots", "in a hosted trace")]
     story.trace = lambda: text_of([EXTENDED, "hosted", *lines])
+    return asking_nothing(story)
+
+
+def asking_nothing(story):
+    """A story of a hosted board, each of whose records has a dash behind what is said."""
     story.compare = lambda output, status: Story.compare(story, output.replace(" -\n", "\n"), status)
     return story
 
@@ -148,12 +154,12 @@ def in_regions(line):
     return " ".join([word, f"{fields[0]}+{fields[1]}", *fields[2:]]) if word == "slot" else line
 
 
-def regions_of_64_slots():
+def regions_of_64_slots(name, second_line):
     """Region k of a slot has k + 1 pages: its first and its last byte are inside, their neighbours aren't."""
     slots = [Slot(count=0, identity=guests.identity(slot)) for slot in range(64)]
     about = "Each of 64 slots has eight regions, at other places than its neighbours'."
-    story = Story("far/eight_regions_of_64_slots", about, slots,
-                  shows=[("the regions of 64 slots", "in an extended trace")])
+    story = Story(f"far/{name}_of_64_slots", about, slots,
+                  shows=[("the regions of 64 slots", "in an extended trace and in a hosted one")])
     for slot in range(64):
         for first, count in regions_of(slot):
             story.put(first, bytes([slot + 1]), slot=slot)
@@ -165,7 +171,7 @@ def regions_of_64_slots():
             story.look(first + count - 1, 2, BADRANGE, slot=slot)
             story.look(first - 1, 2, BADRANGE, slot=slot)
     lines = [f"slot {spelled(regions_of(at))} " + slot.line().split(" ", 3)[3] for at, slot in enumerate(slots)]
-    story.trace = lambda: text_of([EXTENDED, "cache 8", *lines, *story.lines])
+    story.trace = lambda: text_of([EXTENDED, second_line, *lines, *story.lines])
     return story
 
 
