@@ -27,7 +27,7 @@ def stories():
     yield from shown("sectors of a read, and the used len", "1,024 to 65,536; bits 20 to 25",
                      map(reads, KINDS.values()))
     yield from shown("sectors of a write", "1,024 to 65,536", map(writes, KINDS.values()))
-    yield from shown("sectors of 32 segments together", "65,536 to 196,608", [zeroes()])
+    yield from shown("sectors of 2, 3 and 32 segments together", "65,537 to 196,608", [zeroes()])
     yield from shown("bytes put out in one service", "128 KiB and 1 MiB, and beside them", map(texts, KINDS.values()))
     yield from shown("bytes of `mr` and `mw`", "1 MiB, and a whole memory", [whole_memory()])
     yield from shown("kept sectors", "255 to 300", map(kept, (255, 256, 257, 300)))
@@ -35,7 +35,7 @@ def stories():
     yield from shown("buffers of a sector", "16 to 253",
                      [one(kind) for one in (cut_reads, cut_writes) for kind in KINDS.values()])
     yield from shown("pending input that is full", "from each place of 4096 bytes", map(full, KINDS.values()))
-    yield from shown("typed bytes", "4095 to 8192, where a queue waits", map(typed, KINDS.values()))
+    yield from shown("typed bytes", "4095 to 65,536, where a queue waits", map(typed, KINDS.values()))
 
 
 def the_last_byte_of_input():

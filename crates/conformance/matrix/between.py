@@ -158,6 +158,6 @@ def story_of(name, window, betweens, what, where, turn=0):
             reads_registers(Guest(life, slot), other, None)
 
     slots = [Slot(base=0x480000000, count=4), Slot(start=4, count=4)]
-    return Life(name, f"{what.replace('_', ' ').capitalize()}, of {where}, before each access of a driver.", script,
+    return Life(name, f"{what.replace('_', ' ').capitalize()} of {where} come before each access of a driver.", script,
                 slots, image=plain_image(),
                 shows=[(what.replace("_", " "), "each access of a driver")])

@@ -186,7 +186,7 @@ def the_last_of_many_resets():
 # --- resizes and services
 
 def resizes():
-    story = story_of("resizes", "Each of 65,537 resizes is told, and counted by the generation.")
+    story = story_of("resizes", "Each of 65,537 resizes is told, and counted by the generation; then columns and rows change alone.")
     story.write("c", STATUS, DRIVER_OK)
     done = 0
     for count in (1, BYTE - 1, BYTE, BYTE + 1, HALF - 1, HALF, HALF + 1):
@@ -198,6 +198,9 @@ def resizes():
         story.read("c", 0x0fc, count)
         story.read("c", 0x100, count // BYTE << 16 | count % HALF)
         story.read("b", 0x0fc, 0)
+    for cols, rows in ((7, 8), (7, 9), (6, 9)):
+        story.resize(cols, rows, told=2)
+        story.read("c", 0x100, rows << 16 | cols)
     return story
 
 
@@ -336,6 +339,7 @@ def a_fault_across_the_end():
     queue.notify(FAULT, content()[254:256] + content()[:1], told=3)
     story.read("c", STATUS, 0x4f)
     queue.look(queue.areas[2] + 2, 2, number(1, 2))
+    queue.look(queue.areas[2] + 4 + 8 * 256, 2, number(1, 2))
     return story
 
 

@@ -32,6 +32,8 @@ REQUESTS = {
 }
 ONE = Wide(0x80000000, 0x10000)
 TWO = [ONE, Wide(0x80000000, 0x10000)]
+# The host has the whole disk, wherever the slot line says that it begins.
+AT_5 = Wide(0x80000000, 0x10000, start=5)
 
 
 class Asking(Guest):
@@ -241,7 +243,7 @@ def after(turn, name, history):
             guest.asks(request)
             guest.asks(request)
 
-    return Life(f"in_flight_after/{name}", f"{history.__doc__} Then requests of each kind.", script, TWO, hosted=True,
+    return Life(f"in_flight_after/{name}", f"{history.__doc__} Then requests of each kind.", script, [AT_5, TWO[1]], hosted=True,
                 shows=[("requests of each kind", name.replace("_", " "))])
 
 
@@ -280,7 +282,7 @@ def events(is_packed, is_rich):
     features = "all_features" if is_rich else "no_feature"
     return Life(f"in_flight_events/{kind_of(is_packed)}_with_{features}",
                 "Flags and events change after the asking: those at the completion count.",
-                script, [ONE], hosted=True, shows=[("flags and events", kind_of(is_packed))])
+                script, [AT_5], hosted=True, shows=[("flags and events", kind_of(is_packed))])
 
 
 def lists(size):
@@ -293,7 +295,7 @@ def lists(size):
                 asks_in_a_list(guest, length, turn)
 
     return Life(f"in_flight_lists/a_ring_of_{size}",
-                f"Lists of 1 to {size} descriptors in flight at each position of a ring of {size}.", script, [ONE],
+                f"Lists of 1 to {size} descriptors in flight at each position of a ring of {size}.", script, [AT_5],
                 hosted=True, shows=[("packed lists that end at each position", f"a ring of {size}")])
 
 

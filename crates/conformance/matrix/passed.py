@@ -155,6 +155,7 @@ def faults(kind, begin):
             story.read("c", STATUS, 0x4f)
             if not queue.is_packed:
                 queue.look(queue.areas[2] + 2, 2, number(begin + count, 2))
+                queue.look(queue.areas[2] + 4 + 8 * queue.size, 2, number(begin + count, 2))
     return story
 
 

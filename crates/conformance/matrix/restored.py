@@ -13,7 +13,7 @@ HOW = ("After each history a slot is saved; other histories come, and the snapsh
        "used without being written, in a memory of one region or of three, whose second and third have the areas and the data.")
 COLUMNS = ("What is used", "Saved after")
 FOLDERS = {"restored": "A restored window whose registers are used without being written.",
-           "restored_fields": "Each field of a snapshot has another value, and is used without being written."}
+           "restored_fields": "Each field of a snapshot has another value; it is refused, or used without being written."}
 
 # Three regions: below 2^32, across it, and above.
 THREE = Wide(0x80000000, 0x8000, others=((0xffffc000, 0x8000), (0x300000000, 0x8000)))
@@ -163,7 +163,7 @@ def field(name, changes, window, is_packed):
 
     device, kind = "disk" if window == "b" else "console", "packed" if is_packed else "split"
     return Life(f"restored_fields/{kind}_{name}_of_a_{device}",
-                f"{name.replace('_', ' ').capitalize()} of a snapshot of a {device}, by each of some values.", script,
+                f"The field {name.replace('_', ' ')} of a {device}'s snapshot has each of several values.", script,
                 [THREE if is_packed else ONE], shows=[(name.replace("_", " "), "a window at work")])
 
 

@@ -12,8 +12,8 @@ from . import made, trace
 
 KEPT = os.path.join(made.CRATE, "out", "scenarios.json")
 # What follows from a scenario's files follows by these, too.
-SOURCES = [os.path.join(made.CRATE, "suite", name) for name in ("index.py", "trace.py", "calls.py")] + list(made.MODEL)
-ENDS = (".trace", ".records", ".before", ".fails")
+SOURCES = [os.path.join(made.CRATE, "suite", name) for name in ("index.py", "trace.py", "calls.py", "models.py", "scenarios.py")] + list(made.MODEL)
+ENDS = (".trace", ".records", ".before", ".fails", ".after")
 
 
 class Known(NamedTuple):

@@ -16,7 +16,8 @@ CRATE = os.path.dirname(os.path.dirname(os.path.abspath(__file__)))
 DATA, ROWS, MATRIX = os.path.join(CRATE, "data"), os.path.join(CRATE, "data", "rows"), os.path.join(CRATE, "matrix")
 STATE, PAGES = os.path.join(DATA, ".made"), [os.path.join(DATA, name, "README.md") for name in ("matrix", "large")]
 MODEL = (os.path.join(CRATE, "mutants", "model.py"), os.path.join(CRATE, "..", "..", "fuzz", "reader.py"))
-IMPORTED = re.compile(r"^from \.(\w+) import ", re.MULTILINE)
+# The modules that one stands on: `from .NAME import ..`, or `from . import NAME`.
+IMPORTED = re.compile(r"^from \.(?:(\w+) import | import (\w+)$)", re.MULTILINE)
 
 
 class Unmade(Exception):
@@ -50,7 +51,7 @@ def digest_of(path):
 
 @functools.lru_cache(maxsize=None)
 def imports_of(module):
-    return IMPORTED.findall(text_of(os.path.join(MATRIX, f"{module}.py")))
+    return [one or other for one, other in IMPORTED.findall(text_of(os.path.join(MATRIX, f"{module}.py")))]
 
 
 def sources_of(table):
