@@ -3,7 +3,7 @@ import dataclasses
 import re
 from typing import Optional
 
-from . import trace, writers
+from . import trace
 from .scenarios import SECTOR
 
 
@@ -26,6 +26,7 @@ class Difference:
         yield f"found    {shortened(self.found)}"
         wanted, has = bytes_told(self.expected), bytes_told(self.found)
         if self.event and wanted and has and len(wanted) == len(has) and wanted != has:
+            from . import writers
             yield writers.byte_in_words(scenario, self.event, wanted, has)
 
     @property

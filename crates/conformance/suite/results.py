@@ -3,7 +3,6 @@ import dataclasses
 import functools
 from typing import Optional
 
-from . import rules
 from .difference import Difference
 from .scenarios import Scenario
 
@@ -49,6 +48,7 @@ class Result:
 
 @functools.lru_cache(maxsize=None)
 def shown_rules():
+    from . import rules
     return rules.by_scenario(rules.load())
 
 

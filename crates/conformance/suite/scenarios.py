@@ -22,14 +22,20 @@ class Scenario:
     """A scenario of a folder: its files are read when they are asked for."""
 
     def __init__(self, name, about, folder):
-        self.name, self.about = name, about
-        self.subject, self.part = name.split("/")[0], os.path.basename(folder)
-        self.path = os.path.join(folder, name)
+        self.name, self.about, self.folder = name, about, folder
+        self.subject, _, self.own_name = name.partition("/")
+
+    @property
+    def part(self):
+        return os.path.basename(self.folder)
+
+    @property
+    def path(self):
+        return os.path.join(self.folder, self.name)
 
     def stamp(self, end):
         """The size of one of its files and when it was written, or None where it has no such file."""
-        folder, _, name = self.name.rpartition("/")
-        return made.stamps_in(f"{self.part}/{folder}").get(name + end)
+        return made.stamps_in(f"{self.part}/{self.subject}").get(self.own_name + end)
 
     def read(self, end):
         try:
@@ -94,7 +100,9 @@ class Scenario:
 
     def is_called(self, word):
         """Whether a word names it: its name, its subject, its part, a pattern of names, or a feature."""
-        return word in (self.name, self.subject, self.part) or word in trace.NAMED and word in self.features or fnmatch.fnmatchcase(self.name, word)
+        if word in (self.name, self.subject, self.part):
+            return True
+        return word in self.features if word in trace.NAMED else fnmatch.fnmatchcase(self.name, word)
 
 
 LISTED = re.compile(r"- `([^`]*)`:? ?(.*)")
@@ -129,8 +137,10 @@ def load_folder(folder):
     found = [Scenario(*match.groups(), folder) for match in map(LISTED.match, lines) if match]
     if not found:
         raise Broken(f"{folder}/README.md lists no scenario")
+    part = os.path.basename(folder)
     for scenario in found:
+        there = made.stamps_in(f"{part}/{scenario.subject}")
         for end in (".trace", ".records"):
-            if not scenario.stamp(end):
+            if scenario.own_name + end not in there:
                 raise Broken(f"{scenario.name}{end} is missing")
     return found
