@@ -269,13 +269,17 @@ class Guest:
         """The registers of a queue."""
         if without != "queue_sel":
             self.write(window, QUEUE_SEL, index)
+        for offset, value in self.values(window, index, setup).items():
+            if without != NAMES[offset]:
+                self.write(window, offset, value)
+
+    def values(self, window, index, setup):
+        """What is written to each register of a queue."""
         values = {QUEUE_NUM: setup.size}
         for offset, area in zip(AREAS, self.areas(window, index, setup.home)):
             halves = [(offset, area % 2**32), (offset + 4, area >> 32)]
             values.update(halves[::-1] if setup.home else halves)
-        for offset, value in (values | {QUEUE_READY: 1}).items():
-            if without != NAMES[offset]:
-                self.write(window, offset, value)
+        return values | {QUEUE_READY: 1}
 
     def go(self, window):
         self.write(window, STATUS, ACKNOWLEDGE | DRIVER | FEATURES_OK | DRIVER_OK)

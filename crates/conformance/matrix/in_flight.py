@@ -126,6 +126,13 @@ def busy(guest):
     restore(guest, saved(guest))
 
 
+def of_the_console(guest):
+    """The console's registers don't wait."""
+    for offset, value in ((QUEUE_SEL, 1), (QUEUE_READY, 0), (QUEUE_READY, 1), (STATUS, 0xf), (STATUS, 0)):
+        guest.write("c", offset, value)
+    guest.bring_up("c", Setup(size=8))
+
+
 def registers(guest):
     reads_registers(guest, "b", None)
 
@@ -178,8 +185,8 @@ def looked_at(guest):
 MEANWHILE = [
     looked_at, put_over(HEADER), put_over(DATA), put_over(HEADER + 16), put_over(DONE - 8),
     put_over_ring(0, -1, b"\x11" * 12), put_over_ring(2, 0, b"\x22" * 4), over_links,
-    typed, typed_for_a_chain, a_text, notified, busy, registers, moved, resized, acknowledged, of_another_slot, another_offer,
-    a_fault_behind,
+    typed, typed_for_a_chain, a_text, notified, busy, of_the_console, registers, moved, resized, acknowledged,
+    of_another_slot, another_offer, a_fault_behind,
 ]
 
 
@@ -210,10 +217,12 @@ def meanwhile_of(name, is_packed, is_rich):
         for guest.meanwhile in MEANWHILE:
             if guest.window("b").status != 0xf:
                 guest.bring_up("b", setup)
+            guest.acknowledges = False
             for guest.completed in (0, 2):
                 guest.asks(name)
-        guest.meanwhile = looked_at
-        behind_another(guest, name)
+            guest.acknowledge("b")
+        guest.meanwhile, guest.acknowledges = looked_at, True
+        behind_another(guest, name, setup)
 
     return Life(f"in_flight/{kind_of(is_packed)}_{name}_and_what_comes_meanwhile",
                 f"{name.replace('_', ' ').capitalize()}, done and failed, while each other thing comes.", script, TWO,
@@ -221,9 +230,9 @@ def meanwhile_of(name, is_packed, is_rich):
                 shows=[(name.replace("_", " "), "in flight beside each other event")])
 
 
-def behind_another(guest, name):
+def behind_another(guest, name, setup):
     """A request behind one that asks nothing: that one is used at once, and the queue is closed once, by the completion."""
-    guest.bring_up("b", guest.setup)
+    guest.bring_up("b", setup)
     for _ in range(2):
         guest.put(guest.ring("b", 0).areas[2], b"\xee\xee")
         guest.request(header(GET_ID), 20, notifies=False)

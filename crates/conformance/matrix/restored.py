@@ -80,7 +80,7 @@ def after(turn, name, history, window):
         snapshot = saved(guest)
         for number, use in enumerate(USES + OWN[window]):
             guest.acknowledges = False
-            other = Setup(not setup.rich, not setup.packed, 8, 1 - setup.home)
+            other = Setup(not setup.rich, not setup.packed, (8, 4)[number // 2 % 2], 1 - setup.home)
             BETWEEN[(turn + number) % len(BETWEEN)](guest, window, other)
             guest.acknowledges, guest.setup = True, setup
             restore(guest, snapshot)

@@ -48,6 +48,20 @@ class Console(Guest):
             self.make_ready("c", index, self.setup_of(index))
         self.go("c")
 
+    def come_up_in_turns(self):
+        """Each register of one queue is written, then the same one of the other."""
+        self.reset("c")
+        setups = [self.setup_of(index) for index in (0, 1)]
+        for setup in setups:
+            self.clear("c", setup)
+        self.accept("c", setups[0])
+        values = [self.values("c", index, setups[index]) for index in (0, 1)]
+        for offset in values[0]:
+            for index in (0, 1):
+                self.write("c", QUEUE_SEL, index)
+                self.write("c", offset, values[index][offset])
+        self.go("c")
+
     # --- what both queues do in turns
 
     def works(self):
@@ -171,6 +185,7 @@ def stories():
             for has_tables in (False, True):
                 yield one_alone(index, is_packed, has_tables)
         yield across_four_gigabytes(is_packed)
+        yield set_up_in_turns(is_packed)
 
 
 def story_of(name, number_of, differing, is_packed):
@@ -216,3 +231,16 @@ def across_four_gigabytes(is_packed):
     return Life(f"two_queues/{kind}_areas_on_both_sides_of_2_to_32",
                 "One queue's areas lie below 2^32, the other's above.", script,
                 [Slot(base=0xffffe000, length=0x8000)], shows=[("high halves of addresses", "split, packed")])
+
+
+def set_up_in_turns(is_packed):
+    """The registers of both queues are written in turns."""
+    def script(life):
+        for sizes in ((4, 4), (2, 8)):
+            console = Console(life, Differing(sizes=sizes, homes=(0, 1)), is_packed)
+            console.come_up_in_turns()
+            console.works()
+
+    kind = "packed" if is_packed else "split"
+    return Life(f"two_queues/{kind}_registers_written_in_turns", "Each register of one queue is written, then the other queue's.", script,
+                shows=[("when each register is written", "split, packed")])

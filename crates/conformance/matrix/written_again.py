@@ -97,11 +97,16 @@ def emptied(guest, window, index):
 def of_window(name, writes, window, index, is_rich, is_packed):
     def script(life):
         guest = Guest(life)
+        if window == "c":
+            guest.resize(0x40, 0x20)
         guest.bring_up(window, Setup(is_rich, is_packed, 4, 0))
         serves_each(guest, window)
+        for offset, value in ((DEVICE_SEL, 1), (DRIVER_SEL, 1), (QUEUE_SEL, index or 7)):
+            guest.write(window, offset, value)
         for offset, value in writes:
             guest.write(window, offset, value)
-            guest.read(window, STATUS)
+            for shown in (STATUS, 0x010, 0x034):
+                guest.read(window, shown)
             serves(guest, window, index)
         guest.write(window, QUEUE_SEL, index)
         starts_as_it_stands(guest, window, index)
