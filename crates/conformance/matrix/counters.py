@@ -9,8 +9,8 @@ from .segments import IOERR, OK
 from .story import BASE, SECTOR, USED, Slot, Story, plain_image
 
 TITLE = "Counters of 8 and of 16 bits"
-HOW = ("Each thing that a device counts, or may count, is done 256 and 65,536 times, and a few times less and more: "
-       "what comes of it is each time the same.")
+HOW = ("Each thing that a device counts, or may count, is done 256 times, where it is quick 65,536 times, and a few times "
+       "less and more: what comes of it is each time the same.")
 COLUMNS = ("What", "How often")
 FOLDERS = {"counters": "The 256th and the 65,536th of each thing, and those beside it."}
 
