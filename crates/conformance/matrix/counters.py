@@ -35,6 +35,7 @@ def stories():
     yield from shown("faults", "257", map(faults, KINDS.values()))
     yield from shown("failed calls of the image", "256", [failures()])
     yield from shown("stops of a queue", "255, 256, 257", map(stops, KINDS.values()))
+    yield from shown("stops of a queue", "65,536", [many_stops()])
     yield from shown("emergency writes", "65,537", [emergency_writes()])
     yield from shown("chains before a fault", "65,537", [a_fault_across_the_end()])
     yield from shown("used_event of 0", "the first and the second lap of 16 bits", [used_event_of_0()])
@@ -525,6 +526,18 @@ def stops(kind):
         queue.start_over()
         for _ in range(9):
             works(queue)
+    return story
+
+
+def many_stops():
+    """A device that marks a place by the number of starts, of 16 bits, finds the first one's again."""
+    story = story_of("stops_65536", "A queue is stopped and made ready 65,536 times: it begins at place 0.")
+    queue = Split(story, "c", 1, 4).bring_up()
+    for _ in range(3):
+        works(queue)
+    again(story, HALF - 1, lambda: starts(queue))
+    for _ in range(2):
+        begins_anew(queue)
     return story
 
 
