@@ -26,12 +26,12 @@ def stories():
     yield from shown("resets of a window", "65,536", [many_resets(), the_last_of_many_resets()])
     yield from shown("resizes", "255 to 257, 65,535 to 65,537", [resizes()])
     yield from shown("services of nothing", "256, 65,536", map(services_of_nothing, KINDS.values()))
-    yield from shown("services, chains, inputs and bytes of input", "65,536 and one more", [inputs(), packed_inputs()])
+    yield from shown("services, chains, inputs and bytes of input", "65,536 and one more, split", [inputs()])
     yield from shown("input that is dropped", "65,536 bytes", [dropped()])
     yield from shown("requests", "65,536 in services of 256", [requests()])
     yield from shown("reads of a kept sector", "256, 65,536", [kept(BYTE), kept(HALF)])
     yield from shown("laps of a packed ring", "256 and more, 65,536 places", map(laps, (2, 3, 255)))
-    yield from shown("laps of a packed ring", "65,536", [laps_of_one()])
+    yield from shown("laps, services, lists, inputs and bytes of input", "65,536 and two more, packed", [laps_of_one()])
     yield from shown("faults", "257", map(faults, KINDS.values()))
     yield from shown("failed calls of the image", "256", [failures()])
     yield from shown("stops of a queue", "255, 256, 257", map(stops, KINDS.values()))
@@ -257,30 +257,6 @@ def inputs():
     return story
 
 
-def packed_inputs():
-    story = story_of("packed_inputs", "65,539 bytes are typed one by one, each into a list of its own.")
-    queue = Packed(story, "c", 0, 256).bring_up()
-    for rounds in range(256):
-        queue.put_chain([Buffer(TEXT + at, 1, WRITE, at) for at in range(256)])
-        queue.offered = (queue.offered + 256) % 512
-        typed = bytes([rounds % 251 + 1])
-        again(story, 253, lambda: story.type(typed, took=1, told=USED))
-        for _ in range(3):
-            queue.acknowledge()
-            story.type(typed, took=1, told=USED)
-        queue.after(SERVED)
-        if rounds in (0, 1, 127, 254, 255):
-            queue.look_at_used(1, link=255)
-            queue.look(TEXT, 256, typed * 256)
-    for turn in range(3):
-        queue.offer([Buffer(TEXT, 1, WRITE)], link=0x1234 + turn)
-        queue.acknowledge()
-        story.type(b"!", took=1, told=USED)
-        queue.after(SERVED)
-        queue.look_at_used(1, link=0x1234 + turn)
-    return story
-
-
 def dropped():
     """What finds no room is gone, however much it is; then 65,536 bytes are taken."""
     story = story_of("input_that_is_dropped",
@@ -464,23 +440,27 @@ def laps(size):
 
 
 def laps_of_one():
-    story = story_of("laps_of_a_packed_ring_of_1", "A ring of one descriptor is served in each of 65,540 laps.")
-    queue = Packed(story, "c", 1, 1).bring_up()
-    queue.put(TEXT, b"t")
+    """A byte typed for each list of a ring of one: a service, a used entry and a lap each, which near 256 and 65,536 are
+    looked at one by one."""
+    story = story_of("laps_of_a_packed_ring_of_1",
+                     "65,538 bytes are typed one by one, each into the one descriptor of a ring, which is a lap each.")
+    queue, done = Packed(story, "c", 0, 1).bring_up(), 2
 
     def two():
         for _ in range(2):
-            queue.offer([Buffer(TEXT, 1)])
-            queue.notify(output=b"t")
+            queue.offer([Buffer(TEXT, 1, WRITE)])
+            story.type(b"t", took=1, told=USED)
     two()
-    for count in (BYTE - 2, HALF - BYTE - 4):
-        again(story, count // 2, two)
-        queue.look_at_used(0, wrote=False)
-        for turn in range(4):
-            queue.offer([Buffer(TEXT, 1)], link=turn)
+    for most in (BYTE, HALF):
+        again(story, (most - 4 - done) // 2, two)
+        for turn in range(6):
+            queue.offer([Buffer(TEXT, 1, WRITE)], link=turn)
             queue.acknowledge()
-            queue.notify(output=b"t")
-            queue.look_at_used(0, link=turn, wrote=False)
+            story.type(bytes([turn]), took=1, told=USED)
+            queue.after(SERVED)
+            queue.look_at_used(1, link=turn)
+            queue.look(TEXT, 1, bytes([turn]))
+        done = most + 2
     return story
 
 

@@ -176,9 +176,11 @@ class Story:
         records = output.split("\n")[:-1]
         if status or len(records) != len(self.said):
             raise Disagrees(f"{self.name}: the model ends with {records[-1:]} and {status}")
+        met = set()
         for line, said, record in zip(self.lines, self.said, records):
-            if not said.is_met_by(record):
+            if (id(said), record) not in met and not said.is_met_by(record):
                 raise Disagrees(f"{self.name}: {line[:100]}: said {str(said)[:100]}, the model {record[:100]}")
+            met.add((id(said), record))
 
 
 def changed(before, after):
