@@ -22,7 +22,7 @@ run:
 	@packaging/replay "$(TRACE)" "$(IMAGE)" "$(SAVE)"
 
 # Proves what the program stands on, builds it, and replays TRACE by it. The first call takes
-# some 50 minutes of processor time, a later one seconds; it shows how far it is.
+# some 35 minutes of processor time, a later one seconds; it shows how far it is.
 prove:
 	@packaging/replay --prove "$(TRACE)" "$(IMAGE)" "$(SAVE)"
 

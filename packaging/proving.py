@@ -16,7 +16,7 @@ import time
 
 TOP = pathlib.Path(__file__).resolve().parents[1]
 VERDICT = TOP / "out" / "gate.verdict"
-FIRST = "some 50 minutes of processor time at first, seconds after that"
+FIRST = "some 35 minutes of processor time at first, seconds after that"
 
 # What rt says: which crate comes next; something of a crate, once it is judged; how far the crate's check is.
 CHOSE = re.compile(r"rt: chose --jobs \d+ for (\w+)$")

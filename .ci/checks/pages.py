@@ -115,7 +115,7 @@ def events(trace, records):
 # What was true once, and must stand in no page and in no text that is packaged; and what is true.
 STALE = {
     r"up to (sixteen|16) guests": "a board has up to sixty-four guests",
-    r"\b(17|seventeen) minutes": "a first `make prove` takes some 50 minutes of processor time",
+    r"\b(17|seventeen) minutes": "a first `make prove` takes some 35 minutes of processor time",
 }
 
 # What a page must say, in these words.
@@ -125,9 +125,9 @@ SAID = {
                       "and nobody reads or writes its memory in place.",
     "crates/board_ffi/kalyubos.h": "While a call for a guest runs, and from a KALYUBOS_MORE until its service is done, no CPU of that "
                                    "guest runs, and nobody reads or writes its memory in place",
-    "Makefile": "some 50 minutes of processor time",
-    "packaging/proving.py": "some 50 minutes of processor time",
-    "README.md": "some 50 minutes of processor time",
+    "Makefile": "some 35 minutes of processor time",
+    "packaging/proving.py": "some 35 minutes of processor time",
+    "README.md": "some 35 minutes of processor time",
 }
 
 
