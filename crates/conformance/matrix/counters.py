@@ -202,6 +202,9 @@ def resizes():
     for cols, rows in ((7, 8), (7, 9), (6, 9)):
         story.resize(cols, rows, told=2)
         story.read("c", 0x100, rows << 16 | cols)
+    story.read("c", 0x100, 6, width=2)
+    story.resize(4, 5, told=2)
+    story.read("c", 0x102, 5, width=2)
     return story
 
 

@@ -133,6 +133,11 @@ def of_the_console(guest):
     guest.bring_up("c", Setup(size=8))
 
 
+def busy_at_a_stop(guest):
+    """The stop that waits isn't made again: the queue goes on."""
+    guest.write("b", QUEUE_READY, 0)
+
+
 def registers(guest):
     reads_registers(guest, "b", None)
 
@@ -185,7 +190,7 @@ def looked_at(guest):
 MEANWHILE = [
     looked_at, put_over(HEADER), put_over(DATA), put_over(HEADER + 16), put_over(DONE - 8),
     put_over_ring(0, -1, b"\x11" * 12), put_over_ring(2, 0, b"\x22" * 4), over_links,
-    typed, typed_for_a_chain, a_text, notified, busy, of_the_console, registers, moved, resized, acknowledged,
+    typed, typed_for_a_chain, a_text, notified, busy, busy_at_a_stop, of_the_console, registers, moved, resized, acknowledged,
     of_another_slot, another_offer, a_fault_behind,
 ]
 
@@ -203,6 +208,7 @@ def stories():
     for size in (1, 2, 3, 4, 5, 7):
         yield lists(size)
     yield many()
+    yield far_sectors()
 
 
 def kind_of(is_packed):
@@ -318,6 +324,23 @@ def many():
 
     return Life("in_flight/257_flushes", "257 operations in a row: each is asked, and each completion is taken.", script, [ONE],
                 hosted=True, shows=[("257 flushes", "one after another")])
+
+
+def far_sectors():
+    """Reads and writes of sectors above 2^32 of a large disk."""
+    def script(life):
+        guest = Asking(life)
+        guest.bring_up("b", Setup(size=4))
+        for sector in ((1 << 32) - 1, 1 << 32, (1 << 32) + 1, (1 << 40) + 5):
+            guest.request(header(IN, sector), SECTOR)
+            guest.put(guest.room + HEADER, header(OUT, sector) + bytes(SECTOR))
+            guest.offer("b", 0, [Buffer(guest.room + HEADER, 16 + SECTOR), Buffer(guest.done, 1, WRITE)])
+            guest.notify("b", 0)
+            guest.look(guest.done, 1)
+
+    large = Wide(0x80000000, 0x10000, start=5, count=1 << 41)
+    return Life("in_flight/far_sectors_of_a_large_disk", "Reads and writes of sectors below and above 2^32.", script, [large],
+                hosted=True, shows=[("sectors", "beside 2^32 and above")])
 
 
 def asks_in_a_list(guest, length, turn):

@@ -1,10 +1,12 @@
 """What a restore brings back: after each history a slot is saved and restored, and each register is used as it stands."""
+import dataclasses
+
 from .actions import (acknowledges, goes_on, is_resized, notifies_by_other_values, reads_a_sector, reads_by_selectors,
                       reads_registers, serves,
                       serves_each, stops_and_starts, types_nothing, wants_one_at_a_place)
 from .first_rows import of_restored
-from .drivers import DRIVER_FEATURES, QUEUE_NUM, QUEUE_READY, QUEUE_SEL, STATUS
-from .follows import INDICES, Guest, Life, Setup, Wide
+from .drivers import DRIVER_FEATURES, QUEUE_NUM, QUEUE_READY, QUEUE_SEL, STATUS, WRITE, Buffer
+from .follows import INDICES, TEXT, Guest, Life, Setup, Wide
 from .histories import LIVES, a_life, failed, faulty, nothing
 from .saved import restore, saved
 
@@ -129,6 +131,21 @@ def of_slot(name, *values):
     return [lambda snapshot, window, value=value: setattr(snapshot, name, value) for value in values]
 
 
+def begun_with_selector(value):
+    """A driver has begun, and its features' selector stands at a word."""
+    def change(snapshot, window):
+        snapshot.windows[window].status, snapshot.windows[window].accepted = 3, 0
+        snapshot.windows[window].selectors[1] = value
+        none_ready(snapshot, window)
+    return change
+
+
+def second_queue_of_a_disk(snapshot, window):
+    """The disk's window has a ready queue 1, which no register shows."""
+    first, _ = snapshot.windows["b"].queues
+    snapshot.windows["b"].queues[1] = dataclasses.replace(first, areas=list(first.areas))
+
+
 def none_ready(snapshot, window):
     for queue in snapshot.windows[window].queues:
         queue.ready = False
@@ -140,6 +157,9 @@ FIELDS = {
     "queue_sel": of_selector(2, 1, 2), "shm_sel": of_selector(3, 1, 0xffffffff),
     "number": of_queue("number", (2, True), (8, True), (2, False), (8, False), (300, False)),
     "place": of_queue("place", (1, True), (3, True), (4, True), (7, True), (0x8002, True), (0xffff, True)),
+    "left": of_queue("left", (1, True), (2, True)), "passed": of_queue("passed", (1, True), (2, True)),
+    "selector_of_a_new_driver": [begun_with_selector(value) for value in (0, 1, 2, 3)],
+    "second_queue_of_the_disk": [second_queue_of_a_disk],
     "ready": [none_ready, *of_queue("ready", (False, False))],
     "descriptor_area": of_area(0, 0x100), "driver_area": of_area(1, 0x80), "device_area": of_area(2, 0x80),
     "interrupts": of_window("interrupts", 1, 2, 3), "generation": of_window("generation", 0x80000001, 0xffffffff),
@@ -154,8 +174,8 @@ def field(name, changes, window, is_packed):
         snapshot = saved(guest)
         for change in changes:
             other = snapshot.but(lambda copied, change=change: change(copied, window))
-            for use in (reads_registers, goes_on, features_without_selector, queue_without_selector, is_resized,
-                        made_with_half):
+            for use in (two_at_once, wants_one_at_a_place, reads_registers, goes_on, features_without_selector,
+                        queue_without_selector, notifies_by_other_values, is_resized, made_with_half):
                 guest.setup = setup
                 restore(guest, other)
                 use(guest, window, setup)
@@ -165,6 +185,16 @@ def field(name, changes, window, is_packed):
     return Life(f"restored_fields/{kind}_{name}_of_a_{device}",
                 f"The field {name.replace('_', ' ')} of a {device}'s snapshot has each of several values.", script,
                 [THREE if is_packed else ONE], shows=[(name.replace("_", " "), "a window at work")])
+
+
+def two_at_once(guest, window, setup):
+    """Two chains of the last queue by one notify, and what is seen of them."""
+    index = INDICES[window][-1]
+    for at in (0, 1):
+        guest.put(guest.room + TEXT + at, b"tu"[at:at + 1])
+        guest.offer(window, index, [Buffer(guest.room + TEXT + at, 1, WRITE if window == "b" else 0)])
+    guest.notify(window, index)
+    guest.ends(window, index)
 
 
 def made_with_half(guest, window, setup):

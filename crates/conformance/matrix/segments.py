@@ -145,11 +145,14 @@ def counted(kind):
 def between(kind):
     """Data of a byte more or less than n segments."""
     story = Story(name_of(kind, "data_beside_n_segments"),
-                  "Data of 1, 8 or 15 bytes more than n segments are IOERR, also below and above 32.")
+                  "Data of 1, 8 or 15 bytes more than n segments are IOERR, also below and above 32; so is a segment of no "
+                  "sector far behind the end.")
     disk = Disk(kind, story)
     for count in (0, 1, 2, 15, 16, 31, 32, 33):
         for more in (1, 8, 15):
             disk.request(13, IOERR, b"".join([segment(3, 1)] * count) + segment(3, 1)[:more])
+    for sector in (1 << 55, 1 << 63, (1 << 64) - 1):
+        disk.request(13, IOERR, segment(sector, 0))
     disk.sees(3, 0x13)
     return story
 
