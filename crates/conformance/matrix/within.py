@@ -36,7 +36,8 @@ def stories():
                          [rings_put_out(kind, low) for low in (0, EVENT_IDX)])
         yield from shown("closing writes", "a descriptor of the next service",
                          [closed_over_a_descriptor(kind, low) for low in (0, EVENT_IDX)])
-    yield from shown("typed bytes", "the available ring", [heads_that_were_typed(), idx_that_was_typed()])
+    yield from shown("typed bytes", "the available ring",
+                     [heads_that_were_typed(), heads_of_a_long_service(), idx_that_was_typed()])
     yield from shown("used entries", "the descriptor of the chain behind", [used_entries_over_descriptors()])
 
 
@@ -432,6 +433,23 @@ def heads_that_were_typed():
         for head, typed in zip(heads, (b"ab", b"cd")):
             found[0x10 * head:0x10 * head + 2] = typed
         queue.look(OTHER, 0x80, bytes(found))
+    return story
+
+
+def heads_of_a_long_service():
+    """Twelve chains are on offer. The first one's buffer is the eleven entries behind it."""
+    story = story_of("split", "eleven_heads_that_were_typed",
+                     "What is typed is first the heads of eleven chains behind, each of which is read when its turn comes.")
+    queue, heads = Split(story, "c", 0, 16).bring_up(), (3, 7, 1, 9, 5, 0, 11, 2, 10, 6, 4)
+    queue.put(OTHER, bytes(0x100))
+    queue.put_chain([*(Buffer(OTHER + 0x10 * at, 2, WRITE) for at in range(15)), Buffer(queue.areas[1] + 6, 22, WRITE)])
+    for head in (15, *[12] * 11):
+        queue.offer_head(head)
+    story.type(b"".join(number(head, 2) for head in heads) + b"AaBbCcDdEeFfGgHhIiJjKk", took=44, told=USED)
+    queue.look(queue.areas[2] + 2, 2, number(12, 2))
+    for at, head in enumerate(heads):
+        queue.look(OTHER + 0x10 * head, 3, b"AaBbCcDdEeFfGgHhIiJjKk"[2 * at:2 * at + 2] + b"\0")
+    queue.look(OTHER + 0x10 * 12, 2, bytes(2))
     return story
 
 
