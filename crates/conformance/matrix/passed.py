@@ -21,6 +21,8 @@ SLOT = Slot(identity=b"passed" + bytes(14))
 def stories():
     yield from shown("a fault", "its own, split", [the_place_of_a_fault()])
     yield from shown("a chain, then three", "none: by flags, split", [input_behind_the_last()])
+    yield from shown("a table, then a chain without one", "none: by flags, split",
+                     [a_chain_behind_a_table(), room_behind_a_table()])
     for kind in KINDS:
         yield from shown("a fault behind 0 to 3 chains", f"each near it, {kind}",
                          [faults(kind, begin) for begin in (0, 3, 6)])
@@ -89,6 +91,63 @@ def input_behind_the_last():
         in 0 626364 > 0 took:3 - 0 1
         mr 0 80003002 2 > 0 b:0400 - 0 1
         mr 0 80005000 4 > 0 b:61626364 - 0 1
+        """)
+
+
+def a_chain_behind_a_table():
+    """A table of two entries, and behind it a chain of descriptors 5, 6 and 7."""
+    return written_out("passed/a_chain_behind_a_table",
+                       "A chain of descriptors behind the size of the table before it is served in the same service.", """
+        mw 0 80005000 6162636465 > 0 done - 0 0
+        mw 0 80008000 0050008000000000010000000100010001500080000000000100000000000000 > 0 done - 0 0
+        mw 0 80001000 00800080000000002000000004000000 > 0 done - 0 0
+        mw 0 80001050 02500080000000000100000001000600 > 0 done - 0 0
+        mw 0 80001060 03500080000000000100000001000700 > 0 done - 0 0
+        mw 0 80001070 04500080000000000100000000000000 > 0 done - 0 0
+        mw 0 80002000 0000020000000500 > 0 done - 0 0
+        w 0 c 070 4 00000003 > 0 done - 0 0
+        w 0 c 024 4 00000001 > 0 done - 0 0
+        w 0 c 020 4 00000001 > 0 done - 0 0
+        w 0 c 024 4 00000000 > 0 done - 0 0
+        w 0 c 020 4 10000000 > 0 done - 0 0
+        w 0 c 070 4 0000000b > 0 done - 0 0
+        w 0 c 030 4 00000001 > 0 done - 0 0
+        w 0 c 038 4 00000008 > 0 done - 0 0
+        w 0 c 080 4 80001000 > 0 done - 0 0
+        w 0 c 090 4 80002000 > 0 done - 0 0
+        w 0 c 0a0 4 80003000 > 0 done - 0 0
+        w 0 c 044 4 00000001 > 0 done - 0 0
+        w 0 c 070 4 0000000f > 0 done - 0 0
+        w 0 c 050 4 00000001 > 0 done 6162636465 0 1
+        mr 0 80003000 14 > 0 b:0000020000000000000000000500000000000000 - 0 1
+        """)
+
+
+def room_behind_a_table():
+    """A table of two buffers of a byte, and behind it three descriptors of a byte, for five bytes typed."""
+    return written_out("passed/room_behind_a_table",
+                       "A chain of descriptors behind a table in one service has its own used length.", """
+        mw 0 80008000 0050008000000000010000000300010001500080000000000100000002000000 > 0 done - 0 0
+        mw 0 80001000 00800080000000002000000004000000 > 0 done - 0 0
+        mw 0 80001050 02500080000000000100000003000600 > 0 done - 0 0
+        mw 0 80001060 03500080000000000100000003000700 > 0 done - 0 0
+        mw 0 80001070 04500080000000000100000002000000 > 0 done - 0 0
+        mw 0 80002000 0000020000000500 > 0 done - 0 0
+        w 0 c 070 4 00000003 > 0 done - 0 0
+        w 0 c 024 4 00000001 > 0 done - 0 0
+        w 0 c 020 4 00000001 > 0 done - 0 0
+        w 0 c 024 4 00000000 > 0 done - 0 0
+        w 0 c 020 4 10000000 > 0 done - 0 0
+        w 0 c 070 4 0000000b > 0 done - 0 0
+        w 0 c 038 4 00000008 > 0 done - 0 0
+        w 0 c 080 4 80001000 > 0 done - 0 0
+        w 0 c 090 4 80002000 > 0 done - 0 0
+        w 0 c 0a0 4 80003000 > 0 done - 0 0
+        w 0 c 044 4 00000001 > 0 done - 0 0
+        w 0 c 070 4 0000000f > 0 done - 0 0
+        in 0 6162636465 > 0 took:5 - 0 1
+        mr 0 80005000 5 > 0 b:6162636465 - 0 1
+        mr 0 80003000 14 > 0 b:0000020000000000020000000500000003000000 - 0 1
         """)
 
 
