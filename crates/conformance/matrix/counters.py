@@ -437,6 +437,7 @@ def laps(size):
         if turn:
             queue.put_chain([Buffer(TEXT, 1, 1)])
         queue.offered = (queue.offered + size) % (2 * size)
+        queue.acknowledge()
         queue.notify(output=b"\1\2")
         queue.look_at_used(0, link=0x700 + size - 1, wrote=False, count=size)
     return story
