@@ -1,6 +1,6 @@
 """Registers in the middle of another's sequence: each access of a driver has one of another register, window or slot before it."""
 from .actions import reads_by_selectors, reads_registers, serves_each, stops_and_starts
-from .by_hand import written_out
+from .by_hand import up, written_out
 from .first_rows import of_between
 from .drivers import (DEVICE_SEL, DRIVER_FEATURES, DRIVER_SEL, INTERRUPT_ACK, NOTIFY, QUEUE_NUM, QUEUE_READY, QUEUE_SEL,
                       STATUS, WRITE,
@@ -62,20 +62,11 @@ def lives(guest, window, setup):
 def a_notify_in_the_setup():
     """Queue 0 is live and has nothing on offer; it is notified while queue 1 is made ready."""
     return written_out("between_others/a_notify_in_the_setup_of_the_other_queue",
-                       "A notify of a console's first queue comes between the accesses that make the second one ready.", """
+                       "A notify of a console's first queue comes between the accesses that make the second one ready.", f"""
         mw 0 80005000 74 > 0 done - 0 0
         mw 0 80006000 00500080000000000100000000000000 > 0 done - 0 0
         mw 0 80007000 000001000000 > 0 done - 0 0
-        w 0 c 070 4 00000003 > 0 done - 0 0
-        w 0 c 024 4 00000001 > 0 done - 0 0
-        w 0 c 020 4 00000001 > 0 done - 0 0
-        w 0 c 070 4 0000000b > 0 done - 0 0
-        w 0 c 038 4 00000004 > 0 done - 0 0
-        w 0 c 080 4 80001000 > 0 done - 0 0
-        w 0 c 090 4 80002000 > 0 done - 0 0
-        w 0 c 0a0 4 80003000 > 0 done - 0 0
-        w 0 c 044 4 00000001 > 0 done - 0 0
-        w 0 c 070 4 0000000f > 0 done - 0 0
+        {up()}
         w 0 c 030 4 00000001 > 0 done - 0 0
         w 0 c 050 4 00000000 > 0 done - 0 0
         w 0 c 038 4 00000004 > 0 done - 0 0

@@ -2,7 +2,7 @@
 tables across its end."""
 import dataclasses
 
-from .by_hand import written_out
+from .by_hand import up, written_out
 from .drivers import (AVAIL, EVENT_IDX, FAULT, INDIRECT, INDIRECT_DESC, KINDS, NEXT, STATUS, USED_FLAG, WRITE, Buffer,
                       Packed, number)
 from .places import shown
@@ -34,7 +34,7 @@ def stories():
 
 def the_place_of_a_fault():
     """Chain 0 is served, chain 1 is a fault. used_event is 1, which isn't passed; then it is 0."""
-    up = """
+    life = """
         w 0 c 070 4 00000000 > 0 done - 0 0
         w 0 c 024 4 00000001 > 0 done - 0 0
         w 0 c 020 4 00000001 > 0 done - 0 0
@@ -54,13 +54,13 @@ def the_place_of_a_fault():
                        "is.", f"""
         mw 0 80005000 74 > 0 done - 0 0
         mw 0 80001000 00500080000000000100000000000000 > 0 done - 0 0
-        {up.strip()}
+        {life.strip()}
         mw 0 80002002 020000000100000000000100 > 0 done - 0 0
         w 0 c 050 4 00000001 > 0 done 74 0 2
         r 0 c 070 4 > 0 v:0000004f - 0 2
         mr 0 80003000 c > 0 b:000001000000000000000000 - 0 2
         mr 0 80003024 2 > 0 b:0100 - 0 2
-        {up.strip()}
+        {life.strip()}
         mw 0 8000200c 0000 > 0 done - 0 0
         w 0 c 050 4 00000001 > 0 done 74 0 3
         """)
@@ -69,22 +69,13 @@ def the_place_of_a_fault():
 def input_behind_the_last():
     """The service of one byte leaves a chain. Behind it stand two more when three bytes are typed."""
     return written_out("passed/input_behind_the_last_service",
-                       "A service ends once what was typed is gone; the next one sees what was offered since.", """
+                       "A service ends once what was typed is gone; the next one sees what was offered since.", f"""
         mw 0 80001000 00500080000000000100000002000000 > 0 done - 0 0
         mw 0 80001010 01500080000000000100000002000000 > 0 done - 0 0
         mw 0 80001020 02500080000000000100000002000000 > 0 done - 0 0
         mw 0 80001030 03500080000000000100000002000000 > 0 done - 0 0
         mw 0 80002000 000002000000010002000300 > 0 done - 0 0
-        w 0 c 070 4 00000003 > 0 done - 0 0
-        w 0 c 024 4 00000001 > 0 done - 0 0
-        w 0 c 020 4 00000001 > 0 done - 0 0
-        w 0 c 070 4 0000000b > 0 done - 0 0
-        w 0 c 038 4 00000004 > 0 done - 0 0
-        w 0 c 080 4 80001000 > 0 done - 0 0
-        w 0 c 090 4 80002000 > 0 done - 0 0
-        w 0 c 0a0 4 80003000 > 0 done - 0 0
-        w 0 c 044 4 00000001 > 0 done - 0 0
-        w 0 c 070 4 0000000f > 0 done - 0 0
+        {up()}
         in 0 61 > 0 took:1 - 0 1
         mr 0 80003002 2 > 0 b:0100 - 0 1
         mw 0 80002002 0400 > 0 done - 0 1
@@ -97,7 +88,7 @@ def input_behind_the_last():
 def a_chain_behind_a_table():
     """A table of two entries, and behind it a chain of descriptors 5, 6 and 7."""
     return written_out("passed/a_chain_behind_a_table",
-                       "A chain of descriptors behind the size of the table before it is served in the same service.", """
+                       "A chain of descriptors behind the size of the table before it is served in the same service.", f"""
         mw 0 80005000 6162636465 > 0 done - 0 0
         mw 0 80008000 0050008000000000010000000100010001500080000000000100000000000000 > 0 done - 0 0
         mw 0 80001000 00800080000000002000000004000000 > 0 done - 0 0
@@ -105,19 +96,7 @@ def a_chain_behind_a_table():
         mw 0 80001060 03500080000000000100000001000700 > 0 done - 0 0
         mw 0 80001070 04500080000000000100000000000000 > 0 done - 0 0
         mw 0 80002000 0000020000000500 > 0 done - 0 0
-        w 0 c 070 4 00000003 > 0 done - 0 0
-        w 0 c 024 4 00000001 > 0 done - 0 0
-        w 0 c 020 4 00000001 > 0 done - 0 0
-        w 0 c 024 4 00000000 > 0 done - 0 0
-        w 0 c 020 4 10000000 > 0 done - 0 0
-        w 0 c 070 4 0000000b > 0 done - 0 0
-        w 0 c 030 4 00000001 > 0 done - 0 0
-        w 0 c 038 4 00000008 > 0 done - 0 0
-        w 0 c 080 4 80001000 > 0 done - 0 0
-        w 0 c 090 4 80002000 > 0 done - 0 0
-        w 0 c 0a0 4 80003000 > 0 done - 0 0
-        w 0 c 044 4 00000001 > 0 done - 0 0
-        w 0 c 070 4 0000000f > 0 done - 0 0
+        {up(index=1, size=8, low=0x10000000)}
         w 0 c 050 4 00000001 > 0 done 6162636465 0 1
         mr 0 80003000 14 > 0 b:0000020000000000000000000500000000000000 - 0 1
         """)
@@ -126,25 +105,14 @@ def a_chain_behind_a_table():
 def room_behind_a_table():
     """A table of two buffers of a byte, and behind it three descriptors of a byte, for five bytes typed."""
     return written_out("passed/room_behind_a_table",
-                       "A chain of descriptors behind a table in one service has its own used length.", """
+                       "A chain of descriptors behind a table in one service has its own used length.", f"""
         mw 0 80008000 0050008000000000010000000300010001500080000000000100000002000000 > 0 done - 0 0
         mw 0 80001000 00800080000000002000000004000000 > 0 done - 0 0
         mw 0 80001050 02500080000000000100000003000600 > 0 done - 0 0
         mw 0 80001060 03500080000000000100000003000700 > 0 done - 0 0
         mw 0 80001070 04500080000000000100000002000000 > 0 done - 0 0
         mw 0 80002000 0000020000000500 > 0 done - 0 0
-        w 0 c 070 4 00000003 > 0 done - 0 0
-        w 0 c 024 4 00000001 > 0 done - 0 0
-        w 0 c 020 4 00000001 > 0 done - 0 0
-        w 0 c 024 4 00000000 > 0 done - 0 0
-        w 0 c 020 4 10000000 > 0 done - 0 0
-        w 0 c 070 4 0000000b > 0 done - 0 0
-        w 0 c 038 4 00000008 > 0 done - 0 0
-        w 0 c 080 4 80001000 > 0 done - 0 0
-        w 0 c 090 4 80002000 > 0 done - 0 0
-        w 0 c 0a0 4 80003000 > 0 done - 0 0
-        w 0 c 044 4 00000001 > 0 done - 0 0
-        w 0 c 070 4 0000000f > 0 done - 0 0
+        {up(size=8, low=0x10000000)}
         in 0 6162636465 > 0 took:5 - 0 1
         mr 0 80005000 5 > 0 b:6162636465 - 0 1
         mr 0 80003000 14 > 0 b:0000020000000000020000000500000003000000 - 0 1
