@@ -121,10 +121,10 @@ STALE = {
 # What a page must say, in these words.
 SAID = {
     "crates/vreplay/README.md": "With --in-place the theorem holds while nobody else writes IMAGE and each read returns what was written.",
-    "docs/LIMITS.md": "While a call for a guest runs, and from KALYUBOS_MORE until its service is done, no CPU of that guest runs, "
-                      "and nobody reads or writes its memory in place.",
-    "crates/board_ffi/kalyubos.h": "While a call for a guest runs, and from a KALYUBOS_MORE until its service is done, no CPU of that "
-                                   "guest runs, and nobody reads or writes its memory in place",
+    "docs/LIMITS.md": "While a call that touches a guest's memory runs, and from KALYUBOS_MORE until its service is done, no CPU of that "
+                      "guest runs, and nobody else reads or writes its memory in place.",
+    "crates/board_ffi/kalyubos.h": "While one of them runs for a guest, and from a KALYUBOS_MORE until its service is done, no CPU of that "
+                                   "guest runs, and nobody else reads or writes its memory in place",
     "Makefile": "some 35 minutes of processor time",
     "packaging/proving.py": "some 35 minutes of processor time",
     "README.md": "some 35 minutes of processor time",

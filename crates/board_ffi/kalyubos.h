@@ -8,18 +8,23 @@
  * What each call promises is proved, for a caller that keeps these duties:
  *  - A handle is zeroed before its first call, and is then changed by calls alone. It is never copied: a copy
  *    would be a second owner of one board.
- *  - One call at a time for a handle, from any thread, and none from a signal handler. What orders the calls of
- *    several threads is the host's: a lock round them, or a thread's start and end. Calls on other handles may
- *    run at the same time, if the heap may; what it gave on one thread it takes back on any.
+ *  - One call at a time for a handle, from any thread, and none from a signal handler, also where the handle is
+ *    `const`: that says that the call changes nothing. What orders the calls of several threads is the host's: a lock
+ *    round them, or a thread's start and end. Calls on other handles may run at the same time, if the heap may; what it
+ *    gave on one thread it takes back on any.
  *  - No pointer is null, also where its length is 0. A buffer is as long as its length says, and none of a
  *    call's buffers and out parameters overlaps another, or the handle.
  *  - A `bool` is 0 or 1. 64 KiB of stack are free, which is more than any call was seen to take; a guard page behind
  *    them turns a smaller stack into a fault.
  *  - No call is made in the forked child of a process that had threads. The heap functions return: they neither jump
  *    out by longjmp nor throw.
- *  - While a call for a guest runs, and from a KALYUBOS_MORE until its service is done, no CPU of that guest runs, and
- *    nobody reads or writes its memory in place (kalyubos_memory). CPUs of other guests may run then: a call reads and
- *    writes no memory but that of its guest.
+ *  - Six calls touch a guest's memory: kalyubos_write at offset 0x050 (QueueNotify), kalyubos_input, kalyubos_go_on,
+ *    kalyubos_completed, kalyubos_read_memory and kalyubos_write_memory. While one of them runs for a guest, and from a
+ *    KALYUBOS_MORE until its service is done, no CPU of that guest runs, and nobody else reads or writes its memory in
+ *    place (kalyubos_memory), also by DMA. Other guests' CPUs may run: a call touches its own guest's memory alone.
+ *    During every other call the guest's CPUs and DMA may run. Each kalyubos_read is such a call, and so is each
+ *    kalyubos_write at another offset; Linux's interrupt handler makes one of either. That they touch no guest memory is
+ *    tested (examples/embed/untouched.c), and not proved.
  *  - Where the host serves the disks (kalyubos_create_hosted), it says of an operation that it is done only once it is,
  *    as kalyubos_operation has it, and ends each transfer before kalyubos_destroy.
  *
@@ -27,24 +32,25 @@
  *
  * The library keeps no pointer of the caller but those of loans (kalyubos_create_lent): a call copies what it needs.
  *
- * Each call answers a number. After any but KALYUBOS_DONE its out parameters are unchanged, with three exceptions: `pending`
- * is told after every answer where the slot exists but KALYUBOS_BAD_WINDOW, `took` after KALYUBOS_MORE too, and
- * kalyubos_judge tells what its answer is about. The numbers never change; a later version only adds some.
+ * Each call answers a number. After any but KALYUBOS_DONE its out parameters are unchanged, with three exceptions:
+ * `pending` is told after every answer where the slot exists but KALYUBOS_BAD_WINDOW, `took` after KALYUBOS_MORE too,
+ * and kalyubos_judge tells what its answer is about. The numbers never change; a later version only adds some.
  *
  * A struct that the host fills begins with its `size`, its sizeof in the header that the host was built with. This
  * version takes its own size alone, and answers KALYUBOS_BAD_SIZE for any other before it looks at another field. A
  * later version that this header fits (kalyubos_version) also takes this version's size, and then does what this
  * version does. It adds fields behind all others. The structs of an array lie `size` bytes apart, so all have one size.
- * The handle, struct kalyubos_region, struct kalyubos_loan, struct kalyubos_pending, struct kalyubos_counters and struct
- * kalyubos_block have no size and never change: a later version tells more by further calls.
+ * The handle, struct kalyubos_region, struct kalyubos_loan, struct kalyubos_pending, struct kalyubos_counters and
+ * struct kalyubos_block have no size and never change: a later version tells more by further calls.
  *
  * There are two kinds of board. kalyubos_create makes one whose disks are parts of an image in the library's memory.
- * kalyubos_create_hosted makes one whose disks the host serves: the board says what it wants of a disk, the host does it
- * as it likes, and says that it is done; meanwhile the guest runs on. All calls are there for both.
+ * kalyubos_create_hosted makes one whose disks the host serves: the board says what it wants of a disk, the host does
+ * it as it likes, and says that it is done; meanwhile the guest runs on. All calls are there for both.
  *
- * The four calls that make a board take all memory that it needs, and kalyubos_destroy gives it back. The two that judge
- * slots take some, and give it back before they answer. No other call takes or gives any, so no guest can be refused memory
- * for what another did: what a guest sees is decided by its own slot's calls alone, the completions of its disk among them.
+ * The four calls that make a board take all memory that it needs, and kalyubos_destroy gives it back. The two that
+ * judge slots take some, and give it back before they answer. No other call takes or gives any, so no guest can be
+ * refused memory for what another did: what a guest sees is decided by its own slot's calls alone, the completions of
+ * its disk among them.
  */
 #ifndef KALYUBOS_H
 #define KALYUBOS_H
@@ -79,13 +85,13 @@ enum {
     KALYUBOS_NO_BOARD = 1,          /* the handle is empty */
     KALYUBOS_HAS_BOARD = 2,         /* the handle holds a board already, and goes on holding it */
     KALYUBOS_BAD_SLOT = 3,          /* the board has no such slot; nothing changed */
-    KALYUBOS_BAD_RANGE = 4,         /* no region of the memory, nor the image, holds all of the range; nothing changed */
+    KALYUBOS_BAD_RANGE = 4,         /* no region, nor the image, holds all of the range; nothing changed */
     KALYUBOS_NO_MEMORY = 5,         /* the heap refused; only the calls that make or judge a board answer this */
     KALYUBOS_BAD_WINDOW = 6,        /* no window has this number; nothing changed */
     KALYUBOS_BAD_IMAGE = 7,         /* the image isn't whole sectors of 512 bytes */
     KALYUBOS_NO_SLOTS = 8,          /* a board needs a slot */
     KALYUBOS_TOO_MANY_SLOTS = 9,    /* a board has sixty-four slots at most */
-    KALYUBOS_BAD_MEMORY_SIZE = 10,  /* a region's size is no multiple of 4096, or with it there are more than 2^46 bytes */
+    KALYUBOS_BAD_MEMORY_SIZE = 10,  /* a region's size is no multiple of 4096, or with it there are over 2^46 bytes */
     KALYUBOS_BAD_MEMORY_BASE = 11,  /* a region's base is no multiple of 4096, or the region passes 2^64 */
     KALYUBOS_EXTENT_OUTSIDE = 12,   /* an extent passes the image's end, or a disk 2^64 bytes */
     KALYUBOS_EXTENTS_OVERLAP = 13,  /* two extents share a sector */
@@ -94,13 +100,13 @@ enum {
     KALYUBOS_BAD_OUTLET = 16,       /* an outlet keeps 2^24 bytes at most */
     KALYUBOS_BAD_SIZE = 17,         /* a struct has another size than this version's */
     KALYUBOS_MORE = 18,             /* the slot's service pauses; see kalyubos_go_on */
-    KALYUBOS_BUSY = 19,             /* a service of the slot is paused, or this call waits for its disk; nothing changed */
-    KALYUBOS_IO = 20,               /* the call is done, and the slot's disk waits for the host; see kalyubos_operation */
+    KALYUBOS_BUSY = 19,             /* the slot's service is paused, or this call waits for its disk; nothing changed */
+    KALYUBOS_IO = 20,               /* done, and the slot's disk waits for the host; see kalyubos_operation */
     KALYUBOS_IDLE = 21,             /* nothing of the slot is in flight; nothing changed */
     KALYUBOS_NO_IMAGE = 22,         /* the board has no image: the host serves its disks; nothing changed */
     KALYUBOS_BAD_SNAPSHOT = 23,     /* the bytes are no snapshot; nothing changed */
     KALYUBOS_OTHER_SLOT = 24,       /* the snapshot is of a slot of another description; nothing changed */
-    KALYUBOS_BAD_STATE = 25,        /* the snapshot has a state that no driver can bring a window into; nothing changed */
+    KALYUBOS_BAD_STATE = 25,        /* the snapshot has a state that no driver can bring about; nothing changed */
     KALYUBOS_SHORT_BUFFER = 26,     /* the snapshot doesn't fit into the buffer; nothing is written */
     KALYUBOS_NO_REGIONS = 27,       /* a slot has no region of memory */
     KALYUBOS_REGIONS_NOT_APART = 28, /* a region doesn't begin behind a gap after the one before it */
@@ -195,8 +201,8 @@ struct kalyubos_pending {
 };
 
 /*
- * What the devices of a slot did since its board was made, each number modulo 2^64. kalyubos_restore keeps the numbers. They
- * are counted beside the proof: tests compare them, and no promise speaks of them.
+ * What the devices of a slot did since its board was made, each number modulo 2^64. kalyubos_restore keeps the numbers.
+ * They are counted beside the proof: tests compare them, and no promise speaks of them.
  */
 struct kalyubos_counters {
     uint64_t notifies;  /* writes to QueueNotify that named a ready queue of a live window */
@@ -218,8 +224,8 @@ struct kalyubos_region {
 };
 
 /*
- * One guest. Its regions stand in ascending order, with a gap between each two: what follows a region without a gap is part
- * of it. A range that a driver names lies inside where one region holds all of it.
+ * One guest. Its regions stand in ascending order, with a gap between each two: what follows a region without a gap is
+ * part of it. A range that a driver names lies inside where one region holds all of it.
  */
 struct kalyubos_slot {
     size_t size;          /* sizeof(struct kalyubos_slot) */
@@ -263,8 +269,8 @@ struct kalyubos_operation {
  * Makes a board of `slots_len` slots over a copy of the image, with a cache of at most `cache` sectors before it,
  * and puts it into an empty handle. A refusal leaves the handle as it was and keeps no memory. The first of these that
  * holds is answered:
- *  - HAS_BOARD; BAD_SIZE, where a slot's `size` isn't sizeof(struct kalyubos_slot), and nothing behind it is read; BAD_IMAGE;
- *    BAD_OUTLET; NO_SLOTS; TOO_MANY_SLOTS;
+ *  - HAS_BOARD; BAD_SIZE, where a slot's `size` isn't sizeof(struct kalyubos_slot), and nothing behind it is read;
+ *    BAD_IMAGE; BAD_OUTLET; NO_SLOTS; TOO_MANY_SLOTS;
  *  - slot by slot NO_REGIONS, then region by region BAD_MEMORY_SIZE, BAD_MEMORY_BASE and REGIONS_NOT_APART, then
  *    EXTENT_OUTSIDE and EXTENTS_OVERLAP;
  *  - BAD_CACHE.
@@ -284,17 +290,18 @@ uint32_t kalyubos_create(struct kalyubos *board, const struct kalyubos_slot *slo
                          const uint8_t *image, size_t image_len, uint32_t cache, uint32_t chains, uint64_t bytes);
 
 /*
- * Judge slots as kalyubos_create does over an image of `sectors` sectors, and as kalyubos_create_hosted does, and make no
- * board. They answer what that call would answer for the slots, up to EXTENTS_OVERLAP. `slot` is told where the answer is
- * about one: its place in the array, of BAD_SIZE and BAD_OUTLET too. So is `region`: its place in the slot's `regions`.
- * NO_MEMORY may come in the place of a number from NO_SLOTS on.
+ * Judge slots as kalyubos_create does over an image of `sectors` sectors, and as kalyubos_create_hosted does, and make
+ * no board. They answer what that call would answer for the slots, up to EXTENTS_OVERLAP. `slot` is told where the
+ * answer is about one: its place in the array, of BAD_SIZE and BAD_OUTLET too. So is `region`: its place in the slot's
+ * `regions`. NO_MEMORY may come in the place of a number from NO_SLOTS on.
  */
-uint32_t kalyubos_judge(const struct kalyubos_slot *slots, size_t slots_len, uint64_t sectors, size_t *slot, size_t *region);
+uint32_t kalyubos_judge(const struct kalyubos_slot *slots, size_t slots_len, uint64_t sectors, size_t *slot,
+                        size_t *region);
 uint32_t kalyubos_judge_hosted(const struct kalyubos_slot *slots, size_t slots_len, size_t *slot, size_t *region);
 
 /*
- * Which slot kalyubos_create gave this answer for, as kalyubos_judge tells it: its place in the array; or `slots_len` where
- * the answer is about no slot, or the heap has no room to judge.
+ * Which slot kalyubos_create gave this answer for, as kalyubos_judge tells it: its place in the array; or `slots_len`
+ * where the answer is about no slot, or the heap has no room to judge.
  */
 static inline size_t kalyubos_slot_at_fault(uint32_t answer, const struct kalyubos_slot *slots, size_t slots_len,
                                             const uint8_t *image, size_t image_len)
@@ -305,8 +312,8 @@ static inline size_t kalyubos_slot_at_fault(uint32_t answer, const struct kalyub
 }
 
 /*
- * Which region of the slot at fault the answer is about: its place in `regions`; or KALYUBOS_REGIONS where it is about no
- * region, or the heap has no room to judge.
+ * Which region of the slot at fault the answer is about: its place in `regions`; or KALYUBOS_REGIONS where it is about
+ * no region, or the heap has no room to judge.
  */
 static inline size_t kalyubos_region_at_fault(uint32_t answer, const struct kalyubos_slot *slot)
 {
@@ -317,13 +324,13 @@ static inline size_t kalyubos_region_at_fault(uint32_t answer, const struct kaly
 }
 
 /*
- * Makes a board of `slots_len` slots whose disks the host serves, and puts it into an empty handle. Each guest has a disk
- * of its own, of `count` sectors; `start` is not read. There is no image, no cache and no budget: no call moves a
+ * Makes a board of `slots_len` slots whose disks the host serves, and puts it into an empty handle. Each guest has a
+ * disk of its own, of `count` sectors; `start` is not read. There is no image, no cache and no budget: no call moves a
  * disk's bytes, and none pauses. Refusals are as kalyubos_create's, in the same order; BAD_IMAGE, EXTENTS_OVERLAP and
  * BAD_CACHE never come.
  *
- * Guests of a hosted board share nothing. With a handle for each guest, a board of one slot, guests need no lock between
- * them: what orders the calls of a guest's CPUs and of its disk is that guest's own.
+ * Guests of a hosted board share nothing. With a handle for each guest, a board of one slot, guests need no lock
+ * between them: what orders the calls of a guest's CPUs and of its disk is that guest's own.
  */
 KALYUBOS_LOOK_AT_IT
 uint32_t kalyubos_create_hosted(struct kalyubos *board, const struct kalyubos_slot *slots, size_t slots_len);
@@ -335,19 +342,19 @@ struct kalyubos_loan {
 };
 
 /*
- * Make a board as kalyubos_create and kalyubos_create_hosted do, over memory that the host lends for the board's life: a loan
- * for each region of all slots, slot by slot, of the region's length. No lent byte is copied, cleared or touched by these
- * calls or by kalyubos_destroy, which frees none: a guest of 64 GiB is made at once. Its memory begins as the bytes
- * stand, and kalyubos_memory lends them back.
+ * Make a board as kalyubos_create and kalyubos_create_hosted do, over memory that the host lends for the board's life:
+ * a loan for each region of all slots, slot by slot, of the region's length. No lent byte is copied, cleared or touched
+ * by these calls or by kalyubos_destroy, which frees none: a guest of 64 GiB is made at once. Its memory begins as the
+ * bytes stand, and kalyubos_memory lends them back.
  *
  * BAD_LOAN comes after BAD_SIZE and before all other numbers. NO_MEMORY may come in the place of all but BAD_SIZE.
  *
- * Each loan is taken: null and 0 are left in its place. After HAS_BOARD and BAD_SIZE all loans are as they were; after another
- * refusal the first of them are taken, which may be none or all, and the others are as they were. The bytes of a refused
- * call are the host's again; it fills the array before it tries again.
+ * Each loan is taken: null and 0 are left in its place. After HAS_BOARD and BAD_SIZE all loans are as they were; after
+ * another refusal the first of them are taken, which may be none or all, and the others are as they were. The bytes of
+ * a refused call are the host's again; it fills the array before it tries again.
  *
- * Until kalyubos_destroy the bytes stay mapped where they are, and no two loans of any boards share a byte. The duty above
- * on a guest's memory in place holds of them: nobody touches them while a call for their guest runs.
+ * Until kalyubos_destroy the bytes stay mapped where they are, and no two loans of any boards share a byte. The duty
+ * above on a guest's memory in place holds of them.
  */
 KALYUBOS_LOOK_AT_IT
 uint32_t kalyubos_create_lent(struct kalyubos *board, const struct kalyubos_slot *slots, size_t slots_len,
@@ -367,7 +374,7 @@ uint32_t kalyubos_destroy(struct kalyubos *board);
  * A guest's read of `width` bytes (1, 2 or 4) at an offset of a window: `value` is what its register gets, extended
  * by zeros. Every offset and width has an answer. A read changes nothing: no interrupt word, and no output.
  */
-uint32_t kalyubos_read(struct kalyubos *board, uint8_t slot, uint8_t window, uint16_t offset, uint8_t width,
+uint32_t kalyubos_read(const struct kalyubos *board, uint8_t slot, uint8_t window, uint16_t offset, uint8_t width,
                        uint32_t *value);
 
 /*
@@ -381,8 +388,8 @@ uint32_t kalyubos_read(struct kalyubos *board, uint8_t slot, uint8_t window, uin
  * take. A driver that waits for its buffer doesn't notify again, and Linux's console spins for ever on it.
  *
  * Of a disk that the host serves: IO says that the write is done, and that with it an operation began; no other answer
- * says so. BUSY: the write, to Status (0x070) or QueueReady (0x044) of the block window, waits for what is in flight. The
- * CPU that made it waits with it; make the same write again after the completion. All else goes on meanwhile.
+ * says so. BUSY: the write, to Status (0x070) or QueueReady (0x044) of the block window, waits for what is in flight.
+ * The CPU that made it waits with it; make the same write again after the completion. All else goes on meanwhile.
  */
 KALYUBOS_LOOK_AT_IT
 uint32_t kalyubos_write(struct kalyubos *board, uint8_t slot, uint8_t window, uint16_t offset, uint8_t width,
@@ -404,8 +411,8 @@ uint32_t kalyubos_go_on(struct kalyubos *board, uint8_t slot, struct kalyubos_pe
  * Tells what the slot's disk is asked for: the operation, and its first runs, as many as find room in `runs`. There is
  * room for all in KALYUBOS_RUNS. It tells the same until kalyubos_completed. IDLE where nothing is in flight.
  *
- * Each run lies inside the guest's memory, or of a ZEROES inside its disk, and none is empty; `start` and `len` lie inside
- * the disk. They were judged when the operation began, and nothing is read again from guest memory: a guest that
+ * Each run lies inside the guest's memory, or of a ZEROES inside its disk, and none is empty; `start` and `len` lie
+ * inside the disk. They were judged when the operation began, and nothing is read again from guest memory: a guest that
  * rewrites its rings or its request meanwhile changes nothing of it. The runs of an IN may overlap.
  *
  * Before the host says that it is done:
@@ -414,10 +421,10 @@ uint32_t kalyubos_go_on(struct kalyubos *board, uint8_t slot, struct kalyubos_pe
  *    with the host's machine until a FLUSH is done.
  *  - FLUSH: all that was done before it is on the medium, as after fdatasync.
  * A host that moves bytes between the file and the guest's memory in place keeps the duty above: no transfer touches
- * the memory while a call for this guest runs. examples/embed/file_disk.c has a buffer of its own, so that the guest's
- * calls go on during a transfer.
+ * the memory while one of the six calls runs for this guest. examples/embed/file_disk.c has a buffer of its own, so
+ * that the guest's calls go on during a transfer.
  */
-uint32_t kalyubos_operation(struct kalyubos *board, uint8_t slot, struct kalyubos_operation *operation,
+uint32_t kalyubos_operation(const struct kalyubos *board, uint8_t slot, struct kalyubos_operation *operation,
                             struct kalyubos_run *runs, size_t runs_len);
 
 /*
@@ -430,16 +437,17 @@ KALYUBOS_LOOK_AT_IT
 uint32_t kalyubos_completed(struct kalyubos *board, uint8_t slot, bool failed, struct kalyubos_pending *pending);
 
 /*
- * Lends the slot's memory in place, from address `addr` to the end of the region that holds it: `bytes` is where the byte
- * of `addr` lies, and `len` how many there are from it on. BAD_RANGE where no region holds `addr`. Both stay until
- * kalyubos_destroy. Read and write the bytes as you like between calls for the slot, or map them to its CPUs; what is
- * written in place is the event of a memory write of that guest. Each region that isn't lent is one block of the heap, of
- * exactly as many bytes: a heap that begins such blocks at a page makes it fit to be mapped.
+ * Lends the slot's memory in place, from address `addr` to the end of the region that holds it: `bytes` is where the
+ * byte of `addr` lies, and `len` how many there are from it on. BAD_RANGE where no region holds `addr`. Both stay until
+ * kalyubos_destroy. Read and write the bytes as you like, but during the six calls that touch them, or map them to the
+ * slot's CPUs; what is written in place is the event of a memory write of that guest. Each region that isn't lent is
+ * one block of the heap, of exactly as many bytes: a heap that begins such blocks at a page makes it fit to be mapped.
  */
 uint32_t kalyubos_memory(struct kalyubos *board, uint8_t slot, uint64_t addr, uint8_t **bytes, size_t *len);
 
 /* Copies bytes out of the slot's memory, and into it, from address `addr` on. */
-uint32_t kalyubos_read_memory(struct kalyubos *board, uint8_t slot, uint64_t addr, uint8_t *into, size_t into_len);
+uint32_t kalyubos_read_memory(const struct kalyubos *board, uint8_t slot, uint64_t addr, uint8_t *into,
+                              size_t into_len);
 uint32_t kalyubos_write_memory(struct kalyubos *board, uint8_t slot, uint64_t addr, const uint8_t *from,
                                size_t from_len);
 
@@ -464,24 +472,24 @@ uint32_t kalyubos_resize(struct kalyubos *board, uint8_t slot, uint16_t cols, ui
 uint32_t kalyubos_take_output(struct kalyubos *board, uint8_t slot, uint8_t *into, size_t into_len, size_t *taken);
 
 /* InterruptStatus of both windows of a slot. A window's line is high while its word isn't 0. */
-uint32_t kalyubos_interrupts(struct kalyubos *board, uint8_t slot, uint8_t *block, uint8_t *console);
+uint32_t kalyubos_interrupts(const struct kalyubos *board, uint8_t slot, uint8_t *block, uint8_t *console);
 
 /* Whether a call of the image ever failed for the slot: never, since the image is in memory, or there is none. */
-uint32_t kalyubos_disturbed(struct kalyubos *board, uint8_t slot, bool *disturbed);
+uint32_t kalyubos_disturbed(const struct kalyubos *board, uint8_t slot, bool *disturbed);
 
 /* What the slot's devices did since the board was made; told in a pause too, and while something is in flight. */
-uint32_t kalyubos_counters(struct kalyubos *board, uint8_t slot, struct kalyubos_counters *counters);
+uint32_t kalyubos_counters(const struct kalyubos *board, uint8_t slot, struct kalyubos_counters *counters);
 
 /*
- * How many bytes the slot's snapshot has: some 300, and its pending input. It stays so until the next call for the slot.
- * BUSY while a service of the slot is paused, or something of it is in flight.
+ * How many bytes the slot's snapshot has: some 300, and its pending input. It stays so until the next call for the
+ * slot. BUSY while a service of the slot is paused, or something of it is in flight.
  */
-uint32_t kalyubos_saved_len(struct kalyubos *board, uint8_t slot, size_t *len);
+uint32_t kalyubos_saved_len(const struct kalyubos *board, uint8_t slot, size_t *len);
 
 /*
- * Writes the slot's snapshot to the front of `into`: what its two devices keep, the pending input, and the description of
- * the slot. `written` is how many bytes it has; those behind them stay. BUSY as kalyubos_saved_len; SHORT_BUFFER where
- * `into` is shorter, and then nothing is written. Nothing of the board changes.
+ * Writes the slot's snapshot to the front of `into`: what its two devices keep, the pending input, and the description
+ * of the slot. `written` is how many bytes it has; those behind them stay. BUSY as kalyubos_saved_len; SHORT_BUFFER
+ * where `into` is shorter, and then nothing is written. Nothing of the board changes.
  *
  * A snapshot has neither memory nor disk, nor the output that waits. Before it the host
  *  - stops the guest's CPUs, and keeps a write that was answered NO_ROOM: its CPU makes it again behind the restore;
@@ -490,42 +498,45 @@ uint32_t kalyubos_saved_len(struct kalyubos *board, uint8_t slot, size_t *len);
  * Then, with no call for the slot between, it saves the devices, and copies the memory and the disk.
  */
 KALYUBOS_LOOK_AT_IT
-uint32_t kalyubos_save(struct kalyubos *board, uint8_t slot, uint8_t *into, size_t into_len, size_t *written);
+uint32_t kalyubos_save(const struct kalyubos *board, uint8_t slot, uint8_t *into, size_t into_len, size_t *written);
 
 /*
  * Puts the slot's devices into the state of a snapshot, and the guest goes on where it was saved. Memory and disk stay.
- * The slot may be of any board of either kind. Where its memory begins and ends, `count`, `read_only` and `identity` are as of
- * the slot that was saved, or the answer is OTHER_SLOT. That its regions are the same is the host's to see. The console's size
- * is the snapshot's. `pending` is what then waits.
+ * The slot may be of any board of either kind. Where its memory begins and ends, `count`, `read_only` and `identity`
+ * are as of the slot that was saved, or the answer is OTHER_SLOT. That its regions are the same is the host's to see.
+ * The console's size is the snapshot's. `pending` is what then waits.
  *
- * Each snapshot that kalyubos_save wrote of such a slot is taken. Of other bytes the first of BAD_SNAPSHOT, OTHER_SLOT and
- * BAD_STATE that holds is answered, or they are taken as they spell: there is no checksum. A snapshot that was changed on its
- * way harms its own guest alone. BUSY as kalyubos_saved_len.
+ * Each snapshot that kalyubos_save wrote of such a slot is taken. Of other bytes the first of BAD_SNAPSHOT, OTHER_SLOT
+ * and BAD_STATE that holds is answered, or they are taken as they spell: there is no checksum. A snapshot that was
+ * changed on its way harms its own guest alone. BUSY as kalyubos_saved_len.
  *
- * Before it the host puts back the guest's memory and its disk, those of an image by the board that it makes. Behind it the
- * host sets both lines by `pending`, makes a write again that was answered NO_ROOM, and starts the guest's CPUs.
+ * Before it the host puts back the guest's memory and its disk, those of an image by the board that it makes. Behind it
+ * the host sets both lines by `pending`, makes a write again that was answered NO_ROOM, and starts the guest's CPUs.
  */
 KALYUBOS_LOOK_AT_IT
 uint32_t kalyubos_restore(struct kalyubos *board, uint8_t slot, const uint8_t *from, size_t from_len,
                           struct kalyubos_pending *pending);
 
 /*
- * Lends the image in place, to read between calls: `bytes` is where its first byte lies, and `len` how many there are. Both
- * stay until kalyubos_destroy. Of an image of no bytes `bytes` is left as it was. NO_IMAGE of a board whose disks the host
- * serves.
+ * Lends the image in place, to read between calls: `bytes` is where its first byte lies, and `len` how many there are.
+ * Both stay until kalyubos_destroy. Of an image of no bytes `bytes` is left as it was. NO_IMAGE of a board whose disks
+ * the host serves.
  */
-uint32_t kalyubos_image(struct kalyubos *board, const uint8_t **bytes, size_t *len);
+uint32_t kalyubos_image(const struct kalyubos *board, const uint8_t **bytes, size_t *len);
 
-/* The image's length in bytes, and a copy of bytes of it from byte `start` on, as they stand; NO_IMAGE as kalyubos_image. */
-uint32_t kalyubos_image_len(struct kalyubos *board, size_t *len);
-uint32_t kalyubos_read_image(struct kalyubos *board, size_t start, uint8_t *into, size_t into_len);
+/*
+ * The image's length in bytes, and a copy of bytes of it from byte `start` on, as they stand; NO_IMAGE as
+ * kalyubos_image.
+ */
+uint32_t kalyubos_image_len(const struct kalyubos *board, size_t *len);
+uint32_t kalyubos_read_image(const struct kalyubos *board, size_t start, uint8_t *into, size_t into_len);
 
 /*
  * The heap. The installed library has it over malloc, as examples/embed/heap.c does; a host that defines one of these
- * defines all of them. They are of one heap, and are called within the calls that make or judge a board and kalyubos_destroy
- * alone. A block is aligned to `align`, a power of two up to 16.
- * `found` is false where there is no memory, and `at` is then any address; a block that couldn't be resized stands as
- * it was. Of a block that is resized the first `kept` bytes stay. A block of size 0 is a block as any other.
+ * defines all of them. They are of one heap, and are called within the calls that make or judge a board and
+ * kalyubos_destroy alone. A block is aligned to `align`, a power of two up to 16. `found` is false where there is no
+ * memory, and `at` is then any address; a block that couldn't be resized stands as it was. Of a block that is resized
+ * the first `kept` bytes stay. A block of size 0 is a block as any other.
  */
 struct kalyubos_block {
     bool found;

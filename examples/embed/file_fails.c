@@ -35,7 +35,7 @@ static void need(bool holds, const char *what)
 
 /* ---- the library: a slot that waits for `asked` */
 
-uint32_t kalyubos_operation(struct kalyubos *board, uint8_t slot, struct kalyubos_operation *to, struct kalyubos_run *into, size_t most)
+uint32_t kalyubos_operation(const struct kalyubos *board, uint8_t slot, struct kalyubos_operation *to, struct kalyubos_run *into, size_t most)
 {
     (void)board, (void)slot, (void)most;
     *to = asked;
@@ -43,7 +43,7 @@ uint32_t kalyubos_operation(struct kalyubos *board, uint8_t slot, struct kalyubo
     return KALYUBOS_DONE;
 }
 
-uint32_t kalyubos_read_memory(struct kalyubos *board, uint8_t slot, uint64_t at, uint8_t *into, size_t len)
+uint32_t kalyubos_read_memory(const struct kalyubos *board, uint8_t slot, uint64_t at, uint8_t *into, size_t len)
 {
     (void)board, (void)slot;
     memcpy(into, memory + at, len);

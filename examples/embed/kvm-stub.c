@@ -137,7 +137,7 @@ uint32_t kalyubos_memory(struct kalyubos *board, uint8_t slot, uint64_t addr, ui
     return KALYUBOS_DONE;
 }
 
-uint32_t kalyubos_read_memory(struct kalyubos *board, uint8_t slot, uint64_t addr, uint8_t *into, size_t into_len)
+uint32_t kalyubos_read_memory(const struct kalyubos *board, uint8_t slot, uint64_t addr, uint8_t *into, size_t into_len)
 {
     (void)board;
     memcpy(into, guests[slot].memory + addr, into_len);
@@ -151,7 +151,7 @@ uint32_t kalyubos_write_memory(struct kalyubos *board, uint8_t slot, uint64_t ad
     return KALYUBOS_DONE;
 }
 
-uint32_t kalyubos_read(struct kalyubos *board, uint8_t slot, uint8_t window, uint16_t offset, uint8_t width,
+uint32_t kalyubos_read(const struct kalyubos *board, uint8_t slot, uint8_t window, uint16_t offset, uint8_t width,
                        uint32_t *value)
 {
     const struct window *found = &guests[slot].windows[window];
@@ -185,7 +185,7 @@ uint32_t kalyubos_write(struct kalyubos *board, uint8_t slot, uint8_t window, ui
     return tell(guest, pending, answer);
 }
 
-uint32_t kalyubos_operation(struct kalyubos *board, uint8_t slot, struct kalyubos_operation *operation,
+uint32_t kalyubos_operation(const struct kalyubos *board, uint8_t slot, struct kalyubos_operation *operation,
                             struct kalyubos_run *runs, size_t runs_len)
 {
     const struct slot *guest = &guests[slot];
@@ -214,7 +214,7 @@ uint32_t kalyubos_go_on(struct kalyubos *board, uint8_t slot, struct kalyubos_pe
     return tell(&guests[slot], pending, KALYUBOS_DONE);
 }
 
-uint32_t kalyubos_disturbed(struct kalyubos *board, uint8_t slot, bool *disturbed)
+uint32_t kalyubos_disturbed(const struct kalyubos *board, uint8_t slot, bool *disturbed)
 {
     (void)board, (void)slot;
     *disturbed = false;

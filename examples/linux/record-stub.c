@@ -82,7 +82,7 @@ uint32_t kalyubos_memory(struct kalyubos *board, uint8_t slot, uint64_t addr, ui
     return KALYUBOS_DONE;
 }
 
-uint32_t kalyubos_read(struct kalyubos *board, uint8_t slot, uint8_t window, uint16_t offset, uint8_t width,
+uint32_t kalyubos_read(const struct kalyubos *board, uint8_t slot, uint8_t window, uint16_t offset, uint8_t width,
                        uint32_t *value)
 {
     const struct guest *guest = &guests[slot];
@@ -138,7 +138,7 @@ static uint32_t ask(struct guest *guest, struct kalyubos_pending *pending)
     return tell(guest, pending, KALYUBOS_IO);
 }
 
-uint32_t kalyubos_operation(struct kalyubos *board, uint8_t slot, struct kalyubos_operation *operation,
+uint32_t kalyubos_operation(const struct kalyubos *board, uint8_t slot, struct kalyubos_operation *operation,
                             struct kalyubos_run *runs, size_t runs_len)
 {
     (void)board, (void)slot, (void)runs_len;

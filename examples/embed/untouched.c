@@ -1,0 +1,355 @@
+/*
+ * Which calls touch a guest's memory: kalyubos_write to QueueNotify, kalyubos_input, kalyubos_go_on, kalyubos_completed
+ * and the two that copy. The host lends the memory and forbids each access to it, so that one ends the program. Then it
+ * makes every other call: at each step of a driver's bring-up, with a service paused, with a disk at work. Children show
+ * that the six calls do touch it.
+ */
+#define _GNU_SOURCE
+#include <signal.h>
+#include <stdio.h>
+#include <stdlib.h>
+#include <string.h>
+#include <sys/mman.h>
+#include <sys/resource.h>
+#include <sys/wait.h>
+#include <unistd.h>
+
+#include "kalyubos.h"
+
+enum { LEN = 0x10000, SECTORS = 2, IMAGE = SECTORS * 512, OUTLET = 64, SNAPSHOT = 4096 };
+static const uint64_t MEMORY = 0x80000000;
+
+/* Where both windows have their queue, and what its one chain, of a request or of console bytes, consists of. */
+enum { TABLE = 0x100, AVAILABLE = 0x200, USED = 0x300, HEADER = 0x400, DATA = 0x800, END = 0xc00, NEXT = 1, WRITE = 2 };
+enum { NOTIFY = 0x050, QUEUE_SEL = 0x030, STATUS = 0x070, EMERGENCY = 0x108, CONFIG_END = 0x140 };
+
+static struct kalyubos board;
+static struct kalyubos_pending pending;
+static uint8_t *memory;
+
+static void need(bool holds, const char *what)
+{
+    if (!holds) {
+        fprintf(stderr, "untouched: %s\n", what);
+        exit(1);
+    }
+}
+
+static void done(uint32_t answer, const char *what)
+{
+    if (answer != KALYUBOS_DONE)
+        fprintf(stderr, "untouched: %s: %s\n", what, kalyubos_answer(answer));
+    need(answer == KALYUBOS_DONE, "refused");
+}
+
+static void forbid(bool all)
+{
+    need(mprotect(memory, LEN, all ? PROT_NONE : PROT_READ | PROT_WRITE) == 0, "mprotect");
+}
+
+static uint32_t set(uint8_t window, uint16_t offset, uint8_t width, uint32_t value)
+{
+    return kalyubos_write(&board, 0, window, offset, width, value, &pending);
+}
+
+/* ---- boards, and what a driver does */
+
+enum kind { OF_IMAGE, HOSTED };
+
+/* A board of one guest. Over an image a call serves one chain. */
+static void make(enum kind kind)
+{
+    static const uint8_t image[IMAGE];
+    struct kalyubos_slot slot = {
+        .size = sizeof slot, .regions = { { MEMORY, LEN } }, .count = SECTORS, .cols = 80, .rows = 25, .outlet = OUTLET,
+    };
+    struct kalyubos_loan loan = { memory, LEN };
+    done(kind == HOSTED ? kalyubos_create_hosted_lent(&board, &slot, 1, &loan, 1)
+                        : kalyubos_create_lent(&board, &slot, 1, &loan, 1, image, sizeof image, 1, 1, 0),
+         "create");
+}
+
+/* The features of a driver with split rings, and of one with packed rings, both with event indices. */
+enum { RINGS = 2 };
+static const uint32_t HIGH_FEATURES[RINGS] = { 1, 5 }, LOW_FEATURES = 0x30000000;
+
+/* A driver's bring-up (3.1.1, 4.2.3.2): a step is an offset and a value. */
+enum { STEPS = 18 };
+
+static void bring_up(uint8_t window, uint32_t queue, int ring, int steps)
+{
+    const uint32_t at = (uint32_t)MEMORY;
+    const uint32_t all[STEPS][2] = {
+        { STATUS, 0 }, { STATUS, 1 }, { STATUS, 3 }, { 0x24, 0 }, { 0x20, LOW_FEATURES }, { 0x24, 1 },
+        { 0x20, HIGH_FEATURES[ring] }, { STATUS, 11 }, { QUEUE_SEL, queue }, { 0x38, 4 }, { 0x80, at + TABLE },
+        { 0x84, 0 }, { 0x90, at + AVAILABLE }, { 0x94, 0 }, { 0xa0, at + USED }, { 0xa4, 0 }, { 0x44, 1 }, { STATUS, 15 },
+    };
+    for (int i = 0; i < steps; i++)
+        done(set(window, (uint16_t)all[i][0], 4, all[i][1]), "a driver's step");
+}
+
+struct descriptor {
+    uint64_t addr;
+    uint32_t len;
+    uint16_t flags, next;
+};
+
+/* Puts so many chains on offer in a split ring: each a read of sector 0, or room for what is typed to the console. */
+static void offer(uint8_t window, uint16_t count)
+{
+    const struct descriptor request[] = { { MEMORY + HEADER, 16, NEXT, 1 }, { MEMORY + DATA, 512, NEXT | WRITE, 2 },
+                                          { MEMORY + END, 1, WRITE, 0 } };
+    const struct descriptor room = { MEMORY + DATA, 512, WRITE, 0 };
+    memset(memory, 0, LEN);
+    if (window == KALYUBOS_BLOCK)
+        memcpy(memory + TABLE, request, sizeof request);
+    else
+        memcpy(memory + TABLE, &room, sizeof room);
+    memcpy(memory + AVAILABLE + 2, &count, sizeof count);
+}
+
+/* ---- the calls that touch no memory */
+
+static void read_all(uint32_t answer)
+{
+    uint32_t value;
+    for (uint8_t window = KALYUBOS_BLOCK; window <= KALYUBOS_CONSOLE; window++)
+        for (uint32_t offset = 0; offset <= 0x1000; offset++)
+            for (uint8_t width = 1; width <= 4; width *= 2)
+                need(kalyubos_read(&board, 0, window, (uint16_t)offset, width, &value) == answer, "read");
+}
+
+/* What is asked at any time, also in a pause. */
+static void ask_always(void)
+{
+    uint8_t block, console, out[OUTLET], *bytes;
+    bool disturbed;
+    size_t len;
+    struct kalyubos_counters counters;
+    done(kalyubos_interrupts(&board, 0, &block, &console), "interrupts");
+    done(kalyubos_disturbed(&board, 0, &disturbed), "disturbed");
+    done(kalyubos_counters(&board, 0, &counters), "counters");
+    done(kalyubos_take_output(&board, 0, out, sizeof out, &len), "take_output");
+    kalyubos_memory(&board, 0, MEMORY, &bytes, &len);
+}
+
+/* The operation that is in flight, if one is. */
+static void ask_operation(uint32_t answer)
+{
+    struct kalyubos_operation operation;
+    struct kalyubos_run runs[KALYUBOS_RUNS];
+    need(kalyubos_operation(&board, 0, &operation, runs, KALYUBOS_RUNS) == answer, "operation");
+}
+
+static void ask_image(uint32_t answer)
+{
+    static uint8_t copy[IMAGE];
+    const uint8_t *bytes;
+    size_t len;
+    need(kalyubos_image(&board, &bytes, &len) == answer, "image");
+    need(kalyubos_image_len(&board, &len) == answer, "image_len");
+    need(kalyubos_read_image(&board, 0, copy, IMAGE) == answer, "read_image");
+}
+
+/* Saves the guest, changes its devices, and restores them. */
+static void save_and_restore(void)
+{
+    uint8_t snapshot[SNAPSHOT];
+    size_t len, written;
+    done(kalyubos_saved_len(&board, 0, &len), "saved_len");
+    done(kalyubos_save(&board, 0, snapshot, sizeof snapshot, &written), "save");
+    done(kalyubos_resize(&board, 0, 100, 30, &pending), "resize");
+    for (uint8_t window = KALYUBOS_BLOCK; window <= KALYUBOS_CONSOLE; window++)
+        done(set(window, STATUS, 4, 0), "a reset");
+    done(kalyubos_restore(&board, 0, snapshot, written, &pending), "restore");
+}
+
+static const uint32_t VALUES[] = { 0, 1, 2, 3, 4, 8, 11, 15, 64, 128, 256, 0x80000100, 0xffffffff };
+enum { VALUES_LEN = sizeof VALUES / sizeof *VALUES };
+
+/* A write. If the outlet is full, it is emptied. */
+static void try(uint8_t window, uint16_t offset, uint8_t width, uint32_t value)
+{
+    uint32_t answer = set(window, offset, width, value);
+    if (answer == KALYUBOS_NO_ROOM)
+        ask_always();
+    need(answer == KALYUBOS_DONE || answer == KALYUBOS_NO_ROOM || answer == KALYUBOS_BUSY, "write");
+}
+
+/* Each register but QueueNotify is written, with each of the values, behind so many steps of a bring-up. */
+static void write_behind(uint8_t window, uint32_t queue, int ring, int steps)
+{
+    for (uint16_t offset = 0; offset < CONFIG_END; offset += 4)
+        for (int i = 0; i < VALUES_LEN && offset != NOTIFY; i++) {
+            bring_up(window, queue, ring, steps);
+            try(window, offset, 4, VALUES[i]);
+        }
+}
+
+static void write_all(void)
+{
+    for (uint32_t queue = 0; queue < 3; queue++)
+        for (int ring = 0; ring < RINGS; ring++)
+            for (int steps = 1; steps <= STEPS; steps++) {
+                uint8_t window = queue == 2 ? KALYUBOS_BLOCK : KALYUBOS_CONSOLE;
+                write_behind(window, queue % 2, ring, steps);
+                bring_up(window, queue % 2, ring, steps);
+                save_and_restore();
+            }
+}
+
+/* Writes of both windows, of each offset and width, but to Status. */
+static void write_on(void)
+{
+    for (uint8_t window = KALYUBOS_BLOCK; window <= KALYUBOS_CONSOLE; window++)
+        for (uint16_t offset = 0; offset < CONFIG_END; offset++)
+            for (uint8_t width = 1; width <= 4; width *= 2)
+                if (offset != NOTIFY && offset != STATUS)
+                    try(window, offset, width, 1);
+}
+
+static void say(const char *when)
+{
+    printf("%s: no other call touches memory\n", when);
+}
+
+/* ---- a board of each kind in each state */
+
+/* Drivers bring up each queue, with split and with packed rings, while `ls` waits to be read. */
+static void while_drivers_begin(enum kind kind)
+{
+    size_t took;
+    offer(KALYUBOS_CONSOLE, 1);
+    forbid(true);
+    make(kind);
+    done(kalyubos_input(&board, 0, (const uint8_t *)"ls", 2, &took, &pending), "input without a queue");
+    write_all();
+    write_on();
+    read_all(KALYUBOS_DONE);
+    ask_always();
+    ask_operation(KALYUBOS_IDLE);
+    ask_image(kind == HOSTED ? KALYUBOS_NO_IMAGE : KALYUBOS_DONE);
+    done(kalyubos_destroy(&board), "destroy");
+    say(kind == HOSTED ? "hosted board, bring-up" : "image board, bring-up");
+    forbid(false);
+}
+
+/* Leaves a request in flight, or over an image a service paused: two chains are on offer, and a call serves one. */
+static void notify_disk(enum kind kind)
+{
+    make(kind);
+    bring_up(KALYUBOS_BLOCK, 0, 0, STEPS);
+    offer(KALYUBOS_BLOCK, kind == HOSTED ? 1 : 2);
+    need(set(KALYUBOS_BLOCK, NOTIFY, 4, 0) == (kind == HOSTED ? KALYUBOS_IO : KALYUBOS_MORE), "a notify");
+}
+
+static void while_a_disk_works(void)
+{
+    notify_disk(HOSTED);
+    forbid(true);
+    read_all(KALYUBOS_DONE);
+    write_on();
+    ask_always();
+    ask_operation(KALYUBOS_DONE);
+    need(set(KALYUBOS_BLOCK, STATUS, 4, 0) == KALYUBOS_BUSY, "a reset in flight");
+    done(kalyubos_resize(&board, 0, 80, 25, &pending), "resize");
+    done(kalyubos_destroy(&board), "destroy");
+    say("hosted board, a disk at work");
+    forbid(false);
+}
+
+static void in_a_pause(void)
+{
+    notify_disk(OF_IMAGE);
+    forbid(true);
+    read_all(KALYUBOS_BUSY);
+    write_on();
+    ask_always();
+    done(kalyubos_destroy(&board), "destroy");
+    say("image board, a paused service");
+    forbid(false);
+}
+
+/* ---- the calls that do */
+
+static void notify(void)
+{
+    (void)!set(KALYUBOS_BLOCK, NOTIFY, 4, 0);
+}
+
+static void type(void)
+{
+    size_t took;
+    (void)!kalyubos_input(&board, 0, (const uint8_t *)"ls", 2, &took, &pending);
+}
+
+static void go_on(void)
+{
+    (void)!kalyubos_go_on(&board, 0, &pending);
+}
+
+static void complete(void)
+{
+    (void)!kalyubos_completed(&board, 0, false, &pending);
+}
+
+static void copy_out(void)
+{
+    uint8_t byte;
+    kalyubos_read_memory(&board, 0, MEMORY, &byte, 1);
+}
+
+static void copy_in(void)
+{
+    kalyubos_write_memory(&board, 0, MEMORY, (const uint8_t *)"", 1);
+}
+
+/* Makes a call in a child, whose memory is forbidden: it must be ended by SIGSEGV. */
+static void faults(const char *name, void (*call)(void))
+{
+    int status;
+    pid_t child = fork();
+    need(child >= 0, "fork");
+    if (child == 0) {
+        const struct rlimit no_core = { 0, 0 };
+        setrlimit(RLIMIT_CORE, &no_core);
+        forbid(true);
+        call();
+        _exit(0);
+    }
+    need(waitpid(child, &status, 0) == child, "waitpid");
+    printf("%s: %s memory\n", name, WIFSIGNALED(status) && WTERMSIG(status) == SIGSEGV ? "touches" : "doesn't touch");
+}
+
+static void control(void)
+{
+    make(OF_IMAGE);
+    bring_up(KALYUBOS_BLOCK, 0, 0, STEPS);
+    bring_up(KALYUBOS_CONSOLE, 0, 0, STEPS);
+    offer(KALYUBOS_BLOCK, 1);
+    faults("a write to QueueNotify", notify);
+    faults("input", type);
+    faults("read_memory", copy_out);
+    faults("write_memory", copy_in);
+    done(kalyubos_destroy(&board), "destroy");
+    notify_disk(OF_IMAGE);
+    faults("go_on", go_on);
+    done(kalyubos_destroy(&board), "destroy");
+    notify_disk(HOSTED);
+    faults("completed", complete);
+    done(kalyubos_destroy(&board), "destroy");
+}
+
+int main(void)
+{
+    need(kalyubos_version() == KALYUBOS_VERSION, "the library is of another version than the header");
+    memory = mmap(NULL, LEN, PROT_READ | PROT_WRITE, MAP_PRIVATE | MAP_ANONYMOUS, -1, 0);
+    need(memory != MAP_FAILED, "mmap");
+    setvbuf(stdout, NULL, _IOLBF, BUFSIZ);
+    while_drivers_begin(OF_IMAGE);
+    while_drivers_begin(HOSTED);
+    while_a_disk_works();
+    in_a_pause();
+    control();
+    return munmap(memory, LEN);
+}
