@@ -29,6 +29,7 @@ pub enum Window {
 
 /// InterruptStatus of a slot's windows. A window's line is high while its word isn't 0.
 #[derive(Clone, Copy, Debug, Default, PartialEq, Eq, Hash)]
+#[must_use = "the slot's lines move by them"]
 pub struct Interrupts {
     /// The block window's word.
     pub block: u32,
@@ -99,7 +100,7 @@ pub struct Board {
 unsafe impl Send for Board {}
 
 // Each duty of the header is kept here. References are never null, an exclusive one overlaps no other, and a `Board` can't
-// be copied; each call takes `&mut self`, so it is the only one on its handle.
+// be copied. It isn't `Sync`, so one call at a time is made on its handle; those that take `&self` change nothing.
 impl Board {
     /// Makes a board over a copy of the image, with a cache of at most `cache` sectors before it. It takes all memory that
     /// the board ever needs.
@@ -110,7 +111,7 @@ impl Board {
     /// let disk = vec![0; 16 * 512];
     /// let guests = [
     ///     Slot::new(0x8000_0000, 0x1_0000, 0..8),
-    ///     Slot::new(0x8000_0000, 0x1_0000, 8..16).read_only(true),
+    ///     Slot::new(0x8000_0000, 0x1_0000, 8..16).with_read_only(true),
     /// ];
     /// let board = Board::new(&guests, &disk, 8)?;
     ///
@@ -157,8 +158,10 @@ impl Board {
     /// # Safety
     ///
     /// Until the board is dropped the bytes stay where they are, each with a value, and no two regions of any boards share one.
-    /// Nobody else reads or writes them while a call for their guest runs, while its [`memory`](Board::memory) is lent, or while a
-    /// service of it is paused. CPUs of other guests may run.
+    /// Nobody else reads or writes them while a call touches them, while [`memory`](Board::memory) lends them, or while a service
+    /// of their guest is paused. The calls that touch a guest's memory are [`write`](Board::write) to QueueNotify (0x050),
+    /// [`input`](Board::input), [`go_on`](Board::go_on), [`complete`](crate::HostedBoard::complete),
+    /// [`read_memory`](Board::read_memory) and [`write_memory`](Board::write_memory). During others the guest's CPUs may run.
     ///
     /// ```
     /// # use kalyubos::{Board, Budget, CreateError, Slot};
@@ -254,8 +257,13 @@ impl Board {
         Ok(())
     }
 
-    // The handle, for the calls of other modules.
-    pub(crate) fn handle(&mut self) -> &mut ffi::Handle {
+    // The handle, for the calls of other modules that change nothing.
+    pub(crate) fn handle(&self) -> &ffi::Handle {
+        &self.handle
+    }
+
+    // The handle, for their other calls.
+    pub(crate) fn handle_mut(&mut self) -> &mut ffi::Handle {
         &mut self.handle
     }
 
@@ -270,17 +278,10 @@ impl Board {
     /// assert_eq!(board.read(0, Window::Console, DEVICE_ID, 4)?, 3);
     /// # Ok::<(), Box<dyn std::error::Error>>(())
     /// ```
-    pub fn read(&mut self, slot: u8, window: Window, offset: u16, width: u8) -> Result<u32, Error> {
+    pub fn read(&self, slot: u8, window: Window, offset: u16, width: u8) -> Result<u32, Error> {
         let mut value = 0;
         Error::check(unsafe {
-            ffi::kalyubos_read(
-                &mut self.handle,
-                slot,
-                window as u8,
-                offset,
-                width,
-                &mut value,
-            )
+            ffi::kalyubos_read(&self.handle, slot, window as u8, offset, width, &mut value)
         })?;
         Ok(value)
     }
@@ -297,7 +298,7 @@ impl Board {
     /// # use kalyubos::{Board, Error, Slot, Window};
     /// # let slot = Slot::new(0, 0x1000, 0..1);
     /// const EMERG_WR: u16 = 0x108;
-    /// let mut board = Board::new(&[slot.outlet(1)], &[0; 512], 1)?;
+    /// let mut board = Board::new(&[slot.with_outlet(1)], &[0; 512], 1)?;
     /// assert_eq!(board.write(0, Window::Console, EMERG_WR, 4, b'a'.into())?.output, 1);
     /// let refused = board.write(0, Window::Console, EMERG_WR, 4, b'b'.into());
     /// assert!(matches!(refused, Err(Error::NoRoom(pending)) if pending.output == 1));
@@ -344,7 +345,7 @@ impl Board {
     ///
     /// ```
     /// # use kalyubos::{Board, Slot};
-    /// let slot = Slot::new(0x8000_0000, 0x1000, 0..1).region(0x8000_2000, 0x1000);
+    /// let slot = Slot::new(0x8000_0000, 0x1000, 0..1).with_region(0x8000_2000, 0x1000);
     /// let mut board = Board::new(&[slot], &[0; 512], 1)?;
     /// let memory = board.memory(0, 0x8000_2f00)?;
     /// assert_eq!(memory.len(), 0x100);
@@ -364,8 +365,8 @@ impl Board {
     /// Where a guest's memory lies, from an address to the end of its region, to map it for the guest's CPUs. It stays until the
     /// board is dropped, and a region begins at a page of 4096 bytes where the heap is the library's own.
     ///
-    /// Whoever writes through it keeps two duties: no CPU of the guest runs while a call for it does, or while its
-    /// [`memory`](Board::memory) is lent, or a service of it is paused; and none runs on once the board is dropped. CPUs of other guests may run.
+    /// Whoever writes through it keeps two duties: no CPU of the guest runs while a call touches its memory, as
+    /// [`over_lent`](Board::over_lent) says, and none runs on once the board is dropped.
     pub fn memory_parts(&mut self, slot: u8, addr: u64) -> Result<NonNull<[u8]>, Error> {
         let (mut bytes, mut len) = (ptr::null_mut(), 0);
         Error::check(unsafe {
@@ -376,9 +377,9 @@ impl Board {
     }
 
     /// Copies bytes out of a guest's memory, from address `addr` on.
-    pub fn read_memory(&mut self, slot: u8, addr: u64, into: &mut [u8]) -> Result<(), Error> {
+    pub fn read_memory(&self, slot: u8, addr: u64, into: &mut [u8]) -> Result<(), Error> {
         Error::check(unsafe {
-            ffi::kalyubos_read_memory(&mut self.handle, slot, addr, into.as_mut_ptr(), into.len())
+            ffi::kalyubos_read_memory(&self.handle, slot, addr, into.as_mut_ptr(), into.len())
         })
     }
 
@@ -449,10 +450,10 @@ impl Board {
     }
 
     /// Both interrupt words of a slot. Each write, input and resize tells them; a read moves none.
-    pub fn interrupts(&mut self, slot: u8) -> Result<Interrupts, Error> {
+    pub fn interrupts(&self, slot: u8) -> Result<Interrupts, Error> {
         let (mut block, mut console) = (0, 0);
         Error::check(unsafe {
-            ffi::kalyubos_interrupts(&mut self.handle, slot, &mut block, &mut console)
+            ffi::kalyubos_interrupts(&self.handle, slot, &mut block, &mut console)
         })?;
         Ok(Interrupts {
             block: block.into(),
@@ -461,9 +462,9 @@ impl Board {
     }
 
     /// Whether a call of the image ever failed for the slot.
-    pub fn disturbed(&mut self, slot: u8) -> Result<bool, Error> {
+    pub fn disturbed(&self, slot: u8) -> Result<bool, Error> {
         let mut disturbed = false;
-        Error::check(unsafe { ffi::kalyubos_disturbed(&mut self.handle, slot, &mut disturbed) })?;
+        Error::check(unsafe { ffi::kalyubos_disturbed(&self.handle, slot, &mut disturbed) })?;
         Ok(disturbed)
     }
 
@@ -475,23 +476,23 @@ impl Board {
     /// assert_eq!(board.counters(0)?, Counters::default());
     /// # Ok::<(), Box<dyn std::error::Error>>(())
     /// ```
-    pub fn counters(&mut self, slot: u8) -> Result<Counters, Error> {
+    pub fn counters(&self, slot: u8) -> Result<Counters, Error> {
         let mut counters = Counters::default();
-        Error::check(unsafe { ffi::kalyubos_counters(&mut self.handle, slot, &mut counters) })?;
+        Error::check(unsafe { ffi::kalyubos_counters(&self.handle, slot, &mut counters) })?;
         Ok(counters)
     }
 
     /// The image's length in bytes.
-    pub fn image_len(&mut self) -> Result<usize, Error> {
+    pub fn image_len(&self) -> Result<usize, Error> {
         let mut len = 0;
-        Error::check(unsafe { ffi::kalyubos_image_len(&mut self.handle, &mut len) })?;
+        Error::check(unsafe { ffi::kalyubos_image_len(&self.handle, &mut len) })?;
         Ok(len)
     }
 
     /// Copies bytes out of the image as it stands, from byte `start` on.
-    pub fn read_image(&mut self, start: usize, into: &mut [u8]) -> Result<(), Error> {
+    pub fn read_image(&self, start: usize, into: &mut [u8]) -> Result<(), Error> {
         Error::check(unsafe {
-            ffi::kalyubos_read_image(&mut self.handle, start, into.as_mut_ptr(), into.len())
+            ffi::kalyubos_read_image(&self.handle, start, into.as_mut_ptr(), into.len())
         })
     }
 
@@ -505,7 +506,7 @@ impl Board {
     /// ```
     pub fn image(&mut self) -> Result<&[u8], Error> {
         let (mut bytes, mut len) = (NonNull::dangling().as_ptr() as *const u8, 0);
-        Error::check(unsafe { ffi::kalyubos_image(&mut self.handle, &mut bytes, &mut len) })?;
+        Error::check(unsafe { ffi::kalyubos_image(&self.handle, &mut bytes, &mut len) })?;
         // SAFETY: the bytes are the image, which stays until the drop, and while they are lent no call is made.
         Ok(unsafe { slice::from_raw_parts(bytes, len) })
     }

@@ -151,6 +151,7 @@ impl CreateError {
     /// assert_eq!(refused, CreateError::ExtentOutside);
     /// assert_eq!(refused.slot(&guests, &disk), Some(2));
     /// ```
+    #[must_use]
     pub fn slot(self, slots: &[Slot], image: &[u8]) -> Option<usize> {
         let sectors = image.len() as u64 / 512;
         self.place(slots, |slots, slot, region| unsafe {
@@ -168,6 +169,7 @@ impl CreateError {
     /// assert_eq!(refused, CreateError::BadMemoryBase);
     /// assert_eq!(refused.hosted_slot(&guests), Some(1));
     /// ```
+    #[must_use]
     pub fn hosted_slot(self, slots: &[Slot]) -> Option<usize> {
         self.place(slots, |slots, slot, region| unsafe {
             ffi::kalyubos_judge_hosted(slots.as_ptr(), slots.len(), slot, region)

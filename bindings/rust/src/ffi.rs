@@ -114,7 +114,7 @@ unsafe extern "C" {
     ) -> u32;
     pub fn kalyubos_destroy(board: *mut Handle) -> u32;
     pub fn kalyubos_read(
-        board: *mut Handle,
+        board: *const Handle,
         slot: u8,
         window: u8,
         offset: u16,
@@ -131,7 +131,7 @@ unsafe extern "C" {
         pending: *mut Pending,
     ) -> u32;
     pub fn kalyubos_operation(
-        board: *mut Handle,
+        board: *const Handle,
         slot: u8,
         operation: *mut Operation,
         runs: *mut Run,
@@ -152,7 +152,7 @@ unsafe extern "C" {
         len: *mut usize,
     ) -> u32;
     pub fn kalyubos_read_memory(
-        board: *mut Handle,
+        board: *const Handle,
         slot: u8,
         addr: u64,
         into: *mut u8,
@@ -188,16 +188,16 @@ unsafe extern "C" {
         taken: *mut usize,
     ) -> u32;
     pub fn kalyubos_interrupts(
-        board: *mut Handle,
+        board: *const Handle,
         slot: u8,
         block: *mut u8,
         console: *mut u8,
     ) -> u32;
-    pub fn kalyubos_disturbed(board: *mut Handle, slot: u8, disturbed: *mut bool) -> u32;
-    pub fn kalyubos_counters(board: *mut Handle, slot: u8, counters: *mut Counters) -> u32;
-    pub fn kalyubos_saved_len(board: *mut Handle, slot: u8, len: *mut usize) -> u32;
+    pub fn kalyubos_disturbed(board: *const Handle, slot: u8, disturbed: *mut bool) -> u32;
+    pub fn kalyubos_counters(board: *const Handle, slot: u8, counters: *mut Counters) -> u32;
+    pub fn kalyubos_saved_len(board: *const Handle, slot: u8, len: *mut usize) -> u32;
     pub fn kalyubos_save(
-        board: *mut Handle,
+        board: *const Handle,
         slot: u8,
         into: *mut u8,
         into_len: usize,
@@ -210,10 +210,10 @@ unsafe extern "C" {
         from_len: usize,
         pending: *mut Pending,
     ) -> u32;
-    pub fn kalyubos_image(board: *mut Handle, bytes: *mut *const u8, len: *mut usize) -> u32;
-    pub fn kalyubos_image_len(board: *mut Handle, len: *mut usize) -> u32;
+    pub fn kalyubos_image(board: *const Handle, bytes: *mut *const u8, len: *mut usize) -> u32;
+    pub fn kalyubos_image_len(board: *const Handle, len: *mut usize) -> u32;
     pub fn kalyubos_read_image(
-        board: *mut Handle,
+        board: *const Handle,
         start: usize,
         into: *mut u8,
         into_len: usize,

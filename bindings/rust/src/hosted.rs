@@ -39,8 +39,6 @@ impl Served {
 #[derive(Debug)]
 pub struct HostedBoard {
     board: Board,
-    // Room for the runs of an operation.
-    runs: Box<[Run; ffi::RUNS]>,
 }
 
 impl HostedBoard {
@@ -49,7 +47,6 @@ impl HostedBoard {
     pub fn new(slots: &[Slot]) -> Result<HostedBoard, CreateError> {
         Ok(HostedBoard {
             board: Board::hosted(slots)?,
-            runs: Box::new([Run::default(); ffi::RUNS]),
         })
     }
 
@@ -65,12 +62,11 @@ impl HostedBoard {
         Ok(HostedBoard {
             // SAFETY: the caller keeps the duties.
             board: unsafe { Board::hosted_over_lent(slots, lent) }?,
-            runs: Box::new([Run::default(); ffi::RUNS]),
         })
     }
 
     /// What a guest's read gives, as [`Board::read`].
-    pub fn read(&mut self, slot: u8, window: Window, offset: u16, width: u8) -> Result<u32, Error> {
+    pub fn read(&self, slot: u8, window: Window, offset: u16, width: u8) -> Result<u32, Error> {
         self.board.read(slot, window, offset, width)
     }
 
@@ -89,7 +85,7 @@ impl HostedBoard {
         let mut told = ffi::Pending::default();
         let number = unsafe {
             ffi::kalyubos_write(
-                self.board.handle(),
+                self.board.handle_mut(),
                 slot,
                 window as u8,
                 offset,
@@ -103,26 +99,44 @@ impl HostedBoard {
 
     /// What a slot's disk is asked for, or nothing where nothing of it is in flight. It may be asked for again and again.
     ///
+    /// The operation borrows no board, so its runs are read while guest memory is lent:
+    ///
     /// ```
-    /// use kalyubos::{HostedBoard, Slot};
+    /// use kalyubos::{Error, HostedBoard, Kind, Operation, Outcome, Slot};
+    ///
+    /// /// A read of a disk that is a list of bytes.
+    /// fn read(board: &mut HostedBoard, asked: &Operation, disk: &[u8]) -> Result<(), Error> {
+    ///     let mut rest = &disk[asked.start as usize..];
+    ///     for run in &asked.runs {
+    ///         let (part, behind) = rest.split_at(run.len as usize);
+    ///         board.memory(0, run.at)?[..part.len()].copy_from_slice(part);
+    ///         rest = behind;
+    ///     }
+    ///     Ok(())
+    /// }
     ///
     /// let mut board = HostedBoard::new(&[Slot::new(0x8000_0000, 0x1_0000, 0..8)])?;
-    /// assert_eq!(board.operation(0)?, None);
+    /// match board.operation(0)? {
+    ///     Some(asked) if asked.kind == Kind::In => read(&mut board, &asked, &[0; 8 * 512])?,
+    ///     Some(_) => println!("{:?}", board.complete(0, Outcome::Failed)?),
+    ///     None => println!("nothing is in flight"),
+    /// }
     /// # Ok::<(), Box<dyn std::error::Error>>(())
     /// ```
-    pub fn operation(&mut self, slot: u8) -> Result<Option<Operation<'_>>, Error> {
+    pub fn operation(&self, slot: u8) -> Result<Option<Operation>, Error> {
         let mut told = ffi::Operation::default();
+        let mut runs = [Run::default(); ffi::RUNS];
         let number = unsafe {
             ffi::kalyubos_operation(
                 self.board.handle(),
                 slot,
                 &mut told,
-                self.runs.as_mut_ptr(),
-                self.runs.len(),
+                runs.as_mut_ptr(),
+                runs.len(),
             )
         };
         match Error::check(number) {
-            Ok(()) => Ok(Some(Operation::of(&told, &*self.runs))),
+            Ok(()) => Ok(Some(Operation::of(&told, runs))),
             Err(Error::Idle) => Ok(None),
             Err(why) => Err(why),
         }
@@ -136,7 +150,7 @@ impl HostedBoard {
         let mut told = ffi::Pending::default();
         let number = unsafe {
             ffi::kalyubos_completed(
-                self.board.handle(),
+                self.board.handle_mut(),
                 slot,
                 outcome == Outcome::Failed,
                 &mut told,
@@ -156,7 +170,7 @@ impl HostedBoard {
     }
 
     /// Copies bytes out of a guest's memory, from address `addr` on.
-    pub fn read_memory(&mut self, slot: u8, addr: u64, into: &mut [u8]) -> Result<(), Error> {
+    pub fn read_memory(&self, slot: u8, addr: u64, into: &mut [u8]) -> Result<(), Error> {
         self.board.read_memory(slot, addr, into)
     }
 
@@ -181,7 +195,7 @@ impl HostedBoard {
     }
 
     /// How many bytes a slot's snapshot has, as [`Board::saved_len`].
-    pub fn saved_len(&mut self, slot: u8) -> Result<usize, Error> {
+    pub fn saved_len(&self, slot: u8) -> Result<usize, Error> {
         self.board.saved_len(slot)
     }
 
@@ -199,12 +213,12 @@ impl HostedBoard {
     /// assert_eq!(board.save(0)?, devices);
     /// # Ok::<(), Box<dyn std::error::Error>>(())
     /// ```
-    pub fn save(&mut self, slot: u8) -> Result<Vec<u8>, Error> {
+    pub fn save(&self, slot: u8) -> Result<Vec<u8>, Error> {
         self.board.save(slot)
     }
 
     /// Writes a slot's snapshot to the front of a buffer, as [`Board::save_into`].
-    pub fn save_into(&mut self, slot: u8, into: &mut [u8]) -> Result<usize, Error> {
+    pub fn save_into(&self, slot: u8, into: &mut [u8]) -> Result<usize, Error> {
         self.board.save_into(slot, into)
     }
 
@@ -214,12 +228,12 @@ impl HostedBoard {
     }
 
     /// Both interrupt words of a slot.
-    pub fn interrupts(&mut self, slot: u8) -> Result<Interrupts, Error> {
+    pub fn interrupts(&self, slot: u8) -> Result<Interrupts, Error> {
         self.board.interrupts(slot)
     }
 
     /// What the slot's devices did, as [`Board::counters`]. A request is counted once it is completed.
-    pub fn counters(&mut self, slot: u8) -> Result<Counters, Error> {
+    pub fn counters(&self, slot: u8) -> Result<Counters, Error> {
         self.board.counters(slot)
     }
 }

@@ -10,7 +10,7 @@ use std::str::FromStr;
 /// ```
 /// use kalyubos::{Identity, Slot};
 ///
-/// let guest = Slot::new(0x8000_0000, 0x1_0000, 0..8).identity("disk-0".parse()?);
+/// let guest = Slot::new(0x8000_0000, 0x1_0000, 0..8).with_identity("disk-0".parse()?);
 ///
 /// let numbered: Identity = format!("disk-{}", 1).parse()?;
 /// assert_eq!(&numbered.bytes()[..8], b"disk-1\0\0");
@@ -23,6 +23,7 @@ pub struct Identity([u8; 20]);
 
 impl Identity {
     /// Its bytes.
+    #[must_use]
     pub fn bytes(&self) -> &[u8; 20] {
         &self.0
     }

@@ -16,5 +16,5 @@ pub use counters::Counters;
 pub use error::{CreateError, Error, RestoreError};
 pub use hosted::{HostedBoard, Served};
 pub use identity::{Identity, IdentityTooLong};
-pub use operation::{Kind, Operation, Outcome, Run};
+pub use operation::{Kind, Operation, Outcome, Run, Runs};
 pub use slot::{Region, Slot};

@@ -1,6 +1,9 @@
 //! What a disk is asked for that the host serves, and what came of it.
 
 use crate::ffi;
+use std::fmt;
+use std::ops::Deref;
+use std::slice;
 
 /// What is to be done.
 #[derive(Clone, Copy, Debug, PartialEq, Eq, Hash)]
@@ -25,10 +28,56 @@ pub struct Run {
     pub len: u64,
 }
 
+/// Where the bytes of an operation lie: a slice of 256 runs at most, which borrows no board and no heap.
+///
+/// ```
+/// # use kalyubos::Runs;
+/// fn bytes_of(runs: &Runs) -> u64 {
+///     runs.iter().map(|run| run.len).sum()
+/// }
+/// ```
+#[derive(Clone)]
+pub struct Runs {
+    len: usize,
+    all: [Run; ffi::RUNS],
+}
+
+impl Deref for Runs {
+    type Target = [Run];
+
+    fn deref(&self) -> &[Run] {
+        &self.all[..self.len]
+    }
+}
+
+impl<'runs> IntoIterator for &'runs Runs {
+    type Item = &'runs Run;
+    type IntoIter = slice::Iter<'runs, Run>;
+
+    fn into_iter(self) -> slice::Iter<'runs, Run> {
+        self.iter()
+    }
+}
+
+impl PartialEq for Runs {
+    fn eq(&self, other: &Runs) -> bool {
+        **self == **other
+    }
+}
+
+impl Eq for Runs {}
+
+impl fmt::Debug for Runs {
+    fn fmt(&self, f: &mut fmt::Formatter<'_>) -> fmt::Result {
+        (**self).fmt(f)
+    }
+}
+
 /// One operation on a guest's disk, which lies inside the guest's memory and its disk. It stays the same until it is
-/// completed, whatever the guest writes meanwhile.
-#[derive(Clone, Copy, Debug, PartialEq, Eq, Hash)]
-pub struct Operation<'board> {
+/// completed, whatever the guest writes meanwhile. It is the host's own, and may go to another thread.
+#[derive(Clone, Debug, PartialEq, Eq)]
+#[must_use = "the slot's disk waits until the operation is done and completed"]
+pub struct Operation {
     /// What is to be done.
     pub kind: Kind,
     /// The first byte on this guest's disk; 0 of a flush and of zeroes.
@@ -37,8 +86,8 @@ pub struct Operation<'board> {
     pub len: u64,
     /// Whether what it writes is to be on the medium before it is completed, since the guest's driver can't flush.
     pub stable: bool,
-    /// Where its bytes lie: 256 runs at most, and none of a flush.
-    pub runs: &'board [Run],
+    /// Where its bytes lie; none of a flush.
+    pub runs: Runs,
 }
 
 /// What came of an operation.
@@ -59,15 +108,18 @@ impl Kind {
     }
 }
 
-impl<'board> Operation<'board> {
+impl Operation {
     // What C told, with its runs.
-    pub(crate) fn of(told: &ffi::Operation, runs: &'board [Run]) -> Operation<'board> {
+    pub(crate) fn of(told: &ffi::Operation, all: [Run; ffi::RUNS]) -> Operation {
         Operation {
             kind: Kind::of(told.kind).expect("an operation has one of four kinds"),
             start: told.start,
             len: told.len,
             stable: told.stable,
-            runs: &runs[..told.runs as usize],
+            runs: Runs {
+                len: told.runs as usize,
+                all,
+            },
         }
     }
 }

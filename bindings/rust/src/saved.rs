@@ -7,7 +7,7 @@ use crate::ffi;
 impl Board {
     /// How many bytes a slot's snapshot has, until the next call for the slot. [`Error::Busy`]: a service of the slot is
     /// paused, or something of it is in flight.
-    pub fn saved_len(&mut self, slot: u8) -> Result<usize, Error> {
+    pub fn saved_len(&self, slot: u8) -> Result<usize, Error> {
         let mut len = 0;
         Error::check(unsafe { ffi::kalyubos_saved_len(self.handle(), slot, &mut len) })?;
         Ok(len)
@@ -39,7 +39,7 @@ impl Board {
     /// assert_eq!(other.restore(0, &devices), Err(RestoreError::OtherSlot));
     /// # Ok::<(), Box<dyn std::error::Error>>(())
     /// ```
-    pub fn save(&mut self, slot: u8) -> Result<Vec<u8>, Error> {
+    pub fn save(&self, slot: u8) -> Result<Vec<u8>, Error> {
         let mut bytes = vec![0; self.saved_len(slot)?];
         self.save_into(slot, &mut bytes)?;
         Ok(bytes)
@@ -47,7 +47,7 @@ impl Board {
 
     /// Writes a slot's [snapshot](Board::save) to the front of a buffer, and tells how many bytes it has; those behind them
     /// stay. [`Error::ShortBuffer`]: it doesn't fit, and nothing is written.
-    pub fn save_into(&mut self, slot: u8, into: &mut [u8]) -> Result<usize, Error> {
+    pub fn save_into(&self, slot: u8, into: &mut [u8]) -> Result<usize, Error> {
         let mut written = 0;
         Error::check(unsafe {
             ffi::kalyubos_save(
@@ -69,7 +69,13 @@ impl Board {
     pub fn restore(&mut self, slot: u8, from: &[u8]) -> Result<Pending, RestoreError> {
         let mut told = ffi::Pending::default();
         RestoreError::check(unsafe {
-            ffi::kalyubos_restore(self.handle(), slot, from.as_ptr(), from.len(), &mut told)
+            ffi::kalyubos_restore(
+                self.handle_mut(),
+                slot,
+                from.as_ptr(),
+                from.len(),
+                &mut told,
+            )
         })?;
         Ok(Pending::of(told))
     }

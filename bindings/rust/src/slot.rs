@@ -18,6 +18,7 @@ pub struct Region {
 
 /// One guest: its memory, the sectors of the image that its disk shows, and its console.
 #[derive(Clone, Debug, PartialEq, Eq)]
+#[must_use = "a slot is there once a board is made of it"]
 pub struct Slot {
     regions: Vec<Region>,
     sectors: Range<u64>,
@@ -35,8 +36,8 @@ impl Slot {
     /// ```
     /// use kalyubos::Slot;
     ///
-    /// let guest = Slot::new(0x8000_0000, 0x1_0000, 0..8).console(132, 43).read_only(true);
-    /// assert_eq!(guest.get_console(), (132, 43));
+    /// let guest = Slot::new(0x8000_0000, 0x1_0000, 0..8).with_console(132, 43).with_read_only(true);
+    /// assert_eq!(guest.console(), (132, 43));
     /// ```
     pub fn new(base: u64, len: u64, sectors: Range<u64>) -> Slot {
         Slot {
@@ -56,66 +57,72 @@ impl Slot {
     /// use kalyubos::{Region, Slot};
     ///
     /// const GIB: u64 = 1 << 30;
-    /// let guest = Slot::new(0, 3 * GIB, 0..8).region(4 * GIB, 3 * GIB);
-    /// assert_eq!(guest.get_regions()[1], Region { base: 4 * GIB, len: 3 * GIB });
+    /// let guest = Slot::new(0, 3 * GIB, 0..8).with_region(4 * GIB, 3 * GIB);
+    /// assert_eq!(guest.regions()[1], Region { base: 4 * GIB, len: 3 * GIB });
     /// ```
-    pub fn region(mut self, base: u64, len: u64) -> Slot {
+    pub fn with_region(mut self, base: u64, len: u64) -> Slot {
         self.regions.push(Region { base, len });
         self
     }
 
     /// The size of its console.
-    pub fn console(mut self, cols: u16, rows: u16) -> Slot {
+    pub fn with_console(mut self, cols: u16, rows: u16) -> Slot {
         (self.cols, self.rows) = (cols, rows);
         self
     }
 
     /// How many bytes of its console's output may wait to be taken. A chain that is longer is never put out, so give it
     /// the longest that the guest's driver sends. Linux's console sends up to 32 KiB at once.
-    pub fn outlet(mut self, bytes: u32) -> Slot {
+    pub fn with_outlet(mut self, bytes: u32) -> Slot {
         self.outlet = bytes;
         self
     }
 
     /// Whether its disk refuses writes.
-    pub fn read_only(mut self, refuses: bool) -> Slot {
+    pub fn with_read_only(mut self, refuses: bool) -> Slot {
         self.read_only = refuses;
         self
     }
 
     /// What its disk answers to GET_ID.
-    pub fn identity(mut self, identity: Identity) -> Slot {
+    pub fn with_identity(mut self, identity: Identity) -> Slot {
         self.identity = identity;
         self
     }
 
     /// The regions of its memory.
-    pub fn get_regions(&self) -> &[Region] {
+    #[must_use]
+    pub fn regions(&self) -> &[Region] {
         &self.regions
     }
 
     /// The sectors of the image that its disk shows.
-    pub fn get_sectors(&self) -> Range<u64> {
+    #[must_use]
+    pub fn sectors(&self) -> Range<u64> {
         self.sectors.clone()
     }
 
     /// The columns and rows of its console.
-    pub fn get_console(&self) -> (u16, u16) {
+    #[must_use]
+    pub fn console(&self) -> (u16, u16) {
         (self.cols, self.rows)
     }
 
     /// How many bytes of its console's output may wait.
-    pub fn get_outlet(&self) -> u32 {
+    #[must_use]
+    pub fn outlet(&self) -> u32 {
         self.outlet
     }
 
     /// Whether its disk refuses writes.
-    pub fn get_read_only(&self) -> bool {
+    #[must_use]
+    pub fn is_read_only(&self) -> bool {
         self.read_only
     }
 
     /// What its disk answers to GET_ID.
-    pub fn get_identity(&self) -> Identity {
+    #[must_use]
+    pub fn identity(&self) -> Identity {
         self.identity
     }
 

@@ -54,25 +54,28 @@ fn each_refusal_of_create_is_told() {
         CreateError::ExtentOutside
     );
     assert_eq!(
-        of_one(good.clone().region(MEMORY + LEN, LEN)),
+        of_one(good.clone().with_region(MEMORY + LEN, LEN)),
         CreateError::RegionsNotApart
     );
     for len in [0, 1, 1 << 46] {
         assert_eq!(
-            of_one(good.clone().region(MEMORY + 2 * LEN, len)),
+            of_one(good.clone().with_region(MEMORY + 2 * LEN, len)),
             CreateError::BadMemorySize
         );
     }
     let mut many = good.clone();
     for place in 1..8 {
-        many = many.region(MEMORY + 2 * LEN * place, LEN);
+        many = many.with_region(MEMORY + 2 * LEN * place, LEN);
     }
     assert!(Board::new(&[many.clone()], &[0; 512], 1).is_ok());
     assert_eq!(
-        of_one(many.region(MEMORY + 16 * LEN, LEN)),
+        of_one(many.with_region(MEMORY + 16 * LEN, LEN)),
         CreateError::TooManyRegions
     );
-    assert_eq!(of_one(good.outlet((1 << 24) + 1)), CreateError::BadOutlet);
+    assert_eq!(
+        of_one(good.with_outlet((1 << 24) + 1)),
+        CreateError::BadOutlet
+    );
 }
 
 #[test]
@@ -94,7 +97,7 @@ fn a_slot_that_is_wrong_is_told_by_its_place() {
 /// A board of two guests, of which the first has two chains of one byte on offer in its transmit queue.
 fn two_chains_on_offer(budget: Budget, outlet: u32) -> Board {
     let slots = [
-        Slot::new(MEMORY, LEN, 0..1).outlet(outlet),
+        Slot::new(MEMORY, LEN, 0..1).with_outlet(outlet),
         Slot::new(MEMORY, LEN, 1..2),
     ];
     let mut board = Board::with_budget(&slots, &[0; 1024], 4, budget).expect("a board");
@@ -191,21 +194,18 @@ fn what_waits_is_told_where_output_finds_no_room() {
 fn a_slot_tells_what_it_was_made_with() {
     let identity = Identity::from([9; 20]);
     let slot = Slot::new(MEMORY, LEN, 1..3)
-        .console(132, 43)
-        .outlet(5)
-        .read_only(true)
-        .identity(identity);
+        .with_console(132, 43)
+        .with_outlet(5)
+        .with_read_only(true)
+        .with_identity(identity);
     let memory = Region {
         base: MEMORY,
         len: LEN,
     };
-    assert_eq!(slot.get_regions(), [memory]);
-    assert_eq!(slot.get_sectors(), 1..3);
-    assert_eq!((slot.get_console(), slot.get_outlet()), ((132, 43), 5));
-    assert_eq!(
-        (slot.get_read_only(), slot.get_identity()),
-        (true, identity)
-    );
+    assert_eq!(slot.regions(), [memory]);
+    assert_eq!(slot.sectors(), 1..3);
+    assert_eq!((slot.console(), slot.outlet()), ((132, 43), 5));
+    assert_eq!((slot.is_read_only(), slot.identity()), (true, identity));
 }
 
 #[test]
@@ -271,7 +271,7 @@ fn memory_in_place_is_the_guests() {
 #[test]
 fn memory_in_two_regions_has_a_gap() {
     let second = MEMORY + LEN + 0x1000;
-    let slot = Slot::new(MEMORY, LEN, 0..2).region(second, 0x2000);
+    let slot = Slot::new(MEMORY, LEN, 0..2).with_region(second, 0x2000);
     let mut board = Board::new(&[slot], &[7; 1024], 4).expect("a board");
     for (addr, len) in [(MEMORY, LEN), (second, 0x2000), (second + 0x1fff, 1)] {
         assert_eq!(
@@ -428,7 +428,7 @@ fn get_id(board: &mut Board, slot: u8) -> [u8; 20] {
 #[test]
 fn each_of_64_disks_tells_its_own_identity() {
     let slots: Vec<Slot> = (0..64)
-        .map(|number| Slot::new(MEMORY, LEN, 0..0).identity(Identity::from([number + 1; 20])))
+        .map(|number| Slot::new(MEMORY, LEN, 0..0).with_identity(Identity::from([number + 1; 20])))
         .collect();
     let mut board = Board::new(&slots, &[0; 512], 1).unwrap();
     for number in 0..64 {
@@ -439,7 +439,7 @@ fn each_of_64_disks_tells_its_own_identity() {
 
 #[test]
 fn an_identity_is_a_text_of_20_bytes_at_most() {
-    let slot = |identity| Slot::new(MEMORY, LEN, 0..1).identity(identity);
+    let slot = |identity| Slot::new(MEMORY, LEN, 0..1).with_identity(identity);
     let told = |identity| get_id(&mut Board::new(&[slot(identity)], &[0; 512], 1).unwrap(), 0);
     assert_eq!(
         told("disk-0".parse().unwrap()),

@@ -62,7 +62,7 @@ fn offer(memory: &mut [u8], buffers: &[Buffer], heads: &[u8]) {
 /// Two guests, of which the first has brought up this queue.
 fn board(window: Window, queue: u32, budget: Budget, outlet: u32) -> Board {
     let slots = [
-        Slot::new(MEMORY, LEN, 0..2).outlet(outlet),
+        Slot::new(MEMORY, LEN, 0..2).with_outlet(outlet),
         Slot::new(MEMORY, LEN, 2..2),
     ];
     let mut board = Board::with_budget(&slots, &[7; 1024], 4, budget).expect("a board");
@@ -325,7 +325,7 @@ fn requests_of_a_disk_are_counted_one_by_one() {
 /// What its console puts out is counted beside what its disk does, and so is what finds no room in its outlet.
 #[test]
 fn a_hosted_guest_has_a_console_too() {
-    let slot = Slot::new(MEMORY, LEN, 0..2).outlet(3);
+    let slot = Slot::new(MEMORY, LEN, 0..2).with_outlet(3);
     let mut board = HostedBoard::new(&[slot]).expect("a board");
     for (window, queue) in [(Window::Block, 0), (Window::Console, TRANSMITQ)] {
         for (offset, value) in bring_up(queue) {

@@ -70,7 +70,7 @@ fn a_request_waits_for_the_host() {
         at: MEMORY + at,
         len,
     });
-    assert_eq!(asked.runs, runs);
+    assert_eq!(*asked.runs, runs);
 
     // the guest runs on, but can't reset its device
     assert_eq!(board.read(0, Window::Block, 0x008, 4), Ok(2));
@@ -79,14 +79,7 @@ fn a_request_waits_for_the_host() {
         Err(Error::Busy)
     );
     board.memory(0, MEMORY).expect("a memory")[0x101] = 0xff;
-    assert_eq!(
-        board
-            .operation(0)
-            .expect("a slot")
-            .expect("an operation")
-            .runs,
-        runs
-    );
+    assert_eq!(board.operation(0), Ok(Some(asked)));
 
     board
         .write_memory(0, runs[1].at, &[7; 0x100])
@@ -96,6 +89,55 @@ fn a_request_waits_for_the_host() {
     let memory = board.memory(0, MEMORY).expect("a memory");
     assert_eq!((memory[0], memory[0x6ff], memory[0x302]), (0, 7, 1));
     assert_eq!(board.operation(0), Ok(None));
+}
+
+/// The runs are read while the memory is lent, and on another thread while the guest's calls go on.
+#[test]
+fn an_operation_borrows_no_board() {
+    let mut board = one_read_on_offer();
+    assert!(board.write(0, Window::Block, NOTIFY, 4, 0).unwrap().io);
+    let asked = board.operation(0).unwrap().expect("an operation");
+    for run in &asked.runs {
+        board.memory(0, run.at).unwrap()[..run.len as usize].fill(7);
+    }
+    let memory = board.memory(0, MEMORY).unwrap();
+    assert!(memory[0x400..0x500].iter().all(|byte| *byte == 7));
+    assert_eq!(memory[0x500..0x600], [0; 0x100]);
+    assert!(memory[0x600..0x700].iter().all(|byte| *byte == 7));
+
+    let length = std::thread::spawn(move || asked.runs.iter().map(|run| run.len).sum::<u64>());
+    assert_eq!(board.read(0, Window::Block, 0x008, 4), Ok(2));
+    assert_eq!(length.join().unwrap(), 512);
+    let served = board.complete(0, Outcome::Done).unwrap();
+    assert!(!served.io && served.pending.interrupts.block == 1);
+}
+
+/// A flush has no runs, and an empty list of them is equal to another.
+#[test]
+fn a_flush_has_no_runs() {
+    let mut board = one_read_on_offer();
+    board.memory(0, MEMORY).unwrap()[0x10] = 4; // the request's type, and then no data
+    board.memory(0, MEMORY).unwrap()[0x10e] = 3;
+    assert!(board.write(0, Window::Block, NOTIFY, 4, 0).unwrap().io);
+    let asked = board.operation(0).unwrap().expect("an operation");
+    assert_eq!((asked.kind, asked.start, asked.len), (Kind::Flush, 0, 0));
+    assert!(asked.runs.is_empty() && asked.runs == asked.clone().runs);
+    assert_eq!(format!("{:?}", asked.runs), "[]");
+}
+
+/// What only asks borrows the board as shared: a host asks from several places of one thread.
+#[test]
+fn asking_changes_nothing() {
+    let board = one_read_on_offer();
+    let (first, second) = (&board, &board);
+    let mut status = [0];
+    first.read_memory(0, MEMORY, &mut status).unwrap();
+    assert_eq!(status, [0xff]);
+    assert_eq!(second.read(0, Window::Block, STATUS, 4), Ok(15));
+    assert_eq!(first.interrupts(0).unwrap().block, 0);
+    assert_eq!(second.counters(0).unwrap().notifies, 0);
+    assert_eq!(first.save(0).unwrap().len(), second.saved_len(0).unwrap());
+    assert_eq!(first.operation(0), Ok(None));
 }
 
 #[test]

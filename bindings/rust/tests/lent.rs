@@ -11,8 +11,9 @@ const PAGE: usize = 0x1000;
 
 /// Two guests at the same addresses, of two regions of a page each.
 fn guests() -> [Slot; 2] {
-    [0, 1]
-        .map(|sector| Slot::new(FIRST, PAGE as u64, sector..sector + 1).region(SECOND, PAGE as u64))
+    [0, 1].map(|sector| {
+        Slot::new(FIRST, PAGE as u64, sector..sector + 1).with_region(SECOND, PAGE as u64)
+    })
 }
 
 /// The pages of both guests, of which each byte is the page's number, from 1 on.

@@ -92,7 +92,7 @@ fn a_guest_goes_on_where_it_was_saved() {
 
 #[test]
 fn a_short_buffer_is_left_as_it_was() {
-    let mut board = Board::new(&[slot()], &[7; 1024], 1).expect("a board");
+    let board = Board::new(&[slot()], &[7; 1024], 1).expect("a board");
     let len = board.saved_len(0).expect("a length");
     let mut buffer = vec![0xaa; len + 1];
     assert_eq!(

@@ -166,7 +166,7 @@ fn guest(board: &mut Board) -> Result<(), Error> {
 fn main() -> Result<(), Box<dyn error::Error>> {
     let mut image = vec![0; 2 * 512];
     image[512..532].copy_from_slice(b"hello from sector 1\n");
-    let slot = Slot::new(MEMORY, 0x1_0000, 0..2).identity("a disk of two".parse()?);
+    let slot = Slot::new(MEMORY, 0x1_0000, 0..2).with_identity("a disk of two".parse()?);
     let budget = Budget {
         chains: NonZeroU32::new(1),
         bytes: None,

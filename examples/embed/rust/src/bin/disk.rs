@@ -2,7 +2,7 @@
 //! a board of its own and a thread of its own, which is its CPU and makes its calls; its disk is a thread that knows the file
 //! and no guest. Guests share nothing, and need no lock.
 
-use kalyubos::{HostedBoard, Kind, Outcome, Run, Served, Slot, Window};
+use kalyubos::{HostedBoard, Kind, Operation, Outcome, Served, Slot, Window};
 use std::error::Error;
 use std::fs::{self, File};
 use std::io;
@@ -23,26 +23,24 @@ const SECTOR_LEN: usize = 512;
 
 /// What is asked of a file, with the bytes that go to it, or with room for those that come.
 struct Order {
-    kind: Kind,
-    start: u64,
+    asked: Operation,
     bytes: Vec<u8>,
-    zeroes: Vec<Run>,
-    stable: bool,
 }
 
 impl Order {
     fn perform(&mut self, file: &File) -> io::Result<()> {
-        match self.kind {
-            Kind::In => file.read_exact_at(&mut self.bytes, self.start)?,
-            Kind::Out => file.write_all_at(&self.bytes, self.start)?,
+        let asked = &self.asked;
+        match asked.kind {
+            Kind::In => file.read_exact_at(&mut self.bytes, asked.start)?,
+            Kind::Out => file.write_all_at(&self.bytes, asked.start)?,
             Kind::Flush => {}
             Kind::Zeroes => {
-                for run in &self.zeroes {
+                for run in &asked.runs {
                     file.write_all_at(&vec![0; run.len as usize], run.at)?;
                 }
             }
         }
-        if self.stable || self.kind == Kind::Flush {
+        if asked.stable || asked.kind == Kind::Flush {
             file.sync_data()?;
         }
         Ok(())
@@ -110,39 +108,24 @@ impl Guest {
         let Some(asked) = self.board.operation(0)? else {
             return Ok(());
         };
-        let runs = asked.runs.to_vec();
-        let mut order = Order {
-            kind: asked.kind,
-            start: asked.start,
-            bytes: vec![0; asked.len as usize],
-            zeroes: Vec::new(),
-            stable: asked.stable,
-        };
-        match order.kind {
-            Kind::Out => {
-                let mut rest = &mut order.bytes[..];
-                for run in runs {
-                    let (part, behind) = rest.split_at_mut(run.len as usize);
-                    self.board.read_memory(0, run.at, part)?;
-                    rest = behind;
-                }
+        let mut bytes = vec![0; asked.len as usize];
+        if asked.kind == Kind::Out {
+            let mut rest = &mut bytes[..];
+            for run in &asked.runs {
+                let (part, behind) = rest.split_at_mut(run.len as usize);
+                self.board.read_memory(0, run.at, part)?;
+                rest = behind;
             }
-            Kind::Zeroes => order.zeroes = runs,
-            Kind::In | Kind::Flush => {}
         }
-        Ok(self.orders.send(order)?)
+        Ok(self.orders.send(Order { asked, bytes })?)
     }
 
     /// Waits for the disk, and completes what it did, with the bytes of an IN.
     fn wait_for_disk(&mut self) -> Result<()> {
         let (order, outcome) = self.ends.recv()?;
-        if order.kind == Kind::In && outcome == Outcome::Done {
-            let runs = self
-                .board
-                .operation(0)?
-                .map_or(Vec::new(), |asked| asked.runs.to_vec());
+        if order.asked.kind == Kind::In && outcome == Outcome::Done {
             let mut rest = &order.bytes[..];
-            for run in runs {
+            for run in &order.asked.runs {
                 let (part, behind) = rest.split_at(run.len as usize);
                 self.board.write_memory(0, run.at, part)?;
                 rest = behind;
