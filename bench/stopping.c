@@ -19,7 +19,7 @@
 
 #include "cpus.h"
 
-enum { PAGE = 4096, ROUNDS = 4001, PAUSE = 200, NO_KVM = 77 };
+enum { PAGE = 4096, ROUNDS = 2001, PAUSE = 200, NO_KVM = 77 };
 
 /* `jmp .` of real mode, which the CPUs run. */
 static const uint8_t LOOP[] = { 0xeb, 0xfe };
@@ -88,12 +88,27 @@ static int compare(const void *left, const void *right)
     return (a > b) - (a < b);
 }
 
+/* Waits until all CPUs are on their way into the guest, and lets them run there for a while. */
+static void let_run(struct cpus *cpus)
+{
+    bool all = false;
+    while (!all) {
+        usleep(PAUSE);
+        pthread_mutex_lock(&cpus->lock);
+        all = true;
+        for (unsigned i = 0; i < cpus->len; i++)
+            all = all && cpus->all[i].runs;
+        pthread_mutex_unlock(&cpus->lock);
+    }
+    usleep(PAUSE);
+}
+
 /* Stops the CPUs in rounds, and prints the times within which half of the rounds and a tenth of them stay. */
 static void measure(struct cpus *cpus)
 {
     static double times[ROUNDS];
     for (unsigned i = 0; i < ROUNDS; i++) {
-        usleep(PAUSE);
+        let_run(cpus);
         double start = microseconds();
         cpus_stop(cpus);
         times[i] = microseconds() - start;

@@ -1,4 +1,4 @@
-"""What stays true of the hosts in C: the header has the library's exports, README's lines compile, and the parts of examples do
+"""What stays true of the hosts in C: the header has the library's exports, the pages' lines compile, and the parts of examples do
 what their texts say, over a stub of the library, and over the library where it is built."""
 import difflib
 import os
@@ -55,6 +55,30 @@ def readme():
         source.write_text(FIRST_HOST % lines)
         wrong = compiled(f"{folder}/first_host.o", [source, "-c"])
     return not wrong, wrong or [f"its {len(lines.splitlines())} lines of C compile"]
+
+
+# What stands before the lines of C in docs/EMBEDDING.md: what is the reader's own.
+EXITS = """#include "kalyubos.h"
+#include "file_disk.h"
+static struct kalyubos board;
+struct access { bool is_store; uint16_t offset; uint8_t width; uint32_t value; };
+struct guest { struct kalyubos board; struct kalyubos_pending lines; struct file_disk disk; };
+void set_line(uint8_t slot, uint8_t window, bool is_high);
+bool show_output(uint8_t slot);
+void repeat_later(struct guest *guest);
+"""
+
+
+def embedding():
+    """The lines of C of docs/EMBEDDING.md, with the header and file_disk.h."""
+    if not shutil.which(COMPILER):
+        return True, [f"no {COMPILER} to compile its lines of C with"]
+    blocks = re.findall(r"^```c\n(.*?)^```", (TOP / "docs/EMBEDDING.md").read_text(encoding="utf-8"), re.MULTILINE | re.DOTALL)
+    with tempfile.TemporaryDirectory() as folder:
+        source = pathlib.Path(folder, "exits.c")
+        source.write_text(EXITS + "\n".join(blocks))
+        wrong = compiled(f"{folder}/exits.o", ["-I", EMBED, source, "-c"])
+    return not wrong, wrong or [f"its {sum(len(block.splitlines()) for block in blocks)} lines of C compile"]
 
 
 RECORDER = ["record-test.c", "record.c", "watch.c", "mistake.c", "window.c", "queue.c", "chain.c"]
@@ -177,6 +201,7 @@ CHECKS = {
     "cpu": lambda: self_test("cpu-test.c", "cpu.c"),
     "virtqueue": lambda: self_test("queue-test.c", "queue.c", "chain.c"),
     "readme": readme,
+    "embedding": embedding,
     "recorder": recorder,
     "full outlet": full_outlet,
     "disks": disks,

@@ -1,8 +1,9 @@
 /*
- * The virtual CPUs of one guest over KVM, each on a thread of its own, which all stand while a call for their guest runs.
+ * The virtual CPUs of one guest over KVM, each on a thread of its own, which all stand while a call touches their guest's
+ * memory: the header names these calls.
  *
- * A CPU's thread runs it by cpus_run. Before a call for the guest a thread stops them by cpus_stop, and behind it, once no
- * service of the guest is paused, lets them go by cpus_go. Calls of several threads so come one after another.
+ * A CPU's thread runs it by cpus_run. Before such a call a thread stops them by cpus_stop, and behind it, once no service of
+ * the guest is paused, lets them go by cpus_go. Calls of several threads so come one after another.
  */
 #ifndef CPUS_H
 #define CPUS_H
