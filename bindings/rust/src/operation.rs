@@ -28,7 +28,7 @@ pub struct Run {
     pub len: u64,
 }
 
-/// Where the bytes of an operation lie: a slice of 256 runs at most, which borrows no board and no heap.
+/// Where the bytes of an operation lie: a slice of 256 runs at most, in 4 KiB of its own.
 ///
 /// ```
 /// # use kalyubos::Runs;
