@@ -22,9 +22,9 @@
  *    kalyubos_completed, kalyubos_read_memory and kalyubos_write_memory. While one of them runs for a guest, and from a
  *    KALYUBOS_MORE until its service is done, no CPU of that guest runs, and nobody else reads or writes its memory in
  *    place (kalyubos_memory), also by DMA. Other guests' CPUs may run: a call touches its own guest's memory alone.
- *    During every other call the guest's CPUs and DMA may run. Each kalyubos_read is such a call, and so is each
- *    kalyubos_write at another offset; Linux's interrupt handler makes one of either. That they touch no guest memory is
- *    tested (examples/embed/untouched.c), and not proved.
+ *    During every other call but kalyubos_destroy the guest's CPUs and DMA may run. Each kalyubos_read is such a call,
+ *    and so is each kalyubos_write at another offset; Linux's interrupt handler makes one of either. That they touch no
+ *    guest memory is tested (examples/embed/untouched.c), and not proved.
  *  - Where the host serves the disks (kalyubos_create_hosted), it says of an operation that it is done only once it is,
  *    as kalyubos_operation has it, and ends each transfer before kalyubos_destroy.
  *

@@ -4,8 +4,8 @@
  * store there is an exit, which becomes one call; and its devices' lines are interrupts of the virtual CPU.
  *
  * `kvm flood` gives guest 0 the program of kvm-flood.S, which puts out more than its outlet keeps; guest 1 ends as before.
- * `kvm pair` gives guest 0 a second CPU, with the program of kvm-second.S, which counts in memory: while a call for the guest
- * runs both CPUs stand, by cpus.c, so the count stays.
+ * `kvm pair` gives guest 0 a second CPU, with the program of kvm-second.S, which counts in memory: during a store to a window
+ * both CPUs stand, by cpus.c, so the count stays. A load touches no memory of the guest, and stops none.
  * `kvm hosted` has no image: each disk is a file of its own, which file_disk.c reads while the guest runs on.
  * `kvm lent` has the guests' memory in a file of memory, which it maps and lends to the board.
  * Where /dev/kvm can't be opened the host says so, with status 77.
@@ -142,7 +142,7 @@ static void power_on_second(struct guest *guest, int kvm)
     guest->second = add_cpu(guest, kvm, SECOND);
 }
 
-/* ---- the calls for a guest, in which its CPUs stand */
+/* ---- the calls that may touch a guest's memory, in which its CPUs stand */
 
 static uint32_t counted(const struct guest *guest)
 {
@@ -280,7 +280,20 @@ static void store(struct guest *guest, uint8_t window, uint16_t offset, uint8_t 
     }
 }
 
-/* A load or a store of a CPU at a window. All CPUs of its guest stand until its service has ended. */
+/* A load, during which the guest's other CPUs run on. Where one of them has a service paused, it waits for the end of that. */
+static uint32_t load(const struct guest *guest, uint8_t window, uint16_t offset, uint8_t width)
+{
+    uint32_t value, answer;
+    do {
+        pthread_mutex_lock(&lock);
+        answer = kalyubos_read(&board, guest->slot, window, offset, width, &value);
+        pthread_mutex_unlock(&lock);
+    } while (answer == KALYUBOS_BUSY);
+    must_do(answer, "read");
+    return value;
+}
+
+/* A load or a store of a CPU at a window. In a store all CPUs of its guest stand until its service has ended. */
 static void access_window(struct guest *guest, struct kvm_run *run)
 {
     uint64_t place = run->mmio.phys_addr - WINDOWS;
@@ -290,16 +303,16 @@ static void access_window(struct guest *guest, struct kvm_run *run)
         memset(data, 0xff, sizeof run->mmio.data);
         return;
     }
-    begin_calls(guest);
     if (run->mmio.is_write) {
         memcpy(&value, data, width < 4 ? width : 4);
+        begin_calls(guest);
         store(guest, window, place % PAGE, width, value);
+        end_calls(guest);
     } else {
-        must_do(kalyubos_read(&board, guest->slot, window, place % PAGE, width, &value), "read");
+        value = load(guest, window, place % PAGE, width);
         memset(data, 0, sizeof run->mmio.data);
         memcpy(data, &value, sizeof value);
     }
-    end_calls(guest);
 }
 
 /* A line that is high interrupts the CPU as soon as it can be, and until its driver has acknowledged what it tells. */
