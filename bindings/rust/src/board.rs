@@ -90,6 +90,11 @@ impl Pending {
 ///
 /// A board is `Send` and not `Sync`: one thread at a time calls it. Threads that share it put it into a `Mutex`, and
 /// what each guest sees is the same in whichever order they take the lock.
+///
+/// ```compile_fail
+/// fn is_sync<T: Sync>() {}
+/// is_sync::<kalyubos::Board>();
+/// ```
 #[derive(Debug)]
 pub struct Board {
     // It holds a board from `new` until the drop.
