@@ -1,5 +1,6 @@
 """What stays true of the suite: its rules, its matrix and the examples agree with the model, `against` finds a wrong device, and
 a tool that can't run a device says so."""
+import os
 import pathlib
 import shutil
 import tempfile
@@ -71,9 +72,25 @@ def reports():
     return not wrong, wrong or ["devices that take all, or plain traces alone, get a report, and a status is said to be a request's"]
 
 
+def packaged():
+    """A suite that a package owns, as links to this one, takes what is made from the user's cache, and writes nothing beside itself."""
+    with tempfile.TemporaryDirectory() as folder:
+        suite, cache = pathlib.Path(folder, "crates/conformance"), pathlib.Path(folder, "cache/kalyubos")
+        suite.mkdir(parents=True)
+        cache.mkdir(parents=True)
+        for name in ("data", "matrix", "mutants", "run-on", "suite", "RULES.md", "STANDARD.md"):
+            (suite / name).symlink_to(TOP / "crates/conformance" / name)
+        for name in ("docs", "fuzz"):
+            pathlib.Path(folder, name).symlink_to(TOP / name)
+        (cache / "data").symlink_to(TOP / "crates/conformance/data")
+        (suite / "packaged").touch()
+        ran = called(suite / "run-on", "--quiet", "--adapter", "--only", "registers", TOP / MODEL, env={**os.environ, "XDG_CACHE_HOME": f"{folder}/cache"})
+        good = ran.returncode == 0 and not (suite / "out").exists() and (cache / "out/scenarios.json").exists()
+    return good, ["its scenarios are in the user's cache"] if good else (ran.stdout + ran.stderr).splitlines()[-5:]
+
+
 # The scenarios that tables make, and their pages, are made by the first check, so that no two others make them at once.
-AFTER = {name: ["matrix"] for name in ("links", "named", "words", "rules", "against", "no device", "reports", "helps",
-                                       "release")}
+AFTER = {name: ["matrix"] for name in ("links", "named", "words", "rules", "against", "no device", "reports", "packaged", "helps")}
 CHECKS = {
     "matrix": lambda: script(TOP / "crates/conformance/matrix/make"),
     "rules": lambda: script(TOP / "crates/conformance/check-rules"),
@@ -81,4 +98,5 @@ CHECKS = {
     "against": against,
     "no device": no_device,
     "reports": reports,
+    "packaged": packaged,
 }

@@ -9,7 +9,7 @@ import json
 import os
 
 from suite import made, scenarios
-from suite.made import DATA, STATE
+from suite.made import DATA, MADE, STATE
 
 from . import page, quick, rows
 from .story import Disagrees
@@ -31,6 +31,7 @@ class Wrong(Exception):
 @contextlib.contextmanager
 def alone():
     """Keeps others from making the same at once."""
+    os.makedirs(MADE, exist_ok=True)
     with open(f"{STATE}.lock", "w", encoding="utf-8") as lock:
         with contextlib.suppress(ImportError):
             import fcntl
@@ -40,7 +41,7 @@ def alone():
 
 def write(path, content):
     """Writes a file, where it isn't as it must be."""
-    path = os.path.join(DATA, path)
+    path = os.path.join(MADE, path)
     with contextlib.suppress(OSError), open(path, "rb") as file:
         if file.read() == content:
             return
@@ -99,7 +100,7 @@ def sum_of(digests):
 def sum_there(one):
     """The sum of a table's files as they lie there, or none."""
     try:
-        return sum_of((path, made.digest_of(os.path.join(DATA, path))) for path in one["files"])
+        return sum_of((path, made.digest_of(os.path.join(MADE, path))) for path in one["files"])
     except OSError:
         return None
 
@@ -144,7 +145,7 @@ def remember(known, name, one):
     """Puts a table into the state, and takes away what it made before and no longer does."""
     for path in set(known.get(name, {}).get("files", ())) - set(one["files"]):
         with contextlib.suppress(OSError):
-            os.remove(os.path.join(DATA, path))
+            os.remove(os.path.join(MADE, path))
     known[name] = one
 
 

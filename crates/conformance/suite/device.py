@@ -54,7 +54,7 @@ class Device:
         with tempfile.TemporaryDirectory() as room:
             with open(os.path.join(room, "image"), "wb") as file:
                 file.write(scenario.image)
-            words, held = self.words(room, scenario.path + ".trace", scenario)
+            words, held = self.words(room, scenario.file(".trace"), scenario)
             ran = called(words, self.seconds)
             if ran is None:
                 return Outcome(late=True)

@@ -10,7 +10,7 @@ from typing import NamedTuple
 
 from . import made, trace
 
-KEPT = os.path.join(made.CRATE, "out", "scenarios.json")
+KEPT = os.path.join(made.OUT, "scenarios.json")
 # What follows from a scenario's files follows by these, too.
 SOURCES = [os.path.join(made.CRATE, "suite", name) for name in ("index.py", "trace.py", "calls.py", "models.py", "scenarios.py")] + list(made.MODEL)
 ENDS = (".trace", ".records", ".before", ".fails", ".after")

@@ -1,7 +1,8 @@
 """Whether what is made of the suite is there as its tables have it; where it isn't, it is made.
 
-Scenarios are made by `matrix/make` from the tables of the matrix and from data/rows. Of each table the file data/.made says of which
-sources it was made, and the sizes of its files; so where nothing changed nothing is made.
+Scenarios are made by `matrix/make` from the tables of the matrix and from data/rows. Of each table the file .made beside them says of
+which sources it was made, and the sizes of its files; so where nothing changed nothing is made. They are made in data, or in the user's
+cache where a package or another user owns the suite.
 """
 import functools
 import hashlib
@@ -14,7 +15,13 @@ import sys
 
 CRATE = os.path.dirname(os.path.dirname(os.path.abspath(__file__)))
 DATA, ROWS, MATRIX = os.path.join(CRATE, "data"), os.path.join(CRATE, "data", "rows"), os.path.join(CRATE, "matrix")
-STATE, PAGES = os.path.join(DATA, ".made"), [os.path.join(DATA, name, "README.md") for name in ("matrix", "large")]
+# A package puts this file beside the suite: its folder then isn't written to, whoever calls it.
+PACKAGED = os.path.join(CRATE, "packaged")
+IS_OWN = os.access(DATA, os.W_OK) and not os.path.exists(PACKAGED)
+CACHE = os.path.join(os.environ.get("XDG_CACHE_HOME") or os.path.join(os.path.expanduser("~"), ".cache"), "kalyubos")
+# Where scenarios are made, and where else what is kept of a run goes.
+MADE, OUT = (DATA, os.path.join(CRATE, "out")) if IS_OWN else (os.path.join(CACHE, "data"), os.path.join(CACHE, "out"))
+STATE, PAGES = os.path.join(MADE, ".made"), [os.path.join(MADE, name, "README.md") for name in ("matrix", "large")]
 MODEL = (os.path.join(CRATE, "mutants", "model.py"), os.path.join(CRATE, "..", "..", "fuzz", "reader.py"))
 # The modules that one stands on: `from .NAME import ..`, or `from . import NAME`.
 IMPORTED = re.compile(r"^from \.(?:(\w+) import | import (\w+)$)", re.MULTILINE)
@@ -81,17 +88,24 @@ def state():
 
 @functools.lru_cache(maxsize=None)
 def stamps_in(folder):
-    """The files of a folder of data by their names, each with its size and when it was written."""
+    """The files of a folder of data by their names, each with its size and when it was written, made or not."""
     found = {}
-    try:
-        with os.scandir(os.path.join(DATA, folder)) as entries:
-            for entry in entries:
-                if entry.is_file():
-                    what = entry.stat()
-                    found[entry.name] = (what.st_size, what.st_mtime_ns)
-    except OSError:
-        pass
+    for root in dict.fromkeys((DATA, MADE)):
+        try:
+            with os.scandir(os.path.join(root, folder)) as entries:
+                for entry in entries:
+                    if entry.is_file():
+                        what = entry.stat()
+                        found[entry.name] = (what.st_size, what.st_mtime_ns)
+        except OSError:
+            pass
     return found
+
+
+def place_of(path):
+    """Where a file of data is, by its path there: among those that are made, or else among the others."""
+    there = os.path.join(MADE, path)
+    return there if IS_OWN or os.path.exists(there) else os.path.join(DATA, path)
 
 
 def is_there(path, size):
@@ -109,7 +123,7 @@ def stale(known):
 def files():
     """The files that are made, as paths."""
     paths = [path for one in state().values() for path in one["files"]]
-    return [pathlib.Path(path) for path in [STATE, *PAGES, *(os.path.join(DATA, path) for path in paths)]]
+    return [pathlib.Path(path) for path in [STATE, *PAGES, *(os.path.join(MADE, path) for path in paths)]]
 
 
 def ensure():
@@ -117,6 +131,7 @@ def ensure():
     known = state()
     if set(known) == set(tables()) and not stale(known) and all(map(os.path.exists, PAGES)):
         return
+    print(f"The scenarios of the tables are made in {MADE}: some 50 seconds of processor time at first.", file=sys.stderr, flush=True)
     ran = subprocess.run([sys.executable, os.path.join(MATRIX, "make"), "--needed"], stdout=subprocess.PIPE, text=True)
     stamps_in.cache_clear()
     if ran.returncode:

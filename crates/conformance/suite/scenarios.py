@@ -6,9 +6,9 @@ import re
 
 from . import index, made, trace
 
-CRATE = os.path.dirname(os.path.dirname(os.path.abspath(__file__)))
+CRATE = made.CRATE
 # The worked scenarios, those that are made from tables, and those of these with a large image, which the gate's program doesn't replay.
-FOLDERS = [os.path.join(CRATE, "data", name) for name in ("scenarios", "matrix", "large")]
+FOLDERS = [os.path.join(made.DATA, "scenarios"), os.path.join(made.MADE, "matrix"), os.path.join(made.MADE, "large")]
 SECTOR = 512
 # The files that a scenario may have.
 ENDS = (".trace", ".records", ".before", ".fails", ".after")
@@ -29,9 +29,9 @@ class Scenario:
     def part(self):
         return os.path.basename(self.folder)
 
-    @property
-    def path(self):
-        return os.path.join(self.folder, self.name)
+    def file(self, end):
+        """Where one of its files is, if it has it."""
+        return made.place_of(f"{self.part}/{self.name}{end}")
 
     def stamp(self, end):
         """The size of one of its files and when it was written, or None where it has no such file."""
@@ -39,7 +39,7 @@ class Scenario:
 
     def read(self, end):
         try:
-            with open(self.path + end, "rb") as file:
+            with open(self.file(end), "rb") as file:
                 return file.read()
         except OSError:
             return None
