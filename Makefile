@@ -34,7 +34,7 @@ show: vshow
 # Proves and builds vshow.
 vshow:
 	@packaging/progress show vshow crates/show/out/run.log run -- ../../examples/broken-driver.trace
-	@cp crates/show/out/show crates/show/out/vshow
+	@cp --remove-destination crates/show/out/show crates/show/out/vshow
 
 # Opens pages of vshow in a headless Chromium, and compares what they show with the text; it wants chromium and python3.
 look-test: vshow
@@ -95,13 +95,14 @@ uninstall:
 dist:
 	@packaging/release dist
 
-# Packs the same into three Debian packages, by dpkg-deb.
+# Packs the same into Debian packages, by dpkg-deb.
 deb:
 	@packaging/release deb
 
-# Makes the archive and the packages twice, compares them byte for byte, and checks the links of their pages.
+# Makes the archive and the packages twice, compares them byte for byte, checks the links of their pages, and has lintian judge the
+# packages where it is installed.
 dist-check:
-	@packaging/release check
+	@packaging/release check --judge
 
 # Measures the built program over generated traces.
 bench: $(if $(UNPROVED),unproved-fast)
