@@ -1,5 +1,5 @@
-"""What stays true of packaging: one version everywhere, `make run` and `make prove` tell how far they are, and packages come out
-the same twice."""
+"""What stays true of packaging: one version everywhere, `make run`, `make prove` and `make library` tell how far they are and prove
+nothing twice, packages come out the same twice, and pages for man have each option."""
 import os
 import pathlib
 import re
@@ -8,7 +8,7 @@ import subprocess
 import sys
 import tempfile
 
-from .common import TOP, script
+from .common import COMPILER, TOP, called, script
 
 # Where the version stands, as the header's number or as words.
 VERSIONS = {
@@ -65,10 +65,10 @@ RUN_CALLS = [
     ("run TRACE=trace", False, None, 2, "rt isn't installed: vreplay can't be built", "proof", ""),
     ("run TRACE=trace", True, None, 0, "without proof", "Replaying", "try"),
     ("prove TRACE=trace", True, None, 0, "] chain, ", "talk of the prover", "run"),
-    ("prove TRACE=trace", True, None, 0, "crates/vreplay/out/run.log", "40 of 98", "run"),
+    ("prove TRACE=trace", True, None, 0, "Replaying trace:", "Proving", ""),
     ("run TRACE=trace", False, None, 0, "Replaying trace:", "proof", ""),
     ("run TRACE=trace", True, "crates/chain/src/lib.rt", 0, "The sources changed since vreplay was proved", "Replaying", "try"),
-    ("prove TRACE=trace", True, None, 0, "Replaying trace:", "without proof", "run"),
+    ("prove TRACE=trace", True, None, 0, "crates/vreplay/out/run.log", "40 of 98", "run"),
     ("run TRACE=trace", True, "crates/vreplay/out/vreplay", 0, "No proved vreplay is there", "Replaying", "try"),
 ]
 
@@ -132,13 +132,80 @@ def renewed(folder, environment):
     return [] if good else [f"on a terminal: {shown!r}"]
 
 
+# Stand for rt and rattle in a kit. Each tells of a call and builds an archive.
+STAND_FOR_KIT = {"rt": """#!/bin/sh
+[ "$1" = version ] && echo "a kit" && exit
+echo "rt $1" >> "$CALLS"
+mkdir -p out
+echo archive > out/libboard_ffi.a
+""", "rattle": """#!/bin/sh
+echo "rattle $1" >> "$CALLS"
+for word; do last=$word; done
+[ ! -e "$FAILS" ] || exit 1
+echo archive > "$last"
+"""}
+
+
+def over_gate():
+    """The library for C after a gate, in a scratch folder with stand-ins for rt and rattle: it is built over what the gate left, by
+    rattle alone, and by rt where a source changed since, a crate lacks its library, or rattle fails."""
+    wrong = []
+    with tempfile.TemporaryDirectory() as name:
+        folder = pathlib.Path(name)
+        scratch(folder)
+        calls, fails = folder / "calls", folder / "fails"
+        (folder / "kit/bin").mkdir(parents=True)
+        for tool, text in STAND_FOR_KIT.items():
+            (folder / "kit/bin" / tool).write_text(text)
+            (folder / "kit/bin" / tool).chmod(0o755)
+        around = dict(os.environ, PATH=f"{folder}/kit/bin:{folder}/others", CALLS=str(calls), FAILS=str(fails))
+
+        def built(change):
+            """The status and the calls that the library takes after a change of what the gate left."""
+            shutil.rmtree(folder / "crates", ignore_errors=True)
+            subprocess.run([sys.executable, "-c", LEAVE], cwd=folder / "packaging", check=True)
+            calls.write_text("")
+            change()
+            ran = subprocess.run(["packaging/progress", "board_ffi", "the library", f"{folder}/log", "lib"], cwd=folder, env=around, capture_output=True)
+            return ran.returncode, calls.read_text().split("\n")[:-1]
+
+        board = folder / "crates/board"
+        for what, change, expected in (("as the gate left it", lambda: None, ["rattle build"]),
+                                       ("after a change", lambda: (board / "src/lib.rt").write_text("changed"), ["rt lib"]),
+                                       ("without a library", lambda: (board / "out/board.library").unlink(), ["rt lib"]),
+                                       ("with another library", lambda: (board / "out/rlib/board.rlib/format").write_text("other"), ["rt lib"]),
+                                       ("where rattle fails", fails.touch, ["rattle build", "rt lib"])):
+            found = built(change)
+            wrong += [] if found == (0, expected) else [f"{what}: {found}"]
+    return not wrong, wrong or ["it is proved alone after a gate, and with what it stands on after a change"]
+
+
+# What a gate leaves of each crate that passed, run in packaging.
+LEAVE = """
+import over_gate, proving
+for crate in proving.uses():
+    for path in (proving.TOP / "crates" / crate / "src/lib.rt", over_gate.library(crate) / "format"):
+        path.parent.mkdir(parents=True)
+        path.write_text(crate)
+over_gate.note(proving.uses())
+"""
+
+
+# Stands for what is built, as a program and as a library.
+STANDS_FOR_BUILT = "int main(void) { return 0; }\n"
+NUMBERED = "-Wl,--build-id=sha1"
+STAND_INS = {"vreplay": [NUMBERED], "vshow": [NUMBERED], "libkalyubos.so": [NUMBERED, "-shared", "-fPIC"], "libkalyubos.a": ["-c"]}
+
+
 def release():
     """The archive and the packages, of stand-ins for what is built: each comes out twice the same, and its links lead to its pages."""
     if not shutil.which("git") or not (TOP / ".git").exists():
         return True, ["not tried: no checkout of git"]
+    if not shutil.which(COMPILER) or not shutil.which("objcopy"):
+        return True, [f"not tried: no {COMPILER} or objcopy"]
     with tempfile.TemporaryDirectory() as folder:
-        for name in ("libkalyubos.a", "libkalyubos.so", "vreplay", "vshow"):
-            pathlib.Path(folder, name).write_text("stands for what is built\n")
+        for name, flags in STAND_INS.items():
+            subprocess.run([COMPILER, "-x", "c", *flags, "-o", f"{folder}/{name}", "-"], input=STANDS_FOR_BUILT, text=True, check=True)
         good, said = script(TOP / "packaging/release", "check", "--built", folder, "--level", "1")
         number = spelled(re.search(VERSIONS["README.md"][0], (TOP / "README.md").read_text(encoding="utf-8"), re.MULTILINE)[1])
         pathlib.Path(folder, "vreplay").write_text(f"stands for {number}-unproved\n")
@@ -146,4 +213,33 @@ def release():
     return good and not is_packed, said + ([refused[-1]] if is_packed else [])
 
 
-CHECKS = {"version": version, "make run": make_run, "release": release}
+
+def options_in(text):
+    """The options that a text of --help lists, each at the beginning of its line."""
+    return {it for line in re.findall(r"^  (-.*?)(?:  |$)", text, re.MULTILINE) for it in re.findall(r"(?<![\w-])--?(?:[A-Za-z][\w-]*)?(?= |,|$)", line)}
+
+
+def help_of(program):
+    """What a program says by --help: those in Rattle by their source, those in Python by a call."""
+    if program.startswith("kalyubos-"):
+        return called(TOP / "crates/conformance" / program.removeprefix("kalyubos-"), "--help").stdout
+    source = (TOP / "crates" / {"vshow": "show"}.get(program, program) / "src/program.rt").read_text(encoding="utf-8")
+    return re.search(r'^const HELP: &str =\s*"(.*?)";', source, re.MULTILINE | re.DOTALL)[1]
+
+
+def manuals():
+    """That each page for man has the options of its program's --help and no other, and that mandoc finds no fault in it."""
+    found, wrong = 0, []
+    for path in sorted((TOP / "packaging/man").glob("*.1")):
+        text = path.read_text(encoding="utf-8")
+        tags = "\n".join(re.findall(r"^\.TP\n(.*)", text, re.MULTILINE)).replace("\\-", "-")
+        said, told = set(re.findall(r'(?<![\w-])--?(?:[A-Za-z][\w-]*)?(?=[ ",]|$)', tags, re.MULTILINE)), options_in(help_of(path.stem))
+        found += len(told)
+        wrong += [f"{path.name}: {it} is {'not in --help' if it in said else 'missing'}" for it in sorted(said ^ told)]
+        if shutil.which("mandoc"):
+            page = text.replace("@DATE@", "2026-01-01").replace("@VERSION@", "0")
+            wrong += [f"{path.name}: {line}" for line in called("mandoc", "-Tlint", "-Wstyle", input=page).stdout.splitlines()]
+    return not wrong, wrong or [f"{found} options, each of --help"]
+
+
+CHECKS = {"version": version, "make run": make_run, "over gate": over_gate, "release": release, "manuals": manuals}
