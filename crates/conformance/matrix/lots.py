@@ -396,6 +396,7 @@ class Lots(Guest):
             queue.left = queue.number - queue.passed if dice.is_one_in(2) else 0
         elif what == 8:
             window.interrupts = dice.below(4)
+            window.status = dice.one((0x0b, 0x0f, 0x4f, 0x8f, 0x0c, 0x08)) if window.status & 8 else window.status & 0xf7
         elif what == 9:
             window.selectors = [dice.below(3) for _ in range(4)]
         elif what == 10:
