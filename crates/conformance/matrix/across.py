@@ -4,7 +4,7 @@ from .by_hand import written_out
 from .drivers import KINDS, WRITE, Buffer
 from .follows import Guest, Life, Setup, Wide
 from .requests import IN, OUT, WRITE_ZEROES, header, segment
-from .story import SECTOR, Slot
+from .story import BASE, SECTOR, Slot
 
 TITLE = "Across a power of two"
 HOW = ("A memory lies on both sides of 2^16, 2^31, 2^32, 2^40 and 2^63. Each area of a queue, a table, a header, data, segments, a text, typed "
@@ -39,6 +39,8 @@ def stories():
             yield areas(kind, power)
             yield chains(kind, power)
             yield asked(kind, power)
+    for kind in KINDS:
+        yield sectors(kind)
 
 
 def by_hand():
@@ -119,6 +121,27 @@ def asked(kind, power):
                 guest.look(done, 1)
                 guest.ends("b", 0)
     return of(kind, power, "what_is_asked", script, Wide, hosted=True)
+
+
+def sectors(kind):
+    """Requests of a hosted disk whose sectors lie across a power of two, as sectors or as bytes."""
+    def script(life):
+        guest = Across(life, BASE + HALF)
+        guest.bring_up("b", Setup(False, kind == "packed", 8, 0))
+        data, done = guest.base + 0x8000, guest.base + 0x9000
+        for power in (7, 8, 15, 16, 22, 23, 24, 31, 32, 33, 40):
+            for first in ((1 << power) - 2, (1 << power) - 1, 1 << power):
+                for content in (header(IN, first), header(OUT, first) + bytes(3 * SECTOR),
+                                header(WRITE_ZEROES) + segment(first, 3) + segment(1 << power, 1, 1) + segment(first - 1, 1)):
+                    guest.put(data, content)
+                    room = [] if content[0] else [Buffer(data + 0x100, 3 * SECTOR, WRITE)]
+                    guest.offer("b", 0, [Buffer(data, len(content)), *room, Buffer(done, 1, WRITE)])
+                    guest.notify("b", 0)
+                    guest.do("io", "failed" if first % 4 == 3 else "done")
+                    guest.look(done, 1)
+                    guest.ends("b", 0)
+    return Life(f"across/{kind}_sectors_of_a_hosted_disk", "Sectors across each of eleven powers of two.", script,
+                [Wide(length=2 * HALF, start=3, count=1 << 41)], hosted=True, shows=[(f"sectors, {kind}", "2^7 to 2^40")])
 
 
 def requests(guest, before):
