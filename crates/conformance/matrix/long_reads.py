@@ -2,14 +2,14 @@
 from .by_hand import up, written_out
 from .drivers import KINDS, WRITE, Buffer, number
 from .follows import Guest, Life, Setup
-from .requests import IN, OUT, header
+from .requests import IN, OUT, WRITE_ZEROES, header, segment
 from .story import SECTOR, Slot
 
-TITLE = "Long requests over themselves"
-HOW = ("A read of 300 sectors, and 4,096 typed bytes, go over the header, the table and the descriptors of their own chain, at the first sector "
+TITLE = "Long requests"
+HOW = ("A request of 300 sectors fails at its first call, at its last, and beside 16, 32, 64, 128 and 256. A read of 300 sectors, and 4,096 typed bytes, go over the header, the table and the descriptors of their own chain, at the first sector "
        "and behind 16, 32, 64, 128 and 256. All is done as it was read before.")
-COLUMNS = ("What is written over", "Where")
-FOLDERS = {"long_reads": "Long requests whose own writes go over what they were read from."}
+COLUMNS = ("What fails, or is written over", "Where")
+FOLDERS = {"long_reads": "Long requests that fail, and whose own writes go over what they were read from."}
 
 SECTORS, COUNT = 400, 300
 DATA, LENGTH = 0x10000, 0x80000
@@ -33,6 +33,7 @@ def stories():
         for what, over in (("header", over_the_header), ("table", over_the_table), ("descriptors", over_the_descriptors)):
             yield reads(kind, what, over)
         yield typed(kind)
+        yield failing(kind)
 
 
 def by_hand():
@@ -119,3 +120,53 @@ def typed(kind):
                 guest.ends("c", 0)
     return Life(f"long_reads/{kind}_typed_bytes_over_their_chain", "4,096 typed bytes go over the table or the descriptors of their chain.", script,
                 [Slot(length=LENGTH)], shows=[(f"table and descriptors, {kind}", "in room for 4,096 typed bytes")])
+
+
+# --- image calls that fail
+
+FAILS_AT = (0, 1, 15, 16, 17, 31, 32, 33, 63, 64, 65, 127, 128, 129, 255, 256, 257, COUNT - 1, COUNT)
+
+
+def failing(kind):
+    """Reads, writes and zeroes of 300 sectors over a cache of 1, each of which fails at one call, and once more without a failure."""
+    def script(life):
+        guest = Long(life)
+        guest.bring_up("b", Setup(True, kind == "packed", 8, 0))
+        marked(guest)
+        for turn, at in enumerate(FAILS_AT):
+            for content in (header(IN, 3), header(OUT, 50) + bytes([1 + turn] * 2) + bytes(SECTOR * COUNT - 2),
+                            header(WRITE_ZEROES) + segment(60, 200) + segment(270, 100, 1)):
+                fails_at(guest, content, at)
+                sees(guest, content, at)
+    return Life(f"long_reads/{kind}_requests_that_fail", "Requests of 300 sectors fail at each of 19 calls.", script, [Slot(length=LENGTH, count=SECTORS)],
+                zeros=SECTORS, cache=1, fails=[], shows=[(f"a request's call, {kind}", "1st to 301st")])
+
+
+def fails_at(guest, content, at):
+    """A request whose call at this place fails."""
+    call = guest.life.disk.calls + at
+    guest.life.fails.append(call)
+    guest.life.disk.fails.add(call)
+    asks(guest, content)
+
+
+def asks(guest, content):
+    guest.put(guest.room + 0x3000, content[:48])
+    guest.put(guest.done, b"\xee")
+    guest.put(guest.base + DATA, content[16:18] + bytes(2))
+    room = [Buffer(guest.base + DATA, SECTOR * COUNT, WRITE)] if content[0] == IN else []
+    data = [Buffer(guest.base + DATA, SECTOR * COUNT)] if content[0] == OUT else []
+    guest.offer("b", 0, [Buffer(guest.room + 0x3000, 16 if content[0] != WRITE_ZEROES else len(content)), *data, *room, Buffer(guest.done, 1, WRITE)])
+    guest.notify("b", 0)
+    guest.look(guest.done, 1)
+    guest.ends("b", 0)
+
+
+def sees(guest, content, at):
+    """What was read beside the sector that failed, or, by reads that don't fail, what was written beside it."""
+    if content[0] != IN:
+        asks(guest, header(IN, 60 if content[0] == WRITE_ZEROES else 50))
+    for sector in (at - 1, at, at + 1, 0, 128):
+        if 0 <= sector < COUNT and (sector != at or content[0] == IN):
+            guest.look(guest.base + DATA + SECTOR * sector, 2)
+            guest.look(guest.base + DATA + SECTOR * sector + SECTOR - 2, 2)
