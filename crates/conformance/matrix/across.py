@@ -15,7 +15,6 @@ FOLDERS = {"across": "Areas, tables and buffers across an address that is a powe
 POWERS, HALF = (16, 31, 32, 40, 63), 0x10000
 # How far before the address an area begins, by its kind of ring: each entry is cut off once.
 STARTS = {False: (range(16, 128, 16), range(2, 22, 2), range(4, 70, 4)), True: (range(16, 128, 16), (), ())}
-AREAS = ("desc", "driver", "device")
 
 
 class Across(Guest):

@@ -23,6 +23,10 @@ OF_FORMAT = {
     "hosted": ("kalyubos 1", "hosted", [f"slot 80000000+1000,90000000+1000 0 4 rw 50 19 {IDENTITY}", f"slot 0+1000 4 4 ro 0 ffff {IDENTITY}"],
                [*EVENTS, f"st 0 {SNAPSHOT}", "io 0 done", "io 1 failed", "io 2 done"]),
 }
+# What stands for any field, and for any line.
+OTHERS = ("1" + "0" * 16, "f" * 16, "10000", "ffff", "100", "ff", "100000000", "ffffffff", "0", "00", "b", "c", "B", "3", "4", "1", "done",
+          "failed", "rw", "ro", "RO")
+NO_LINES = ("", " ", "#", "# r", "R 0 b 000 4", "slots 0", "in", "vreplay 1", "vreplay 3", "kalyubos 1", "hosted 1", "cache", "st 0", "io 0")
 COUNT = 60
 
 
@@ -85,9 +89,9 @@ def otherwise(dice, field):
     """Another spelling: most of them are none of any field."""
     digit = dice.below(max(1, len(field)))
     return dice.one((field.upper(), "0" + field, field + "0", field[:-1], "", field + "g", "0x" + field, "-", "+" + field, field + "\r", field + "\t",
-                     field[:digit] + "G" + field[digit + 1:], field[:digit] + "A" + field[digit + 1:], field[:digit] + field[digit:digit + 1] * 2 + field[digit + 1:],
-                     "1" + "0" * 16, "ffffffffffffffff", "10000", "ffff", "100", "ff", "100000000", "ffffffff", "0", "00", "b", "c", "B", "3", "4", "1",
-                     "done", "failed", "rw", "ro", "RO", field + "," + field, field + "+", field.replace("+", ",")))
+                     field[:digit] + "G" + field[digit + 1:], field[:digit] + "A" + field[digit + 1:],
+                     field[:digit] + field[digit:digit + 1] * 2 + field[digit + 1:], *OTHERS, field + "," + field, field + "+",
+                     field.replace("+", ",")))
 
 
 def change_fields(dice, lines, at):
@@ -122,6 +126,6 @@ def change_line(dice, lines, at):
     elif what == 3:
         lines.pop(at)
     elif what == 4:
-        lines[at] = dice.one(("", " ", "#", "# r", "R 0 b 000 4", "slots 0", "in", "vreplay 1", "vreplay 3", "kalyubos 1", "hosted 1", "cache", "st 0", "io 0"))
+        lines[at] = dice.one(NO_LINES)
     else:
         lines.insert(to, dice.one(some))

@@ -6,13 +6,15 @@ from .requests import IN, OUT, WRITE_ZEROES, header, segment
 from .story import SECTOR, Slot
 
 TITLE = "Long requests"
-HOW = ("A request of 300 sectors fails at its first call, at its last, and beside 16, 32, 64, 128 and 256. A read of 300 sectors, and 4,096 typed bytes, go over the header, the table and the descriptors of their own chain, at the first sector "
-       "and behind 16, 32, 64, 128 and 256. All is done as it was read before.")
+HOW = ("A request of 300 sectors fails at its first call, at its last, and beside 16, 32, 64, 128 and 256. A read of 300 sectors, and 4,096 "
+       "typed bytes, go over the header, the table and the descriptors of their own chain, at the first sector and behind 16, 32, 64, 128 "
+       "and 256. All is done as it was read before.")
 COLUMNS = ("What fails, or is written over", "Where")
 FOLDERS = {"long_reads": "Long requests that fail, and whose own writes go over what they were read from."}
 
 SECTORS, COUNT = 400, 300
 DATA, LENGTH = 0x10000, 0x80000
+DISK = Slot(length=LENGTH, count=SECTORS)
 BEHIND = (0, 1, 2, 15, 16, 31, 32, 63, 64, 127, 128, 129, 255, 256, 257)
 IN_ROOM = (0, 16, 48, 64, 112, 128, 240, 256, 496, 512, 1008, 1024, 2032, 2048, 4080)
 
@@ -57,7 +59,7 @@ def reads(kind, what, over):
             for at in sorted({behind, behind + 1, 0, 16, 32, 64, 127, 128, 129, 256, COUNT - 1}):
                 guest.look(guest.base + DATA + SECTOR * at + SECTOR - 2, 2)
             guest.look(guest.done, 1)
-    return Life(f"long_reads/{kind}_reads_over_the_{what}", f"A read of 300 sectors goes over its {what}.", script, [Slot(length=LENGTH, count=SECTORS)],
+    return Life(f"long_reads/{kind}_reads_over_the_{what}", f"A read of 300 sectors goes over its {what}.", script, [DISK],
                 zeros=SECTORS, shows=[(f"{what}, {kind}", "behind 0 to 257 sectors")])
 
 
@@ -138,7 +140,7 @@ def failing(kind):
                             header(WRITE_ZEROES) + segment(60, 200) + segment(270, 100, 1)):
                 fails_at(guest, content, at)
                 sees(guest, content, at)
-    return Life(f"long_reads/{kind}_requests_that_fail", "Requests of 300 sectors fail at each of 19 calls.", script, [Slot(length=LENGTH, count=SECTORS)],
+    return Life(f"long_reads/{kind}_requests_that_fail", "Requests of 300 sectors fail at each of 19 calls.", script, [DISK],
                 zeros=SECTORS, cache=1, fails=[], shows=[(f"a request's call, {kind}", "1st to 301st")])
 
 

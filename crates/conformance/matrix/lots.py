@@ -2,7 +2,7 @@
 import hashlib
 
 from .drivers import (AREAS, AVAIL, DRIVER_FEATURES, DRIVER_SEL, EVENT_IDX, FAILED, INDIRECT, INDIRECT_DESC, INTERRUPT_ACK,
-                      NEXT, NOTIFY, QUEUE_NUM, QUEUE_READY, QUEUE_SEL, RING_PACKED, STATUS, USED_FLAG, WRITE, Buffer, number)
+                      NEXT, NOTIFY, QUEUE_NUM, QUEUE_READY, QUEUE_SEL, STATUS, USED_FLAG, WRITE, Buffer, number)
 from .follows import INDICES, Guest
 from .requests import FLUSH, GET_ID, IN, OUT, WRITE_ZEROES, header, segment
 from .saved import restore, saved
@@ -263,7 +263,8 @@ class Lots(Guest):
     def typed(self, most=3):
         """Room for what is typed, and input before or behind it."""
         self.turn += 1
-        content = bytes((0x61 + (self.turn + more) % 26) for more in range(self.dice.one((1, 2, 3, 7, 12, 0) if not self.dice.is_one_in(25) else (300, 4096))))
+        lengths = (1, 2, 3, 7, 12, 0) if not self.dice.is_one_in(25) else (300, 4096)
+        content = bytes((0x61 + (self.turn + more) % 26) for more in range(self.dice.one(lengths)))
         is_first = self.dice.is_one_in(4)
         if is_first:
             self.type(content)
@@ -290,7 +291,8 @@ class Lots(Guest):
         flags = WRITE if (window, index) != ("c", 1) else 0
         good = [[Buffer(self.room + ROOMS, 1, flags)] for _ in range(dice.below(3))]
         tables = self.room + TABLES
-        bad = [dice.one((Buffer(self.base - 1, 1, flags), Buffer(self.base + LENGTH, 1), Buffer(tables, 8, INDIRECT), Buffer(tables, 0, INDIRECT), Buffer(tables, 0x1010, INDIRECT),
+        bad = [dice.one((Buffer(self.base - 1, 1, flags), Buffer(self.base + LENGTH, 1), Buffer(tables, 8, INDIRECT),
+                         Buffer(tables, 0, INDIRECT), Buffer(tables, 0x1010, INDIRECT),
                          Buffer(self.base + LENGTH - 8, 16, INDIRECT),
                          Buffer(tables, 16, INDIRECT | NEXT)))]
         if ring.may_use_tables and dice.is_one_in(3):
@@ -439,7 +441,8 @@ class Lots(Guest):
         regions = self.memory().regions
         region = dice.one(regions)
         end = region.base + len(region.bytes)
-        at = dice.one((region.base, region.base - 1, end - 1, end, end - 8, end + 1, region.base + dice.below(len(region.bytes)), end - 0x1000)) % 2**64
+        inside = region.base + dice.below(len(region.bytes))
+        at = dice.one((region.base, region.base - 1, end - 1, end, end - 8, end + 1, inside, end - 0x1000)) % 2**64
         length = dice.one((0, 1, 8, 9, 2, 0x101))
         if dice.is_one_in(2):
             self.look(at, length)

@@ -8,7 +8,7 @@ from .saved import restore, saved
 TITLE = "Bits of a snapshot"
 HOW = ("A snapshot of a slot at work differs in one bit from what was saved: it is refused, or it is taken and registers show it. Place and "
        "chains left and passed of a ready queue have each of the numbers at which something begins or ends, together.")
-FOLDERS = {"bits_snapshots": "Each bit of a snapshot, and the numbers of a ready queue together."}
+FOLDERS = {"snapshot_bits": "Each bit of a snapshot, and the numbers of a ready queue together."}
 
 # What is read of each window after a snapshot that was taken.
 SEEN = (0x010, 0x034, 0x044, 0x070, 0x0fc, 0x100)
@@ -30,7 +30,7 @@ def by_hand():
     for bit, reply, status in ((4, "badstate", 0), (2, "done", 0xf)):
         content[at] = 0xb | 1 << bit
         lines += f"st 0 {content.hex()} > 0 {reply} - {2 if status else 0} 0\nr 0 b 070 4 > 0 v:{status:08x} - {2 if status else 0} 0\n"
-    return first("bits_snapshots/two_bits_of_a_status_by_hand", "A status has a bit without a name, and then DRIVER_OK.", lines,
+    return first("snapshot_bits/two_bits_of_a_status_by_hand", "A status has a bit without a name, and then DRIVER_OK.", lines,
                  slots=[Wide(length=0x10000)])
 
 
@@ -44,7 +44,7 @@ def at_work(life, window, is_packed):
 
 
 def named(window, is_packed, what):
-    return f"bits_snapshots/{what}_of_a_{'packed' if is_packed else 'split'}_{'disk' if window == 'b' else 'console'}"
+    return f"snapshot_bits/{what}_of_a_{'packed' if is_packed else 'split'}_{'disk' if window == 'b' else 'console'}"
 
 
 def bits(window, is_packed):

@@ -1,10 +1,10 @@
 """Each thing that a guest does, 258 times: what is counted in 8 bits begins again there."""
 from .actions import (asks_in_a_table, asks_what_is_unknown, event_at, flushes, goes_on, puts_a_table_out, puts_a_text_out,
-                      reads_a_sector, reads_past_the_end, reads_registers, reads_the_identity, serves, serves_each,
+                      reads_a_sector, reads_past_the_end, reads_registers, reads_the_identity, serves,
                       types_before_a_chain, types_for_a_chain, types_for_a_table, types_nothing, writes_a_sector,
                       zeroes_a_sector)
 from .by_hand import written_out
-from .drivers import (NEXT, DRIVER_FEATURES, DRIVER_SEL, INTERRUPT_ACK, NOTIFY, QUEUE_NUM, QUEUE_READY, QUEUE_SEL, STATUS, WRITE, Buffer,
+from .drivers import (DRIVER_FEATURES, DRIVER_SEL, INTERRUPT_ACK, NEXT, NOTIFY, QUEUE_NUM, QUEUE_READY, QUEUE_SEL, STATUS, WRITE, Buffer,
                       number)
 from .follows import DONE, HEADER, INDICES, Guest, Life, Setup, Wide
 from .in_flight import REQUESTS, Asking
