@@ -34,7 +34,8 @@ def stories():
     yield from shown("kept sectors", "4,097, 65,536", map(many_kept, (4097, 65536)))
     yield from shown("buffers of a sector", "16 to 253",
                      [one(kind) for one in (cut_reads, cut_writes) for kind in KINDS.values()])
-    yield from shown("pending input that is full", "from each place of 4096 bytes", map(full, KINDS.values()))
+    yield from shown("pending input that is full", "from each place of 4096 bytes, behind up to 131,072",
+                     map(full, KINDS.values()))
     yield from shown("typed bytes", "4095 to 65,536, where a queue waits", map(typed, KINDS.values()))
 
 
@@ -362,8 +363,8 @@ def full(kind):
         queue.notify()
         queue.look_at_used(size)
         queue.look(DATA - 0x18000, size, text(first, size))
-    # So much was taken in all when the room is filled, modulo 4096.
-    for at in (1, 2047, 2048, 4093, 4094, 4095, 0):
+    # So much was taken in all when the room is filled, modulo 4096; in all more than twice 65,536 bytes are typed.
+    for at in (1, 2047, 2048, 4093, 4094, 4095, 0) * 4:
         before = (at - count - 1) % 4096 + 1
         story.type(text(count, before), took=before)
         take(before, count)
