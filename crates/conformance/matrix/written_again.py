@@ -1,9 +1,9 @@
 """A live window that is written again: each register of a ready queue, features, Status; then it is used, stopped, made again."""
 from .actions import reads_registers, serves, serves_each
 from .first_rows import of_written_again
-from .drivers import DEVICE_SEL, DRIVER_FEATURES, DRIVER_SEL, NOTIFY, QUEUE_NUM, QUEUE_READY, QUEUE_SEL, STATUS
+from .drivers import DEVICE_SEL, DRIVER_FEATURES, DRIVER_SEL, NOTIFY, QUEUE_NUM, QUEUE_READY, QUEUE_SEL, STATUS, Packed, Split
 from .follows import Guest, Life, Setup
-from .story import Slot
+from .story import BASE, Slot, Story
 
 TITLE = "Live windows that are written again"
 HOW = ("A register of a live window is written once more. A ready queue goes on where it was; once it is stopped and made ready as "
@@ -42,6 +42,34 @@ def stories():
             yield ready_at_each_place(window, index, is_packed)
             yield made_elsewhere(window, index, is_packed)
             yield stopped_while_offers_stand(window, index, is_packed)
+        yield judged_anew(window, index)
+
+
+# Length and alignment of each area of a queue of so many descriptors (2.7, 2.8).
+FORMS = {Split: lambda size: ((16 * size, 16), (6 + 2 * size, 2), (6 + 8 * size, 4)),
+         Packed: lambda size: ((16 * size, 16), (4, 4), (4, 4))}
+LENGTH = 0x10000
+
+
+def judged_anew(window, index):
+    """An area lies as far up as one life's queue allows; the next life's, of another kind or size, is ready only where it allows it."""
+    story = Story(f"written_again/areas_judged_anew_of_the_{QUEUES[window, index]}_queue",
+                  "An area that one life's queue may have is judged anew for the next, of another kind or size.",
+                  [Slot(length=LENGTH, identity=b"judged anew" + bytes(9))], shows=[("each area of a queue of another kind or size", QUEUES[window, index])])
+    lives = [(kind, size) for kind in FORMS for size in (4, 8)]
+    for first in lives:
+        for area in range(3):
+            length, alignment = FORMS[first[0]](first[1])[area]
+            at = BASE + (LENGTH - length) // alignment * alignment
+            for life in [first, *lives]:
+                length, alignment = FORMS[life[0]](life[1])[area]
+                areas = [BASE + 0x1000, BASE + 0x2000, BASE + 0x3000]
+                areas[area] = at
+                queue = life[0](story, window, index, life[1], areas=areas)
+                queue.begin()
+                queue.make_ready()
+                story.read(window, QUEUE_READY, at % alignment == 0 and at + length <= BASE + LENGTH)
+    return story
 
 
 def kind_of(is_packed):
