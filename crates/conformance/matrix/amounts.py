@@ -214,7 +214,7 @@ def offer(queue, chain):
 def whole_memory():
     length = MIB + 0x1000
     story = Story("amounts/a_memory_of_more_than_1_mib",
-                  "1 MiB, a byte more, and the whole of a memory are looked at, and written, at once.",
+                  "1 MiB, a byte more, and the whole of a memory are looked at, and written, at once; not what ends behind it.",
                   [Slot(length=length, identity=IDENTITY)])
     content = bytearray(length)
     for at in (0, 1, 4095, 4096, 65535, 65536, MIB - 1, MIB, MIB + 1, length - 1):
@@ -228,6 +228,10 @@ def whole_memory():
     story.put(BASE, content)
     story.look(BASE + 1, 20, content[1:21])
     story.look(BASE, length, content)
+    # What ends a byte behind the memory writes nothing of it.
+    for count in (2, 513, 4097, 8193, 65537, length):
+        story.put(BASE + length + 1 - count, b"\xee" * count, reply=BADRANGE)
+        story.look(BASE + length + 1 - count, count - 1, content[length + 1 - count:])
     return story
 
 
