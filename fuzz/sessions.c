@@ -202,8 +202,9 @@ static void tell_sectors(struct seat *seat, uint64_t first)
 {
     size_t len = (size_t)seat->guest->count * SECTOR;
     uint8_t *sectors = malloc(len + 1);
-    need(sectors != NULL && kalyubos_read_image(seat->board, first * SECTOR, sectors, len) == KALYUBOS_DONE,
-         "the guest's sectors", first);
+    need(sectors != NULL, "memory for the guest's sectors", first);
+    if (len > 0)
+        need(kalyubos_read_image(seat->board, first * SECTOR, sectors, len) == KALYUBOS_DONE, "the guest's sectors", first);
     tell(&seat->told, sectors, len);
     free(sectors);
 }

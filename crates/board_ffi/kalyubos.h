@@ -103,7 +103,7 @@ enum {
     KALYUBOS_BUSY = 19,             /* the slot's service is paused, or this call waits for its disk; nothing changed */
     KALYUBOS_IO = 20,               /* done, and the slot's disk waits for the host; see kalyubos_operation */
     KALYUBOS_IDLE = 21,             /* nothing of the slot is in flight; nothing changed */
-    KALYUBOS_NO_IMAGE = 22,         /* the board has no image: the host serves its disks; nothing changed */
+    KALYUBOS_NO_IMAGE = 22,         /* the image has no bytes, as where the host serves the disks; nothing changed */
     KALYUBOS_BAD_SNAPSHOT = 23,     /* the bytes are no snapshot; nothing changed */
     KALYUBOS_OTHER_SLOT = 24,       /* the snapshot is of a slot of another description; nothing changed */
     KALYUBOS_BAD_STATE = 25,        /* the snapshot has a state that no driver can bring about; nothing changed */
@@ -162,7 +162,7 @@ static inline const char *kalyubos_answer(uint32_t number)
     case KALYUBOS_IDLE:
         return "nothing of the slot is in flight";
     case KALYUBOS_NO_IMAGE:
-        return "the board has no image, since the host serves its disks";
+        return "the board has no image, or one of no bytes";
     case KALYUBOS_BAD_SNAPSHOT:
         return "the bytes are no snapshot";
     case KALYUBOS_OTHER_SLOT:
@@ -400,9 +400,10 @@ uint32_t kalyubos_write(struct kalyubos *board, uint8_t slot, uint8_t window, ui
  * DONE at its end, NO_ROOM, or MORE again. Where none is paused it answers DONE and changes nothing. `pending` is what
  * then waits.
  *
- * From MORE until the end of the service the guest waits as in a long call: every call for its slot but this one is
- * answered BUSY and changes nothing, except kalyubos_interrupts, kalyubos_disturbed, kalyubos_counters and
- * kalyubos_take_output. Calls for other slots may stand in between, and no guest sees that one paused.
+ * From MORE until the end of the service the guest waits as in a long call. Every call for its slot but this one is
+ * answered BUSY then and changes nothing, except kalyubos_interrupts, kalyubos_disturbed, kalyubos_counters and
+ * kalyubos_take_output; kalyubos_operation and kalyubos_completed answer IDLE. Calls for other slots may stand in
+ * between, and no guest sees that one paused.
  */
 KALYUBOS_LOOK_AT_IT
 uint32_t kalyubos_go_on(struct kalyubos *board, uint8_t slot, struct kalyubos_pending *pending);
@@ -519,8 +520,7 @@ uint32_t kalyubos_restore(struct kalyubos *board, uint8_t slot, const uint8_t *f
 
 /*
  * Lends the image in place, to read between calls: `bytes` is where its first byte lies, and `len` how many there are.
- * Both stay until kalyubos_destroy. Of an image of no bytes `bytes` is left as it was. NO_IMAGE of a board whose disks
- * the host serves.
+ * Both stay until kalyubos_destroy. NO_IMAGE where the image has no bytes, as of a board whose disks the host serves.
  */
 uint32_t kalyubos_image(const struct kalyubos *board, const uint8_t **bytes, size_t *len);
 

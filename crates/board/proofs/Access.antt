@@ -1,6 +1,6 @@
 -- What an embedder does to a slot between events, as the step of that event.
 use Rattle.std.proofs.Common.{◌≡◌, ◌⊎◌, inl, inr, ℕ, Bool, true, false, ◌||◌, nat_lt, arith, List, [], length, Some, refl, sym, ◌∙◌, ap}
-use Rattle.std.specs.Prelude.{AllPairs, Err, IfErr, IsSomeAnd, Ok, OnErr, OnOk, Result, slice_set}
+use Rattle.std.specs.Prelude.{AllPairs, Err, IsSomeAnd, Ok, OnErr, Result, slice_set}
 use Rattle.std.specs.Bool.{OnTrue}
 use Rattle.std.specs.List.{slice_get}
 use Rattle.std.proofs.Math.Seq.{map-set_same}
@@ -16,18 +16,20 @@ use Rattle.board.specs.declared.pause.Turn.{Turn}
 use Rattle.board.specs.declared.pause.Turn.TheVariants.{Answered, More}
 use Rattle.board.specs.declared.reply.Reply.{Reply}
 use Rattle.board.specs.declared.reply.Reply.TheVariants.{Done, Took}
-use Rattle.board.specs.declared.saved.RestoreFault.{RestoreFault}
+use Rattle.board.specs.declared.saved.RestoreRefusal.{RestoreRefusal}
+use Rattle.board.specs.declared.saved.RestoreRefusal.TheVariants as refusal
 use Rattle.board.specs.Extent.{AreSound, IsApart}
-use Rattle.board.specs.Image.{Tells, bytes_of, health_of, sectors_of}
+use Rattle.board.specs.Image.{Health, Tells, bytes_of, health_of, sectors_of}
 use Rattle.board.specs.Machine.{block_irq, console_irq, register}
 use Rattle.board.specs.Outcome.{replies}
 use Rattle.board.specs.Pausing.{met_in}
 use Rattle.board.specs.Restoring.{restore_reply}
-use Rattle.board.specs.Saved.{IsCauseOf, IsRestored}
 use Rattle.board.specs.Slot.{BoardSlot, state_of}
-use Rattle.board.specs.World.{Answers, MayGive, disturbed_of, extents_of, lacks_memory, seen}
+use Rattle.board.specs.World.{Answers, BoardState, MayGive, disturbed_of, extents_of, lacks_memory, seen}
 use Rattle.board.proofs.Blocks.{count_of}
-use Rattle.board.proofs.Restoring.{restore_given}
+use Rattle.board.proofs.Hosts.{no_part, no_wait}
+use Rattle.board.proofs.Lists.{set_same}
+use Rattle.board.proofs.OnHost.{passes_by}
 use Rattle.board.proofs.Runs.{answered}
 use Rattle.board.proofs.Seats.{handles, slot_within}
 
@@ -70,11 +72,15 @@ bytes_put A slots disk h slot new addr bytes true apart here test is =
     ∙ unmet slot.disturbed disk.failures) refl
     (record {
       output = [];
-      given = inl (record {
-        alike = record { alike = rw (← test, is) refl; image = refl };
-        answered = λ no. absurd (cc);
-        failures = refl;
-      });
+      given =
+          passes_by slot.host (state_of (bytes_of disk) slot) (MemWrite addr bytes) (health_of disk)
+          (replies shown Done)
+          (no_part slot.host (MemWrite addr bytes) (state_of (bytes_of disk) slot) refl (no_wait _) refl)
+          (inl (record {
+            alike = record { alike = rw (← test, is) refl; image = refl };
+            answered = λ no. absurd (cc);
+            failures = refl;
+          }));
       appended = refl;
     }) refl refl)
 
@@ -106,26 +112,28 @@ quiet_answers A slots disk h slot new what reply apart here extent note lacks gi
     ∙ ap (λ (b : Bool). slot.disturbed || (b || nat_lt disk.failures disk.failures)) (sym lacks))) refl
     (record { output = []; given = given; appended = refl }) refl refl)
 
-restore_lacks : (A : Type 0) (result : Result (Unit {0}) RestoreFault)
+restore_lacks : (A : Type 0) (result : Result (Unit {0}) RestoreRefusal)
     → lacks_memory {A = A} (restore_reply result) ≡ false
 restore_lacks A (Ok done) = refl
-restore_lacks A (Err why) = refl
+restore_lacks A (Err refusal.BadSlot) = refl
+restore_lacks A (Err refusal.Busy) = refl
+restore_lacks A (Err (refusal.Fault why)) = refl
 
 -- a slot that took up a snapshot, or didn't
 pub restore_answers : (A : Type 0) (slots : List BoardSlot) (disk : Disk) (h : ℕ) (slot new : BoardSlot)
-    (bytes : List ℕ) (result : Result (Unit {0}) RestoreFault) →
+    (bytes : List ℕ) (result : Result (Unit {0}) RestoreRefusal) →
     Tells disk → IsWhole disk → AreSound disk.sector_count (extents_of slots) → slice_get slots h ≡ Some slot
     → new.extent ≡ slot.extent → new.disturbed ≡ slot.disturbed →
-    OnOk result (IsRestored slot bytes new) → IfErr result (IsCauseOf slot bytes)
-    → OnErr result (new ≡ slot) →
+    ((image : List ℕ) (health : Health) → sectors_of (state_of image slot).extent ≡ slot.extent.count
+    → MayGive {A = A} (state_of image slot) (Restore bytes) health health
+    (replies (state_of image new) (restore_reply result))) →
     Answers {A = A} (seen slots disk) (record { slot = h; what = Restore bytes }) (restore_reply result) [] []
     (seen (slice_set slots h new) disk)
-restore_answers A slots disk h slot new bytes result tells whole sound here extent note ok fault kept =
+restore_answers A slots disk h slot new bytes result tells whole sound here extent note given =
     quiet_answers A slots disk h slot new (Restore bytes) (restore_reply result) sound.apart here extent note
     (restore_lacks A result)
-    (restore_given A (bytes_of disk) slot new bytes result (health_of disk)
-    (count_of slot.extent disk tells whole (slot_within disk.sector_count slots h slot sound.within here)) ok
-    fault kept)
+    (given (bytes_of disk) (health_of disk)
+    (count_of slot.extent disk tells whole (slot_within disk.sector_count slots h slot sound.within here)))
 
 -- what a register of a slot gives
 pub register_at : (slots : List BoardSlot) (disk : Disk) (h : ℕ) (slot : BoardSlot) (window : DeviceKind)
@@ -138,3 +146,12 @@ register_at slots disk h slot window offset width value tells whole sound here i
     rw (slice_get-map (state_of (bytes_of disk)) slots h, here)
     (is (bytes_of disk) (count_of slot.extent disk tells whole (slot_within disk.sector_count slots h slot
     sound.within here)))
+
+-- what was refused left the slot as it was, and so it left the board
+pub kept_board : {I T E : Type 0} (result : Result T E) (slots : List BoardSlot) (image : I) (h : ℕ)
+    (slot new : BoardSlot) (before : BoardState I) → slice_get slots h ≡ Some slot
+    → ◌≡◌ {A = BoardState I} (record { slots = slots; image = image }) before
+    → OnErr result (new ≡ slot)
+    → OnErr result (◌≡◌ {A = BoardState I} (record { slots = slice_set slots h new; image = image }) before)
+kept_board (Ok done) slots image h slot new before here is same = tt
+kept_board (Err why) slots image h slot new before here is same = rw (set_same slots h slot new here same) is

@@ -1,5 +1,5 @@
 -- An event without a budget is answered: what the board handles is the turn that it takes.
-use Rattle.std.proofs.Common.{◌≡◌, ◌≢◌, inl, inr, ℕ, Some, None, List, refl, sym, subst, ◌∙◌}
+use Rattle.std.proofs.Common.{◌≡◌, ◌≢◌, if◌then◌else◌, inl, inr, Bool, true, false, ℕ, Some, None, List, refl, sym, subst, ◌∙◌}
 use Rattle.chain.specs.declared.budget.Budget.{Budget}
 use Rattle.chain.specs.declared.budget.Progress.TheVariants as progress
 use Rattle.chain.specs.Service.{Ending, Refused}
@@ -19,10 +19,11 @@ use Rattle.board.specs.declared.pause.Turn.TheVariants.{Answered}
 use Rattle.board.specs.declared.reply.Reply.{Reply}
 use Rattle.board.specs.declared.reply.Reply.TheVariants.{Done}
 use Rattle.board.specs.Machine.{task_at, with_write}
-use Rattle.board.specs.Pausing.{Begins, TakesTurn, asked_by}
+use Rattle.board.specs.Hosting.{has_part}
+use Rattle.board.specs.Pausing.{Begins, TakesTurn, asked_by, asked_over_image}
 use Rattle.board.specs.Slot.{SlotState}
 use Rattle.board.specs.Task.{Task, Nothing, Serve, PutOut}
-use Rattle.board.specs.Within.{BeginsWithin, IsSentPiece, PutsOutWithin, SendsWithin, TakesWithin, TransmitsWithin, TurnWithin, reply_at}
+use Rattle.board.specs.Within.{BeginsWithin, BeginsWithinOverImage, IsSentPiece, PutsOutWithin, SendsWithin, TakesWithin, TransmitsWithin, TurnWithin, reply_at}
 use Rattle.board.specs.World.{World, Handles}
 use Rattle.board.proofs.Seats.{step_there}
 use Rattle.board.proofs.Whole.{came, whole}
@@ -105,17 +106,33 @@ write_ended limit state window offset width value budget new waiting left reply 
     (transmit_ended limit budget (with_write window offset width value state) new waiting left reply h)
 write_ended limit state window offset width value budget new waiting left reply (PutOut byte) is h = h
 
+ended_over_image : {A : Type 0} (limit : ℕ) (what : EventKind A) (budget : Budget) (state new : SlotState)
+    (waiting left : List ℕ) (reply : Reply A)
+    → BeginsWithinOverImage limit what budget state new waiting left (Answered reply)
+    → TakesWithin limit state what new waiting left reply
+ended_over_image limit (Read window offset width) budget state new waiting left reply h = tt
+ended_over_image limit (Write window offset width value) budget state new waiting left reply h =
+    write_ended limit state window offset width value budget new waiting left reply
+    (task_at window offset width value state) refl h
+ended_over_image limit (MemRead addr len) budget state new waiting left reply h = tt
+ended_over_image limit (MemWrite addr bytes) budget state new waiting left reply h = tt
+ended_over_image limit (Input bytes) budget state new waiting left reply h = tt
+ended_over_image limit (Resize cols rows) budget state new waiting left reply h = tt
+ended_over_image limit (Restore bytes) budget state new waiting left reply h = tt
+ended_over_image limit (Complete verdict) budget state new waiting left reply h = tt
+
+ended_by : {A : Type 0} (limit : ℕ) (part : Bool) (what : EventKind A) (budget : Budget)
+    (state new : SlotState) (waiting left : List ℕ) (reply : Reply A)
+    → TurnWithin limit (if part then None else asked_over_image what state) what budget state new waiting left
+    (Answered reply)
+    → TakesWithin limit state what new waiting left reply
+ended_by limit true what budget state new waiting left reply h = h
+ended_by limit false what budget state new waiting left reply h =
+    ended_over_image limit what budget state new waiting left reply h
+
 pub ended_within : {A : Type 0} (limit : ℕ) (what : EventKind A) (budget : Budget) (state new : SlotState)
     (waiting left : List ℕ) (reply : Reply A)
     → BeginsWithin limit what budget state new waiting left (Answered reply)
     → TakesWithin limit state what new waiting left reply
-ended_within limit (Read window offset width) budget state new waiting left reply h = tt
-ended_within limit (Write window offset width value) budget state new waiting left reply h =
-    write_ended limit state window offset width value budget new waiting left reply
-    (task_at window offset width value state) refl h
-ended_within limit (MemRead addr len) budget state new waiting left reply h = tt
-ended_within limit (MemWrite addr bytes) budget state new waiting left reply h = tt
-ended_within limit (Input bytes) budget state new waiting left reply h = tt
-ended_within limit (Resize cols rows) budget state new waiting left reply h = tt
-ended_within limit (Restore bytes) budget state new waiting left reply h = tt
-ended_within limit (Complete verdict) budget state new waiting left reply h = tt
+ended_within limit what budget state new waiting left reply h =
+    ended_by limit (has_part state.host what state) what budget state new waiting left reply h

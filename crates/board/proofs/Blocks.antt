@@ -11,14 +11,13 @@ use Rattle.block_device.specs.declared.device.BlockDevice.{BlockDevice}
 use Rattle.block_device.specs.declared.extent.Extent.{Extent}
 use Rattle.block_device.specs.declared.operation.Verdict.{Verdict}
 use Rattle.block_device.specs.Extent.{IsWithin, extent_disk}
-use Rattle.board.specs.Hosting.{device_at}
 use Rattle.board.specs.declared.event.EventKind.TheVariants.{Read, Complete}
 use Rattle.board.specs.declared.reply.Reply.TheVariants.{Value, Idle}
 use Rattle.board.specs.Image.{Health, Tells, bytes_of, health_of, sectors_of, disk_with}
 use Rattle.board.specs.Machine.{register}
 use Rattle.board.specs.Outcome.{replies}
 use Rattle.board.specs.Slot.{SlotState, BoardSlot}
-use Rattle.board.specs.World.{MayGive}
+use Rattle.board.specs.World.{MayGiveOverImage}
 use Rattle.board.proofs.Guests.{disk_of_parts}
 
 -- ---- the extent as its guest sees it
@@ -53,8 +52,13 @@ seen_disk extent disk tells whole lies =
     (sectors_of (extent_of (bytes_of disk) extent.start extent.count))
     (contents_at extent disk.contents tells) (sym (count_of extent disk tells whole lies))
 
+-- the slot's device over the image
+abbrev pub image_device : BoardSlot → BlockDevice
+image_device slot =
+    record { extent = slot.extent; read_only = slot.read_only; identity = slot.identity }
+
 abbrev pub counted_device : BoardSlot → ℕ → BlockDevice
-counted_device slot count = record (device_at slot) { extent = record { start = 0; count = count } }
+counted_device slot count = record (image_device slot) { extent = record { start = 0; count = count } }
 
 -- ---- a service
 
@@ -67,7 +71,7 @@ block_served slot memory block = record slot { memory = memory; block = block }
 -- a read of a window
 pub read_given : {A : Type 0} (state : SlotState) (window : DeviceKind) (offset width value : ℕ)
     (health : Health) → value ≡ register state window offset width
-    → MayGive {A = A} state (Read window offset width) health health (replies state (Value value))
+    → MayGiveOverImage {A = A} state (Read window offset width) health health (replies state (Value value))
 read_given state window offset width value health is = inl (record {
   alike = record { alike = ap (λ v. replies state (Value v)) is; image = refl };
   answered = λ none. cc;
@@ -76,6 +80,6 @@ read_given state window offset width value health is = inl (record {
 
 -- and a completion: nothing is in flight
 pub completion_given : {A : Type 0} (state : SlotState) (verdict : Verdict) (health : Health)
-    → MayGive {A = A} state (Complete verdict) health health (replies state Idle)
+    → MayGiveOverImage {A = A} state (Complete verdict) health health (replies state Idle)
 completion_given state verdict health =
     inl (record { alike = record { alike = refl; image = refl }; answered = λ none. cc; failures = refl })

@@ -21,11 +21,12 @@ use Rattle.board.specs.declared.pause.Service.TheVariants.{Block, Receive, Trans
 use Rattle.board.specs.Durable.{IsLeftAsSeen}
 use Rattle.board.specs.Image.{Health, Tells, bytes_of, disk_with}
 use Rattle.board.specs.Line.{IsLine, Move}
-use Rattle.board.specs.Machine.{Gives, task_at, with_write}
+use Rattle.board.specs.Machine.{GivesOverImage, task_at, with_write}
 use Rattle.board.specs.Outcome.{Outcome}
 use Rattle.board.specs.Slot.{BoardSlot, SlotState, state_of}
 use Rattle.board.specs.Task.{Finishes, Nothing, PutOut, Serve, Task, device_of}
-use Rattle.board.specs.World.{MayGive, MissingStep, SlotStep, World, seen}
+use Rattle.board.proofs.OnHost.{failing_over_image}
+use Rattle.board.specs.World.{MayGive, MayGiveOverImage, MissingStep, SlotStep, World, seen}
 use Rattle.board.proofs.Chains.{kept}
 use Rattle.board.proofs.Refusals.{Failed, Unput, Unread, Unsent, was_refused}
 use Rattle.board.proofs.Runs.{line_failures, step_failures}
@@ -62,7 +63,7 @@ finished_clean (Serve Transmit) state old new outcome clean h = same_dirty old n
 finished_clean (PutOut byte) state old new outcome clean h = same_dirty old new h.image clean
 
 served_clean : {A : Type 0} (state : SlotState) (what : EventKind A) (old new : Health) (outcome : Outcome A)
-    → old.dirty ≡ false → Gives state what old new outcome → new.dirty ≡ false
+    → old.dirty ≡ false → GivesOverImage state what old new outcome → new.dirty ≡ false
 served_clean state (event.Read window offset width) old new outcome clean h = same_dirty old new h.image clean
 served_clean state (event.Write window offset width value) old new outcome clean h =
     finished_clean (task_at window offset width value state) (with_write window offset width value state) old
@@ -74,16 +75,25 @@ served_clean state (event.Resize cols rows) old new outcome clean h = same_dirty
 served_clean state (event.Restore bytes) old new outcome clean h = same_dirty old new h.image clean
 served_clean state (event.Complete verdict) old new outcome clean h = same_dirty old new h.image clean
 
-given_clean : {A : Type 0} (state : SlotState) (what : EventKind A) (old new : Health) (outcome : Outcome A)
-    → new.failures ≡ old.failures → old.dirty ≡ false → MayGive state what old new outcome → new.dirty ≡ false
-given_clean state what old new outcome same clean (inl h) =
+clean_over_image : {A : Type 0} (state : SlotState) (what : EventKind A) (old new : Health)
+    (outcome : Outcome A) → new.failures ≡ old.failures → old.dirty ≡ false
+    → MayGiveOverImage state what old new outcome → new.dirty ≡ false
+clean_over_image state what old new outcome same clean (inl h) =
     served_clean state what old new outcome clean h.alike
-given_clean state what old new outcome same clean (inr h) =
+clean_over_image state what old new outcome same clean (inr h) =
     elim (was_refused state what old new outcome h) [
       | Failed block h ↦ absurd (omega (arith, h.failures, same))
       | Unsent console puts h ↦ same_dirty old new h.image clean
       | Unput console puts h ↦ same_dirty old new h.image clean
       | Unread addr len is h ↦ same_dirty old new h.image clean
+    ]
+
+given_clean : {A : Type 0} (state : SlotState) (what : EventKind A) (old new : Health) (outcome : Outcome A)
+    → new.failures ≡ old.failures → old.dirty ≡ false → MayGive state what old new outcome → new.dirty ≡ false
+given_clean state what old new outcome same clean h =
+    elim (failing_over_image state what old new outcome h) [
+      | inl given ↦ clean_over_image state what old new outcome same clean given
+      | inr stood ↦ same_dirty old new stood clean
     ]
 
 -- ---- a line

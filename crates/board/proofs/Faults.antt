@@ -14,7 +14,7 @@ use Rattle.board.specs.declared.fault.SlotFault.TheVariants.{Memory, ExtentOutsi
 use Rattle.block_device.specs.declared.extent.Extent.{Extent}
 use Rattle.board.specs.declared.spec.SlotSpec.{SlotSpec}
 use Rattle.board.specs.Extent.{IsApart, Overlaps}
-use Rattle.board.specs.Fault.{IsGoodSlot, AreGood, HasFaultAt, IsFaultOf, Refuses}
+use Rattle.board.specs.Fault.{share, IsGoodSlot, AreGood, HasFaultAt, IsFaultOf, Refuses}
 
 -- extents with a sector in common aren't apart
 shared_not_apart : (one other : Extent) → Overlaps one other → IsApart one other → ⊥
@@ -23,11 +23,11 @@ shared_not_apart one other shared apart = let never = apart shared.sector in
 
 -- nor are those of a slot and an earlier one
 shared_not_all : (earlier : List SlotSpec) (spec : SlotSpec)
-    → Any (λ other. Overlaps other.extent spec.extent) earlier
-    → All (λ other. IsApart other.extent spec.extent) earlier → ⊥
+    → Any (λ other. Overlaps (share other) (share spec)) earlier
+    → All (λ other. IsApart (share other) (share spec)) earlier → ⊥
 shared_not_all earlier spec some all =
-    shared_not_apart some.1.extent spec.extent some.4
-    (subst (λ (s : SlotSpec). IsApart s.extent spec.extent) some.3 (all some.0 some.1 some.2))
+    shared_not_apart (share some.1) (share spec) some.4
+    (subst (λ (s : SlotSpec). IsApart (share s) (share spec)) some.3 (all some.0 some.1 some.2))
 
 -- a good slot has no fault
 pub faulty_not_good : (sectors : ℕ) (earlier : List SlotSpec) (spec : SlotSpec) (fault : SlotFault)

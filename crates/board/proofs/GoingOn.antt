@@ -12,7 +12,7 @@ use Rattle.board.proofs.Steps.{answers_join}
 pub state_again : (bytes other : List ℕ) (slot old new : BoardSlot) → IsAs slot old new
     → HasBytesOf slot bytes old other
     → state_of other new ≡ state_of bytes slot
-state_again bytes other slot old new is has = ap (state_of other) is ∙ rw (has.memory, has.disk) refl
+state_again bytes other slot old new is has = ap (state_of other) is ∙ rw (has.memory, has.disk, has.host) refl
 
 pub ran_on_both : {A : Type 0} (g : ℕ) (old new old' new' : World) (moves moves' : List (Move A))
     (state : SlotState)

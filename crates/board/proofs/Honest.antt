@@ -1,5 +1,5 @@
 -- An honest host serves the model's block device.
-use Rattle.std.proofs.Common.{◌≡◌, inl, inr, ℕ, false, Some, List, [], ◌∷◌, sym, ◌∙◌, ap, subst, arith}
+use Rattle.std.proofs.Common.{◌≡◌, inl, inr, ℕ, false, Option, Some, None, List, [], ◌∷◌, refl, sym, ◌∙◌, ap, subst, arith}
 use Rattle.std.proofs.lemmas.Option.{same_Some}
 use Rattle.chain.specs.declared.segment.Buffer.{Buffer}
 use Rattle.chain.specs.declared.segment.Segment.{Segment}
@@ -24,20 +24,23 @@ use Rattle.block_device.proofs.Unasked.{honest_host_serves}
 use Rattle.board.specs.declared.event.EventKind.{EventKind}
 use Rattle.board.specs.declared.event.EventKind.TheVariants.{Read, Write, MemRead, MemWrite, Input, Resize, Restore, Complete}
 use Rattle.board.specs.declared.pause.Service.TheVariants as service
+use Rattle.board.specs.declared.reply.Record.{Record}
+use Rattle.board.specs.Backing.{HostDisk, InFlight, flight_in, in_rooms, with_flight}
 use Rattle.board.specs.Honest.{AreOwn, IsFlown, IsHonestlyServed}
-use Rattle.board.specs.Hosting.{HostedOutcome, HostedState, InFlight, IsHostedNext, IsOwn, flight_by, in_rooms, is_block_task, must_wait, notifies_block, unlimited}
-use Rattle.board.specs.HostedLine.{HostedCall, IsHostedCourse, Told}
+use Rattle.board.specs.Hosting.{IsOwn, LooksAtQueue, flight_by, hosted_device, is_block_task, must_wait, notifies_block, unlimited}
 use Rattle.board.specs.Image.{Health}
-use Rattle.board.specs.Machine.{at_rest, with_write}
+use Rattle.board.specs.Line.{MayBeTold}
+use Rattle.board.specs.Machine.{readied, with_write}
 use Rattle.board.specs.Outcome.{Outcome}
-use Rattle.board.specs.Pausing.{readied}
 use Rattle.board.specs.Slot.{SlotState}
-use Rattle.board.specs.Task.{Task, Nothing, Serve, PutOut, Finishes, device_of}
-use Rattle.board.specs.World.{MayGive}
+use Rattle.board.specs.Steps.{IsAnsweredBy}
+use Rattle.board.specs.Task.{Task, Nothing, Serve, PutOut, Finishes}
+use Rattle.board.specs.World.{MayGiveBy, MayGiveOverImage}
 use Rattle.board.proofs.Flights.{keeps_all}
 use Rattle.board.proofs.Refusals.{Failed, Unput, Unread, Unsent, WasRefused, was_refused}
 use Rattle.board.proofs.Replies.{of_read, of_write}
-use Rattle.board.proofs.Waiting.{Beside, Lands, Looks, Rests, Stands, Waits, Way, outlasts, way}
+use Rattle.board.proofs.Waiting.{outlasts}
+use Rattle.board.proofs.Ways.{Lands, Looks, Passes, Rests, Stands, Waits, Way, way}
 
 -- ---- the guest's own events leave the queue where it is
 
@@ -54,12 +57,13 @@ finished_block {A} (Serve service.Transmit) state before after outcome other f =
 finished_block {A} (PutOut byte) state before after outcome other f =
     ap (λ (o : Outcome A). o.state.block) f.alike
 
-refused_block : {A : Type 0} (state : SlotState) (what : EventKind A) (outcome : Outcome A)
-    → WasRefused state what at_rest at_rest outcome → outcome.state.block ≡ state.block
-refused_block state what outcome (Failed block f) = absurd (omega (arith, f.failures))
-refused_block {A} state what outcome (Unsent console puts f) = ap (λ (o : Outcome A). o.state.block) f.is
-refused_block {A} state what outcome (Unput console puts f) = ap (λ (o : Outcome A). o.state.block) f.alike
-refused_block {A} state what outcome (Unread addr len is f) = ap (λ (o : Outcome A). o.state.block) f.alike
+refused_block : {A : Type 0} (state : SlotState) (what : EventKind A) (health : Health)
+    (outcome : Outcome A)
+    → WasRefused state what health health outcome → outcome.state.block ≡ state.block
+refused_block state what health outcome (Failed block f) = absurd (omega (arith, f.failures))
+refused_block {A} state what health outcome (Unsent console puts f) = ap (λ (o : Outcome A). o.state.block) f.is
+refused_block {A} state what health outcome (Unput console puts f) = ap (λ (o : Outcome A). o.state.block) f.alike
+refused_block {A} state what health outcome (Unread addr len is f) = ap (λ (o : Outcome A). o.state.block) f.alike
 
 -- the block window after the registers of a write, which doesn't wait
 write_keeps : (A : Type 0) (window : DeviceKind) (offset width value : ℕ) (state : SlotState)
@@ -72,33 +76,34 @@ write_keeps A Console offset width value state free = keeps_all state.block
 same_keeps : (old new : WindowState) → new ≡ old → KeepsQueues old new
 same_keeps old new same = subst (λ (w : WindowState). KeepsQueues old w) (sym same) (keeps_all old)
 
-given_keeps : {A : Type 0} (state : SlotState) (what : EventKind A) (outcome : Outcome A)
-    → must_wait what ≡ false → notifies_block what state ≡ false → MayGive state what at_rest at_rest outcome
+given_keeps : {A : Type 0} (state : SlotState) (what : EventKind A) (health : Health)
+    (outcome : Outcome A)
+    → must_wait what ≡ false → notifies_block what state ≡ false → MayGiveOverImage state what health health outcome
     → KeepsQueues state.block outcome.state.block
-given_keeps {A} state (Read window offset width) outcome free other (inl served) =
+given_keeps {A} state (Read window offset width) health outcome free other (inl served) =
     same_keeps state.block outcome.state.block (ap (λ (o : Outcome A). o.state.block) served.alike.alike)
-given_keeps {A} state (Write window offset width value) outcome free other (inl served) =
+given_keeps {A} state (Write window offset width value) health outcome free other (inl served) =
     subst (λ (w : WindowState). KeepsQueues state.block w)
-    (sym (finished_block _ _ at_rest at_rest outcome other served.alike))
+    (sym (finished_block _ _ health health outcome other served.alike))
     (write_keeps A window offset width value state free)
-given_keeps {A} state (MemRead addr len) outcome free other (inl served) =
+given_keeps {A} state (MemRead addr len) health outcome free other (inl served) =
     of_read (λ (o : Outcome A). KeepsQueues state.block o.state.block) state addr len outcome
     served.alike.alike
     (keeps_all state.block) (keeps_all state.block)
-given_keeps {A} state (MemWrite addr bytes) outcome free other (inl served) =
+given_keeps {A} state (MemWrite addr bytes) health outcome free other (inl served) =
     of_write (λ (o : Outcome A). KeepsQueues state.block o.state.block) state addr bytes outcome
     served.alike.alike
     (keeps_all state.block) (keeps_all state.block)
-given_keeps {A} state (Input bytes) outcome free other (inl served) =
+given_keeps {A} state (Input bytes) health outcome free other (inl served) =
     same_keeps state.block outcome.state.block (ap (λ (o : Outcome A). o.state.block) served.alike.is)
-given_keeps {A} state (Resize cols rows) outcome free other (inl served) =
+given_keeps {A} state (Resize cols rows) health outcome free other (inl served) =
     same_keeps state.block outcome.state.block (ap (λ (o : Outcome A). o.state.block) served.alike.alike)
-given_keeps {A} state (Complete verdict) outcome free other (inl served) =
+given_keeps {A} state (Complete verdict) health outcome free other (inl served) =
     same_keeps state.block outcome.state.block (ap (λ (o : Outcome A). o.state.block) served.alike.alike)
-given_keeps state what outcome free other (inr refused) =
+given_keeps state what health outcome free other (inr refused) =
     same_keeps state.block outcome.state.block
-    (refused_block state what outcome (was_refused state what at_rest at_rest outcome refused))
-given_keeps state (Restore bytes) outcome free other gives = absurd (cc free)
+    (refused_block state what health outcome (was_refused state what health health outcome refused))
+given_keeps state (Restore bytes) health outcome free other gives = absurd (cc free)
 
 readied_keeps : {A : Type 0} (state : SlotState) (what : EventKind A) → must_wait what ≡ false
     → KeepsQueues state.block (readied what state).block
@@ -112,19 +117,29 @@ readied_keeps state (Resize cols rows) free = keeps_all state.block
 readied_keeps state (Restore bytes) free = keeps_all state.block
 readied_keeps state (Complete verdict) free = keeps_all state.block
 
-own_keeps : {A : Type 0} (old : HostedState) (what : EventKind A) (outcome : HostedOutcome A)
-    (here : InFlight) → IsOwn what → old.flight ≡ Some here → Way old what outcome
-    → KeepsQueues old.slot.block outcome.state.slot.block
-own_keeps {A} old what outcome here own is (Waits there flies waits h) =
-    same_keeps old.slot.block outcome.state.slot.block (ap (λ (o : HostedOutcome A). o.state.slot.block) h)
-own_keeps old what outcome here own is (Beside free quiet h) =
-    given_keeps old.slot what _ (rw is at free) quiet h.given
-own_keeps old what outcome here own is (Looks none rings looks h) = absurd (cc)
-own_keeps {A} old what outcome here own is (Stands there flies free rings h) =
-    subst (λ (w : WindowState). KeepsQueues old.slot.block w)
-    (sym (ap (λ (o : HostedOutcome A). o.state.slot.block) h)) (readied_keeps old.slot what free)
-own_keeps old what outcome here own is (Rests verdict completes none h) = absurd (cc)
-own_keeps old what outcome here own is (Lands verdict completes there flies lands h) = absurd (cc)
+own_keeps : {A : Type 0} (old : SlotState) (flight : Option InFlight) (what : EventKind A) (before : Health)
+    (outcome : Outcome A) (here : InFlight) → IsOwn what → flight ≡ Some here
+    → Way (λ (o : Outcome A). MayGiveOverImage old what before before o) flight old what outcome
+    → KeepsQueues old.block outcome.state.block
+own_keeps {A} old flight what before outcome here own is (Waits there flies waits h) =
+    same_keeps old.block outcome.state.block (ap (λ (o : Outcome A). o.state.block) h)
+own_keeps old flight what before outcome here own is (Passes own' free quiet h) =
+    given_keeps old what before outcome (rw is at free) quiet h
+own_keeps old flight what before outcome here own is (Looks none rings looks h) = absurd (cc)
+own_keeps {A} old flight what before outcome here own is (Stands there flies free rings h) =
+    subst (λ (w : WindowState). KeepsQueues old.block w) (sym (ap (λ (o : Outcome A). o.state.block) h))
+    (readied_keeps old what free)
+own_keeps old flight what before outcome here own is (Rests verdict completes none h) = absurd (cc)
+own_keeps old flight what before outcome here own is (Lands verdict completes there flies lands h) =
+    absurd (cc)
+
+event_keeps : {A : Type 0} (host : Option HostDisk) (old : SlotState) (what : EventKind A)
+    (before after : Health) (outcome : Outcome A) (here : InFlight) → flight_in host ≡ Some here → IsOwn what
+    → MayGiveBy host old what before after outcome → KeepsQueues old.block outcome.state.block
+event_keeps None old what before after outcome here flies own h = absurd (cc)
+event_keeps {A} (Some disk) old what before after outcome here flies own h =
+    own_keeps old disk.flight what before outcome here own flies
+    (way (λ (o : Outcome A). MayGiveOverImage old what before before o) disk.flight old what outcome h.gives)
 
 then_keeps : (a b c : WindowState) → KeepsQueues a b → KeepsQueues b c → KeepsQueues a c
 then_keeps a b c one other = record {
@@ -132,58 +147,46 @@ then_keeps a b c one other = record {
   served = λ q queue is. other.served q queue (one.served q queue is);
 }
 
--- one call of them
-record Kept (old new : HostedState) (here : InFlight) : Type 0 where
-  keeps : KeepsQueues old.slot.block new.slot.block
-  flies : new.flight ≡ Some here
-
-call_keeps : {A : Type 0} (old : HostedState) (what : EventKind A) (outcome : HostedOutcome A)
-    (here : InFlight) → old.flight ≡ Some here → IsOwn what → IsHostedNext old what outcome
-    → Kept old outcome.state here
-call_keeps old what outcome here flies own next =
-    record {
-      keeps = own_keeps old what outcome here own flies (way old what outcome next);
-      flies = outlasts old here what outcome own flies next;
-    }
-
 -- and so do all of them
-life_keeps : {A : Type 0} (old : HostedState) (calls : List (HostedCall A)) (told : List (Told A))
-    (last : HostedState) (here : InFlight) → old.flight ≡ Some here → AreOwn calls
-    → IsHostedCourse old calls told last → KeepsQueues old.slot.block last.slot.block
+life_keeps : {A : Type 0} (old : SlotState) (events : List (EventKind A)) (records : List (Record A))
+    (last : SlotState) (here : InFlight) → flight_in old.host ≡ Some here → AreOwn events
+    → IsAnsweredBy (MayBeTold 0) old events records last → KeepsQueues old.block last.block
 life_keeps old [] [] last here flies own course =
-    same_keeps old.slot.block last.slot.block (ap (λ (s : HostedState). s.slot.block) course)
-life_keeps old [] (t ∷ told) last here flies own course = absurd course
-life_keeps old (call ∷ calls) [] last here flies own course = absurd course
-life_keeps old (call ∷ calls) (t ∷ told) last here flies own course =
-    let outcome = course.1.outcome in
-    let one = call_keeps old call.event outcome here flies own.0 course.1.next.next in
-    then_keeps old.slot.block outcome.state.slot.block last.slot.block one.keeps
-    (life_keeps outcome.state calls told last here one.flies own.1
-    (subst (λ (s : HostedState). IsHostedCourse s calls told last) course.1.left course.2))
+    same_keeps old.block last.block (ap (λ (s : SlotState). s.block) course)
+life_keeps old [] (t ∷ records) last here flies own course = absurd course
+life_keeps old (event ∷ events) [] last here flies own course = absurd course
+life_keeps old (event ∷ events) (t ∷ records) last here flies own course =
+    let told = course.1 in
+    let outcome = told.outcome in
+    then_keeps old.block outcome.state.block last.block
+    (event_keeps old.host old event told.before told.behind outcome here flies own.0 told.given)
+    (life_keeps outcome.state events records last here
+    (outlasts old here event told.before told.behind outcome own.0 flies told.given) own.1
+    (subst (λ (s : SlotState). IsAnsweredBy (MayBeTold 0) s events records last) told.left course.2))
 
 -- ---- the chain that is in flight
 
-with_flight : {A : Type 0} (old : SlotState) (now : HostedState) (verdict : Verdict) (new : HostedState)
+in_flight : {A : Type 0} (old : SlotState) (now : SlotState) (verdict : Verdict) (new : SlotState)
     (here : InFlight) (flown : IsFlown A old here now verdict new) (disk : Disk) (hosted : Hosted)
     (buffers : List Buffer) (runs : List Segment)
-    → HostsTo (device_of old) First unlimited (queue_at 0 old.block) hosted old.memory
-    flown.asking.slot.memory old.block flown.asking.slot.block buffers runs disk
+    → HostsTo (hosted_device old) First unlimited (queue_at 0 old.block) hosted old.memory
+    flown.asking.memory old.block flown.asking.block buffers runs disk
     → in_rooms (flight_by hosted) buffers runs ≡ Some here
     → IsHonestlyServed old here now verdict new flown disk
-with_flight old now verdict new here flown disk More buffers runs hosts is = absurd (cc)
-with_flight old now verdict new here flown disk Done buffers runs hosts is = absurd (cc)
-with_flight {A} old now verdict new here flown disk (Asks flight) buffers runs hosts is =
+in_flight old now verdict new here flown disk More buffers runs hosts is = absurd (cc)
+in_flight old now verdict new here flown disk Done buffers runs hosts is = absurd (cc)
+in_flight {A} old now verdict new here flown disk (Asks flight) buffers runs hosts is =
     let flies : record { flight = flight; buffers = buffers; runs = runs } ≡ here = same_Some _ here is in
     let token = ap (λ (h : InFlight). h.flight) flies in
     let places = ap (λ (h : InFlight). h.buffers) flies in
     let completes = flown.lands.completes in
     let start = at_disk old.memory (opened_at First old.memory hosts.queue)
-    (extent_disk (device_of old).extent disk) in
-    let asking : queue_at 0 flown.asking.slot.block ≡ Some hosts.last =
+    (extent_disk (hosted_device old).extent disk) in
+    let asking : queue_at 0 flown.asking.block ≡ Some hosts.last =
     ap (λ (w : WindowState). queue_at 0 w) hosts.window
     ∙ queue_stands_open 0 old.block hosts.queue hosts.last (sym hosts.ready) in
-    let stays : queue_at 0 now.slot.block ≡ Some hosts.last =
-    (life_keeps flown.asking flown.calls flown.told now here flown.flies flown.own flown.course).served 0
+    let stays : queue_at 0 now.block ≡ Some hosts.last =
+    (life_keeps flown.asking flown.events flown.records now here flown.flies flown.own flown.course).served 0
     hosts.last asking in
     let same : completes.queue ≡ hosts.last =
     same_Some completes.queue hosts.last (sym completes.ready ∙ stays) in
@@ -191,25 +194,36 @@ with_flight {A} old now verdict new here flown disk (Asks flight) buffers runs h
       queue = hosts.queue;
       ready = sym hosts.ready;
       request = hosts.request;
-      asked = subst (λ b. IsAsked (device_of old) flown.asking.slot.memory b hosts.request) places
+      asked = subst (λ b. IsAsked (hosted_device old) flown.asking.memory b hosts.request) places
           hosts.asks.stops.asked;
       operation = ap (λ (f : Flight). f.operation) (sym token) ∙ hosts.operation;
       serves = λ disk' done.
-          honest_host_serves (device_of old) start flown.asking.slot.memory now.slot.memory completes.given
-          hosts.last completes.behind (extent_disk (device_of old).extent disk) disk' here.buffers
+          honest_host_serves (hosted_device old) start flown.asking.memory now.memory completes.given
+          hosts.last completes.behind (extent_disk (hosted_device old).extent disk) disk' here.buffers
           here.flight verdict hosts.request (wants_stable old.block)
           (ap (λ (f : Flight). f.operation) (sym token) ∙ hosts.operation)
-          (subst (λ (h : InFlight). StopsAt (device_of old) start
-          (at_disk flown.asking.slot.memory hosts.last (extent_disk (device_of old).extent disk))
+          (subst (λ (h : InFlight). StopsAt (hosted_device old) start
+          (at_disk flown.asking.memory hosts.last (extent_disk (hosted_device old).extent disk))
           h.buffers h.flight.token hosts.request) flies hosts.asks.stops)
           done
-          (subst (λ (q : Queue). IsGivenBack here.flight verdict here.buffers now.slot.memory completes.given
+          (subst (λ (q : Queue). IsGivenBack here.flight verdict here.buffers now.memory completes.given
           q completes.behind) same completes.gives);
     }
 
-pub honest : {A : Type 0} (old : SlotState) (here : InFlight) (now : HostedState) (verdict : Verdict)
-    (new : HostedState) (flown : IsFlown A old here now verdict new) (disk : Disk)
+-- a look leaves in flight what it comes to
+looks_fly : (old new : SlotState) (here : InFlight) → LooksAtQueue old new → flight_in new.host ≡ Some here
+    → (flight : Option InFlight) (host : Option HostDisk) → old.host ≡ host
+    → new.host ≡ with_flight flight host → flight ≡ Some here
+looks_fly old new here looks flies flight None is now = absurd (cc)
+looks_fly old new here looks flies flight (Some disk) is now = sym (ap flight_in now) ∙ flies
+
+pub honest : {A : Type 0} (old : SlotState) (here : InFlight) (now : SlotState) (verdict : Verdict)
+    (new : SlotState) (flown : IsFlown A old here now verdict new) (disk : Disk)
     → IsHonestlyServed old here now verdict new flown disk
 honest old here now verdict new flown disk =
-    with_flight old now verdict new here flown disk flown.looks.hosted flown.looks.buffers flown.looks.runs
-    (flown.looks.hosts disk) (sym flown.looks.flight ∙ flown.flies)
+    let looked = flown.looks.looks in
+    let flies : flown.looks.flight ≡ Some here =
+    looks_fly old flown.asking here flown.looks flown.flies flown.looks.flight old.host refl
+    (ap (λ (s : SlotState). s.host) flown.looks.rest) in
+    in_flight old now verdict new here flown disk looked.hosted looked.buffers looked.runs
+    (looked.hosts disk) (sym looked.flies ∙ flies)

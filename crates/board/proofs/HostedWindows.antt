@@ -1,5 +1,7 @@
 -- The block window of a slot whose disk the host serves stays that of its device.
-use Rattle.std.proofs.Common.{◌≡◌, Bool, true, false, List, Option, Some, refl, subst, sym}
+use Rattle.std.proofs.Common.{◌≡◌, ℕ, Bool, true, false, List, Option, Some, None, refl, subst, sym, ap, ◌∙◌}
+use Rattle.std.specs.Prelude.{IsSomeAnd}
+use Rattle.std.specs.Bool.{OnTrue, OnFalse}
 use Rattle.guest_memory.specs.Memory.{Memory}
 use Rattle.chain.specs.declared.budget.Budget.{Budget}
 use Rattle.chain.specs.declared.budget.Progress.TheVariants as progress
@@ -21,8 +23,13 @@ use Rattle.block_device.specs.declared.hosting.Flight.{Flight}
 use Rattle.block_device.specs.declared.hosting.Hosted.{Hosted}
 use Rattle.block_device.specs.declared.hosting.Hosted.TheVariants.{Asks, More, Done}
 use Rattle.block_device.specs.declared.operation.Verdict.{Verdict}
+use Rattle.block_device.specs.declared.extent.Extent.{Extent}
 use Rattle.block_device.specs.Asking.{unasked_device}
 use Rattle.block_device.specs.Hosting.{CompletesIn, HostsTo}
+use Rattle.board.specs.Backing.{HostDisk, InFlight, sectors_by, with_flight}
+use Rattle.board.specs.Hosting.{Looks, LooksAtQueue, device_at, device_extent, hosted_device}
+use Rattle.board.specs.Image.{sectors_of}
+use Rattle.board.specs.Slot.{BoardSlot, disk_sectors, state_of}
 
 registers_kept : (kind : DeviceKind) (change : QueueRegisters → QueueRegisters) (w : WindowState)
     → KeepsDevice w (with_registers_in (queue_of kind 0) change w)
@@ -64,3 +71,53 @@ pub KeepsDevice-completes : (flight : Flight) (answer : Verdict) (old new : Memo
     → CompletesIn flight answer old new before after buffers → KeepsDevice before after
 KeepsDevice-completes flight answer old new before after buffers h =
     at before _ after h.window (spent_kept h.wanted before _)
+
+-- and where it may have been of nothing
+pub KeepsDevice-completed : (done : Bool) (found : Option InFlight) (answer : Verdict) (old new : Memory)
+    (before after : WindowState)
+    → OnTrue done (IsSomeAnd found (λ here. CompletesIn here.flight answer old new before after here.buffers))
+    → OnFalse done (after ≡ before) → KeepsDevice before after
+KeepsDevice-completed true None answer old new before after completes same = absurd completes
+KeepsDevice-completed true (Some here) answer old new before after completes same =
+    KeepsDevice-completes here.flight answer old new before after here.buffers completes
+KeepsDevice-completed false found answer old new before after completes same =
+    at before before after same (record { kind = refl; offered = refl; generation = λ never. refl })
+
+-- ---- a look, as the slot's guest sees it
+
+hosted_extent : (host : Option HostDisk) (disk : HostDisk) (extent : Extent) (n : ℕ) → host ≡ Some disk
+    → device_extent host extent ≡ record { start = 0; count = sectors_by host n }
+hosted_extent host disk extent n is = rw is refl
+
+with_extent : (e f : Extent) (read_only : Bool) (identity : List ℕ) → e ≡ f
+    → ◌≡◌ {A = BlockDevice} (record { extent = e; read_only = read_only; identity = identity })
+    (record { extent = f; read_only = read_only; identity = identity })
+with_extent e f read_only identity is = rw is refl
+
+same_disk : (one other : HostDisk) → other.sectors ≡ one.sectors
+    → Some other ≡ Some (record { sectors = one.sectors; flight = other.flight })
+same_disk one other is = rw (← is) refl
+
+flown : (host : Option HostDisk) (disk now : HostDisk) → host ≡ Some disk → now.sectors ≡ disk.sectors
+    → Some now ≡ with_flight now.flight host
+flown host disk now is same = rw is (same_disk disk now same)
+
+pub looked : (image : List ℕ) (slot new : BoardSlot) (disk now : HostDisk) (device : BlockDevice)
+    → slot.host ≡ Some disk → device ≡ device_at slot → now.sectors ≡ disk.sectors
+    → Looks device slot.memory new.memory slot.block new.block now.flight
+    → new ≡ record slot { memory = new.memory; block = new.block; host = Some now }
+    → LooksAtQueue (state_of image slot) (state_of image new)
+looked image slot new disk now device hosted is same looks rest =
+    let state = state_of image slot in
+    let device_is : device ≡ hosted_device state =
+    is ∙ with_extent (device_extent slot.host slot.extent) (record { start = 0; count = disk_sectors state })
+    slot.read_only slot.identity
+    (hosted_extent slot.host disk slot.extent (sectors_of state.extent) hosted) in
+    record {
+      flight = now.flight;
+      looks = subst (λ (d : BlockDevice). Looks d slot.memory new.memory slot.block new.block now.flight)
+          device_is looks;
+      rest = ap (λ (s : BoardSlot). state_of image s) rest
+          ∙ ap (λ (h : Option HostDisk). record state { memory = new.memory; block = new.block; host = h })
+          (flown slot.host disk now hosted same);
+    }

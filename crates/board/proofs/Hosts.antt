@@ -1,155 +1,420 @@
--- What a slot does whose disk the host serves, as the one-slot machine has it.
-use Rattle.std.proofs.Common.{◌≡◌, ℕ, Bool, true, false, Option, Some, None, List, [], refl, sym, ◌∙◌, ap, subst, append-nil}
-use Rattle.std.specs.Prelude.{◌&&◌, IsSome, is_some}
+-- What an event of a slot comes to by who has its disk.
+use Rattle.std.proofs.Common.{◌≡◌, ◌≢◌, ℕ, zero, suc, Bool, true, false, Option, Some, None, List, [], refl, sym, ◌∙◌, subst, append-nil}
+use Rattle.std.specs.Prelude.{◌&&◌, ◌||◌, if◌then◌else◌, IfErr, IsSome, OnErr, OnOk, Ok, Err, Result, is_some}
+use Rattle.chain.specs.declared.budget.Budget.{Budget}
+use Rattle.block_device.specs.declared.operation.Verdict.{Verdict}
+use Rattle.mmio_window.specs.declared.device_kind.DeviceKind.{DeviceKind}
+use Rattle.mmio_window.specs.declared.device_kind.DeviceKind.TheVariants.{Block, Console}
 use Rattle.board.specs.declared.event.EventKind.{EventKind}
-use Rattle.board.specs.declared.pause.Turn.TheVariants as turn
+use Rattle.board.specs.declared.event.EventKind.TheVariants.{Read, Write, MemRead, MemWrite, Input, Resize, Restore, Complete}
+use Rattle.board.specs.declared.pause.Pause.{Pause}
+use Rattle.board.specs.declared.pause.Service.{Service}
+use Rattle.mmio_window.specs.declared.stage.Stage.TheVariants.{Next}
+use Rattle.board.specs.declared.pause.Turn.{Turn}
+use Rattle.board.specs.declared.pause.Turn.TheVariants.{Answered}
 use Rattle.board.specs.declared.reply.Reply.{Reply}
-use Rattle.board.specs.declared.reply.Reply.TheVariants.{Done}
-use Rattle.block_device.specs.declared.device.BlockDevice.{BlockDevice}
-use Rattle.block_device.specs.declared.extent.Extent.{Extent}
+use Rattle.board.specs.declared.reply.Reply.TheVariants.{Busy}
+use Rattle.board.specs.Backing.{HostDisk, InFlight, flight_in}
+use Rattle.board.specs.Hosting.{CompletesOrGives, CompletionGives, LooksAtQueue, OwnGives, has_part, is_block_task, must_wait, notifies_block, verdict_in}
 use Rattle.board.specs.Image.{Health, sectors_of}
-use Rattle.board.specs.Hosting.{GivesAtRest, GivesInFlight, HostedOutcome, HostedState, InFlight, IsBesideDisk, IsOwn, LooksAtQueue, OwnGives, TakesHosted, WaitsOrGives, answers, device_at, hosted_slot, must_wait, notifies_block, unlimited, unseen}
-use Rattle.board.specs.Machine.{at_rest}
-use Rattle.board.specs.Pausing.{Begins, ServesTurn, readied}
+use Rattle.board.specs.Outcome.{Outcome, does, replies}
+use Rattle.board.specs.Pausing.{Begins, BeginsOverImage, ComesTo, GoesOn, GoesOnBy, ServesTurn, TurnsTo, asked_over_image, is_hosts, readied}
+use Rattle.board.specs.declared.pause.Service.TheVariants as service
+use Rattle.board.specs.Machine.{action_at, task_at}
+use Rattle.board.specs.Restoring.{refusal_of, restore_reply, taken_up_reply}
+use Rattle.board.specs.Saved.{IsCauseOf, IsRestored}
+use Rattle.board.specs.declared.saved.RestoreFault.{RestoreFault}
+use Rattle.board.specs.declared.saved.RestoreRefusal.{RestoreRefusal}
 use Rattle.board.specs.Slot.{BoardSlot, SlotState, state_of}
-use Rattle.board.specs.Within.{BeginsWithin, TakesWithin}
-use Rattle.board.proofs.Answered.{ended_within}
-use Rattle.board.proofs.Flights.{own_count}
-use Rattle.board.proofs.Waiting.{next_own}
-use Rattle.board.proofs.Whole.{whole}
+use Rattle.board.proofs.Restoring.{restore_given}
+use Rattle.board.specs.Task.{Task, Nothing, PutOut, Serve, task_of}
+use Rattle.mmio_window.specs.declared.action.Action.{Action}
+use Rattle.mmio_window.specs.declared.action.Action.TheVariants as action
+use Rattle.board.specs.Within.{BeginsWithin, BeginsWithinOverImage, TakesWithin, TurnWithin}
+use Rattle.board.specs.World.{MayGive, MayGiveBy, MayGiveOverImage}
+use Rattle.board.proofs.OnHost.{passes_by, turns_as}
 
--- the disk has no part in it
-pub beside_at : {A : Type 0} (old : HostedState) (what : EventKind A) (outcome : HostedOutcome A)
-    (flight : Option InFlight) (waits : Bool) → must_wait what ≡ waits → (is_some flight && waits) ≡ false
-    → notifies_block what old.slot ≡ false → IsBesideDisk old what outcome → OwnGives flight old what outcome
-beside_at old what outcome None waits same free other h =
-    subst (λ (b : Bool). GivesAtRest b old what outcome) (sym other) h
-beside_at old what outcome (Some here) true same free other h = absurd (cc)
-beside_at old what outcome (Some here) false same free other h =
-    subst (λ (b : Bool). WaitsOrGives b old what outcome) (sym same)
-    (subst (λ (b : Bool). GivesInFlight b old what outcome) (sym other) h)
+-- ---- whether the host has a part in it
 
-pub beside : {A : Type 0} (old new : HostedState) (what : EventKind A) (reply : Reply A) (out out' : List ℕ)
-    → IsOwn what → (is_some old.flight && must_wait what) ≡ false → notifies_block what old.slot ≡ false
-    → new.flight ≡ old.flight
-    → ServesTurn (Begins what unlimited) old.slot at_rest at_rest new.slot (turn.Answered reply) out out'
-    → TakesHosted old what new reply out out'
-beside {A} old new what reply out out' own free other flight h =
-    let outcome : HostedOutcome A = record { state = new; reply = reply; output = h.output } in
-    record {
-      output = h.output;
-      next =
-          next_own old what outcome own
-          (beside_at old what outcome old.flight (must_wait what) refl free other
-          (record {
-            given = whole what unlimited old.slot at_rest at_rest new.slot h.output reply h.comes;
-            flight = flight;
-          }));
-      appended = h.appended;
-    }
+pub no_host : {A : Type 0} (host : Option HostDisk) (what : EventKind A) (state : SlotState) → host ≡ None
+    → has_part host what state ≡ false
+no_host None what state is = refl
+no_host (Some disk) what state is = absurd (cc)
 
--- the block device is notified: it looks at its queue
-looks_at : {A : Type 0} (old new : HostedState) (what : EventKind A) (flight : Option InFlight)
-    → flight ≡ None → notifies_block what old.slot ≡ true → LooksAtQueue (readied what old.slot) new
-    → OwnGives flight old what (answers new Done)
-looks_at old new what None none rings h =
-    subst (λ (b : Bool). GivesAtRest b old what (answers new Done)) (sym rings) (h, refl)
-looks_at old new what (Some here) none rings h = absurd (cc)
+-- it has in a completion, in what waits, and in a notification of the block device
+pub part_by_verdict : {A : Type 0} (host : Option HostDisk) (what : EventKind A) (state : SlotState)
+    (verdict : Verdict) → IsSome host → verdict_in what ≡ Some verdict → has_part host what state ≡ true
+part_by_verdict None what state verdict hosted is = absurd (cc)
+part_by_verdict (Some disk) what state verdict hosted is = rw is refl
 
--- or something is in flight, and the notification is of no account
-passes_at : {A : Type 0} (old : HostedState) (what : EventKind A) (flight : Option InFlight)
-    → is_some flight ≡ true → must_wait what ≡ false → notifies_block what old.slot ≡ true
-    → OwnGives flight old what (answers (record old { slot = readied what old.slot }) Done)
-passes_at old what None some free rings = absurd (cc)
-passes_at old what (Some here) some free rings =
-    let outcome = answers (record old { slot = readied what old.slot }) Done in
-    subst (λ (b : Bool). WaitsOrGives b old what outcome) (sym free)
-    (subst (λ (b : Bool). GivesInFlight b old what outcome) (sym rings) refl)
+waits_by : (v waits rings : Bool) → waits ≡ true → (v || (waits || rings)) ≡ true
+waits_by true waits rings is = refl
+waits_by false true rings is = refl
+waits_by false false rings is = absurd (cc)
 
-notified_at : {A : Type 0} (old mid new : HostedState) (what : EventKind A) (flight : Option InFlight)
-    → old.flight ≡ flight → (is_some flight && must_wait what) ≡ false → notifies_block what old.slot ≡ true
-    → mid ≡ record old { slot = readied what old.slot }
-    → (mid.flight ≡ None → LooksAtQueue mid.slot new) → (IsSome mid.flight → new ≡ mid)
-    → OwnGives flight old what (answers new Done)
-notified_at old mid new what None same free rings is looks stays =
-    let none : mid.flight ≡ None = ap (λ (s : HostedState). s.flight) is ∙ same in
-    looks_at old new what None refl rings
-    (subst (λ (s : HostedState). LooksAtQueue s.slot new) is (looks none))
-notified_at {A} old mid new what (Some here) same free rings is looks stays =
-    let some : IsSome mid.flight =
-    subst (λ (o : Option InFlight). IsSome o) (sym (ap (λ (s : HostedState). s.flight) is ∙ same)) refl in
-    subst (λ (s : HostedState). OwnGives {A = A} (Some here) old what (answers s Done))
-    (sym (stays some ∙ is))
-    (passes_at old what (Some here) refl free rings)
+rings_by : (v waits rings : Bool) → rings ≡ true → (v || (waits || rings)) ≡ true
+rings_by true waits rings is = refl
+rings_by false true rings is = refl
+rings_by false false true is = refl
+rings_by false false false is = absurd (cc)
 
-pub notified : {A : Type 0} (old mid new : HostedState) (what : EventKind A) (out : List ℕ) → IsOwn what
-    → (is_some old.flight && must_wait what) ≡ false → notifies_block what old.slot ≡ true
-    → mid ≡ record old { slot = readied what old.slot }
-    → (mid.flight ≡ None → LooksAtQueue mid.slot new) → (IsSome mid.flight → new ≡ mid)
-    → TakesHosted old what new Done out out
-notified old mid new what out own free rings is looks stays =
-    record {
-      output = [];
-      next = next_own old what (answers new Done) own
-          (notified_at old mid new what old.flight refl free rings is looks stays);
-      appended = sym (append-nil out);
-    }
+pub part_by_wait : {A : Type 0} (host : Option HostDisk) (what : EventKind A) (state : SlotState)
+    → (is_some (flight_in host) && must_wait what) ≡ true → has_part host what state ≡ true
+part_by_wait None what state waits = absurd (cc)
+part_by_wait (Some disk) what state waits =
+    waits_by (is_some (verdict_in what)) (is_some disk.flight && must_wait what) (notifies_block what state) waits
 
--- ---- within a limit
+pub part_by_ring : {A : Type 0} (host : Option HostDisk) (what : EventKind A) (state : SlotState)
+    → IsSome host → notifies_block what state ≡ true → has_part host what state ≡ true
+part_by_ring None what state hosted rings = absurd (cc)
+part_by_ring (Some disk) what state hosted rings =
+    rings_by (is_some (verdict_in what)) (is_some disk.flight && must_wait what) (notifies_block what state) rings
 
--- ---- a slot's own disk
+pub no_part : {A : Type 0} (host : Option HostDisk) (what : EventKind A) (state : SlotState)
+    → verdict_in what ≡ None → (is_some (flight_in host) && must_wait what) ≡ false
+    → notifies_block what state ≡ false → has_part host what state ≡ false
+no_part None what state own free quiet = refl
+no_part (Some disk) what state own free quiet = rw (own, free, quiet) refl
 
--- nothing waits, as the slot itself has it
-abbrev pub IsFree : {A : Type 0} → Option InFlight → EventKind A → Type 0
-IsFree flight what = (is_some flight && must_wait what) ≡ false
+pub no_wait : (b : Bool) → (b && false) ≡ false
+no_wait true = refl
+no_wait false = refl
 
-pub same_extent : (slot new : BoardSlot) → device_at new ≡ device_at slot → new.extent ≡ slot.extent
-same_extent slot new device = ap (λ (d : BlockDevice). d.extent) device
+-- in what is typed it has none
+pub input_passes : (A : Type 0) (host : Option HostDisk) (bytes : List ℕ) (state : SlotState)
+    → has_part {A = A} host (Input bytes) state ≡ false
+input_passes A host bytes state =
+    no_part {A = A} host (Input bytes) state refl (no_wait (is_some (flight_in host))) refl
 
--- the slot's disk has as many sectors after an event as before
-pub own_after : (slot new : BoardSlot) → device_at new ≡ device_at slot
-    → state_of (unseen slot.extent.count) new ≡ hosted_slot new
-own_after slot new device =
-    ap (λ (e : Extent). state_of (unseen e.count) new) (sym (same_extent slot new device))
+-- a service of the console goes on as over an image
+pub goes_on : (host : Option HostDisk) (which : Service) → which ≢ service.Block
+    → is_hosts host which ≡ false
+goes_on None which other = refl
+goes_on (Some disk) service.Block other = absurd (other refl)
+goes_on (Some disk) service.Receive other = refl
+goes_on (Some disk) service.Transmit other = refl
 
-pub beside_slot : {A : Type 0} (slot new : BoardSlot) (flight : Option InFlight) (what : EventKind A)
-    (reply : Reply A) (out out' : List ℕ) → IsOwn what → slot.extent.start ≡ 0
-    → device_at new ≡ device_at slot → IsFree flight what
-    → false ≡ notifies_block what (hosted_slot slot)
-    → ((image : List ℕ) (health : Health) → sectors_of (state_of image slot).extent ≡ slot.extent.count
-    → ServesTurn (Begins what unlimited) (state_of image slot) health health (state_of image new)
-    (turn.Answered reply) out out')
-    → TakesHosted (record { slot = hosted_slot slot; flight = flight }) what
-    (record { slot = hosted_slot new; flight = flight }) reply out out'
-beside_slot slot new flight what reply out out' mine own device free other serves =
-    beside (record { slot = hosted_slot slot; flight = flight })
-    (record { slot = hosted_slot new; flight = flight }) what reply out out' mine free (sym other) refl
-    (subst (λ (s : SlotState). ServesTurn (Begins what unlimited) (hosted_slot slot) at_rest at_rest s
-    (turn.Answered reply) out out') (own_after slot new device)
-    (serves (unseen slot.extent.count) at_rest (own_count slot own)))
+pub serves_on : {A : Type 0} (pause : Pause) (budget : Budget) (state : SlotState) (before after : Health)
+    (new : SlotState) (turn : Turn A) (out out' : List ℕ) → is_hosts state.host pause.service ≡ false
+    → ServesTurn (ComesTo pause Next budget) state before after new turn out out'
+    → ServesTurn (GoesOn pause budget) state before after new turn out out'
+serves_on pause budget state before after new turn out out' is h = record {
+  output = h.output;
+  comes = subst (λ (b : Bool). GoesOnBy b pause budget state before after new h.output turn) (sym is) h.comes;
+  appended = h.appended;
+}
 
-pub beside_slot_within : {A : Type 0} (slot new : BoardSlot) (what : EventKind A) (reply : Reply A)
-    (out out' : List ℕ) (o : Option ℕ) → device_at new ≡ device_at slot
-    → ((image : List ℕ) (limit : ℕ) → o ≡ Some limit
-    → BeginsWithin limit what unlimited (state_of image slot) (state_of image new) out out'
-    (turn.Answered reply))
-    → (limit : ℕ) → o ≡ Some limit
-    → TakesWithin limit (hosted_slot slot) what (hosted_slot new) out out' reply
-beside_slot_within slot new what reply out out' o device within limit limited =
-    ended_within limit what unlimited (hosted_slot slot) (hosted_slot new) out out' reply
-    (subst (λ (s : SlotState). BeginsWithin limit what unlimited (hosted_slot slot) s out out'
-    (turn.Answered reply)) (own_after slot new device) (within (unseen slot.extent.count) limit limited))
+-- ---- it has none
 
-pub notified_slot : {A : Type 0} (slot mid : BoardSlot) (flight : Option InFlight) (what : EventKind A)
-    (new : HostedState) (out : List ℕ) → IsOwn what → device_at mid ≡ device_at slot → IsFree flight what
-    → true ≡ notifies_block what (hosted_slot slot)
-    → ((image : List ℕ) → state_of image mid ≡ readied what (state_of image slot))
-    → (flight ≡ None → LooksAtQueue (hosted_slot mid) new)
-    → (IsSome flight → new ≡ record { slot = hosted_slot mid; flight = flight })
-    → TakesHosted (record { slot = hosted_slot slot; flight = flight }) what new Done out out
-notified_slot slot mid flight what new out mine device free rings readied_is looks stays =
-    let old : HostedState = record { slot = hosted_slot slot; flight = flight } in
-    let is : hosted_slot mid ≡ readied what (hosted_slot slot) = sym (own_after slot mid device)
-    ∙ readied_is (unseen slot.extent.count) in
-    notified old (record { slot = hosted_slot mid; flight = flight }) new what out mine free (sym rings)
-    (ap (λ (s : SlotState). record { slot = s; flight = flight }) is) looks stays
+-- what a turn comes to over an image that stays as it is
+pub begins_passing : {A : Type 0} (what : EventKind A) (budget : Budget) (state : SlotState)
+    (health : Health) (new : SlotState) (output : List ℕ) (turn : Turn A)
+    → has_part state.host what state ≡ false
+    → BeginsOverImage what budget state health health new output turn
+    → Begins what budget state health health new output turn
+begins_passing {A} what budget state health new output turn free h =
+    let passing = turns_as (λ (o : Outcome A). MayGiveOverImage state what health health o)
+    (λ (o : Outcome A). MayGive state what health health o)
+    (λ o given. passes_by state.host state what health o free given) (asked_over_image what state) what budget
+    state health health new output turn h in
+    subst (λ (b : Bool). TurnsTo (λ (o : Outcome A). MayGive state what health health o)
+    (if b then None else asked_over_image what state) what budget state health health new output turn)
+    (sym free) passing
+
+pub serves_passing : {A : Type 0} (what : EventKind A) (budget : Budget) (state : SlotState)
+    (health : Health) (new : SlotState) (turn : Turn A) (out out' : List ℕ)
+    → has_part state.host what state ≡ false
+    → ServesTurn (BeginsOverImage what budget) state health health new turn out out'
+    → ServesTurn (Begins what budget) state health health new turn out out'
+serves_passing what budget state health new turn out out' free h = record {
+  output = h.output;
+  comes = begins_passing what budget state health new h.output turn free h.comes;
+  appended = h.appended;
+}
+
+-- and over an image that serves it
+pub serves_image : {A : Type 0} (what : EventKind A) (budget : Budget) (state : SlotState)
+    (before after : Health) (new : SlotState) (turn : Turn A) (out out' : List ℕ) → state.host ≡ None
+    → ServesTurn (BeginsOverImage what budget) state before after new turn out out'
+    → ServesTurn (Begins what budget) state before after new turn out out'
+serves_image {A} what budget state before after new turn out out' none h = record {
+  output = h.output;
+  comes =
+      subst (λ (b : Bool). TurnsTo (λ (o : Outcome A). MayGive state what before after o)
+      (if b then None else asked_over_image what state) what budget state before after new h.output turn)
+      (sym (no_host state.host what state none))
+      (turns_as (λ (o : Outcome A). MayGiveOverImage state what before after o)
+      (λ (o : Outcome A). MayGive state what before after o)
+      (λ o given. subst (λ (k : Option HostDisk). MayGiveBy k state what before after o) (sym none) given)
+      (asked_over_image what state) what budget state before after new h.output turn h.comes);
+  appended = h.appended;
+}
+
+pub within_passing : {A : Type 0} (limit : ℕ) (what : EventKind A) (budget : Budget)
+    (state new : SlotState) (waiting left : List ℕ) (turn : Turn A) → has_part state.host what state ≡ false
+    → BeginsWithinOverImage limit what budget state new waiting left turn
+    → BeginsWithin limit what budget state new waiting left turn
+within_passing limit what budget state new waiting left turn free h =
+    subst (λ (b : Bool). TurnWithin limit (if b then None else asked_over_image what state) what budget state new
+    waiting left turn) (sym free) h
+
+-- ---- it has one
+
+pub serves_part : {A : Type 0} (what : EventKind A) (budget : Budget) (state : SlotState) (health : Health)
+    (new : SlotState) (reply : Reply A) (out : List ℕ) → has_part state.host what state ≡ true
+    → MayGive state what health health (replies new reply)
+    → ServesTurn (Begins what budget) state health health new (Answered reply) out out
+serves_part {A} what budget state health new reply out part given = record {
+  output = [];
+  comes =
+      subst (λ (b : Bool). TurnsTo (λ (o : Outcome A). MayGive state what health health o)
+      (if b then None else asked_over_image what state) what budget state health health new []
+      (Answered reply)) (sym part) given;
+  appended = sym (append-nil out);
+}
+
+pub within_part : {A : Type 0} (limit : ℕ) (what : EventKind A) (budget : Budget) (state new : SlotState)
+    (waiting left : List ℕ) (reply : Reply A) → has_part state.host what state ≡ true
+    → TakesWithin limit state what new waiting left reply
+    → BeginsWithin limit what budget state new waiting left (Answered reply)
+within_part limit what budget state new waiting left reply part h =
+    subst (λ (b : Bool). TurnWithin limit (if b then None else asked_over_image what state) what budget state new
+    waiting left (Answered reply)) (sym part) h
+
+-- a write to the block window asks for no service of the console, and puts nothing out
+block_asks : (act : Action) → task_of Block act ≡ Serve service.Transmit → ⊥
+block_asks (action.Notify zero) is = absurd (cc)
+block_asks (action.Notify (suc q)) is = absurd (cc)
+block_asks action.Reset is = absurd (cc)
+block_asks (action.ConfigWrite offset width value) is = absurd (cc)
+block_asks action.None is = absurd (cc)
+
+block_puts : (act : Action) (byte : ℕ) → task_of Block act ≡ PutOut byte → ⊥
+block_puts (action.Notify zero) byte is = absurd (cc)
+block_puts (action.Notify (suc q)) byte is = absurd (cc)
+block_puts action.Reset byte is = absurd (cc)
+block_puts (action.ConfigWrite offset width value) byte is = absurd (cc)
+block_puts action.None byte is = absurd (cc)
+
+-- what the host has a part in puts nothing out
+silent_write : {A : Type 0} (limit : ℕ) (state new : SlotState) (offset width value : ℕ) (waiting : List ℕ)
+    (reply : Reply A) (task : Task) → task_at Block offset width value state ≡ task
+    → TakesWithin limit state (Write Block offset width value) new waiting waiting reply
+silent_write limit state new offset width value waiting reply Nothing is = rw is tt
+silent_write limit state new offset width value waiting reply (Serve service.Block) is = rw is tt
+silent_write limit state new offset width value waiting reply (Serve service.Receive) is = rw is tt
+silent_write limit state new offset width value waiting reply (Serve service.Transmit) is =
+    absurd (block_asks (action_at Block offset width value state) is)
+silent_write limit state new offset width value waiting reply (PutOut byte) is =
+    absurd (block_puts (action_at Block offset width value state) byte is)
+
+ring_silent : {A : Type 0} (limit : ℕ) (state new : SlotState) (window : DeviceKind) (offset width value : ℕ)
+    (waiting : List ℕ) (reply : Reply A) (task : Task) → task_at window offset width value state ≡ task
+    → is_block_task task ≡ true
+    → TakesWithin limit state (Write window offset width value) new waiting waiting reply
+ring_silent limit state new window offset width value waiting reply Nothing is rings = absurd (cc)
+ring_silent limit state new window offset width value waiting reply (Serve service.Block) is rings = rw is tt
+ring_silent limit state new window offset width value waiting reply (Serve service.Receive) is rings =
+    absurd (cc)
+ring_silent limit state new window offset width value waiting reply (Serve service.Transmit) is rings =
+    absurd (cc)
+ring_silent limit state new window offset width value waiting reply (PutOut byte) is rings = absurd (cc)
+
+pub waiting_silent : {A : Type 0} (limit : ℕ) (state new : SlotState) (what : EventKind A)
+    (waiting : List ℕ) (reply : Reply A) → must_wait what ≡ true
+    → TakesWithin limit state what new waiting waiting reply
+waiting_silent limit state new (Read window offset width) waiting reply waits = absurd (cc)
+waiting_silent limit state new (Write Block offset width value) waiting reply waits =
+    silent_write limit state new offset width value waiting reply (task_at Block offset width value state) refl
+waiting_silent limit state new (Write Console offset width value) waiting reply waits = absurd (cc)
+waiting_silent limit state new (MemRead addr len) waiting reply waits = absurd (cc)
+waiting_silent limit state new (MemWrite addr bytes) waiting reply waits = absurd (cc)
+waiting_silent limit state new (Input bytes) waiting reply waits = absurd (cc)
+waiting_silent limit state new (Resize cols rows) waiting reply waits = absurd (cc)
+waiting_silent limit state new (Restore bytes) waiting reply waits = tt
+waiting_silent limit state new (Complete verdict) waiting reply waits = absurd (cc)
+
+pub ringing_silent : {A : Type 0} (limit : ℕ) (state new : SlotState) (what : EventKind A)
+    (waiting : List ℕ) (reply : Reply A) → notifies_block what state ≡ true
+    → TakesWithin limit state what new waiting waiting reply
+ringing_silent limit state new (Read window offset width) waiting reply rings = absurd (cc)
+ringing_silent limit state new (Write window offset width value) waiting reply rings =
+    ring_silent limit state new window offset width value waiting reply
+    (task_at window offset width value state) refl rings
+ringing_silent limit state new (MemRead addr len) waiting reply rings = absurd (cc)
+ringing_silent limit state new (MemWrite addr bytes) waiting reply rings = absurd (cc)
+ringing_silent limit state new (Input bytes) waiting reply rings = absurd (cc)
+ringing_silent limit state new (Resize cols rows) waiting reply rings = absurd (cc)
+ringing_silent limit state new (Restore bytes) waiting reply rings = absurd (cc)
+ringing_silent limit state new (Complete verdict) waiting reply rings = absurd (cc)
+
+-- ---- what comes of it
+
+given_at : {A : Type 0} (host : Option HostDisk) (state : SlotState) (what : EventKind A) (health : Health)
+    (outcome : Outcome A) → IsSome host
+    → CompletesOrGives (λ (o : Outcome A). MayGiveOverImage state what health health o) (verdict_in what)
+    (flight_in host) state what outcome
+    → MayGiveBy host state what health health outcome
+given_at None state what health outcome hosted h = absurd (cc)
+given_at (Some disk) state what health outcome hosted h = record { gives = h; image = refl }
+
+pub completion_given : {A : Type 0} (state : SlotState) (verdict : Verdict) (health : Health)
+    (outcome : Outcome A) → IsSome state.host
+    → CompletionGives (flight_in state.host) state verdict outcome
+    → MayGive state (Complete verdict) health health outcome
+completion_given state verdict health outcome hosted h =
+    given_at state.host state (Complete verdict) health outcome hosted h
+
+-- only an own event waits, or notifies the block device
+pub waiting_own : {A : Type 0} (what : EventKind A) → must_wait what ≡ true → verdict_in what ≡ None
+waiting_own (Read window offset width) waits = refl
+waiting_own (Write window offset width value) waits = refl
+waiting_own (MemRead addr len) waits = refl
+waiting_own (MemWrite addr bytes) waits = refl
+waiting_own (Input bytes) waits = refl
+waiting_own (Resize cols rows) waits = refl
+waiting_own (Restore bytes) waits = refl
+waiting_own (Complete verdict) waits = absurd (cc)
+
+pub ringing_own : {A : Type 0} (what : EventKind A) (state : SlotState) → notifies_block what state ≡ true
+    → verdict_in what ≡ None
+ringing_own (Read window offset width) state rings = refl
+ringing_own (Write window offset width value) state rings = refl
+ringing_own (MemRead addr len) state rings = refl
+ringing_own (MemWrite addr bytes) state rings = refl
+ringing_own (Input bytes) state rings = refl
+ringing_own (Resize cols rows) state rings = refl
+ringing_own (Restore bytes) state rings = refl
+ringing_own (Complete verdict) state rings = absurd (cc)
+
+own_given : {A : Type 0} (state : SlotState) (what : EventKind A) (health : Health) (outcome : Outcome A)
+    → IsSome state.host → verdict_in what ≡ None
+    → OwnGives (λ (o : Outcome A). MayGiveOverImage state what health health o) (flight_in state.host) state what
+    outcome
+    → MayGive state what health health outcome
+own_given {A} state what health outcome hosted own h =
+    given_at state.host state what health outcome hosted
+    (subst (λ (v : Option Verdict). CompletesOrGives
+    (λ (o : Outcome A). MayGiveOverImage state what health health o) v (flight_in state.host) state what outcome)
+    (sym own) h)
+
+hosts_flight : (host : Option HostDisk) → is_some (flight_in host) ≡ true → IsSome host
+hosts_flight None is = absurd (cc)
+hosts_flight (Some disk) is = refl
+
+waits_at : {A : Type 0} (Beside : Outcome A → Type 0) (flight : Option InFlight) (state : SlotState)
+    (what : EventKind A) (waits : Bool) → must_wait what ≡ waits → (is_some flight && waits) ≡ true
+    → OwnGives Beside flight state what (replies state Busy)
+waits_at Beside None state what waits is both = absurd (cc)
+waits_at Beside (Some here) state what true is both = rw is refl
+waits_at Beside (Some here) state what false is both = absurd (cc)
+
+both_true : (a b : Bool) → (a && b) ≡ true → (a ≡ true) × (b ≡ true)
+both_true true true is = (refl, refl)
+both_true true false is = absurd (cc)
+both_true false b is = absurd (cc)
+
+pub busy_given : {A : Type 0} (state : SlotState) (what : EventKind A) (health : Health)
+    → (is_some (flight_in state.host) && must_wait what) ≡ true
+    → MayGive state what health health (replies state Busy)
+busy_given {A} state what health waits =
+    let both = both_true (is_some (flight_in state.host)) (must_wait what) waits in
+    own_given state what health (replies state Busy) (hosts_flight state.host both.0)
+    (waiting_own what both.1)
+    (waits_at (λ (o : Outcome A). MayGiveOverImage state what health health o) (flight_in state.host) state what
+    (must_wait what) refl waits)
+
+looks_at : {A : Type 0} (Beside : Outcome A → Type 0) (flight : Option InFlight) (state new : SlotState)
+    (what : EventKind A) → flight ≡ None → notifies_block what state ≡ true
+    → LooksAtQueue (readied what state) new → OwnGives Beside flight state what (does new)
+looks_at Beside None state new what none rings h = rw rings (h, refl)
+looks_at Beside (Some here) state new what none rings h = absurd (cc)
+
+pub looks_given : {A : Type 0} (state : SlotState) (what : EventKind A) (health : Health) (new : SlotState)
+    → IsSome state.host → flight_in state.host ≡ None → notifies_block what state ≡ true
+    → LooksAtQueue (readied what state) new → MayGive state what health health (does new)
+looks_given {A} state what health new hosted none rings h =
+    own_given state what health (does new) hosted (ringing_own what state rings)
+    (looks_at (λ (o : Outcome A). MayGiveOverImage state what health health o) (flight_in state.host) state new
+    what none rings h)
+
+stands_at : {A : Type 0} (Beside : Outcome A → Type 0) (flight : Option InFlight) (state : SlotState)
+    (what : EventKind A) (waits : Bool) → must_wait what ≡ waits → IsSome flight
+    → (is_some flight && waits) ≡ false → notifies_block what state ≡ true
+    → OwnGives Beside flight state what (does (readied what state))
+stands_at Beside None state what waits is some free rings = absurd (cc)
+stands_at Beside (Some here) state what true is some free rings = absurd (cc)
+stands_at Beside (Some here) state what false is some free rings = rw (is, rings) refl
+
+pub stands_given : {A : Type 0} (state : SlotState) (what : EventKind A) (health : Health)
+    → IsSome state.host → IsSome (flight_in state.host)
+    → (is_some (flight_in state.host) && must_wait what) ≡ false → notifies_block what state ≡ true
+    → MayGive state what health health (does (readied what state))
+stands_given {A} state what health hosted flies free rings =
+    own_given state what health (does (readied what state)) hosted (ringing_own what state rings)
+    (stands_at (λ (o : Outcome A). MayGiveOverImage state what health health o) (flight_in state.host) state what
+    (must_wait what) refl flies free rings)
+
+-- an event that is no completion is the guest's own
+pub own_of : {A : Type 0} (what : EventKind A) → ((verdict : Verdict) → what ≡ Complete verdict → ⊥)
+    → verdict_in what ≡ None
+own_of (Read window offset width) never = refl
+own_of (Write window offset width value) never = refl
+own_of (MemRead addr len) never = refl
+own_of (MemWrite addr bytes) never = refl
+own_of (Input bytes) never = refl
+own_of (Resize cols rows) never = refl
+own_of (Restore bytes) never = refl
+own_of (Complete verdict) never = absurd (never verdict refl)
+
+-- a notification, looked at or not
+notified_by : {A : Type 0} (flight : Option InFlight) (state mid new : SlotState) (what : EventKind A)
+    (health : Health) → flight_in state.host ≡ flight → IsSome state.host
+    → (is_some (flight_in state.host) && must_wait what) ≡ false → notifies_block what state ≡ true
+    → mid ≡ readied what state → (flight ≡ None → LooksAtQueue mid new) → (IsSome flight → new ≡ mid)
+    → MayGive state what health health (does new)
+notified_by None state mid new what health is hosted free rings ready looks stays =
+    looks_given state what health new hosted is rings
+    (subst (λ (s : SlotState). LooksAtQueue s new) ready (looks refl))
+notified_by {A} (Some here) state mid new what health is hosted free rings ready looks stays =
+    subst (λ (s : SlotState). MayGive state what health health (does {A = A} s)) (sym (stays refl ∙ ready))
+    (stands_given state what health hosted
+    (subst (λ (f : Option InFlight). IsSome f) (sym is) refl) free rings)
+
+pub notified_given : {A : Type 0} (state mid new : SlotState) (what : EventKind A) (health : Health)
+    → IsSome state.host → (is_some (flight_in state.host) && must_wait what) ≡ false
+    → notifies_block what state ≡ true → mid ≡ readied what state
+    → (flight_in state.host ≡ None → LooksAtQueue mid new) → (IsSome (flight_in state.host) → new ≡ mid)
+    → MayGive state what health health (does new)
+notified_given state mid new what health hosted free rings ready looks stays =
+    notified_by (flight_in state.host) state mid new what health refl hosted free rings ready looks stays
+
+-- where the host has no disk
+pub not_hosted : (host : Option HostDisk) → is_some host ≡ false → host ≡ None
+not_hosted None is = refl
+not_hosted (Some disk) is = absurd (cc)
+
+pub hosted_some : (host : Option HostDisk) → is_some host ≡ true → IsSome host
+hosted_some None is = absurd (cc)
+hosted_some (Some disk) is = refl
+
+-- ---- a restore
+
+same_reply : (A : Type 0) (r : Result (Unit {0}) RestoreFault)
+    → restore_reply {A = A} (refusal_of r) ≡ taken_up_reply r
+same_reply A (Ok done) = refl
+same_reply A (Err why) = refl
+
+pub restore_passes : (A : Type 0) (image : List ℕ) (slot new : BoardSlot) (bytes : List ℕ)
+    (r : Result (Unit {0}) RestoreFault) (told : Result (Unit {0}) RestoreRefusal) (health : Health)
+    → is_some (flight_in slot.host) ≡ false → told ≡ refusal_of r
+    → sectors_of (state_of image slot).extent ≡ slot.extent.count
+    → OnOk r (IsRestored slot bytes new) → IfErr r (IsCauseOf slot bytes) → OnErr r (new ≡ slot)
+    → MayGive {A = A} (state_of image slot) (Restore bytes) health health
+    (replies (state_of image new) (restore_reply told))
+restore_passes A image slot new bytes r told health rests is filled ok fault kept =
+    let state = state_of image slot in
+    rw (is, same_reply A r)
+    (passes_by state.host state (Restore bytes) health (replies (state_of image new) (taken_up_reply r))
+    (no_part {A = A} state.host (Restore bytes) state refl (rw rests refl) refl)
+    (restore_given A image slot new bytes r health filled ok fault kept))

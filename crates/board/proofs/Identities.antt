@@ -1,5 +1,5 @@
--- No event changes an identity.
-use Rattle.std.proofs.Common.{◌≡◌, inl, inr, ℕ, Option, Some, None, List, [], ◌∷◌, refl, sym, ap, ◌∙◌}
+-- What no event changes: an identity, and over an image who has a guest's disk.
+use Rattle.std.proofs.Common.{◌≡◌, inl, inr, ℕ, Option, Some, None, List, [], ◌∷◌, refl, sym, ap, subst, ◌∙◌}
 use Rattle.std.specs.Prelude.{MatchOption}
 use Rattle.std.specs.List.{slice_get}
 use Rattle.std.proofs.Math.Seq.{map-set_same}
@@ -12,62 +12,138 @@ use Rattle.board.specs.declared.reply.Record.{Record}
 use Rattle.board.specs.declared.pause.Service.TheVariants as service
 use Rattle.board.specs.Image.{Health}
 use Rattle.board.specs.Line.{Move, IsLine}
-use Rattle.board.specs.Machine.{task_at, with_write, Gives}
+use Rattle.board.specs.Machine.{task_at, with_write}
 use Rattle.board.specs.Outcome.{Outcome}
 use Rattle.board.specs.Slot.{SlotState}
 use Rattle.board.specs.Task.{Task, Nothing, Serve, PutOut, Finishes}
 use Rattle.board.specs.World.{World, MayGive, SlotStep, MissingStep, Step, identities_of}
 use Rattle.std.proofs.lemmas.Option.{get_or_from_slice_get}
 use Rattle.board.proofs.Replies.{of_read, of_write}
-use Rattle.board.proofs.Restoring.{restored_named}
+use Rattle.board.proofs.Restoring.{restored_host, restored_named}
 use Rattle.board.proofs.Refusals.{Failed, Unput, Unread, Unsent, was_refused}
+use Rattle.board.specs.Backing.{HostDisk, InFlight}
+use Rattle.board.specs.Hosting.{LooksAtQueue}
+use Rattle.board.specs.Machine.{GivesOverImage, readied}
+use Rattle.board.specs.World.{MayGiveBy, MayGiveOverImage}
+use Rattle.board.proofs.Ways.{Lands, Looks, Passes, Rests, Stands, Waits, Way, way}
+use Rattle.block_device.specs.declared.operation.Verdict.{Verdict}
+use Rattle.board.specs.Hosting as hosting
 
--- an outcome that is this one has its identity
-named : {A : Type 0} (outcome wanted : Outcome A) → outcome ≡ wanted
-    → outcome.state.identity ≡ wanted.state.identity
-named {A} outcome wanted is = ap (λ (o : Outcome A). o.state.identity) is
+-- both stay
+pub record Fixed (old new : SlotState) : Type 0 where
+  pub identity : new.identity ≡ old.identity
+  pub host : new.host ≡ old.host
+
+-- an outcome that is this one has them
+fixed : {A : Type 0} (state : SlotState) (outcome wanted : Outcome A) → outcome ≡ wanted
+    → Fixed state wanted.state → Fixed state outcome.state
+fixed {A} state outcome wanted is h = subst (λ (o : Outcome A). Fixed state o.state) (sym is) h
+
+both : (state : SlotState) → Fixed state state
+both state = record { identity = refl; host = refl }
 
 -- a write of a window's registers
-write_named : (window : DeviceKind) (offset width value : ℕ) (state : SlotState)
-    → (with_write window offset width value state).identity ≡ state.identity
-write_named Block offset width value state = refl
-write_named Console offset width value state = refl
+write_fixed : (window : DeviceKind) (offset width value : ℕ) (state : SlotState)
+    → Fixed state (with_write window offset width value state)
+write_fixed Block offset width value state = record { identity = refl; host = refl }
+write_fixed Console offset width value state = record { identity = refl; host = refl }
+
+pub readied_fixed : {A : Type 0} (what : EventKind A) (state : SlotState) → Fixed state (readied what state)
+readied_fixed (Read window offset width) state = both state
+readied_fixed (Write window offset width value) state = write_fixed window offset width value state
+readied_fixed (MemRead addr len) state = both state
+readied_fixed (MemWrite addr bytes) state = both state
+readied_fixed (Input bytes) state = record { identity = refl; host = refl }
+readied_fixed (Resize cols rows) state = both state
+readied_fixed (Restore bytes) state = both state
+readied_fixed (Complete verdict) state = both state
+
+behind : (a b c : SlotState) → Fixed a b → Fixed b c → Fixed a c
+behind a b c x y = record { identity = y.identity ∙ x.identity; host = y.host ∙ x.host }
 
 -- what a device does then, where nothing is refused
-finished_named : {A : Type 0} (task : Task) (state : SlotState) (old new : Health) (outcome : Outcome A)
-    → Finishes task state old new outcome → outcome.state.identity ≡ state.identity
-finished_named Nothing state old new outcome h = named outcome _ h.alike
-finished_named (Serve service.Block) state old new outcome h = named outcome _ h.is
-finished_named (Serve service.Receive) state old new outcome h = named outcome _ h.is
-finished_named (Serve service.Transmit) state old new outcome h = named outcome _ h.is
-finished_named (PutOut byte) state old new outcome h = named outcome _ h.alike
+finished_fixed : {A : Type 0} (task : Task) (state : SlotState) (old new : Health) (outcome : Outcome A)
+    → Finishes task state old new outcome → Fixed state outcome.state
+finished_fixed Nothing state old new outcome h = fixed state outcome _ h.alike (both state)
+finished_fixed (Serve service.Block) state old new outcome h =
+    fixed state outcome _ h.is (record { identity = refl; host = refl })
+finished_fixed (Serve service.Receive) state old new outcome h =
+    fixed state outcome _ h.is (record { identity = refl; host = refl })
+finished_fixed (Serve service.Transmit) state old new outcome h =
+    fixed state outcome _ h.is (record { identity = refl; host = refl })
+finished_fixed (PutOut byte) state old new outcome h = fixed state outcome _ h.alike (both state)
 
--- an event of the slot
-served_named : {A : Type 0} (state : SlotState) (what : EventKind A) (old new : Health) (outcome : Outcome A)
-    → Gives state what old new outcome → outcome.state.identity ≡ state.identity
-served_named state (Read window offset width) old new outcome h = named outcome _ h.alike
-served_named state (Write window offset width value) old new outcome h =
-    finished_named (task_at window offset width value state) (with_write window offset width value state) old
-    new outcome h ∙ write_named window offset width value state
-served_named {A} state (MemRead addr len) old new outcome h =
-    of_read (λ (o : Outcome A). o.state.identity ≡ state.identity) state addr len outcome h.alike refl refl
-served_named {A} state (MemWrite addr bytes) old new outcome h =
-    of_write (λ (o : Outcome A). o.state.identity ≡ state.identity) state addr bytes outcome h.alike refl refl
-served_named state (Input bytes) old new outcome h = named outcome _ h.is
-served_named state (Resize cols rows) old new outcome h = named outcome _ h.alike
-served_named state (Restore bytes) old new outcome h = restored_named state bytes outcome h.alike
-served_named state (Complete verdict) old new outcome h = named outcome _ h.alike
+-- an event of a slot over an image
+served_fixed : {A : Type 0} (state : SlotState) (what : EventKind A) (old new : Health) (outcome : Outcome A)
+    → GivesOverImage state what old new outcome → Fixed state outcome.state
+served_fixed state (Read window offset width) old new outcome h = fixed state outcome _ h.alike (both state)
+served_fixed state (Write window offset width value) old new outcome h =
+    behind state (with_write window offset width value state) outcome.state
+    (write_fixed window offset width value state)
+    (finished_fixed (task_at window offset width value state) (with_write window offset width value state) old
+    new outcome h)
+served_fixed {A} state (MemRead addr len) old new outcome h =
+    of_read (λ (o : Outcome A). Fixed state o.state) state addr len outcome h.alike (both state) (both state)
+served_fixed {A} state (MemWrite addr bytes) old new outcome h =
+    of_write (λ (o : Outcome A). Fixed state o.state) state addr bytes outcome h.alike
+    (record { identity = refl; host = refl }) (both state)
+served_fixed state (Input bytes) old new outcome h =
+    fixed state outcome _ h.is (record { identity = refl; host = refl })
+served_fixed state (Resize cols rows) old new outcome h =
+    fixed state outcome _ h.alike (record { identity = refl; host = refl })
+served_fixed state (Restore bytes) old new outcome h = record {
+  identity = restored_named state bytes outcome h.alike;
+  host = restored_host state bytes outcome h.alike;
+}
+served_fixed state (Complete verdict) old new outcome h = fixed state outcome _ h.alike (both state)
+
+pub given_fixed : {A : Type 0} (state : SlotState) (what : EventKind A) (old new : Health)
+    (outcome : Outcome A) → MayGiveOverImage state what old new outcome → Fixed state outcome.state
+given_fixed state what old new outcome (inl h) = served_fixed state what old new outcome h.alike
+given_fixed state what old new outcome (inr h) =
+    elim (was_refused state what old new outcome h) [
+      | Failed block h ↦ fixed state outcome _ h.service.is (record { identity = refl; host = refl })
+      | Unsent console puts h ↦ fixed state outcome _ h.is (record { identity = refl; host = refl })
+      | Unput console puts h ↦ fixed state outcome _ h.alike (record { identity = refl; host = refl })
+      | Unread addr len is h ↦ fixed state outcome _ h.alike (both state)
+    ]
+
+-- ---- a guest whose disk the host serves
+
+looked_named : (old new : SlotState) → LooksAtQueue old new → new.identity ≡ old.identity
+looked_named old new h = ap (λ (s : SlotState). s.identity) h.rest
+
+landed_named : (old new : SlotState) (here : InFlight) (verdict : Verdict) → hosting.Lands old here verdict new
+    → new.identity ≡ old.identity
+landed_named old new here verdict h = ap (λ (s : SlotState). s.identity) h.looks.rest
+
+on_host_named : {A : Type 0} (flight : Option InFlight) (state : SlotState) (what : EventKind A)
+    (old : Health) (outcome : Outcome A)
+    → Way (λ (o : Outcome A). MayGiveOverImage state what old old o) flight state what outcome
+    → outcome.state.identity ≡ state.identity
+on_host_named flight state what old outcome (Waits here flies waits h) = ap (λ o. o.state.identity) h
+on_host_named flight state what old outcome (Passes own free quiet h) =
+    (given_fixed state what old old outcome h).identity
+on_host_named flight state what old outcome (Looks none rings looks h) =
+    looked_named (readied what state) outcome.state looks ∙ (readied_fixed what state).identity
+on_host_named flight state what old outcome (Stands here flies free rings h) =
+    ap (λ o. o.state.identity) h ∙ (readied_fixed what state).identity
+on_host_named flight state what old outcome (Rests verdict completes none h) =
+    ap (λ o. o.state.identity) h
+on_host_named flight state what old outcome (Lands verdict completes here flies lands h) =
+    landed_named state outcome.state here verdict lands
+
+given_by : {A : Type 0} (host : Option HostDisk) (state : SlotState) (what : EventKind A) (old new : Health)
+    (outcome : Outcome A) → MayGiveBy host state what old new outcome
+    → outcome.state.identity ≡ state.identity
+given_by None state what old new outcome h = (given_fixed state what old new outcome h).identity
+given_by {A} (Some disk) state what old new outcome h =
+    on_host_named disk.flight state what old outcome
+    (way (λ (o : Outcome A). MayGiveOverImage state what old old o) disk.flight state what outcome h.gives)
 
 given_named : {A : Type 0} (state : SlotState) (what : EventKind A) (old new : Health) (outcome : Outcome A)
     → MayGive state what old new outcome → outcome.state.identity ≡ state.identity
-given_named state what old new outcome (inl h) = served_named state what old new outcome h.alike
-given_named state what old new outcome (inr h) =
-    elim (was_refused state what old new outcome h) [
-      | Failed block h ↦ named outcome _ h.service.is
-      | Unsent console puts h ↦ named outcome _ h.is
-      | Unput console puts h ↦ named outcome _ h.alike
-      | Unread addr len is h ↦ named outcome _ h.alike
-    ]
+given_named state what old new outcome h = given_by state.host state what old new outcome h
 
 -- an event of the board
 step_at : {A : Type 0} (old : World) (event : Event A) (written : Record A) (new : World)

@@ -42,7 +42,8 @@ use Rattle.board.specs.Image.{Health, disk_with}
 use Rattle.board.specs.Outcome.{Outcome as Came, replies}
 use Rattle.board.specs.Slot.{SlotState, KeepsBesideDisk, KeepsBesideTransmit}
 use Rattle.board.specs.Task.{task_of, emergency_write, device_of}
-use Rattle.board.specs.World.{World, IsFailedService, IsRefusedTransmit, IsCutShort, IsRefused, MayGive, SlotStep, MissingStep, Step, KeepsBoard}
+use Rattle.board.proofs.OnHost.{failing_over_image, lacking_over_image}
+use Rattle.board.specs.World.{World, IsFailedService, IsRefusedTransmit, IsCutShort, IsRefused, MayGive, MayGiveOverImage, SlotStep, MissingStep, Step, KeepsBoard}
 use Rattle.board.proofs.Alone.{slot_step}
 use Rattle.board.proofs.Beside.{same_range}
 use Rattle.board.proofs.Chains.{kept}
@@ -259,12 +260,12 @@ never : (before after : Health) → before.failures < after.failures → after �
 never before after rose is = let same : after.failures ≡ before.failures =
     ap (λ (h : Health). h.failures) is in omega arith
 
-given_beside : {A : Type 0} (state : SlotState) (what : EventKind A) (before after : Health)
-    (outcome : Came A) → before.failures < after.failures → MayGive state what before after outcome
+beside_over_image : {A : Type 0} (state : SlotState) (what : EventKind A) (before after : Health)
+    (outcome : Came A) → before.failures < after.failures → MayGiveOverImage state what before after outcome
     → KeepsBesideDisk state outcome.state
-given_beside state what before after outcome rose (inl h) = let same : after.failures ≡ before.failures =
+beside_over_image state what before after outcome rose (inl h) = let same : after.failures ≡ before.failures =
     h.failures in absurd (omega arith)
-given_beside state what before after outcome rose (inr h) =
+beside_over_image state what before after outcome rose (inr h) =
     elim (was_refused state what before after outcome h) [
       | Failed block h ↦
           let kept = service_beside (record state { block = block }) before after outcome h in
@@ -272,6 +273,15 @@ given_beside state what before after outcome rose (inr h) =
       | Unsent console puts h ↦ absurd (never before after rose h.image)
       | Unput console puts h ↦ absurd (never before after rose h.image)
       | Unread addr len is h ↦ absurd (never before after rose h.image)
+    ]
+
+given_beside : {A : Type 0} (state : SlotState) (what : EventKind A) (before after : Health)
+    (outcome : Came A) → before.failures < after.failures → MayGive state what before after outcome
+    → KeepsBesideDisk state outcome.state
+given_beside state what before after outcome rose h =
+    elim (failing_over_image state what before after outcome h) [
+      | inl given ↦ beside_over_image state what before after outcome rose given
+      | inr same ↦ absurd (never before after rose same)
     ]
 
 -- the slot's own step leaves it as it is then
@@ -331,12 +341,13 @@ board_stays : {A : Type 0} (old new : World) (h : ℕ) (state : SlotState) (what
     → Stays state old.health new.health outcome)
     → slice_get old.slots h ≡ Some state → (step : SlotStep old h state what written new)
     → written.reply ≡ NoMemory → KeepsBoard old written new
-board_stays {A} old new h state what written stays here step lacks = by_given step.given
+board_stays {A} old new h state what written stays here step lacks =
+    by_given (lacking_over_image state what old.health new.health step.outcome said step.given)
   where
     said : step.outcome.reply ≡ NoMemory
     said = sym (ap (λ w. w.reply) step.recorded) ∙ lacks
 
-    by_given : MayGive state what old.health new.health step.outcome → KeepsBoard old written new
+    by_given : MayGiveOverImage state what old.health new.health step.outcome → KeepsBoard old written new
     by_given (inl served) = absurd (served.answered said)
     by_given (inr refused) =
         let same = stays step.outcome refused in
@@ -405,10 +416,11 @@ record Lacks {A : Type 0} (state : SlotState) (old new : Health) (outcome : Came
   slot : KeepsBesideTransmit state outcome.state
   image : new ≡ old
 
-given_lacks : {A : Type 0} (state : SlotState) (what : EventKind A) (old new : Health) (outcome : Came A)
-    → outcome.reply ≡ NoMemory → MayGive state what old new outcome → Lacks state old new outcome
-given_lacks state what old new outcome lacks (inl h) = absurd (h.answered lacks)
-given_lacks state what old new outcome lacks (inr h) =
+lacks_over_image : {A : Type 0} (state : SlotState) (what : EventKind A) (old new : Health)
+    (outcome : Came A) → outcome.reply ≡ NoMemory → MayGiveOverImage state what old new outcome
+    → Lacks state old new outcome
+lacks_over_image state what old new outcome lacks (inl h) = absurd (h.answered lacks)
+lacks_over_image state what old new outcome lacks (inr h) =
     elim (was_refused state what old new outcome h) [
       -- the block device is never without memory
       | Failed block h ↦ let said = sym (ap (λ o. o.reply) h.service.is) ∙ lacks in absurd (cc said)
@@ -429,6 +441,7 @@ lacking_event_keeps {A} old new e written before after step lacks here there =
     let taken : SlotStep old e.slot before e.what written new =
     slot_step old e written new before here step in
     let same = left_as old new e written before after taken here there in
-    let kept = given_lacks before e.what old.health new.health taken.outcome
-    (sym (ap (λ w. w.reply) taken.recorded) ∙ lacks) taken.given in
+    let lacked = sym (ap (λ w. w.reply) taken.recorded) ∙ lacks in
+    let kept = lacks_over_image before e.what old.health new.health taken.outcome lacked
+    (lacking_over_image before e.what old.health new.health taken.outcome lacked taken.given) in
     (subst (λ (s : SlotState). KeepsBesideTransmit before s) same kept.slot, kept.image)

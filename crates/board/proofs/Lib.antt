@@ -33,13 +33,10 @@ pub mod GoingOn
 pub mod Flights
 pub mod Beside
 pub mod Hosts
-pub mod HostedAlone
 pub mod OneHosted
+pub mod Ways
+pub mod OnHost
 pub mod Waiting
-pub mod HostedSpecs
 pub mod HostedWindows
-pub mod HostedSeats
-pub mod HostedAccess
-pub mod HostedSaving
 pub mod Honest
 pub mod Reading

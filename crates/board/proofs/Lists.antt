@@ -1,9 +1,10 @@
 -- One element of a list is replaced.
-use Rattle.std.proofs.Common.{◌≡◌, ◌≢◌, ℕ, zero, suc, List, [], ◌∷◌, Some, refl, ap}
-use Rattle.std.specs.Prelude.{slice_set}
-use Rattle.std.specs.List.{slice_get}
+use Rattle.std.proofs.Common.{◌≡◌, ◌≢◌, ℕ, zero, suc, Bor, MutBor, List, [], ◌∷◌, Option, Some, None, refl, ap}
+use Rattle.std.specs.Prelude.{slice_set, IfNone, IfSome, length}
+use Rattle.std.specs.Slice.{IsItemAt}
+use Rattle.std.specs.List.{IsItemAtMut, slice_get}
 use Rattle.std.proofs.lemmas.List.{set-get_or}
-use Rattle.std.proofs.lemmas.Option.{get_or_from_slice_get}
+use Rattle.std.proofs.lemmas.Option.{get_or_from_slice_get, slice_get_past, slice_get_read}
 
 -- it is there
 pub get_set : {X : Type 0} (xs : List X) (h : ℕ) (old new : X) → slice_get xs h ≡ Some old
@@ -30,3 +31,25 @@ get_set_other xs h g new apart = others_kept xs h new g (λ same. apart (cc (sam
 pub set_same : {X : Type 0} (xs : List X) (h : ℕ) (old new : X) → slice_get xs h ≡ Some old → new ≡ old
     → slice_set xs h new ≡ xs
 set_same xs h old new here same = rw (same, ← get_or_from_slice_get xs h old old here) (set-get_or xs h old)
+
+-- where a slice has no such item, its list has none
+pub none_there : {X : Type 0} (slots seen : List X) (i : ℕ) (found : Option (Bor X)) → slots ≡ seen
+    → IsItemAt slots i found → IfNone found (slice_get seen i ≡ None)
+none_there slots seen i None same at = rw (← same) (slice_get_past slots i at.3)
+none_there slots seen i (Some found) same at = tt
+
+-- and where it has one, that is its item there
+pub some_there : {X : Type 0} (slots seen : List X) (i : ℕ) (found : Option (Bor X)) → slots ≡ seen
+    → IsItemAt slots i found → IfSome found (λ x. slice_get seen i ≡ Some x.now)
+some_there slots seen i None same at = tt
+some_there slots seen i (Some x) same at =
+    rw (← same) (slice_get_read slots (length slots) i x.now refl at.3.0 at.1)
+
+-- an item that a list lends stands in its place
+pub is_there : {X : Type 0} (xs : List X) (i : ℕ) (found : MutBor X) → IsItemAtMut xs i (Some found)
+    → slice_get xs i ≡ Some found.now
+is_there xs i found item = slice_get_read xs (length xs) i found.now refl item.3.0 item.1
+
+-- and where it lends none, there is none
+pub not_there : {X : Type 0} (xs : List X) (i : ℕ) → IsItemAtMut xs i None → slice_get xs i ≡ None
+not_there xs i item = slice_get_past xs i item.3

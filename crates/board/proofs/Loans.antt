@@ -8,7 +8,7 @@ use Rattle.guest_memory.specs.Regions.{Region, memory_of}
 use Rattle.board.specs.declared.spec.SlotSpec.{SlotSpec}
 use Rattle.block_device.specs.declared.extent.Extent.{Extent}
 use Rattle.board.specs.Extent.{AreSound}
-use Rattle.board.specs.Fault.{AreGood}
+use Rattle.board.specs.Fault.{share, AreGood}
 use Rattle.board.specs.Lent.{AreBytesOf, BeginWith, all_regions, made_over, opened_over, with_bytes}
 use Rattle.board.specs.Slot.{BoardSlot}
 use Rattle.board.specs.World.{extents_of}
@@ -138,10 +138,10 @@ made_of items board (Err fault) opened all is are = tt
 
 -- the extents are those of the description
 pub extents_of-over : (slots : List SlotSpec) (bytes : List (List ℕ))
-    → extents_of (made_over opened_over slots bytes) ≡ map (λ (spec : SlotSpec). spec.extent) slots
+    → extents_of (made_over opened_over slots bytes) ≡ map share slots
 extents_of-over [] bytes = refl
 extents_of-over (spec ∷ slots) bytes =
-    ap (λ (es : List Extent). spec.extent ∷ es) (extents_of-over slots (drop (length spec.regions) bytes))
+    ap (λ (es : List Extent). share spec ∷ es) (extents_of-over slots (drop (length spec.regions) bytes))
 
 -- so such slots stand side by side on the image too
 pub sound_over : (sectors : ℕ) (slots : List SlotSpec) (bytes : List (List ℕ)) → AreGood sectors slots

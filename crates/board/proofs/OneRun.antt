@@ -1,5 +1,5 @@
 -- The one-slot machine is deterministic, and how its image fared before an event is never seen.
-use Rattle.std.proofs.Common.{◌≡◌, ℕ, Bool, Option, Some, None, List, [], refl, sym, ◌∙◌, ap}
+use Rattle.std.proofs.Common.{◌≡◌, ℕ, Bool, true, false, Option, Some, None, List, [], refl, sym, ◌∙◌, ap, subst}
 use Rattle.guest_memory.specs.Memory.{Memory}
 use Rattle.chain.specs.Service.{Device, Site, Ending, IsService, HasAtMostOneAnswer}
 use Rattle.chain.proofs.Servicing.{at_most_one_service, never_refused}
@@ -21,12 +21,16 @@ use Rattle.board.specs.declared.reply.Reply.{Reply}
 use Rattle.board.specs.declared.reply.Reply.TheVariants.{Done, Took}
 use Rattle.board.specs.declared.reply.Record.{Record}
 use Rattle.board.specs.declared.pause.Service.TheVariants.{Block, Receive, Transmit}
+use Rattle.block_device.specs.declared.operation.Verdict.{Verdict}
+use Rattle.board.specs.Backing.{HostDisk, InFlight}
+use Rattle.board.specs.Hosting.{CompletesOrGives, GivesAtRest, GivesInFlight, OwnGives, WaitsOrGives, is_block_task, must_wait, notifies_block, verdict_in}
 use Rattle.board.specs.Image.{Health, disk_with}
-use Rattle.board.specs.Machine.{task_at, with_write, with_input, Gives, IsNext, IsToldAlone, RunsOnItsOwn, record_of, at_rest}
+use Rattle.board.specs.Machine.{task_at, with_write, with_input, Gives, GivesBy, GivesOverImage, IsNext, IsToldAlone, RunsOnItsOwn, record_of, at_rest}
 use Rattle.board.specs.Outcome.{Outcome, replies, does}
 use Rattle.board.specs.Slot.{SlotState}
 use Rattle.board.specs.Task.{Task, Nothing, Serve, PutOut, device_of, IsBlockService, IsReceiveService, IsTransmitService, Finishes}
 use Rattle.board.proofs.Guests.{AtRest, exact_at_rest}
+use Rattle.board.proofs.OneHosted.{hosted_once}
 use Rattle.board.proofs.Restoring.{restored_once}
 use Rattle.board.proofs.Steps.{one_course}
 
@@ -53,29 +57,120 @@ finishes_at_rest (Serve Transmit) old before after outcome h =
 finishes_at_rest (PutOut byte) old before after outcome h =
     record { health = at_rest; finishes = record { alike = h.alike; image = refl } }
 
--- what an event gives is what comes of it for a guest alone
-pub next_of : {A : Type 0} (state : SlotState) (what : EventKind A) (before after : Health)
-    (outcome : Outcome A) → Gives state what before after outcome → IsNext state what outcome
-next_of state (Read window offset width) before after outcome h =
+-- what an event gives over an image, taken from an image at rest
+record RestsOverImage {A : Type 0} (state : SlotState) (what : EventKind A) (outcome : Outcome A) : Type 0 where
+  after : Health
+  gives : GivesOverImage state what at_rest after outcome
+
+rests_over_image : {A : Type 0} (state : SlotState) (what : EventKind A) (before after : Health)
+    (outcome : Outcome A) → GivesOverImage state what before after outcome → RestsOverImage state what outcome
+rests_over_image state (Read window offset width) before after outcome h =
     record { after = at_rest; gives = record { alike = h.alike; image = refl } }
-next_of state (Write window offset width value) before after outcome h =
+rests_over_image state (Write window offset width value) before after outcome h =
     let rested : FinishesAtRest (task_at window offset width value state)
     (with_write window offset width value state) outcome =
     finishes_at_rest (task_at window offset width value state) (with_write window offset width value state)
     before after outcome h in
     record { after = rested.health; gives = rested.finishes }
-next_of state (MemRead addr len) before after outcome h =
+rests_over_image state (MemRead addr len) before after outcome h =
     record { after = at_rest; gives = record { alike = h.alike; image = refl } }
-next_of state (MemWrite addr bytes) before after outcome h =
+rests_over_image state (MemWrite addr bytes) before after outcome h =
     record { after = at_rest; gives = record { alike = h.alike; image = refl } }
-next_of state (Input bytes) before after outcome h =
+rests_over_image state (Input bytes) before after outcome h =
     record { after = at_rest; gives = record { notified = h.notified; is = h.is; image = refl } }
-next_of state (Resize cols rows) before after outcome h =
+rests_over_image state (Resize cols rows) before after outcome h =
     record { after = at_rest; gives = record { alike = h.alike; image = refl } }
-next_of state (Restore bytes) before after outcome h =
+rests_over_image state (Restore bytes) before after outcome h =
     record { after = at_rest; gives = record { alike = h.alike; image = refl } }
-next_of state (Complete verdict) before after outcome h =
+rests_over_image state (Complete verdict) before after outcome h =
     record { after = at_rest; gives = record { alike = h.alike; image = refl } }
+
+-- the same of one that doesn't notify the block device: the image has no part in it
+task_beside : {A : Type 0} (task : Task) (old : SlotState) (health : Health) (outcome : Outcome A)
+    → is_block_task task ≡ false → Finishes task old health health outcome
+    → Finishes task old at_rest at_rest outcome
+task_beside Nothing old health outcome quiet h = record { alike = h.alike; image = refl }
+task_beside (Serve Block) old health outcome quiet h = absurd (cc)
+task_beside (Serve Receive) old health outcome quiet h =
+    record { notified = h.notified; is = h.is; image = refl }
+task_beside (Serve Transmit) old health outcome quiet h =
+    record { notified = h.notified; is = h.is; image = refl }
+task_beside (PutOut byte) old health outcome quiet h = record { alike = h.alike; image = refl }
+
+rests_beside : {A : Type 0} (state : SlotState) (what : EventKind A) (health : Health) (outcome : Outcome A)
+    → notifies_block what state ≡ false → GivesOverImage state what health health outcome
+    → GivesOverImage state what at_rest at_rest outcome
+rests_beside state (Read window offset width) health outcome quiet h =
+    record { alike = h.alike; image = refl }
+rests_beside state (Write window offset width value) health outcome quiet h =
+    task_beside (task_at window offset width value state) (with_write window offset width value state)
+    health outcome quiet h
+rests_beside state (MemRead addr len) health outcome quiet h = record { alike = h.alike; image = refl }
+rests_beside state (MemWrite addr bytes) health outcome quiet h = record { alike = h.alike; image = refl }
+rests_beside state (Input bytes) health outcome quiet h =
+    record { notified = h.notified; is = h.is; image = refl }
+rests_beside state (Resize cols rows) health outcome quiet h = record { alike = h.alike; image = refl }
+rests_beside state (Restore bytes) health outcome quiet h = record { alike = h.alike; image = refl }
+rests_beside state (Complete verdict) health outcome quiet h = record { alike = h.alike; image = refl }
+
+-- an event comes out so where the disk has no part in it, and so of a guest whose disk the host serves
+pub on_host_as : {A : Type 0} (One Other : Outcome A → Type 0) (flight : Option InFlight) (state : SlotState)
+    (what : EventKind A) (outcome : Outcome A)
+    → (notifies_block what state ≡ false → One outcome → Other outcome)
+    → CompletesOrGives One (verdict_in what) flight state what outcome
+    → CompletesOrGives Other (verdict_in what) flight state what outcome
+on_host_as {A} One Other flight state what outcome turn h = by_verdict (verdict_in what) h
+  where
+    by_ring : (rings : Bool) → notifies_block what state ≡ rings → GivesAtRest One rings state what outcome
+        → GivesAtRest Other rings state what outcome
+    by_ring true is given = given
+    by_ring false is given = turn is given
+
+    flying : (rings : Bool) → notifies_block what state ≡ rings → GivesInFlight One rings state what outcome
+        → GivesInFlight Other rings state what outcome
+    flying true is given = given
+    flying false is given = turn is given
+
+    waiting : (waits : Bool) → WaitsOrGives One waits state what outcome
+        → WaitsOrGives Other waits state what outcome
+    waiting true given = given
+    waiting false given = flying (notifies_block what state) refl given
+
+    by_flight : (found : Option InFlight) → OwnGives One found state what outcome
+        → OwnGives Other found state what outcome
+    by_flight None given = by_ring (notifies_block what state) refl given
+    by_flight (Some here) given = waiting (must_wait what) given
+
+    by_verdict : (v : Option Verdict) → CompletesOrGives One v flight state what outcome
+        → CompletesOrGives Other v flight state what outcome
+    by_verdict None given = by_flight flight given
+    by_verdict (Some verdict) given = given
+
+-- what an event gives is what comes of it for a guest alone
+next_by : {A : Type 0} (host : Option HostDisk) (state : SlotState) (what : EventKind A) (before after : Health)
+    (outcome : Outcome A) → state.host ≡ host → GivesBy host state what before after outcome
+    → IsNext state what outcome
+next_by None state what before after outcome is h =
+    let rested = rests_over_image state what before after outcome h in
+    record {
+      after = rested.after;
+      gives = subst (λ (k : Option HostDisk). GivesBy k state what at_rest rested.after outcome) (sym is)
+          rested.gives;
+    }
+next_by {A} (Some disk) state what before after outcome is h =
+    record {
+      after = at_rest;
+      gives = subst (λ (k : Option HostDisk). GivesBy k state what at_rest at_rest outcome) (sym is) (record {
+        gives = on_host_as (λ (o : Outcome A). GivesOverImage state what before before o)
+            (λ (o : Outcome A). GivesOverImage state what at_rest at_rest o) disk.flight state what outcome
+            (λ quiet given. rests_beside state what before outcome quiet given) h.gives;
+        image = refl;
+      });
+    }
+
+pub next_of : {A : Type 0} (state : SlotState) (what : EventKind A) (before after : Health)
+    (outcome : Outcome A) → Gives state what before after outcome → IsNext state what outcome
+next_of state what before after outcome h = next_by state.host state what before after outcome refl h
 
 -- ---- there is at most one outcome
 
@@ -216,22 +311,35 @@ finishes_once (Serve Receive) old h k one other a b = received_once old Done h k
 finishes_once (Serve Transmit) old h k one other a b = transmitted_once old h k one other a b
 finishes_once (PutOut byte) old h k one other a b = a.alike ∙ sym b.alike
 
--- an event has at most one outcome
+-- an event has at most one outcome over an image
+over_image_once : {A : Type 0} (state : SlotState) (what : EventKind A) (h k : Health) (one other : Outcome A)
+    → GivesOverImage state what at_rest h one → GivesOverImage state what at_rest k other → one ≡ other
+over_image_once state (Read window offset width) h k one other a b = a.alike ∙ sym b.alike
+over_image_once state (Write window offset width value) h k one other a b =
+    finishes_once (task_at window offset width value state) (with_write window offset width value state)
+    h k one other a b
+over_image_once state (MemRead addr len) h k one other a b = a.alike ∙ sym b.alike
+over_image_once state (MemWrite addr bytes) h k one other a b = a.alike ∙ sym b.alike
+over_image_once state (Input bytes) h k one other a b =
+    received_once (with_input bytes state) (Took (fitting state.pending bytes)) h k one other a b
+over_image_once state (Resize cols rows) h k one other a b = a.alike ∙ sym b.alike
+over_image_once state (Restore bytes) h k one other a b =
+    restored_once state bytes one other a.alike b.alike
+over_image_once state (Complete verdict) h k one other a b = a.alike ∙ sym b.alike
+
+-- and whoever has the guest's disk
+once_by : {A : Type 0} (host : Option HostDisk) (state : SlotState) (what : EventKind A) (h k : Health)
+    (one other : Outcome A) → GivesBy host state what at_rest h one → GivesBy host state what at_rest k other
+    → one ≡ other
+once_by None state what h k one other a b = over_image_once state what h k one other a b
+once_by {A} (Some disk) state what h k one other a b =
+    hosted_once (λ (o : Outcome A). GivesOverImage state what at_rest at_rest o) disk.flight state what one other
+    (λ x y. over_image_once state what at_rest at_rest one other x y) a.gives b.gives
+
 pub next_once : {A : Type 0} (state : SlotState) (what : EventKind A) (one other : Outcome A)
     → IsNext state what one → IsNext state what other → one ≡ other
-next_once state (Read window offset width) one other a b = a.gives.alike ∙ sym b.gives.alike
-next_once state (Write window offset width value) one other a b =
-    finishes_once (task_at window offset width value state) (with_write window offset width value state)
-    a.after b.after one other a.gives b.gives
-next_once state (MemRead addr len) one other a b = a.gives.alike ∙ sym b.gives.alike
-next_once state (MemWrite addr bytes) one other a b = a.gives.alike ∙ sym b.gives.alike
-next_once state (Input bytes) one other a b =
-    received_once (with_input bytes state) (Took (fitting state.pending bytes)) a.after b.after one
-    other a.gives b.gives
-next_once state (Resize cols rows) one other a b = a.gives.alike ∙ sym b.gives.alike
-next_once state (Restore bytes) one other a b =
-    restored_once state bytes one other a.gives.alike b.gives.alike
-next_once state (Complete verdict) one other a b = a.gives.alike ∙ sym b.gives.alike
+next_once state what one other a b =
+    once_by state.host state what a.after b.after one other a.gives b.gives
 
 told_once : {A : Type 0} (g : ℕ) (state one other : SlotState) (what : EventKind A) (p q : Record A)
     → IsToldAlone g state what p one → IsToldAlone g state what q other → (p ≡ q) × (one ≡ other)

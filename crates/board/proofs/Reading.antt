@@ -7,7 +7,7 @@ use Rattle.board.specs.declared.reply.Reply.TheVariants.{Bytes, BadRange, NoMemo
 use Rattle.board.specs.Image.{Health}
 use Rattle.board.specs.Outcome.{replies}
 use Rattle.board.specs.Slot.{SlotState}
-use Rattle.board.specs.World.{MayGive}
+use Rattle.board.specs.World.{MayGiveOverImage}
 
 pub not_true : (b : Bool) → (b ≡ true → ⊥) → b ≡ false
 not_true true never = absurd (never refl)
@@ -17,7 +17,7 @@ not_true false never = refl
 pub reads : (A : Type 0) (state : SlotState) (addr len : ℕ) (bytes : List ℕ) (health : Health)
     → Inside state.memory addr len
     → bytes ≡ part_of state.memory addr len
-    → MayGive {A = A} state (MemRead addr len) health health (replies state (Bytes bytes))
+    → MayGiveOverImage {A = A} state (MemRead addr len) health health (replies state (Bytes bytes))
 reads A state addr len bytes health inside is =
     let test : is_inside state.memory addr len ≡ true = (is_inside-tells state.memory addr len).1 inside in
     inl (record {
@@ -29,7 +29,7 @@ reads A state addr len bytes health inside is =
 -- no memory for them, where there are some
 pub lacks : (A : Type 0) (state : SlotState) (addr len : ℕ) (health : Health)
     → Inside state.memory addr len → 0 < len
-    → MayGive {A = A} state (MemRead addr len) health health (replies state NoMemory)
+    → MayGiveOverImage {A = A} state (MemRead addr len) health health (replies state NoMemory)
 lacks A state addr len health inside some =
     inr (record {
       some = some;
@@ -41,7 +41,7 @@ lacks A state addr len health inside some =
 -- and BadRange, where it doesn't
 pub passes_over : (A : Type 0) (state : SlotState) (addr len : ℕ) (health : Health)
     → (Inside state.memory addr len → ⊥)
-    → MayGive {A = A} state (MemRead addr len) health health (replies state BadRange)
+    → MayGiveOverImage {A = A} state (MemRead addr len) health health (replies state BadRange)
 passes_over A state addr len health outside =
     let test = not_true (is_inside state.memory addr len)
     (λ is. outside ((is_inside-tells state.memory addr len).0 is)) in

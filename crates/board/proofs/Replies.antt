@@ -1,22 +1,26 @@
 -- Which replies an event of a slot may get.
-use Rattle.std.proofs.Common.{◌≡◌, inl, inr, ℕ, Bool, true, false, List, length, sym, ap, subst}
+use Rattle.std.proofs.Common.{◌≡◌, inl, inr, ℕ, Bool, true, false, Option, Some, None, List, length, sym, ap, subst}
 use Rattle.std.specs.Prelude.{if◌then◌else◌}
 use Rattle.guest_memory.specs.Memory.{is_inside, part_of, put}
 use Rattle.mmio_window.specs.declared.device_kind.DeviceKind.{DeviceKind}
 use Rattle.board.specs.declared.event.EventKind.{EventKind}
 use Rattle.board.specs.declared.event.EventKind.TheVariants.{Read, Write, MemRead, MemWrite, Input, Resize, Restore, Complete}
 use Rattle.board.specs.declared.reply.Reply.{Reply}
-use Rattle.board.specs.declared.reply.Reply.TheVariants.{Done, Bytes, BadRange, BadSlot, BadState, Busy, Idle, NoMemory}
+use Rattle.board.specs.declared.reply.Reply.TheVariants.{Value, Done, Bytes, Took, BadRange, BadSlot, BadState, Busy, Idle, NoMemory}
 use Rattle.board.specs.declared.pause.Service.TheVariants.{Block, Receive, Transmit}
+use Rattle.block_device.specs.declared.operation.Verdict.{Verdict}
+use Rattle.board.specs.Backing.{HostDisk, InFlight}
+use Rattle.board.specs.Hosting.{must_wait, notifies_block, verdict_in}
 use Rattle.board.specs.Image.{Health}
 use Rattle.board.specs.Machine.{memory_read, memory_written}
 use Rattle.board.specs.Outcome.{Outcome, does, replies}
-use Rattle.board.specs.Replies.{MayReply}
+use Rattle.board.specs.Replies.{MayReply, MayReplyOverImage}
 use Rattle.board.specs.Restoring.{IsRestoring}
 use Rattle.board.specs.Slot.{SlotState}
 use Rattle.board.specs.Task.{Task, Nothing, Serve, PutOut, Finishes}
-use Rattle.board.specs.World.{MayGive}
+use Rattle.board.specs.World.{MayGive, MayGiveBy, MayGiveOverImage}
 use Rattle.board.proofs.Refusals.{Failed, Unput, Unread, Unsent, WasRefused, was_refused}
+use Rattle.board.proofs.Ways.{Lands, Looks, Passes, Rests, Stands, Waits, Way, way}
 
 -- a task that is finished is done
 finished_done : {A : Type 0} (task : Task) (state : SlotState) (before after : Health)
@@ -27,9 +31,9 @@ finished_done {A} (Serve Receive) state before after outcome f = ap (λ (o : Out
 finished_done {A} (Serve Transmit) state before after outcome f = ap (λ (o : Outcome A). o.reply) f.is
 finished_done {A} (PutOut byte) state before after outcome f = ap (λ (o : Outcome A). o.reply) f.alike
 
-by_reply : {A : Type 0} (what : EventKind A) (reply told : Reply A) → reply ≡ told → MayReply what told
-    → MayReply what reply
-by_reply {A} what reply told is may = subst (λ (r : Reply A). MayReply what r) (sym is) may
+by_reply : {A : Type 0} (what : EventKind A) (reply told : Reply A) → reply ≡ told → MayReplyOverImage what told
+    → MayReplyOverImage what reply
+by_reply {A} what reply told is may = subst (λ (r : Reply A). MayReplyOverImage what r) (sym is) may
 
 -- what holds of an access to memory, whether or not it lies in it
 of_access : {A : Type 0} (P : Outcome A → Type 0) (state : SlotState) (hit : Outcome A) (inside : Bool)
@@ -54,7 +58,7 @@ of_write P state addr bytes outcome =
     (is_inside state.memory addr (length bytes)) outcome
 
 restore_replies : {A : Type 0} (state : SlotState) (bytes : List ℕ) (outcome : Outcome A)
-    → IsRestoring state bytes outcome → MayReply (Restore bytes) outcome.reply
+    → IsRestoring state bytes outcome → MayReplyOverImage (Restore bytes) outcome.reply
 restore_replies {A} state bytes outcome (inl taken) =
     by_reply (Restore bytes) outcome.reply Done (ap (λ (o : Outcome A). o.reply) taken.1) tt
 restore_replies {A} state bytes outcome (inr refused) =
@@ -63,7 +67,7 @@ restore_replies {A} state bytes outcome (inr refused) =
 refused_replies : {A : Type 0} (window : DeviceKind) (offset width value : ℕ) (state : SlotState)
     (old new : Health) (outcome : Outcome A) → WasRefused state (Write window offset width value) old new
     outcome
-    → MayReply (Write window offset width value) outcome.reply
+    → MayReplyOverImage (Write window offset width value) outcome.reply
 refused_replies {A} window offset width value state old new outcome (Failed block h) =
     by_reply (Write window offset width value) outcome.reply Done (ap (λ (o : Outcome A). o.reply)
     h.service.is) tt
@@ -75,38 +79,39 @@ refused_replies {A} window offset width value state old new outcome (Unput conso
     h.alike) tt
 refused_replies window offset width value state old new outcome (Unread addr len is h) = absurd (cc)
 
-pub given_replies : {A : Type 0} (state : SlotState) (what : EventKind A) (old new : Health)
-    (outcome : Outcome A) → MayGive state what old new outcome → MayReply what outcome.reply
-given_replies state (Read window offset width) old new outcome (inl served) = rw served.alike.alike tt
-given_replies state (Write window offset width value) old new outcome (inl served) =
+pub given_over_image : {A : Type 0} (state : SlotState) (what : EventKind A) (old new : Health)
+    (outcome : Outcome A) → MayGiveOverImage state what old new outcome
+    → MayReplyOverImage what outcome.reply
+given_over_image state (Read window offset width) old new outcome (inl served) = rw served.alike.alike tt
+given_over_image state (Write window offset width value) old new outcome (inl served) =
     by_reply (Write window offset width value) outcome.reply Done
     (finished_done _ _ old new outcome served.alike) tt
-given_replies {A} state (MemRead addr len) old new outcome (inl served) =
-    of_read (λ (o : Outcome A). MayReply (MemRead addr len) o.reply) state addr len outcome
+given_over_image {A} state (MemRead addr len) old new outcome (inl served) =
+    of_read (λ (o : Outcome A). MayReplyOverImage (MemRead addr len) o.reply) state addr len outcome
     served.alike.alike tt tt
-given_replies {A} state (MemWrite addr bytes) old new outcome (inl served) =
-    of_write (λ (o : Outcome A). MayReply (MemWrite addr bytes) o.reply) state addr bytes outcome
+given_over_image {A} state (MemWrite addr bytes) old new outcome (inl served) =
+    of_write (λ (o : Outcome A). MayReplyOverImage (MemWrite addr bytes) o.reply) state addr bytes outcome
     served.alike.alike tt
     tt
-given_replies {A} state (Input bytes) old new outcome (inl served) =
+given_over_image {A} state (Input bytes) old new outcome (inl served) =
     rw (ap (λ (o : Outcome A). o.reply) served.alike.is) tt
-given_replies state (Resize cols rows) old new outcome (inl served) = rw served.alike.alike tt
-given_replies state (Restore bytes) old new outcome (inl served) =
+given_over_image state (Resize cols rows) old new outcome (inl served) = rw served.alike.alike tt
+given_over_image state (Restore bytes) old new outcome (inl served) =
     restore_replies state bytes outcome served.alike.alike
-given_replies state (Complete verdict) old new outcome (inl served) = rw served.alike.alike tt
-given_replies state (Read window offset width) old new outcome (inr never) = absurd never
-given_replies state (Write window offset width value) old new outcome (inr refused) =
+given_over_image state (Complete verdict) old new outcome (inl served) = rw served.alike.alike tt
+given_over_image state (Read window offset width) old new outcome (inr never) = absurd never
+given_over_image state (Write window offset width value) old new outcome (inr refused) =
     refused_replies window offset width value state old new outcome
     (was_refused state (Write window offset width value) old new outcome refused)
-given_replies {A} state (MemRead addr len) old new outcome (inr unread) = rw unread.unchanged tt
-given_replies state (MemWrite addr bytes) old new outcome (inr never) = absurd never
-given_replies state (Input bytes) old new outcome (inr never) = absurd never
-given_replies state (Resize cols rows) old new outcome (inr never) = absurd never
-given_replies state (Restore bytes) old new outcome (inr never) = absurd never
-given_replies state (Complete verdict) old new outcome (inr never) = absurd never
+given_over_image {A} state (MemRead addr len) old new outcome (inr unread) = rw unread.unchanged tt
+given_over_image state (MemWrite addr bytes) old new outcome (inr never) = absurd never
+given_over_image state (Input bytes) old new outcome (inr never) = absurd never
+given_over_image state (Resize cols rows) old new outcome (inr never) = absurd never
+given_over_image state (Restore bytes) old new outcome (inr never) = absurd never
+given_over_image state (Complete verdict) old new outcome (inr never) = absurd never
 
--- no event is told that its slot is busy, or isn't there
-pub never_busy : {A : Type 0} (what : EventKind A) → MayReply what Busy → ⊥
+-- over an image no event is told that its slot is busy, and none that it isn't there
+pub never_busy : {A : Type 0} (what : EventKind A) → MayReplyOverImage what Busy → ⊥
 never_busy (Read window offset width) may = may
 never_busy (Write window offset width value) may = may
 never_busy (MemRead addr len) may = may
@@ -128,7 +133,7 @@ never_missing (Complete verdict) may = may
 
 -- a completion alone finds nothing in flight
 pub idle_completes : {A : Type 0} (state : SlotState) (what : EventKind A) (old new : Health)
-    (outcome : Outcome A) → MayReply what Idle → MayGive state what old new outcome
+    (outcome : Outcome A) → MayReplyOverImage what Idle → MayGiveOverImage state what old new outcome
     → outcome ≡ replies state Idle
 idle_completes state (Read window offset width) old new outcome may h = absurd may
 idle_completes state (Write window offset width value) old new outcome may h = absurd may
@@ -139,3 +144,109 @@ idle_completes state (Resize cols rows) old new outcome may h = absurd may
 idle_completes state (Restore bytes) old new outcome may h = absurd may
 idle_completes state (Complete verdict) old new outcome may (inl served) = served.alike.alike
 idle_completes state (Complete verdict) old new outcome may (inr never) = absurd never
+
+-- ---- whoever has the disk
+
+-- what may be replied over an image may be
+any_reply : {A : Type 0} (what : EventKind A) (reply : Reply A) → MayReplyOverImage what reply
+    → MayReply what reply
+any_reply (Read window offset width) reply may = may
+any_reply (Write window offset width value) Busy may = tt
+any_reply (Write window offset width value) (Value v) may = may
+any_reply (Write window offset width value) Done may = may
+any_reply (Write window offset width value) (Bytes bytes) may = may
+any_reply (Write window offset width value) (Took taken) may = may
+any_reply (Write window offset width value) BadSlot may = may
+any_reply (Write window offset width value) BadRange may = may
+any_reply (Write window offset width value) BadState may = may
+any_reply (Write window offset width value) NoMemory may = may
+any_reply (Write window offset width value) Idle may = may
+any_reply (MemRead addr len) reply may = may
+any_reply (MemWrite addr bytes) reply may = may
+any_reply (Input bytes) reply may = may
+any_reply (Resize cols rows) reply may = may
+any_reply (Restore bytes) Busy may = tt
+any_reply (Restore bytes) (Value v) may = may
+any_reply (Restore bytes) Done may = may
+any_reply (Restore bytes) (Bytes read) may = may
+any_reply (Restore bytes) (Took taken) may = may
+any_reply (Restore bytes) BadSlot may = may
+any_reply (Restore bytes) BadRange may = may
+any_reply (Restore bytes) BadState may = may
+any_reply (Restore bytes) NoMemory may = may
+any_reply (Restore bytes) Idle may = may
+any_reply (Complete verdict) Done may = tt
+any_reply (Complete verdict) (Value v) may = may
+any_reply (Complete verdict) (Bytes bytes) may = may
+any_reply (Complete verdict) (Took taken) may = may
+any_reply (Complete verdict) BadSlot may = may
+any_reply (Complete verdict) BadRange may = may
+any_reply (Complete verdict) BadState may = may
+any_reply (Complete verdict) NoMemory may = may
+any_reply (Complete verdict) Busy may = may
+any_reply (Complete verdict) Idle may = may
+
+as_told : {A : Type 0} (what : EventKind A) (outcome wanted : Outcome A) → outcome ≡ wanted
+    → MayReply what wanted.reply → MayReply what outcome.reply
+as_told {A} what outcome wanted is may = subst (λ (o : Outcome A). MayReply what o.reply) (sym is) may
+
+waiting_reply : {A : Type 0} (what : EventKind A) → must_wait what ≡ true → MayReply what Busy
+waiting_reply (Read window offset width) waits = absurd (cc)
+waiting_reply (Write window offset width value) waits = tt
+waiting_reply (MemRead addr len) waits = absurd (cc)
+waiting_reply (MemWrite addr bytes) waits = absurd (cc)
+waiting_reply (Input bytes) waits = absurd (cc)
+waiting_reply (Resize cols rows) waits = absurd (cc)
+waiting_reply (Restore bytes) waits = tt
+waiting_reply (Complete verdict) waits = absurd (cc)
+
+ringing_reply : {A : Type 0} (what : EventKind A) (state : SlotState) → notifies_block what state ≡ true
+    → MayReply what Done
+ringing_reply (Read window offset width) state rings = absurd (cc)
+ringing_reply (Write window offset width value) state rings = tt
+ringing_reply (MemRead addr len) state rings = absurd (cc)
+ringing_reply (MemWrite addr bytes) state rings = absurd (cc)
+ringing_reply (Input bytes) state rings = absurd (cc)
+ringing_reply (Resize cols rows) state rings = absurd (cc)
+ringing_reply (Restore bytes) state rings = absurd (cc)
+ringing_reply (Complete verdict) state rings = absurd (cc)
+
+completing_reply : {A : Type 0} (what : EventKind A) (verdict : Verdict) → verdict_in what ≡ Some verdict
+    → MayReply what Done × MayReply what Idle
+completing_reply (Read window offset width) verdict is = absurd (cc)
+completing_reply (Write window offset width value) verdict is = absurd (cc)
+completing_reply (MemRead addr len) verdict is = absurd (cc)
+completing_reply (MemWrite addr bytes) verdict is = absurd (cc)
+completing_reply (Input bytes) verdict is = absurd (cc)
+completing_reply (Resize cols rows) verdict is = absurd (cc)
+completing_reply (Restore bytes) verdict is = absurd (cc)
+completing_reply (Complete told) verdict is = (tt, tt)
+
+on_host_replies : {A : Type 0} (flight : Option InFlight) (state : SlotState) (what : EventKind A)
+    (old : Health) (outcome : Outcome A)
+    → Way (λ (o : Outcome A). MayGiveOverImage state what old old o) flight state what outcome
+    → MayReply what outcome.reply
+on_host_replies flight state what old outcome (Waits here flies waits h) =
+    as_told what outcome _ h (waiting_reply what waits)
+on_host_replies flight state what old outcome (Passes own free quiet h) =
+    any_reply what outcome.reply (given_over_image state what old old outcome h)
+on_host_replies flight state what old outcome (Looks none rings looks h) =
+    as_told what outcome _ h (ringing_reply what state rings)
+on_host_replies flight state what old outcome (Stands here flies free rings h) =
+    as_told what outcome _ h (ringing_reply what state rings)
+on_host_replies flight state what old outcome (Rests verdict completes none h) =
+    as_told what outcome _ h (completing_reply what verdict completes).1
+on_host_replies flight state what old outcome (Lands verdict completes here flies lands h) =
+    as_told what outcome _ h (completing_reply what verdict completes).0
+
+replies_by : {A : Type 0} (host : Option HostDisk) (state : SlotState) (what : EventKind A) (old new : Health)
+    (outcome : Outcome A) → MayGiveBy host state what old new outcome → MayReply what outcome.reply
+replies_by None state what old new outcome h =
+    any_reply what outcome.reply (given_over_image state what old new outcome h)
+replies_by {A} (Some disk) state what old new outcome h =
+    on_host_replies disk.flight state what old outcome
+    (way (λ (o : Outcome A). MayGiveOverImage state what old old o) disk.flight state what outcome h.gives)
+
+pub given_replies : {A : Type 0} (state : SlotState) (what : EventKind A) (old new : Health)
+    (outcome : Outcome A) → MayGive state what old new outcome → MayReply what outcome.reply
+given_replies state what old new outcome h = replies_by state.host state what old new outcome h

@@ -13,10 +13,11 @@ use Rattle.board.specs.declared.saved.RestoreFault.{RestoreFault}
 use Rattle.board.specs.declared.saved.RestoreFault.TheVariants.{Snapshot, OtherSlot, BadBlock, BadConsole}
 use Rattle.board.specs.Image.{Health, sectors_of}
 use Rattle.board.specs.Outcome.{Outcome, does, replies}
-use Rattle.board.specs.Restoring.{IsRestoring, IsTakenUp, restore_reply, slot_in}
+use Rattle.board.specs.Backing.{sectors_by}
+use Rattle.board.specs.Restoring.{IsRestoring, IsTakenUp, slot_in, taken_up_reply}
 use Rattle.board.specs.Saved.{IsCauseOf, IsPrevented, IsRestored, Prevents, Suits, TakesUp}
 use Rattle.board.specs.Slot.{BoardSlot, SlotState, state_of}
-use Rattle.board.specs.World.{MayGive}
+use Rattle.board.specs.World.{MayGiveOverImage}
 use Rattle.board.proofs.Saving.{none_some, same_window}
 
 -- ---- there is at most one outcome
@@ -138,6 +139,12 @@ pub restored_named : {A : Type 0} (state : SlotState) (bytes : List ℕ) (outcom
 restored_named state bytes outcome (inl a) = ap (λ (slot : BoardSlot). slot.identity) a.0.restored.takes_up.is
 restored_named state bytes outcome (inr a) = ap (λ o. o.state.identity) a.1
 
+-- and who has the disk
+pub restored_host : {A : Type 0} (state : SlotState) (bytes : List ℕ) (outcome : Outcome A)
+    → IsRestoring state bytes outcome → outcome.state.host ≡ state.host
+restored_host state bytes outcome (inl a) = ap (λ (slot : BoardSlot). slot.host) a.0.restored.takes_up.is
+restored_host state bytes outcome (inr a) = ap (λ o. o.state.host) a.1
+
 -- ---- a slot gives it
 
 -- the extent's bytes fill its sectors
@@ -149,7 +156,7 @@ suits_in : (image : List ℕ) (slot : BoardSlot) (saved : SavedSlot) → IsCount
 suits_in image slot saved counted suits = record {
   base = suits.base;
   len = suits.len;
-  sectors = suits.sectors ∙ sym counted;
+  sectors = suits.sectors ∙ ap (λ n. sectors_by slot.host n) (sym counted);
   read_only = suits.read_only;
   identity = suits.identity;
   block = suits.block;
@@ -161,7 +168,7 @@ suits_out : (image : List ℕ) (slot : BoardSlot) (saved : SavedSlot) → IsCoun
 suits_out image slot saved counted suits = record {
   base = suits.base;
   len = suits.len;
-  sectors = suits.sectors ∙ counted;
+  sectors = suits.sectors ∙ ap (λ n. sectors_by slot.host n) counted;
   read_only = suits.read_only;
   identity = suits.identity;
   block = suits.block;
@@ -213,8 +220,8 @@ pub restore_given : (A : Type 0) (image : List ℕ) (slot new : BoardSlot) (byte
     (result : Result (Unit {0}) RestoreFault) (health : Health) → IsCounted image slot
     → OnOk result (IsRestored slot bytes new) → IfErr result (IsCauseOf slot bytes)
     → OnErr result (new ≡ slot)
-    → MayGive {A = A} (state_of image slot) (Restore bytes) health health
-    (replies (state_of image new) (restore_reply result))
+    → MayGiveOverImage {A = A} (state_of image slot) (Restore bytes) health health
+    (replies (state_of image new) (taken_up_reply result))
 restore_given A image slot new bytes (Ok done) health counted ok fault kept = inl (record {
   alike = record { alike = inl (taken_in image slot new bytes counted ok, refl); image = refl };
   answered = λ no. absurd (cc);

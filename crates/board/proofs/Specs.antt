@@ -11,18 +11,34 @@ use Rattle.board.specs.declared.spec.SlotSpec.{SlotSpec}
 use Rattle.block_device.specs.declared.extent.Extent.{Extent}
 use Rattle.block_device.specs.Extent.{IsWithin}
 use Rattle.board.specs.Extent.{IsApart, AreSound}
-use Rattle.board.specs.Fault.{IsGoodSlot, GoodBelow, AreGood}
-use Rattle.board.specs.Slot.{opened}
+use Rattle.board.specs.Fault.{IsGoodSlot, GoodBelow, AreGood, HasRoom, HasRoomBy, most_sectors, place_by, room_by, share}
+use Rattle.board.specs.declared.spec.Backing.{Backing}
+use Rattle.board.specs.declared.spec.Backing.TheVariants.{Image, Host}
+use Rattle.board.specs.Slot.{extent_by, opened}
 use Rattle.board.specs.World.{extents_of}
+
+-- what a good slot has of the image lies in it
+share_within : (sectors : ℕ) (backing : Backing) (extent : Extent)
+    → IsWithin (room_by backing sectors) (place_by backing extent) → IsWithin sectors (extent_by backing extent)
+share_within sectors Image extent within = within
+share_within sectors Host extent within = omega arith
+
+room_of : (sectors : ℕ) (backing : Backing) (extent : Extent)
+    → IsWithin (room_by backing sectors) (place_by backing extent) → HasRoomBy backing extent
+room_of sectors Image extent within = tt
+room_of sectors Host extent within = let few : extent.count ≤ most_sectors = omega (arith, within) in
+    omega (arith, few)
 
 -- the slots before a place all lie in the image
 pub within_below : (sectors : ℕ) (slots : List SlotSpec) (n : ℕ) → n ≤ length slots
-    → GoodBelow sectors slots n → All (λ spec. IsWithin sectors spec.extent) (take n slots)
+    → GoodBelow sectors slots n → All (λ spec. IsWithin sectors (share spec)) (take n slots)
 within_below sectors slots n most good k d below =
     let shorter : length (take n slots) ≡ n = length-take-le n slots most in
     let near : k < n = omega arith in
-    subst (λ (spec : SlotSpec). IsWithin sectors spec.extent) (sym (get_or-take n slots k d near))
-    (good k (get_or slots k d) near (slice_get-get_or slots k d (omega arith))).within
+    let one = get_or slots k d in
+    subst (λ (spec : SlotSpec). IsWithin sectors (share spec)) (sym (get_or-take n slots k d near))
+    (share_within sectors one.backing one.extent
+    (good k one near (slice_get-get_or slots k d (omega arith))).within)
 
 more_at : (sectors : ℕ) (slots : List SlotSpec) (n : ℕ) (last : SlotSpec) → GoodBelow sectors slots n
     → IsGoodSlot sectors (take n slots) last → slice_get slots n ≡ Some last → (i : ℕ) (spec : SlotSpec)
@@ -53,32 +69,39 @@ pub memories : (sectors : ℕ) (slots : List SlotSpec) → AreGood sectors slots
 memories sectors slots good k d below =
     (good.each k (get_or slots k d) below (slice_get-get_or slots k d below)).memory
 
+-- and every disk that the host is to serve
+pub rooms : (sectors : ℕ) (slots : List SlotSpec) → AreGood sectors slots → All HasRoom slots
+rooms sectors slots good k d below =
+    let one = get_or slots k d in
+    room_of sectors one.backing one.extent (good.each k one below (slice_get-get_or slots k d below)).within
+
 pub extents_of-opened : (slots : List SlotSpec)
-    → extents_of (map opened slots) ≡ map (λ (spec : SlotSpec). spec.extent) slots
+    → extents_of (map opened slots) ≡ map share slots
 extents_of-opened [] = refl
-extents_of-opened (spec ∷ slots) = ap (λ (es : List Extent). spec.extent ∷ es) (extents_of-opened slots)
+extents_of-opened (spec ∷ slots) = ap (λ (es : List Extent). share spec ∷ es) (extents_of-opened slots)
 
 apart_at : (sectors : ℕ) (slots : List SlotSpec) → AreGood sectors slots → (i j : ℕ) (d : SlotSpec) → i < j
-    → j < length slots → IsApart (get_or slots i d).extent (get_or slots j d).extent
+    → j < length slots → IsApart (share (get_or slots i d)) (share (get_or slots j d))
 apart_at sectors slots good i j d before below =
     let one : IsGoodSlot sectors (take j slots) (get_or slots j d) =
     good.each j (get_or slots j d) below (slice_get-get_or slots j d below) in
     let shorter : length (take j slots) ≡ j = length-take-le j slots (omega arith) in
-    subst (λ (s : SlotSpec). IsApart s.extent (get_or slots j d).extent) (get_or-take j slots i d before)
+    subst (λ (s : SlotSpec). IsApart (share s) (share (get_or slots j d))) (get_or-take j slots i d before)
     (one.apart i d (omega arith))
 
 apart_all : (sectors : ℕ) (slots : List SlotSpec) → AreGood sectors slots
-    → AllPairs IsApart (map (λ (spec : SlotSpec). spec.extent) slots)
+    → AllPairs IsApart (map share slots)
 apart_all sectors slots good i j d before below =
     let some : SlotSpec = record {
       regions = [];
       extent = d;
+      backing = Image;
       read_only = false;
       cols = 0;
       rows = 0;
       identity = [];
     } in
-    let extent : SlotSpec → Extent = λ spec. spec.extent in
+    let extent : SlotSpec → Extent = λ spec. share spec in
     let fits : j < length slots = omega (arith, length-map slots extent) in
     rw (get_or-map extent slots i some d (omega arith), get_or-map extent slots j some d fits)
     (apart_at sectors slots good i j some before fits)
@@ -88,8 +111,10 @@ pub sound : (sectors : ℕ) (slots : List SlotSpec) → AreGood sectors slots
     → AreSound sectors (extents_of (map opened slots))
 sound sectors slots good =
     subst (AreSound sectors) (sym (extents_of-opened slots)) (record {
-      within = All-map (IsWithin sectors) (λ (spec : SlotSpec). spec.extent) slots
-          (λ k d below. (good.each k (get_or slots k d) below (slice_get-get_or slots k d below)).within);
+      within = All-map (IsWithin sectors) share slots
+          (λ k d below. let one = get_or slots k d in
+          share_within sectors one.backing one.extent
+          (good.each k one below (slice_get-get_or slots k d below)).within);
       apart = apart_all sectors slots good;
     })
 

@@ -38,16 +38,15 @@ use Rattle.board.specs.declared.pause.Turn.TheVariants.{Answered}
 use Rattle.board.specs.declared.reply.Reply.{Reply}
 use Rattle.board.specs.declared.reply.Reply.TheVariants.{Done, NoMemory}
 use Rattle.board.specs.Image.{Health, Tells, bytes_of, health_of, sectors_of, disk_with}
-use Rattle.board.specs.Pausing.{IsBlockPiece, IsPiece, ComesTo, TurnsTo, Begins, ServesTurn, asked, asked_by, readied, turn_of}
+use Rattle.board.specs.Pausing.{BeginsOverImage, IsBlockPiece, IsPiece, ComesTo, TurnsTo, ServesTurn, asked_by, asked_over_image, readied, turn_of}
 use Rattle.board.specs.Slot.{SlotState, BoardSlot, state_of}
 use Rattle.board.specs.Machine.{task_at, with_write}
 use Rattle.board.specs.Outcome.{Outcome as Came, replies, does}
 use Rattle.board.specs.Task.{Task, Nothing, PutOut, Finishes, device_of, puts_out}
-use Rattle.board.specs.Within.{BeginsWithin, PieceWithin, PutsOutWithin, PutsWithin, TurnWithin}
-use Rattle.board.specs.World.{HasBytesToPutOut, IsCutShort, MayGive, Serves}
+use Rattle.board.specs.Within.{BeginsWithinOverImage, PieceWithin, PutsOutWithin, PutsWithin, TurnWithin}
+use Rattle.board.specs.World.{HasBytesToPutOut, IsCutShort, MayGiveOverImage}
 use Rattle.board.proofs.Alike.{PieceAs, RefusedAs, piece_as, refused_as}
-use Rattle.board.specs.Hosting.{device_at}
-use Rattle.board.proofs.Blocks.{block_served, count_of, counted_device, seen_disk}
+use Rattle.board.proofs.Blocks.{image_device, block_served, count_of, counted_device, seen_disk}
 
 -- a piece comes to the turn of its progress
 pub comes_to : (A : Type 0) (pause : Pause) (stage : Stage) (budget : Budget) (progress : Progress)
@@ -118,7 +117,7 @@ seen_piece : (Way : Request → List ℕ → Disk → Outcome → Type 0) (slot 
     (budget : Budget) (progress : Progress) (memory : Memory) (block : WindowState) (old new : Disk)
     → Tells old → Tells new → IsWhole old → IsWhole new → IsWithin old.sector_count slot.extent
     → IsWithin new.sector_count slot.extent
-    → ServesTo stage (device_by Way (device_at slot)) budget 0 (queue_at 0 slot.block) progress slot.memory
+    → ServesTo stage (device_by Way (image_device slot)) budget 0 (queue_at 0 slot.block) progress slot.memory
     memory slot.block block (extent_disk slot.extent old) (extent_disk slot.extent new)
     → IsBlockPiece (device_by Way (device_of (state_of (bytes_of old) slot))) stage budget progress
     (state_of (bytes_of old) slot) (health_of old) (health_of new)
@@ -127,7 +126,7 @@ seen_piece Way slot stage budget progress memory block old new tells tells' whol
     let start = state_of (bytes_of old) slot in
     let count : slot.extent.count ≡ sectors_of start.extent =
     sym (count_of slot.extent old tells whole lies) in
-    let guest = piece_anywhere Way (device_at slot) stage budget (queue_at 0 slot.block) progress
+    let guest = piece_anywhere Way (image_device slot) stage budget (queue_at 0 slot.block) progress
     slot.memory memory slot.block block (extent_disk slot.extent old) (extent_disk slot.extent new) h in
     let own = subst (λ c. ServesTo stage (device_by Way (counted_device slot c)) budget 0
     (queue_at 0 slot.block) progress slot.memory memory slot.block block (extent_disk slot.extent old)
@@ -152,7 +151,7 @@ pub block_piece : (slot : BoardSlot) (stage : Stage) (budget : Budget) (progress
     (block : WindowState) (old new : Disk)
     → Tells old → Tells new → IsWhole old → IsWhole new → IsWithin old.sector_count slot.extent
     → IsWithin new.sector_count slot.extent → old.failures ≤ new.failures
-    → ServesTo stage (block_device (device_at slot)) budget 0 (queue_at 0 slot.block) progress slot.memory
+    → ServesTo stage (block_device (image_device slot)) budget 0 (queue_at 0 slot.block) progress slot.memory
     memory slot.block block (extent_disk slot.extent old) (extent_disk slot.extent new)
     → IsPiece Block stage budget progress (state_of (bytes_of old) slot) (health_of old) (health_of new)
     (state_of (bytes_of new) (block_served slot memory block)) []
@@ -166,7 +165,7 @@ block_piece slot stage budget progress memory block old new tells tells' whole w
       piece =
           seen_piece (Completes slot.identity) slot stage budget progress memory block old new tells tells'
           whole whole' lies lies'
-          (exact_piece (device_at slot) stage budget (queue_at 0 slot.block) progress slot.memory memory
+          (exact_piece (image_device slot) stage budget (queue_at 0 slot.block) progress slot.memory memory
           slot.block block (extent_disk slot.extent old) (extent_disk slot.extent new) stood served);
       failures = stood;
     })
@@ -313,36 +312,45 @@ has_bytes Next budget limit m m' w w' before after first h = absurd (cc)
 
 -- the service that it asks for takes its first piece
 pub begins_by : {A : Type 0} (what : EventKind A) (pause : Pause) (budget : Budget) (state mid : SlotState)
-    (old new : Health) (after : SlotState) (turn : Turn A) (out out' : List ℕ) → asked what state ≡ Some pause
+    (old new : Health) (after : SlotState) (turn : Turn A) (out out' : List ℕ) → asked_over_image what state ≡ Some pause
     → mid ≡ readied what state
     → ServesTurn (ComesTo pause First budget) mid old new after turn out out'
-    → ServesTurn (Begins what budget) state old new after turn out out'
+    → ServesTurn (BeginsOverImage what budget) state old new after turn out out'
 begins_by what pause budget state mid old new after turn out out' is ready h = record {
   output = h.output;
   comes =
-      subst (λ (o : Option Pause). TurnsTo o what budget state old new after h.output turn) (sym is)
+      subst (λ (o : Option Pause). TurnsTo (λ c. MayGiveOverImage state what old new c) o what budget state old new
+      after h.output turn) (sym is)
       (subst (λ (s : SlotState). ComesTo pause First budget s old new after h.output turn) ready h.comes);
   appended = h.appended;
 }
 
 -- and puts nothing out
 pub comes_first : {A : Type 0} (what : EventKind A) (pause : Pause) (budget : Budget) (state : SlotState)
-    (old new : Health) (after : SlotState) (turn : Turn A) (out : List ℕ) → asked what state ≡ Some pause
+    (old new : Health) (after : SlotState) (turn : Turn A) (out : List ℕ) → asked_over_image what state ≡ Some pause
     → ComesTo pause First budget (readied what state) old new after [] turn
-    → ServesTurn (Begins what budget) state old new after turn out out
+    → ServesTurn (BeginsOverImage what budget) state old new after turn out out
 comes_first what pause budget state old new after turn out is comes =
     begins_by what pause budget state (readied what state) old new after turn out out is refl
     (record { output = []; comes = comes; appended = sym (append-nil out) })
 
+-- An outcome that it may have, whose output was appended to what was put out before.
+pub record ServesOverImage {A : Type 0} (state : SlotState) (what : EventKind A) (old new : Health)
+    (after : SlotState) (reply : Reply A) (out_before out_after : List ℕ) : Type 0 where
+  pub output : List ℕ
+  pub given :
+      MayGiveOverImage state what old new (record { state = after; reply = reply; output = output })
+  pub appended : out_after ≡ out_before ++ output
+
 -- it asks for none
 pub at_once : {A : Type 0} (what : EventKind A) (budget : Budget) (state : SlotState) (old new : Health)
-    (after : SlotState) (reply : Reply A) (out out' : List ℕ) → asked what state ≡ None
-    → Serves state what old new after reply out out'
-    → ServesTurn (Begins what budget) state old new after (Answered reply) out out'
+    (after : SlotState) (reply : Reply A) (out out' : List ℕ) → asked_over_image what state ≡ None
+    → ServesOverImage state what old new after reply out out'
+    → ServesTurn (BeginsOverImage what budget) state old new after (Answered reply) out out'
 at_once what budget state old new after reply out out' is h = record {
   output = h.output;
-  comes = subst (λ (o : Option Pause). TurnsTo o what budget state old new after h.output
-      (Answered reply)) (sym is) h.given;
+  comes = subst (λ (o : Option Pause). TurnsTo (λ c. MayGiveOverImage state what old new c) o what budget state old
+      new after h.output (Answered reply)) (sym is) h.given;
   appended = h.appended;
 }
 
@@ -352,7 +360,7 @@ pub task_given : {A : Type 0} (state : SlotState) (window : DeviceKind) (task : 
     → (Finishes task (with_write window offset width value state) old new outcome
     × ((outcome.reply ≢ NoMemory) × (new.failures ≡ old.failures)))
     ⊎ IsCutShort task (with_write window offset width value state) old new outcome
-    → MayGive state (Write window offset width value) old new outcome
+    → MayGiveOverImage state (Write window offset width value) old new outcome
 task_given {A} state window task offset width value old new outcome is (inl h) = inl (record {
   alike = subst (λ (t : Task). Finishes t (with_write window offset width value state) old new
       outcome) (sym is) h.0;
@@ -366,7 +374,7 @@ task_given {A} state window task offset width value old new outcome is (inr h) =
 -- a write that leaves nothing
 pub nothing_turn : {A : Type 0} (state : SlotState) (window : DeviceKind) (offset width value : ℕ)
     (budget : Budget) (health : Health) (out : List ℕ) → task_at window offset width value state ≡ Nothing
-    → ServesTurn (Begins {A = A} (Write window offset width value) budget) state health health
+    → ServesTurn (BeginsOverImage {A = A} (Write window offset width value) budget) state health health
     (with_write window offset width value state) (Answered Done) out out
 nothing_turn {A} state window offset width value budget health out is =
     let after = with_write window offset width value state in
@@ -384,7 +392,7 @@ pub put_out_turn : {A E : Type 0} (state : SlotState) (window : DeviceKind) (off
     → task_at window offset width value state ≡ PutOut byte
     → OnOk r (after ≡ before ++ byte ∷ []) → OnErr r (after ≡ before) → OnOk r (reply ≡ Done)
     → OnErr r (reply ≡ NoMemory)
-    → ServesTurn (Begins (Write window offset width value) budget) state health health
+    → ServesTurn (BeginsOverImage (Write window offset width value) budget) state health health
     (with_write window offset width value state) (Answered reply) before after
 put_out_turn {A} {E} state window offset width value byte budget health before after (Ok x) reply is
     out kept done none =
@@ -409,9 +417,9 @@ put_out_turn {A} {E} state window offset width value byte budget health before a
 
 -- an event that asks for no service, and puts nothing out
 pub silent_answer : {A : Type 0} (what : EventKind A) (budget : Budget) (state : SlotState) (old new : Health)
-    (after : SlotState) (reply : Reply A) (out : List ℕ) → asked what state ≡ None
-    → MayGive state what old new (replies after reply)
-    → ServesTurn (Begins what budget) state old new after (Answered reply) out out
+    (after : SlotState) (reply : Reply A) (out : List ℕ) → asked_over_image what state ≡ None
+    → MayGiveOverImage state what old new (replies after reply)
+    → ServesTurn (BeginsOverImage what budget) state old new after (Answered reply) out out
 silent_answer what budget state old new after reply out is given =
     at_once what budget state old new after reply out out is
     (record { output = []; given = given; appended = sym (append-nil out) })
@@ -419,10 +427,10 @@ silent_answer what budget state old new after reply out is given =
 -- ---- within a limit
 
 pub begins_within : {A : Type 0} (limit : ℕ) (what : EventKind A) (pause : Pause) (budget : Budget)
-    (state mid after : SlotState) (waiting left : List ℕ) (turn : Turn A) → asked what state ≡ Some pause
+    (state mid after : SlotState) (waiting left : List ℕ) (turn : Turn A) → asked_over_image what state ≡ Some pause
     → mid ≡ readied what state
     → PieceWithin limit pause First budget mid after waiting left turn
-    → BeginsWithin limit what budget state after waiting left turn
+    → BeginsWithinOverImage limit what budget state after waiting left turn
 begins_within limit what pause budget state mid after waiting left turn is ready h =
     subst (λ (o : Option Pause). TurnWithin limit o what budget state after waiting left turn) (sym is)
     (subst (λ (s : SlotState). PieceWithin limit pause First budget s after waiting left turn) ready h)
@@ -447,7 +455,7 @@ pub put_out_within : {A E : Type 0} (limit : ℕ) (o : Option ℕ) (state : Slot
     → OnOk r (left ≡ waiting ++ byte ∷ []) → OnOk r (Fits o (length waiting + 1)) → OnErr r (left ≡ waiting)
     → OnErr r (MayRefuse o (length waiting + 1))
     → OnOk r (reply ≡ Done) → OnErr r (reply ≡ NoMemory)
-    → BeginsWithin limit (Write window offset width value) budget state
+    → BeginsWithinOverImage limit (Write window offset width value) budget state
     (with_write window offset width value state) waiting left (Answered reply)
 put_out_within {A} limit o state window offset width value byte budget waiting left r reply limited is put
     fits kept past done none =

@@ -1,8 +1,10 @@
 -- A service in one piece is what an event comes to.
-use Rattle.std.proofs.Common.{◌≡◌, ◌≢◌, ◌⊎◌, inl, inr, ℕ, Some, None, List, [], refl, ap}
+use Rattle.std.proofs.Common.{◌≡◌, ◌≢◌, ◌⊎◌, inl, inr, ℕ, Bool, true, false, Option, Some, None, List, [], refl, ap, subst}
+use Rattle.std.specs.Prelude.{if◌then◌else◌}
 use Rattle.chain.specs.declared.budget.Budget.{Budget}
 use Rattle.chain.specs.declared.budget.Progress.TheVariants as progress
 use Rattle.chain.specs.Service.{Device, Refused}
+use Rattle.mmio_window.specs.declared.stage.Stage.{Stage}
 use Rattle.mmio_window.specs.declared.stage.Stage.TheVariants.{First}
 use Rattle.sector_cache.specs.Disk.{Disk}
 use Rattle.mmio_window.specs.declared.device_kind.DeviceKind.{DeviceKind}
@@ -20,10 +22,15 @@ use Rattle.board.specs.declared.reply.Reply.TheVariants.{Done, Took, NoMemory}
 use Rattle.board.specs.Image.{Health, disk_with}
 use Rattle.board.specs.Machine.{task_at, with_input, with_write}
 use Rattle.board.specs.Outcome.{Outcome}
-use Rattle.board.specs.Pausing.{Begins, EndsBy, IsBlockPiece, IsReceivePiece, TurnsTo, asked_by}
+use Rattle.board.specs.Backing.{HostDisk}
+use Rattle.board.specs.Hosting.{has_part, is_block_task, notifies_block}
+use Rattle.board.specs.declared.pause.Pause.{Pause}
+use Rattle.board.specs.declared.pause.Service.{Service}
+use Rattle.board.specs.Pausing.{Begins, BeginsOverImage, EndsBy, IsBlockPiece, IsReceivePiece, IsTransmitPiece, TurnsTo, asked_by, asked_over_image}
 use Rattle.board.specs.Slot.{SlotState}
 use Rattle.board.specs.Task.{Task, Nothing, Serve, PutOut, Finishes, IsBlockService, IsReceiveService, device_of}
-use Rattle.board.specs.World.{IsCutShort, MayGive}
+use Rattle.board.specs.World.{IsCutShort, MayGive, MayGiveBy, MayGiveOverImage}
+use Rattle.board.proofs.OnHost.{passes, ringing_part}
 use Rattle.board.proofs.Turns.{task_given}
 
 -- an outcome
@@ -122,9 +129,9 @@ transmit_ended budget mid before after new output reply (inr (lacks, (is, h))) =
 write_whole : {A : Type 0} (state : SlotState) (window : DeviceKind) (offset width value : ℕ)
     (budget : Budget) (before after : Health) (new : SlotState) (output : List ℕ) (reply : Reply A)
     (task : Task) → task_at window offset width value state ≡ task
-    → TurnsTo (asked_by task) (Write window offset width value) budget state before after new
-    output (Answered reply)
-    → MayGive state (Write window offset width value) before after (came new reply output)
+    → TurnsTo (λ c. MayGiveOverImage state (Write window offset width value) before after c) (asked_by task)
+    (Write window offset width value) budget state before after new output (Answered reply)
+    → MayGiveOverImage state (Write window offset width value) before after (came new reply output)
 write_whole state window offset width value budget before after new output reply Nothing is h = h
 write_whole state window offset width value budget before after new output reply (Serve Block) is h =
     task_given state window (Serve Block) offset width value before after (came new reply output) is
@@ -141,7 +148,7 @@ input_whole : {A : Type 0} (state : SlotState) (bytes : List ℕ) (budget : Budg
     (new : SlotState) (output : List ℕ) (reply : Reply A)
     → EndsBy (record { service = Receive; taken = Some (fitting state.pending bytes) }) First budget
     (with_input bytes state) before after new output reply
-    → MayGive state (Input bytes) before after (came new reply output)
+    → MayGiveOverImage state (Input bytes) before after (came new reply output)
 input_whole state bytes budget before after new output reply (inl (done, h)) = inl (record {
   alike = receive_whole budget (with_input bytes state) before after new output reply
       (Took (fitting state.pending bytes)) done h;
@@ -150,19 +157,115 @@ input_whole state bytes budget before after new output reply (inl (done, h)) = i
 })
 input_whole state bytes budget before after new output reply (inr (lacks, (other, h))) = absurd (cc)
 
--- An event that is answered in its first turn came to what it may come to.
+-- An event that is answered in its first turn came to what it may come to: over an image.
+pub whole_over_image : {A : Type 0} (what : EventKind A) (budget : Budget) (state : SlotState) (before after : Health)
+    (new : SlotState) (output : List ℕ) (reply : Reply A)
+    → BeginsOverImage what budget state before after new output (Answered reply)
+    → MayGiveOverImage state what before after (came new reply output)
+whole_over_image (Read window offset width) budget state before after new output reply h = h
+whole_over_image (Write window offset width value) budget state before after new output reply h =
+    write_whole state window offset width value budget before after new output reply
+    (task_at window offset width value state) refl h
+whole_over_image (MemRead addr len) budget state before after new output reply h = h
+whole_over_image (MemWrite addr bytes) budget state before after new output reply h = h
+whole_over_image (Input bytes) budget state before after new output reply h =
+    input_whole state bytes budget before after new output reply h
+whole_over_image (Resize cols rows) budget state before after new output reply h = h
+whole_over_image (Restore bytes) budget state before after new output reply h = h
+whole_over_image (Complete verdict) budget state before after new output reply h = h
+
+-- ---- whoever has the guest's disk
+
+-- the image has no part in a service of the console
+console_image : {A : Type 0} (pause : Pause) (stage : Stage) (budget : Budget) (old : SlotState)
+    (before after : Health) (new : SlotState) (output : List ℕ) (reply : Reply A) (which : Service)
+    → pause.service ≡ which → which ≢ Block
+    → EndsBy pause stage budget old before after new output reply → after ≡ before
+console_image pause stage budget old before after new output reply Block is other h = absurd (other refl)
+console_image pause stage budget old before after new output reply Receive is other (inl (done, h)) =
+    let piece : IsReceivePiece stage budget progress.Done old before after new output = rw is at h in
+    piece.image
+console_image pause stage budget old before after new output reply Transmit is other (inl (done, h)) =
+    let piece : IsTransmitPiece stage budget progress.Done old before after new output = rw is at h in
+    piece.image
+console_image pause stage budget old before after new output reply which is other (inr (lacks, (puts, h))) =
+    h.image
+
+-- what the disk has no part in comes to what it does over an image
+by_passing : {A : Type 0} (disk : HostDisk) (state : SlotState) (what : EventKind A) (before after : Health)
+    (outcome : Outcome A) → has_part (Some disk) what state ≡ false → after ≡ before
+    → MayGiveOverImage state what before after outcome → MayGiveBy (Some disk) state what before after outcome
+by_passing {A} disk state what before after outcome free image h = record {
+  gives = passes (λ (o : Outcome A). MayGiveOverImage state what before before o) disk state what outcome free
+      (subst (λ (x : Health). MayGiveOverImage state what before x outcome) image h);
+  image = image;
+}
+
+hosted_write : {A : Type 0} (disk : HostDisk) (state : SlotState) (window : DeviceKind)
+    (offset width value : ℕ) (budget : Budget) (before after : Health) (new : SlotState) (output : List ℕ)
+    (reply : Reply A) (task : Task) → task_at window offset width value state ≡ task
+    → has_part {A = A} (Some disk) (Write window offset width value) state ≡ false
+    → TurnsTo (λ c. MayGiveBy (Some disk) state (Write window offset width value) before after c)
+    (asked_by task) (Write window offset width value) budget state before after new output (Answered reply)
+    → MayGiveBy (Some disk) state (Write window offset width value) before after (came new reply output)
+hosted_write disk state window offset width value budget before after new output reply Nothing is free h = h
+hosted_write {A} disk state window offset width value budget before after new output reply (Serve Block) is
+    free h =
+    let rings : notifies_block {A = A} (Write window offset width value) state ≡ true =
+    ap is_block_task is in
+    absurd (ringing_part {A = A} disk (Write window offset width value) state rings free)
+hosted_write disk state window offset width value budget before after new output reply (Serve Receive) is
+    free h =
+    by_passing disk state (Write window offset width value) before after (came new reply output) free
+    (console_image (record { service = Receive; taken = None }) First budget
+    (with_write window offset width value state) before after new output reply Receive refl (λ e. cc) h)
+    (write_whole state window offset width value budget before after new output reply (Serve Receive) is h)
+hosted_write disk state window offset width value budget before after new output reply (Serve Transmit) is
+    free h =
+    by_passing disk state (Write window offset width value) before after (came new reply output) free
+    (console_image (record { service = Transmit; taken = None }) First budget
+    (with_write window offset width value state) before after new output reply Transmit refl (λ e. cc) h)
+    (write_whole state window offset width value budget before after new output reply (Serve Transmit) is h)
+hosted_write disk state window offset width value budget before after new output reply (PutOut byte) is free
+    h = h
+
+hosted_whole : {A : Type 0} (disk : HostDisk) (what : EventKind A) (budget : Budget) (state : SlotState)
+    (before after : Health) (new : SlotState) (output : List ℕ) (reply : Reply A)
+    → has_part (Some disk) what state ≡ false
+    → TurnsTo (λ c. MayGiveBy (Some disk) state what before after c) (asked_over_image what state) what budget
+    state before after new output (Answered reply)
+    → MayGiveBy (Some disk) state what before after (came new reply output)
+hosted_whole disk (Read window offset width) budget state before after new output reply free h = h
+hosted_whole disk (Write window offset width value) budget state before after new output reply free h =
+    hosted_write disk state window offset width value budget before after new output reply
+    (task_at window offset width value state) refl free h
+hosted_whole disk (MemRead addr len) budget state before after new output reply free h = h
+hosted_whole disk (MemWrite addr bytes) budget state before after new output reply free h = h
+hosted_whole disk (Input bytes) budget state before after new output reply free h =
+    by_passing disk state (Input bytes) before after (came new reply output) free
+    (console_image (record { service = Receive; taken = Some (fitting state.pending bytes) }) First budget
+    (with_input bytes state) before after new output reply Receive refl (λ e. cc) h)
+    (input_whole state bytes budget before after new output reply h)
+hosted_whole disk (Resize cols rows) budget state before after new output reply free h = h
+hosted_whole disk (Restore bytes) budget state before after new output reply free h = h
+hosted_whole disk (Complete verdict) budget state before after new output reply free h = h
+
+whole_by : {A : Type 0} (host : Option HostDisk) (part : Bool) (what : EventKind A) (budget : Budget)
+    (state : SlotState) (before after : Health) (new : SlotState) (output : List ℕ) (reply : Reply A)
+    → has_part host what state ≡ part
+    → TurnsTo (λ c. MayGiveBy host state what before after c)
+    (if part then None else asked_over_image what state) what budget state before after new output
+    (Answered reply)
+    → MayGiveBy host state what before after (came new reply output)
+whole_by host true what budget state before after new output reply is h = h
+whole_by None false what budget state before after new output reply is h =
+    whole_over_image what budget state before after new output reply h
+whole_by (Some disk) false what budget state before after new output reply is h =
+    hosted_whole disk what budget state before after new output reply is h
+
 pub whole : {A : Type 0} (what : EventKind A) (budget : Budget) (state : SlotState) (before after : Health)
     (new : SlotState) (output : List ℕ) (reply : Reply A)
     → Begins what budget state before after new output (Answered reply)
     → MayGive state what before after (came new reply output)
-whole (Read window offset width) budget state before after new output reply h = h
-whole (Write window offset width value) budget state before after new output reply h =
-    write_whole state window offset width value budget before after new output reply
-    (task_at window offset width value state) refl h
-whole (MemRead addr len) budget state before after new output reply h = h
-whole (MemWrite addr bytes) budget state before after new output reply h = h
-whole (Input bytes) budget state before after new output reply h =
-    input_whole state bytes budget before after new output reply h
-whole (Resize cols rows) budget state before after new output reply h = h
-whole (Restore bytes) budget state before after new output reply h = h
-whole (Complete verdict) budget state before after new output reply h = h
+whole what budget state before after new output reply h =
+    whole_by state.host (has_part state.host what state) what budget state before after new output reply refl h

@@ -1,5 +1,5 @@
 -- Which boards there may be, and why others are refused.
-use Rattle.std.specs.Prelude.{◌≡◌, ℕ, Bool, true, false, ◌+◌, ◌-◌, ◌/◌, ◌^◌, ◌<◌, ◌≤◌, List, [], length, take, All, Any, Some}
+use Rattle.std.specs.Prelude.{◌≡◌, ℕ, ⊤, Bool, true, false, ◌+◌, ◌-◌, ◌*◌, ◌/◌, ◌^◌, ◌<◌, ◌≤◌, List, [], length, take, All, Any, Some}
 use Rattle.std.specs.List.{slice_get}
 use Rattle.guest_memory.specs.Faults.{AreGood as AreGoodRegions, IsRefusedAt}
 use Rattle.guest_memory.specs.declared.fault.MemoryFault.TheVariants as memory
@@ -11,15 +11,48 @@ use Rattle.board.specs.declared.fault.BoardFault.{BoardFault}
 use Rattle.board.specs.declared.fault.BoardFault.TheVariants.{NoSlots, TooManySlots, Slot, Cache, NoMemory}
 use Rattle.board.specs.declared.fault.SlotFault.{SlotFault}
 use Rattle.board.specs.declared.fault.SlotFault.TheVariants.{Memory, ExtentOutside, ExtentsOverlap}
+use Rattle.board.specs.declared.spec.Backing.{Backing}
+use Rattle.board.specs.declared.spec.Backing.TheVariants.{Image, Host}
 use Rattle.board.specs.declared.spec.SlotSpec.{SlotSpec}
-use Rattle.block_device.specs.Extent.{IsWithin}
+use Rattle.block_device.specs.declared.extent.Extent.{Extent}
+use Rattle.block_device.specs.Extent.{IsWithin, sector_len}
 use Rattle.board.specs.Extent.{IsApart, Overlaps}
+use Rattle.board.specs.Slot.{extent_by}
+
+-- the most sectors that a disk may have whose bytes are counted in 64 bits
+abbrev pub most_sectors : ℕ
+most_sectors = (2 ^ 64 - 1) / 512
+
+-- Where a disk must lie: an extent in an image of that many sectors; one that the host serves may have any
+-- number of sectors whose bytes are counted so.
+abbrev pub room_by : Backing → ℕ → ℕ
+room_by Image sectors = sectors
+room_by Host sectors = most_sectors
+
+abbrev pub place_by : Backing → Extent → Extent
+place_by Image extent = extent
+place_by Host extent = record { start = 0; count = extent.count }
+
+abbrev pub Fits : ℕ → SlotSpec → Type 0
+Fits sectors spec = IsWithin (room_by spec.backing sectors) (place_by spec.backing spec.extent)
+
+-- the bytes of a disk that the host serves are counted in 64 bits
+abbrev pub HasRoomBy : Backing → Extent → Type 0
+HasRoomBy Image extent = ⊤
+HasRoomBy Host extent = sector_len * extent.count < 2 ^ 64
+
+abbrev pub HasRoom : SlotSpec → Type 0
+HasRoom spec = HasRoomBy spec.backing spec.extent
+
+-- what a slot has of the image
+abbrev pub share : SlotSpec → Extent
+share spec = extent_by spec.backing spec.extent
 
 -- a slot may be had on an image of that many sectors, beside the slots before it
 pub record IsGoodSlot (sectors : ℕ) (earlier : List SlotSpec) (spec : SlotSpec) : Type 0 where
   pub memory : AreGoodRegions spec.regions
-  pub within : IsWithin sectors spec.extent
-  pub apart : All (λ other. IsApart other.extent spec.extent) earlier
+  pub within : Fits sectors spec
+  pub apart : All (λ other. IsApart (share other) (share spec)) earlier
 
 -- the slots before place n are good, each beside those before it
 abbrev pub GoodBelow : ℕ → List SlotSpec → ℕ → Type 0
@@ -33,16 +66,18 @@ pub record AreGood (sectors : ℕ) (slots : List SlotSpec) : Type 0 where
   pub few : length slots ≤ 64
   pub each : GoodBelow sectors slots (length slots)
 
--- an extent that passes the image's end, of a slot whose memory is good
+-- an extent that passes the image's end, or a disk that is too large, of a slot whose memory is good
 pub record HasExtentOutside (sectors : ℕ) (spec : SlotSpec) : Type 0 where
   pub memory : AreGoodRegions spec.regions
-  pub outside : sectors < spec.extent.start + spec.extent.count
+  pub outside :
+      room_by spec.backing sectors
+      < (place_by spec.backing spec.extent).start + (place_by spec.backing spec.extent).count
 
 -- an extent inside the image that has a sector of an earlier slot's, of a slot whose memory is good
 pub record HasSharedSector (sectors : ℕ) (earlier : List SlotSpec) (spec : SlotSpec) : Type 0 where
   pub memory : AreGoodRegions spec.regions
-  pub within : IsWithin sectors spec.extent
-  pub shared : Any (λ other. Overlaps other.extent spec.extent) earlier
+  pub within : Fits sectors spec
+  pub shared : Any (λ other. Overlaps (share other) (share spec)) earlier
 
 -- a slot's fault, of which the first counts: its memory's, then its extent's end, then a sector that it
 -- shares
@@ -85,44 +120,3 @@ is_want_of_memory NoMemory = true
 is_want_of_memory (Slot number (Memory region memory.NoMemory)) = true
 is_want_of_memory (Cache cache.NoMemory) = true
 is_want_of_memory _ = false
-
--- ---- slots whose disks the host serves
-
--- the slot with a disk of its own, which has as many sectors as the extent counts
-abbrev pub with_own_disk : SlotSpec → SlotSpec
-with_own_disk spec = record spec { extent = record { start = 0; count = spec.extent.count } }
-
--- the most sectors that a disk may have whose bytes are counted in 64 bits
-abbrev pub most_sectors : ℕ
-most_sectors = (2 ^ 64 - 1) / 512
-
--- a slot may be had: its memory is good, and its disk isn't too large
-abbrev pub IsGoodHosted : SlotSpec → Type 0
-IsGoodHosted spec = IsGoodSlot most_sectors [] (with_own_disk spec)
-
-abbrev pub GoodHostedBelow : List SlotSpec → ℕ → Type 0
-GoodHostedBelow slots n = (i : ℕ) (spec : SlotSpec) → i < n → slice_get slots i ≡ Some spec
-    → IsGoodHosted spec
-
--- all the slots can be had together
-pub record AreGoodHosted (slots : List SlotSpec) : Type 0 where
-  pub some : 1 ≤ length slots
-  pub few : length slots ≤ 64
-  pub each : GoodHostedBelow slots (length slots)
-
--- the slot of this number is the first that isn't good, and has this fault
-pub record HasHostedFaultAt (slots : List SlotSpec) (number : ℕ) (fault : SlotFault) : Type 0 where
-  pub few : length slots ≤ 64
-  pub spec : SlotSpec
-  pub there : slice_get slots number ≡ Some spec
-  pub before : GoodHostedBelow slots number
-  pub fault_is : IsFaultOf most_sectors [] (with_own_disk spec) fault
-
--- Why such a board is refused, in the same order as one over an image: there is no image that an extent could
--- pass the end of, but a disk may be too large; extents share nothing, and there is no cache.
-abbrev pub RefusesHosted : List SlotSpec → BoardFault → Type 0
-RefusesHosted slots NoSlots = slots ≡ []
-RefusesHosted slots TooManySlots = 64 < length slots
-RefusesHosted slots (Slot number fault) = HasHostedFaultAt slots number fault
-RefusesHosted slots (Cache fault) = ⊥
-RefusesHosted slots NoMemory = AreGoodHosted slots

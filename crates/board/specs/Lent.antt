@@ -1,13 +1,11 @@
 -- Boards whose memories' bytes a host lends: one run of bytes for each region of all slots, in the slots'
 -- order and in each slot in the regions' order.
-use Rattle.std.specs.Prelude.{◌≡◌, ℕ, ⊤, List, [], ◌∷◌, length, drop, map, None}
+use Rattle.std.specs.Prelude.{◌≡◌, ℕ, ⊤, List, [], ◌∷◌, length, drop, map}
 use Rattle.std.specs.List.{flat_map}
 use Rattle.guest_memory.specs.declared.spec.RegionSpec.{RegionSpec}
 use Rattle.guest_memory.specs.Memory.{Memory}
 use Rattle.guest_memory.specs.Regions.{Region, memory_of}
 use Rattle.board.specs.declared.spec.SlotSpec.{SlotSpec}
-use Rattle.board.specs.Fault.{with_own_disk}
-use Rattle.board.specs.Hosting.{HostedState, hosted_slot}
 use Rattle.board.specs.Slot.{BoardSlot, opened}
 
 -- the regions of all slots, in their order
@@ -41,8 +39,3 @@ made_over made (spec ∷ slots) bytes =
 -- a slot of a new board over this memory, which else is one over zeros
 abbrev pub opened_over : SlotSpec → Memory → BoardSlot
 opened_over spec memory = record (opened spec) { memory = memory }
-
--- the same of a slot whose disk the host serves
-abbrev pub hosted_over : SlotSpec → Memory → HostedState
-hosted_over spec memory =
-    record { slot = hosted_slot (opened_over (with_own_disk spec) memory); flight = None }

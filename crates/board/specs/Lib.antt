@@ -1,8 +1,8 @@
 pub use Rattle.guest_memory.specs.Memory
 pub use Rattle.mmio_window.specs.Window
 pub use Rattle.sector_cache.specs.Disk
+pub mod Backing
 pub mod Hosting
-pub mod HostedLine
 pub mod Honest
 pub mod Durable
 pub mod Image
@@ -13,6 +13,7 @@ pub mod Replies
 pub mod Saved
 pub mod Restoring
 pub mod Task
+pub mod OverImage
 pub mod Machine
 pub mod World
 pub mod Quiet

@@ -6,10 +6,12 @@ use Rattle.board.specs.declared.event.EventKind.{EventKind}
 use Rattle.board.specs.declared.reply.Reply.TheVariants.{NoMemory}
 use Rattle.board.specs.declared.reply.Record.{Record}
 use Rattle.board.specs.declared.reply.RunStop.{RunStop}
-use Rattle.board.specs.Machine.{RunsOnItsOwn}
+use Rattle.board.specs.Image.{Health}
+use Rattle.board.specs.Machine.{RunsOnItsOwn, record_of}
+use Rattle.board.specs.Outcome.{Outcome}
 use Rattle.board.specs.Slot.{AreInterruptWords, SlotState, BoardSlot}
-use Rattle.board.specs.Steps.{HoldsAlong, LeadTo}
-use Rattle.board.specs.World.{World, Step, bad_slot}
+use Rattle.board.specs.Steps.{HoldsAlong, IsAnsweredBy, LeadTo}
+use Rattle.board.specs.World.{World, MayGive, Step, bad_slot}
 
 -- One event that was handled: the event, its record, and what can be seen of the board after it.
 pub record Move (A : Type 0) : Type 0 where
@@ -59,6 +61,29 @@ pub record RunsAlone {A : Type 0} (g : ℕ) (state : SlotState) (moves : List (M
 abbrev pub IsAlone : {A : Type 0} → ℕ → World → List (Move A) → World → Type 0
 IsAlone g old moves new =
     (state : SlotState) → slice_get old.slots g ≡ Some state → RunsAlone g state moves new
+
+-- ---- whatever the guest meets
+
+-- Guest g does this in this state: a record that it may be told, and the state after it, whatever it meets of
+-- refusals.
+pub record MayBeTold {A : Type 0} (g : ℕ) (state : SlotState) (what : EventKind A) (written : Record A)
+    (after : SlotState) : Type 0 where
+  pub before : Health
+  pub behind : Health
+  pub outcome : Outcome A
+  pub given : MayGive state what before behind outcome
+  pub recorded : written ≡ record_of g outcome
+  pub left : after ≡ outcome.state
+
+-- Guest g is told what it may be told alone, and left as it may be.
+pub record RunsAsItMay {A : Type 0} (g : ℕ) (state : SlotState) (moves : List (Move A))
+    (new : World) : Type 0 where
+  pub last : SlotState
+  pub own :
+      IsAnsweredBy (MayBeTold g) state (own_events g (events_of moves)) (own_records g (records_of moves)) last
+  pub state_after : slice_get new.slots g ≡ Some last
+
+-- ---- two lines
 
 -- guest g has equal records in two lines, and afterwards equal states
 pub record SeesTheSame {A : Type 0} (g : ℕ) (moves : List (Move A)) (new : World)

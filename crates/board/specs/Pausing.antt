@@ -1,5 +1,5 @@
 -- An event whose service may pause: what each piece of the service comes to, for one slot.
-use Rattle.std.specs.Prelude.{◌≡◌, ◌≢◌, ◌⊎◌, ⊤, ℕ, ◌<◌, ◌||◌, Bool, false, nat_lt, Option, Some, None, List, [], ◌++◌, slice_set}
+use Rattle.std.specs.Prelude.{◌≡◌, ◌≢◌, ◌⊎◌, ⊤, ℕ, ◌<◌, ◌||◌, Bool, true, false, if◌then◌else◌, nat_lt, Option, Some, None, List, [], ◌++◌, slice_set}
 use Rattle.std.specs.List.{slice_get}
 use Rattle.chain.specs.declared.budget.Budget.{Budget}
 use Rattle.chain.specs.declared.budget.Progress.{Progress}
@@ -25,10 +25,14 @@ use Rattle.board.specs.declared.pause.Turn.TheVariants.{Answered, More}
 use Rattle.board.specs.declared.reply.Reply.{Reply}
 use Rattle.board.specs.declared.reply.Reply.TheVariants.{Done, Took, NoMemory}
 use Rattle.board.specs.Image.{Health, Tells, bytes_of, health_of, sectors_of, disk_with}
-use Rattle.board.specs.Machine.{block_irq, console_irq, task_at, with_write, with_input}
+use Rattle.board.specs.Backing.{HostDisk}
+use Rattle.board.specs.Hosting.{has_part}
+use Rattle.board.specs.Machine.{block_irq, console_irq, task_at}
+pub use Rattle.board.specs.Machine.{readied}
 use Rattle.board.specs.Slot.{BoardSlot, SlotState, state_of}
 use Rattle.board.specs.Task.{Task, Serve, device_of}
-use Rattle.board.specs.World.{World, MayGive, MayLackMemory, lacks_memory, noted}
+use Rattle.board.specs.Outcome.{Outcome}
+use Rattle.board.specs.World.{World, MayGive, MayGiveOverImage, MayLackMemory, lacks_memory, noted}
 
 -- ---- one piece
 
@@ -144,37 +148,64 @@ asked_by task = None
 abbrev pub input_service : List ℕ → List ℕ → Pause
 input_service pending bytes = record { service = Receive; taken = Some (fitting pending bytes) }
 
--- the service that an event asks for
+-- the service that an event asks for, of a guest whose disk is of the image
+abbrev pub asked_over_image : {A : Type 0} → EventKind A → SlotState → Option Pause
+asked_over_image (Write window offset width value) state = asked_by (task_at window offset width value state)
+asked_over_image (Input bytes) state = Some (input_service state.pending bytes)
+asked_over_image what state = None
+
+-- and of any guest: no service in which the host has a part pauses
 abbrev pub asked : {A : Type 0} → EventKind A → SlotState → Option Pause
-asked (Write window offset width value) state = asked_by (task_at window offset width value state)
-asked (Input bytes) state = Some (input_service state.pending bytes)
-asked what state = None
+asked what state = if has_part state.host what state then None else asked_over_image what state
 
--- the slot as that service finds it
-abbrev pub readied : {A : Type 0} → EventKind A → SlotState → SlotState
-readied (Write window offset width value) state = with_write window offset width value state
-readied (Input bytes) state = with_input bytes state
-readied what state = state
-
--- What an event comes to, by the service that it asks for. One that asks for none is answered at once.
-abbrev pub TurnsTo : {A : Type 0} → Option Pause → EventKind A → Budget → SlotState → Health → Health
-    → SlotState → List ℕ → Turn A → Type 0
-TurnsTo (Some pause) what budget old before after new output turn =
+-- What an event comes to, by the service that it asks for. One that asks for none is answered at once, as it
+-- may be.
+abbrev pub TurnsTo : {A : Type 0} → (Outcome A → Type 0) → Option Pause → EventKind A → Budget → SlotState
+    → Health → Health → SlotState → List ℕ → Turn A → Type 0
+TurnsTo May (Some pause) what budget old before after new output turn =
     ComesTo pause First budget (readied what old) before after new output turn
-TurnsTo None what budget old before after new output (Answered reply) =
-    MayGive old what before after (record { state = new; reply = reply; output = output })
-TurnsTo None what budget old before after new output (More pause) = ⊥
+TurnsTo May None what budget old before after new output (Answered reply) =
+    May (record { state = new; reply = reply; output = output })
+TurnsTo May None what budget old before after new output (More pause) = ⊥
 
+-- of a guest whose disk is of the image
+abbrev pub BeginsOverImage : {A : Type 0} → EventKind A → Budget → SlotState → Health → Health → SlotState
+    → List ℕ → Turn A → Type 0
+BeginsOverImage what budget old before after new output turn =
+    TurnsTo (MayGiveOverImage old what before after) (asked_over_image what old) what budget old before after
+    new output turn
+
+-- and of any guest
 abbrev pub Begins : {A : Type 0} → EventKind A → Budget → SlotState → Health → Health → SlotState
     → List ℕ → Turn A → Type 0
 Begins what budget old before after new output turn =
-    TurnsTo (asked what old) what budget old before after new output turn
+    TurnsTo (MayGive old what before after) (asked what old) what budget old before after new output turn
+
+-- whether the host has the disk that this service serves: such a service never pauses
+abbrev pub is_hosts : Option HostDisk → Service → Bool
+is_hosts (Some disk) Block = true
+is_hosts host service = false
+
+-- there is nothing to go on with
+pub record HasNothingLeft {A : Type 0} (pause : Pause) (old : SlotState) (before after : Health)
+    (new : SlotState) (output : List ℕ) (turn : Turn A) : Type 0 where
+  pub answered : turn ≡ Answered (reply_of pause)
+  pub same : new ≡ old
+  pub image : after ≡ before
+  pub silent : output ≡ []
 
 -- What a service that paused comes to as it goes on.
+abbrev pub GoesOnBy : {A : Type 0} → Bool → Pause → Budget → SlotState → Health → Health → SlotState
+    → List ℕ → Turn A → Type 0
+GoesOnBy true pause budget old before after new output turn =
+    HasNothingLeft pause old before after new output turn
+GoesOnBy false pause budget old before after new output turn =
+    ComesTo pause Next budget old before after new output turn
+
 abbrev pub GoesOn : {A : Type 0} → Pause → Budget → SlotState → Health → Health → SlotState
     → List ℕ → Turn A → Type 0
 GoesOn pause budget old before after new output turn =
-    ComesTo pause Next budget old before after new output turn
+    GoesOnBy (is_hosts old.host pause.service) pause budget old before after new output turn
 
 -- What a turn of a slot comes to, by what it is to do: an event begins, or a service that paused goes on.
 abbrev pub Does : {A : Type 0} → Work A → Budget → SlotState → Health → Health → SlotState

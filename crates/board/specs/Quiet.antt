@@ -5,10 +5,10 @@ use Rattle.board.specs.declared.reply.Reply.{Reply}
 use Rattle.board.specs.Image.{Health}
 use Rattle.board.specs.Outcome.{replies}
 use Rattle.board.specs.Slot.{BoardSlot, state_of}
-use Rattle.board.specs.World.{MayGive}
+use Rattle.board.specs.World.{MayGiveOverImage}
 
--- What a slot gives for it may be given, whatever the image has.
+-- What a slot gives for it may be given over an image, whatever that has.
 abbrev pub GivesQuietly : {A : Type 0} → BoardSlot → EventKind A → BoardSlot → Reply A → Type 0
 GivesQuietly old what new reply =
     (image : List ℕ) (health : Health) →
-    MayGive (state_of image old) what health health (replies (state_of image new) reply)
+    MayGiveOverImage (state_of image old) what health health (replies (state_of image new) reply)

@@ -1,22 +1,30 @@
--- Which replies a slot over an image may give to each event.
+-- Which replies a slot may give to each event.
 use Rattle.std.specs.Prelude.{⊤}
 use Rattle.board.specs.declared.event.EventKind.{EventKind}
 use Rattle.board.specs.declared.event.EventKind.TheVariants.{Read, Write, MemRead, MemWrite, Input, Resize, Restore, Complete}
 use Rattle.board.specs.declared.reply.Reply.{Reply}
-use Rattle.board.specs.declared.reply.Reply.TheVariants.{Value, Done, Bytes, Took, BadRange, BadState, NoMemory, Idle}
+use Rattle.board.specs.declared.reply.Reply.TheVariants.{Value, Done, Bytes, Took, BadRange, BadState, NoMemory, Busy, Idle}
 
+-- where its disk is of the image
+abbrev pub MayReplyOverImage : {A : Type 0} → EventKind A → Reply A → Type 0
+MayReplyOverImage (Read window offset width) (Value value) = ⊤
+MayReplyOverImage (Write window offset width value) Done = ⊤
+MayReplyOverImage (Write window offset width value) NoMemory = ⊤
+MayReplyOverImage (MemRead addr len) (Bytes bytes) = ⊤
+MayReplyOverImage (MemRead addr len) BadRange = ⊤
+MayReplyOverImage (MemRead addr len) NoMemory = ⊤
+MayReplyOverImage (MemWrite addr bytes) Done = ⊤
+MayReplyOverImage (MemWrite addr bytes) BadRange = ⊤
+MayReplyOverImage (Input bytes) (Took taken) = ⊤
+MayReplyOverImage (Resize cols rows) Done = ⊤
+MayReplyOverImage (Restore bytes) Done = ⊤
+MayReplyOverImage (Restore bytes) BadState = ⊤
+MayReplyOverImage (Complete verdict) Idle = ⊤
+MayReplyOverImage what answer = ⊥
+
+-- and whoever has it: where the host does, writes and restores may wait, and completions are done
 abbrev pub MayReply : {A : Type 0} → EventKind A → Reply A → Type 0
-MayReply (Read window offset width) (Value value) = ⊤
-MayReply (Write window offset width value) Done = ⊤
-MayReply (Write window offset width value) NoMemory = ⊤
-MayReply (MemRead addr len) (Bytes bytes) = ⊤
-MayReply (MemRead addr len) BadRange = ⊤
-MayReply (MemRead addr len) NoMemory = ⊤
-MayReply (MemWrite addr bytes) Done = ⊤
-MayReply (MemWrite addr bytes) BadRange = ⊤
-MayReply (Input bytes) (Took taken) = ⊤
-MayReply (Resize cols rows) Done = ⊤
-MayReply (Restore bytes) Done = ⊤
-MayReply (Restore bytes) BadState = ⊤
-MayReply (Complete verdict) Idle = ⊤
-MayReply what answer = ⊥
+MayReply (Write window offset width value) Busy = ⊤
+MayReply (Restore bytes) Busy = ⊤
+MayReply (Complete verdict) Done = ⊤
+MayReply what answer = MayReplyOverImage what answer

@@ -15,6 +15,7 @@ abbrev pub slot_in : SlotState → BoardSlot
 slot_in state = record {
   memory = state.memory;
   extent = record { start = 0; count = sectors_of state.extent };
+  host = state.host;
   read_only = state.read_only;
   identity = state.identity;
   block = state.block;
@@ -47,19 +48,19 @@ pub record Restores {A : Type 0} (state : SlotState) (bytes : List ℕ) (before 
   pub alike : IsRestoring state bytes outcome
   pub image : after ≡ before
 
--- what the guest's host is answered
-abbrev pub restore_reply : {A : Type 0} → Result (Unit {0}) RestoreFault → Reply A
-restore_reply (Ok done) = Done
-restore_reply (Err why) = BadState
+-- what the event is answered of a slot that is there
+abbrev pub taken_up_reply : {A : Type 0} → Result (Unit {0}) RestoreFault → Reply A
+taken_up_reply (Ok done) = Done
+taken_up_reply (Err why) = BadState
 
 -- why a slot that is there isn't restored
 abbrev pub refusal_of : Result (Unit {0}) RestoreFault → Result (Unit {0}) RestoreRefusal
 refusal_of (Ok done) = Ok done
 refusal_of (Err why) = Err (refusal.Fault why)
 
--- and what a restore by a call is answered of a board whose disks the host serves
-abbrev pub hosted_restore_reply : {A : Type 0} → Result (Unit {0}) RestoreRefusal → Reply A
-hosted_restore_reply (Ok done) = Done
-hosted_restore_reply (Err refusal.BadSlot) = BadSlot
-hosted_restore_reply (Err refusal.Busy) = Busy
-hosted_restore_reply (Err (refusal.Fault why)) = BadState
+-- what a restore by a call is answered
+abbrev pub restore_reply : {A : Type 0} → Result (Unit {0}) RestoreRefusal → Reply A
+restore_reply (Ok done) = Done
+restore_reply (Err refusal.BadSlot) = BadSlot
+restore_reply (Err refusal.Busy) = Busy
+restore_reply (Err (refusal.Fault why)) = BadState

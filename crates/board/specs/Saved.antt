@@ -11,7 +11,7 @@ use Rattle.snapshot.specs.Faults.{IsFirstFault}
 use Rattle.snapshot.specs.Spelling.{IsSnapshot, snapshot}
 use Rattle.board.specs.declared.saved.RestoreFault.{RestoreFault}
 use Rattle.board.specs.declared.saved.RestoreFault.TheVariants.{Snapshot, OtherSlot, BadBlock, BadConsole}
-use Rattle.board.specs.Slot.{BoardSlot, block_features, console_features}
+use Rattle.board.specs.Slot.{BoardSlot, block_features, console_features, sectors_in}
 
 -- ---- what is saved
 
@@ -20,7 +20,7 @@ abbrev pub saved_slot : BoardSlot → SavedSlot
 saved_slot slot = record {
   base = slot.memory.base;
   len = length slot.memory.bytes;
-  sectors = slot.extent.count;
+  sectors = sectors_in slot;
   read_only = slot.read_only;
   identity = slot.identity;
   block = saved_window slot.block;
@@ -73,7 +73,7 @@ pub record IsSavedTo (slot : BoardSlot) (old new : List ℕ) (len : ℕ) : Type 
 pub record Suits (saved : SavedSlot) (slot : BoardSlot) : Type 0 where
   pub base : saved.base ≡ slot.memory.base
   pub len : saved.len ≡ length slot.memory.bytes
-  pub sectors : saved.sectors ≡ slot.extent.count
+  pub sectors : saved.sectors ≡ sectors_in slot
   pub read_only : saved.read_only ≡ slot.read_only
   pub identity : saved.identity ≡ slot.identity
   pub block : saved.block.negotiation.offered ≡ slot.block.negotiation.offered
@@ -130,18 +130,21 @@ IsCauseOf slot bytes why = IsPrevented slot bytes why
 -- Both slots have one description: memories of one range, disks of one size, mode and identity.
 pub record IsLike (slot other : BoardSlot) : Type 0 where
   pub memory : SameRange slot.memory other.memory
-  pub sectors : other.extent.count ≡ slot.extent.count
+  pub sectors : sectors_in other ≡ sectors_in slot
   pub read_only : other.read_only ≡ slot.read_only
   pub identity : other.identity ≡ slot.identity
 
--- the slot is as that one was, but for the memory's bytes, where its disk lies, and whether an event of it
--- has met a refusal: those are its own
+-- the slot is as that one was, but for the memory's bytes, who has its disk and where it lies, and whether an
+-- event of it has met a refusal: those are its own
 abbrev pub IsAs : BoardSlot → BoardSlot → BoardSlot → Type 0
-IsAs slot old new = new ≡ record slot { memory = old.memory; extent = old.extent; disturbed = old.disturbed }
+IsAs slot old new =
+    new
+    ≡ record slot { memory = old.memory; extent = old.extent; host = old.host; disturbed = old.disturbed }
 
 -- The host has put back the bytes of a slot's memory and of its disk: this slot has them, in an image of
--- these bytes.
+-- these bytes, or on a disk that the host serves as it served that one.
 pub record HasBytesOf (slot : BoardSlot) (bytes : List ℕ) (old : BoardSlot) (other : List ℕ) : Type 0 where
   pub memory : old.memory ≡ slot.memory
+  pub host : old.host ≡ slot.host
   pub disk : extent_of other old.extent.start old.extent.count
       ≡ extent_of bytes slot.extent.start slot.extent.count

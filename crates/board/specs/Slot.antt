@@ -1,5 +1,5 @@
 -- A slot: what its guest can see, and what the board keeps of it.
-use Rattle.std.specs.Prelude.{◌≡◌, ℕ, ◌+◌, Bool, false, if◌then◌else◌, nat_lt, List, [], length, ◌≤◌}
+use Rattle.std.specs.Prelude.{◌≡◌, ℕ, ◌+◌, Bool, false, if◌then◌else◌, nat_lt, List, [], length, ◌≤◌, Option, Some, None}
 use Rattle.guest_memory.specs.Faults.{zeroed_regions}
 use Rattle.guest_memory.specs.Memory.{Memory, SameRange}
 use Rattle.negotiation.specs.Features.{block_seg_max, block_ro, block_blk_size, block_flush, block_write_zeroes, console_size, console_emerg_write, indirect_desc, event_idx, version_1, ring_packed, notification_data}
@@ -11,14 +11,20 @@ use Rattle.sector_cache.specs.Disk.{Disk}
 use Rattle.sector_cache.specs.Sector.{extent_of}
 use Rattle.block_device.specs.declared.extent.Extent.{Extent}
 use Rattle.block_device.specs.Extent.{StaysInExtent}
+use Rattle.board.specs.declared.spec.Backing.{Backing}
+use Rattle.board.specs.declared.spec.Backing.TheVariants.{Image, Host}
 use Rattle.board.specs.declared.spec.SlotSpec.{SlotSpec}
+use Rattle.board.specs.Backing.{HostDisk, sectors_by}
+use Rattle.board.specs.Image.{sectors_of}
 
--- All that one guest can see: its memory, the bytes of its extent of the image, whether its block
--- device refuses writes and what its identity is, the windows of its two devices, and of its console what was
--- typed and is still pending, and the size.
+-- All that one guest can see: its memory, the bytes of its extent of the image, the disk that the host
+-- serves it in place of one of the image, whether its block device refuses writes and what its identity is,
+-- the windows of its two devices, and of its console what was typed and is still pending, and the size. Where
+-- the host serves its disk the extent is empty: the bytes are the host's.
 pub record SlotState : Type 0 where
   pub memory : Memory
   pub extent : List ℕ
+  pub host : Option HostDisk
   pub read_only : Bool
   pub identity : List ℕ
   pub block : WindowState
@@ -32,6 +38,7 @@ pub record SlotState : Type 0 where
 pub record BoardSlot : Type 0 where
   pub memory : Memory
   pub extent : Extent
+  pub host : Option HostDisk
   pub read_only : Bool
   pub identity : List ℕ
   pub block : WindowState
@@ -46,6 +53,7 @@ abbrev pub state_of : List ℕ → BoardSlot → SlotState
 state_of bytes slot = record {
   memory = slot.memory;
   extent = extent_of bytes slot.extent.start slot.extent.count;
+  host = slot.host;
   read_only = slot.read_only;
   identity = slot.identity;
   block = slot.block;
@@ -54,6 +62,13 @@ state_of bytes slot = record {
   cols = slot.cols;
   rows = slot.rows;
 }
+
+-- how many sectors a guest's disk has, and a slot's
+abbrev pub disk_sectors : SlotState → ℕ
+disk_sectors state = sectors_by state.host (sectors_of state.extent)
+
+abbrev pub sectors_in : BoardSlot → ℕ
+sectors_in slot = sectors_by slot.host slot.extent.count
 
 -- An event of a slot stays in it: of the image it reaches the slot's extent, which lies where it did.
 pub record StaysInSlot (old new : BoardSlot) (before after : Disk) : Type 0 where
@@ -107,12 +122,23 @@ pub record IsSoundSlot (memory : Memory) (read_only : Bool) (block console : Win
   pub console_sound : IsSound memory console
   pub pending_fits : length pending ≤ 4096
 
+-- The extent of the image that a slot has: none where the host serves its disk.
+abbrev pub extent_by : Backing → Extent → Extent
+extent_by Image extent = extent
+extent_by Host extent = record { start = 0; count = 0 }
+
+-- the disk that the host serves it, which has as many sectors as the extent counts, with nothing in flight
+abbrev pub host_by : Backing → Extent → Option HostDisk
+host_by Image extent = None
+host_by Host extent = Some (record { sectors = extent.count; flight = None })
+
 -- a slot of a new board: its memory is all zeros, its windows are as after a reset, nothing is pending or met
 -- a refusal yet, and the rest is as it was asked for
 abbrev pub opened : SlotSpec → BoardSlot
 opened spec = record {
   memory = zeroed_regions spec.regions;
-  extent = spec.extent;
+  extent = extent_by spec.backing spec.extent;
+  host = host_by spec.backing spec.extent;
   read_only = spec.read_only;
   identity = spec.identity;
   block = fresh_window Block (block_features spec.read_only) 0;

@@ -24,7 +24,7 @@ use Rattle.board.specs.declared.reply.Reply.{Reply}
 use Rattle.board.specs.declared.reply.Reply.TheVariants.{Done, NoMemory}
 use Rattle.board.specs.Machine.{IsNext, task_at, with_write}
 use Rattle.mmio_window.specs.Pieces.{IsRefusedAt, ServesTo}
-use Rattle.board.specs.Pausing.{asked, readied, reply_of}
+use Rattle.board.specs.Pausing.{asked, asked_over_image, readied, reply_of}
 use Rattle.board.specs.Image.{bytes_of}
 use Rattle.board.specs.Slot.{BoardSlot, SlotState, state_of}
 use Rattle.board.specs.Task.{Task, Serve, PutOut}
@@ -162,7 +162,13 @@ TurnWithin limit None what budget old new waiting left (Answered reply) =
     TakesWithin limit old what new waiting left reply
 TurnWithin limit None what budget old new waiting left (More pause) = ⊤
 
--- How an event is decided whose service may pause, and how a service that goes on is.
+-- How an event is decided whose service may pause, of a guest whose disk is of the image and of any, and how a
+-- service that goes on is.
+abbrev pub BeginsWithinOverImage : {A : Type 0} → ℕ → EventKind A → Budget → SlotState → SlotState → List ℕ
+    → List ℕ → Turn A → Type 0
+BeginsWithinOverImage limit what budget old new waiting left turn =
+    TurnWithin limit (asked_over_image what old) what budget old new waiting left turn
+
 abbrev pub BeginsWithin : {A : Type 0} → ℕ → EventKind A → Budget → SlotState → SlotState → List ℕ
     → List ℕ → Turn A → Type 0
 BeginsWithin limit what budget old new waiting left turn =

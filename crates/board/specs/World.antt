@@ -1,5 +1,5 @@
 -- The whole board as it can be seen from outside, and what one event may do to it.
-use Rattle.std.specs.Prelude.{◌≡◌, ◌≢◌, ◌⊎◌, ℕ, ◌<◌, ◌≤◌, ◌||◌, Bool, true, false, nat_lt, if◌then◌else◌, IsTrue, ⊤, Some, List, [], ◌++◌, map, slice_set, IsSomeAnd, MatchOption}
+use Rattle.std.specs.Prelude.{◌≡◌, ◌≢◌, ◌⊎◌, ℕ, ◌<◌, ◌≤◌, ◌||◌, Bool, true, false, nat_lt, if◌then◌else◌, IsTrue, ⊤, Option, Some, None, List, [], ◌++◌, map, slice_set, IsSomeAnd, MatchOption}
 use Rattle.std.specs.List.{slice_get}
 use Rattle.guest_memory.specs.Memory.{Inside, Memory, is_inside}
 use Rattle.chain.specs.Service.{Site, Refused, IsRefusedService}
@@ -18,9 +18,11 @@ use Rattle.board.specs.declared.reply.Reply.{Reply}
 use Rattle.board.specs.declared.reply.Reply.TheVariants.{BadSlot, NoMemory}
 use Rattle.board.specs.declared.reply.Record.{Record}
 use Rattle.board.specs.declared.pause.Service.TheVariants.{Block, Receive, Transmit}
+use Rattle.board.specs.Backing.{HostDisk}
 use Rattle.board.specs.Extent.{outside_of}
+use Rattle.board.specs.Hosting.{GivesOnHost}
 use Rattle.board.specs.Image.{Health, Tells, bytes_of, health_of}
-use Rattle.board.specs.Machine.{task_at, with_write, Gives, record_of}
+use Rattle.board.specs.Machine.{task_at, with_write, GivesOverImage, record_of}
 use Rattle.board.specs.Outcome.{Outcome, replies, IsDetermined}
 use Rattle.board.specs.Slot.{SlotState, BoardSlot, state_of}
 use Rattle.board.specs.Task.{Task, Nothing, Serve, PutOut, device_of, transmits, IsBlockService, IsConsoleService}
@@ -80,7 +82,7 @@ pub record StaysInExtents {I : Type 0} (disk : I → Disk) (old new : BoardState
 -- image failed.
 pub record IsServed {A : Type 0} (state : SlotState) (what : EventKind A) (old new : Health)
     (outcome : Outcome A) : Type 0 where
-  pub alike : Gives state what old new outcome
+  pub alike : GivesOverImage state what old new outcome
   pub answered : outcome.reply ≢ NoMemory
   pub failures : new.failures ≡ old.failures
 
@@ -128,10 +130,20 @@ IsRefused state (Resize cols rows) old new outcome = ⊥
 IsRefused state (Restore bytes) old new outcome = ⊥
 IsRefused state (Complete verdict) old new outcome = ⊥
 
--- what may come of an event of a slot in this state, where the image fared so before and after it
-abbrev pub MayGive : {A : Type 0} → SlotState → EventKind A → Health → Health → Outcome A → Type 0
-MayGive state what old new outcome =
+-- what may come of an event of a slot whose disk is of the image, which fared so before and after it
+abbrev pub MayGiveOverImage : {A : Type 0} → SlotState → EventKind A → Health → Health → Outcome A → Type 0
+MayGiveOverImage state what old new outcome =
     IsServed state what old new outcome ⊎ IsRefused state what old new outcome
+
+-- and what may come of one by who has the guest's disk
+abbrev pub MayGiveBy : {A : Type 0} → Option HostDisk → SlotState → EventKind A → Health → Health → Outcome A
+    → Type 0
+MayGiveBy None state what old new outcome = MayGiveOverImage state what old new outcome
+MayGiveBy (Some disk) state what old new outcome =
+    GivesOnHost (MayGiveOverImage state what old old) disk.flight state what old new outcome
+
+abbrev pub MayGive : {A : Type 0} → SlotState → EventKind A → Health → Health → Outcome A → Type 0
+MayGive state what old new outcome = MayGiveBy state.host state what old new outcome
 
 -- A slot's guest is served so: an outcome that it may have, whose output was appended to what was
 -- put out before.

@@ -10,6 +10,7 @@ ghost use Rattle.board.specs.World.{Handles, HoldsAt, Answers, IsMissed, KeepsOt
 ghost use Rattle.board.specs.Within.{DecidesSlot, TakesWithin};
 
 mod access;
+mod hosting;
 mod make;
 mod pieces;
 mod saved;
@@ -18,9 +19,9 @@ mod view;
 pub use crate::board::pieces::Taken;
 use crate::bytes::Bytes;
 use crate::event::{Event, EventKind};
+use crate::guest::Guest;
 use crate::pause::{Turn, Work};
 use crate::reply::{Handled, Record, Reply, RunStop};
-use crate::slot::Slot;
 use chain::Budget;
 use console_device::Outlet;
 use sector_cache::{Image, SectorCache};
@@ -30,7 +31,7 @@ use std::marker::Model;
 /// Up to sixty-four guests over one image.
 #[derive(Drop)]
 pub struct Board<I: Image, A: Allocator = Global> {
-    slots: Vec<Slot<A>, A>,
+    slots: Vec<Guest<A>, A>,
     cache: SectorCache<I, A>,
     alloc: A,
 }
@@ -163,11 +164,11 @@ impl<I: Image, A: Allocator> Board<I, A> {
         ensures { result ≡ slice_get (disturbed_of self.now.slots) slot }
     {
         let slot = self.slot(slot)?;
-        Some(slot.is_disturbed())
+        Some(slot.slot().is_disturbed())
     }
 
     // The slot of that number.
-    fn slot(&self, slot: u8) -> Option<&Slot<A>>
+    fn slot(&self, slot: u8) -> Option<&Guest<A>>
         ensures there { IfSome result (λ found. slice_get self.now.slots slot ≡ Some found.now) }
         ensures missing { IfNone result (slice_get self.now.slots slot ≡ None) }
     {

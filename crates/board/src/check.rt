@@ -4,10 +4,10 @@ ghost use Rattle.std.specs.Prelude.{◌≡◌, ◌+◌, ◌<◌, ◌≤◌, ◌^
 ghost use Rattle.std.specs.Bool.{OnTrue, OnFalse};
 ghost use Rattle.block_device.specs.Extent.{IsWithin};
 ghost use Rattle.board.specs.Extent.{IsApart, Overlaps};
-ghost use Rattle.board.specs.Fault.{AreGoodHosted, IsGoodSlot, AreGood, IsFaultOf, Refuses, RefusesHosted, with_own_disk};
+ghost use Rattle.board.specs.Fault.{Fits, IsGoodSlot, AreGood, IsFaultOf, Refuses, share};
 
 use crate::fault::{BoardFault, SlotFault};
-use crate::spec::SlotSpec;
+use crate::spec::{Backing, SlotSpec};
 use block_device::Extent;
 use guest_memory::{RegionFault, fault_of_regions};
 
@@ -38,58 +38,45 @@ pub fn check_slots(slots: &[SlotSpec], sectors: u64) -> Result<(), BoardFault>
     Ok(())
 }
 
-/// Whether the slots can be had together, each with a disk of its own, as `HostedBoard::new` judges them, or the first
-/// fault.
-pub fn check_hosted_slots(slots: &[SlotSpec]) -> Result<(), BoardFault>
-    ensures ok { OnOk result (AreGoodHosted slots.now) }
-    ensures fault { IfErr result (λ fault. RefusesHosted slots.now fault) }
-{
-    if slots.is_empty() {
-        return Err(BoardFault::NoSlots);
-    }
-    if slots.len() > MOST_SLOTS {
-        return Err(BoardFault::TooManySlots);
-    }
-    for (i, spec) in slots.iter().enumerate() {
-        if let Err(fault) = slot(&own_disk(spec), &[], MOST_SECTORS) {
-            let slot = i as u8;
-            return Err(BoardFault::Slot { slot, fault });
-        }
-    }
-    Ok(())
-}
-
-/// The same slot, with a disk of its own.
-pub(crate) fn own_disk(spec: &SlotSpec) -> SlotSpec
-    ensures { result ≡ with_own_disk spec.now }
-{
-    SlotSpec {
-        extent: Extent {
-            start: 0,
-            count: spec.extent.count,
-        },
-        ..*spec
-    }
-}
-
 // Whether a slot is good beside the earlier ones, or its first fault.
 fn slot(spec: &SlotSpec, earlier: &[SlotSpec], sectors: u64) -> Result<(), SlotFault>
-    requires { All (λ other. IsWithin sectors other.extent) earlier.now }
+    requires { All (λ other. IsWithin sectors (share other)) earlier.now }
     ensures ok { OnOk result (IsGoodSlot sectors earlier.now spec.now) }
     ensures fault { IfErr result (λ fault. IsFaultOf sectors earlier.now spec.now fault) }
 {
     if let Some(RegionFault { region, fault }) = fault_of_regions(spec.regions.as_slice()) {
         return Err(SlotFault::Memory { region, fault });
     }
-    if !is_within(spec.extent, sectors) {
+    if !fits(spec, sectors) {
         return Err(SlotFault::ExtentOutside);
     }
     for other in earlier {
-        if overlap(other.extent, spec.extent) {
+        if overlap(share(other), share(spec)) {
             return Err(SlotFault::ExtentsOverlap);
         }
     }
     Ok(())
+}
+
+// Whether a slot's disk lies where it must: its extent in an image of that many sectors, or its bytes in 64 bits.
+fn fits(spec: &SlotSpec, sectors: u64) -> bool
+    ensures value { IsTrue result ↔ Fits sectors spec.now }
+    ensures share { OnTrue result (IsWithin sectors (share spec.now)) }
+{
+    match spec.backing {
+        Backing::Image => is_within(spec.extent, sectors),
+        Backing::Host => spec.extent.count <= MOST_SECTORS,
+    }
+}
+
+/// What a slot has of the image.
+pub(crate) fn share(spec: &SlotSpec) -> Extent
+    ensures { result ≡ share spec.now }
+{
+    match spec.backing {
+        Backing::Image => spec.extent,
+        Backing::Host => Extent { start: 0, count: 0 },
+    }
 }
 
 // Whether an extent lies in an image of that many sectors.

@@ -1,6 +1,6 @@
 //! What holds of every line of events, by itself: no board is made or run here.
 
-ghost use Rattle.std.specs.Prelude.{◌≡◌, ℕ, ◌+◌, ◌<◌, ◌≤◌, List, [], ◌∷◌, ◌++◌, Some, false, length};
+ghost use Rattle.std.specs.Prelude.{◌≡◌, ℕ, ◌+◌, ◌<◌, ◌≤◌, List, [], ◌∷◌, ◌++◌, Some, true, false, length};
 ghost use Rattle.std.specs.List.{slice_get};
 ghost use Rattle.chain.specs.Service.{Served, ServesAll, Site};
 ghost use Rattle.sector_cache.specs.Disk.{Disk};
@@ -10,6 +10,7 @@ ghost use Rattle.mmio_window.specs.declared.device_kind.DeviceKind.{DeviceKind};
 ghost use Rattle.mmio_window.specs.declared.queue.Queue.{Queue};
 ghost use Rattle.mmio_window.specs.Queue.{queue_kind};
 ghost use Rattle.block_device.specs.declared.device.BlockDevice.{BlockDevice};
+ghost use Rattle.block_device.specs.declared.operation.Verdict.{Verdict};
 ghost use Rattle.block_device.specs.Device.{block_device};
 ghost use Rattle.board.specs.declared.event.Event.{Event};
 ghost use Rattle.board.specs.declared.event.EventKind.{EventKind};
@@ -17,15 +18,18 @@ ghost use Rattle.board.specs.declared.reply.Reply.{Reply};
 ghost use Rattle.board.specs.declared.reply.Record.{Record};
 ghost use Rattle.board.specs.Durable.{IsLeftAsSeen, TouchesSlot};
 ghost use Rattle.board.specs.Extent.{IsApart};
-ghost use Rattle.board.specs.Image.{Tells, bytes_of};
-ghost use Rattle.board.specs.Line.{Move, IsLine, IsNoted, IsQuiet, IsAlone, IsRun, RanOnBoth, SeesTheSame, events_of, own_events};
+ghost use Rattle.board.specs.Backing.{InFlight, flight_in};
+ghost use Rattle.board.specs.Honest.{IsFlown, IsHonestlyServed};
+ghost use Rattle.board.specs.Hosting.{IsOwn, must_wait};
+ghost use Rattle.board.specs.Image.{Health, Tells, bytes_of};
+ghost use Rattle.board.specs.Line.{Move, IsLine, IsNoted, IsQuiet, IsAlone, IsRun, RanOnBoth, RunsAsItMay, SeesTheSame, events_of, own_events};
 ghost use Rattle.board.specs.Machine.{IsNext, RunsOnItsOwn};
 ghost use Rattle.board.specs.Outcome.{Outcome};
 ghost use Rattle.board.specs.declared.saved.RestoreFault.{RestoreFault};
 ghost use Rattle.board.specs.Saved.{HasBytesOf, IsAs, IsCauseOf};
 ghost use Rattle.board.specs.Slot.{BoardSlot, SlotState, KeepsBesideDisk, KeepsBesideTransmit, state_of};
 ghost use Rattle.board.specs.Task.{emergency_write};
-ghost use Rattle.board.specs.World.{BoardState, World, KeepsBoard, Step, identities_of, world_of};
+ghost use Rattle.board.specs.World.{BoardState, World, KeepsBoard, MayGive, Step, identities_of, world_of};
 ghost use Rattle.board.specs.Within.{Seat, IsNextWithin};
 
 use sector_cache::Image;
@@ -177,4 +181,35 @@ pub fn a_cut_event_touches_no_other_disk<I: Image>()
         IsApart own.extent other.extent → Tells (I.disk old.image) → (I.disk old.image).dirty ≡ false →
         BeginsAt (I.may_leave old.image) (I.left_since old.image) since → I.left_since new.image since left →
         extent_of left other.extent.start other.extent.count ≡ (state_of (bytes_of (I.disk old.image)) other).extent }
+{}
+
+/// And a guest whose events met refusals is told what it may be told alone, where it meets such, and is left as it may be.
+pub fn each_guest_is_alone_whatever_it_meets<A: Allocator>()
+    ensures { (g : ℕ) (old new : World) (moves : List (Move A)) (state : SlotState) →
+        IsLine old moves new → slice_get old.slots g ≡ Some state → RunsAsItMay g state moves new }
+{}
+
+/// What is in flight stays in flight, whatever its guest does: only the completion ends it.
+pub fn a_flight_outlasts_own_events<A: Allocator>()
+    ensures { (old : SlotState) (here : InFlight) (what : EventKind A) (before after : Health) (outcome : Outcome A) →
+        IsOwn what → flight_in old.host ≡ Some here → MayGive old what before after outcome →
+        flight_in outcome.state.host ≡ Some here }
+{}
+
+/// An event that waits changes nothing, and only the two writes and a restore may wait; nor does a completion of nothing.
+pub fn what_waits_changes_nothing<A: Allocator>()
+    ensures busy { (old : SlotState) (what : EventKind A) (before after : Health) (outcome : Outcome A) →
+        MayGive old what before after outcome → outcome.reply ≡ Reply.Busy →
+        (outcome.state ≡ old) × (must_wait what ≡ true) }
+    ensures idle { (old : SlotState) (what : EventKind A) (before after : Health) (outcome : Outcome A) →
+        MayGive old what before after outcome → outcome.reply ≡ Reply.Idle → outcome.state ≡ old }
+{}
+
+/// Where a host did with a guest's disk what may become of the request that was asked for, and says so, the slot's block
+/// device did what the model's does over that disk. At the completion memory must be that of the asking but for the data
+/// that was read: nothing is said of a guest that wrote to memory in between, as one that offered another chain.
+pub fn an_honest_host_serves<A: Allocator>()
+    ensures { (old : SlotState) (here : InFlight) (now : SlotState) (verdict : Verdict) (new : SlotState)
+        (flown : IsFlown A old here now verdict new) (disk : Disk) →
+        IsHonestlyServed old here now verdict new flown disk }
 {}

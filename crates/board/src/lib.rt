@@ -20,7 +20,8 @@ mod counters;
 mod event;
 mod fault;
 mod features;
-mod hosted;
+mod guest;
+mod host_disk;
 mod laws;
 mod lent;
 mod opening;
@@ -35,23 +36,19 @@ pub use block_device::{Extent, Verdict};
 pub use board::{Board, Taken};
 pub use bytes::Bytes;
 pub use chain::Budget;
-pub use check::{check_hosted_slots, check_slots};
+pub use check::check_slots;
 pub use console_device::Outlet;
 pub use counters::Counters;
 pub use event::{Event, EventKind};
 pub use fault::{BoardFault, SlotFault};
 pub use guest_memory::{GuestMemory, MemoryFault, RegionSpec, Regions};
-pub use hosted::{
-    HostedBoard, a_flight_outlasts_own_events, a_hosted_guest_alone_has_one_run,
-    an_honest_host_serves, each_hosted_guest_is_alone, one_hosted_outcome,
-    what_waits_changes_nothing,
-};
 pub use laws::{
-    a_cut_event_touches_no_other_disk, a_failed_event_keeps_the_rest, a_guest_alone_has_one_run,
-    a_restore_is_refused_for_one_cause, a_restored_guest_goes_on, a_step_is_a_run,
-    a_stop_between_events_loses_nothing, each_guest_is_alone, identities_stay,
+    a_cut_event_touches_no_other_disk, a_failed_event_keeps_the_rest, a_flight_outlasts_own_events,
+    a_guest_alone_has_one_run, a_restore_is_refused_for_one_cause, a_restored_guest_goes_on,
+    a_step_is_a_run, a_stop_between_events_loses_nothing, an_honest_host_serves,
+    each_guest_is_alone, each_guest_is_alone_whatever_it_meets, identities_stay,
     nothing_else_is_seen, one_outcome, one_outcome_within, refusals_are_noted, two_runs_are_one,
-    want_of_memory_changes_nothing, want_of_memory_keeps_the_rest,
+    want_of_memory_changes_nothing, want_of_memory_keeps_the_rest, what_waits_changes_nothing,
 };
 pub use mmio_window::{DeviceKind, Stage};
 pub use pause::{Pause, Service, Turn, Work};
@@ -59,5 +56,5 @@ pub use reply::{Handled, Record, Reply, RunStop};
 pub use saved::{RestoreFault, RestoreRefusal, SaveRefusal};
 pub use sector_cache::{CacheFault, Image, ImageError, ImageFault, MemoryImage, Refused};
 pub use snapshot::{ShortBuffer, SnapshotFault};
-pub use spec::SlotSpec;
+pub use spec::{Backing, SlotSpec};
 pub use task::Task;

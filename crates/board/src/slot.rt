@@ -1,18 +1,22 @@
 //! One slot: a guest's memory and devices, and how its events are served.
 //!
-//! Nothing here knows of other slots. What a slot does is stated against the one-slot machine, and
-//! the board lifts that to all of its slots. `hosting` has what comes of an event beside the disk, `memory` the events of
+//! Nothing here knows of other slots, nor of what is in flight. What a slot does is stated against the machine whose disk
+//! is of the image, and `guest` lifts that to any disk. `hosting` has what comes of an event beside the disk, `memory` the events of
 //! the guest's memory, `window` those of its devices' windows, `service` serves their queues, and `console` is what is done to the console
 //! from outside.
 
-ghost use Rattle.std.specs.Prelude.{◌≡◌, ◌≢◌, ◌<◌, ◌||◌, ℕ, List};
+ghost use Rattle.std.specs.Prelude.{◌≡◌, ◌≢◌, ◌||◌, ℕ, List, IfOk};
+ghost use Rattle.std.specs.Option.{option_map};
+ghost use Rattle.guest_memory.specs.Faults.{AreGood as AreGoodRegions};
 ghost use Rattle.guest_memory.specs.Memory.{Inside, IsRest};
 ghost use Rattle.block_device.specs.Extent.{IsWithin, TouchesExtent};
 ghost use Rattle.board.specs.Lending.{LendsBytes};
-ghost use Rattle.board.specs.Pausing.{Begins, Does, PausesByLimit, MayLackMemoryIn, ServesOver, lacks_memory_in, met_in};
-ghost use Rattle.board.specs.Slot.{AreInterruptWords, IsUnnoted, StaysInSlot, interrupt_words, state_of};
+ghost use Rattle.board.specs.Pausing.{BeginsOverImage, PausesByLimit, ServesOver, lacks_memory_in};
+ghost use Rattle.board.specs.Slot.{AreInterruptWords, IsUnnoted, host_by, interrupt_words, opened, state_of};
 ghost use Rattle.board.specs.World.{MayLackMemory};
-ghost use Rattle.board.specs.Within.{BeginsWithin, DecidesOver, DoesWithin};
+ghost use Rattle.board.specs.Fault.{HasRoom};
+ghost use Rattle.board.specs.Lent.{opened_over};
+ghost use Rattle.board.specs.Within.{BeginsWithinOverImage, DecidesOver};
 ghost use Rattle.board.specs.declared.pause.Pause.{Pause};
 ghost use Rattle.board.specs.declared.pause.Turn.{Turn};
 ghost use Rattle.board.specs.declared.reply.Reply.{Reply};
@@ -26,14 +30,15 @@ mod service;
 mod view;
 mod window;
 
+use crate::check::share;
 use crate::counters::Counters;
 use crate::event::EventKind;
 use crate::features;
-use crate::opening::FromSpec;
-use crate::pause::{Pause, Service, Turn, Work};
+use crate::host_disk::HostedDisk;
+use crate::pause::{Pause, Service, Turn};
 use crate::reply::Reply;
 pub(crate) use crate::slot::memory::copy_out;
-use crate::spec::SlotSpec;
+use crate::spec::{Backing, SlotSpec};
 use block_device::BlockDevice;
 use chain::{Budget, Chain};
 use console_device::{ConsoleDevice, Outlet};
@@ -47,7 +52,10 @@ use std::marker::Model;
 #[derive(Drop)]
 pub(crate) struct Slot<A: Allocator = Global> {
     memory: GuestMemory<A>,
+    // Its extent is what the slot has of the image.
     block_device: BlockDevice,
+    // The disk that the host serves, in place of one of the image.
+    host: Option<Box<HostedDisk, A>>,
     block: Window,
     console_device: ConsoleDevice<A>,
     console: Window,
@@ -60,6 +68,7 @@ pub(crate) struct Slot<A: Allocator = Global> {
 }
 
 impl<A: Allocator> Model for Slot<A> {
+    ghost use Rattle.std.specs.Option.{option_map};
     ghost use Rattle.board.specs.Slot.{BoardSlot, IsSoundSlot};
 
     ghost Value = { BoardSlot };
@@ -67,6 +76,7 @@ impl<A: Allocator> Model for Slot<A> {
     ghost view = { λ s. record {
       memory = s.memory;
       extent = s.block_device.extent;
+      host = option_map (λ disk. disk.value) s.host;
       read_only = s.block_device.read_only;
       identity = s.block_device.identity;
       block = s.block;
@@ -82,37 +92,41 @@ impl<A: Allocator> Model for Slot<A> {
 
 // What came of an event, or of a piece of its service.
 #[derive(Drop)]
-struct Answer<A: Allocator = Global> {
-    turn: Turn<A>,
+pub(crate) struct Answer<A: Allocator = Global> {
+    pub turn: Turn<A>,
     // Whether a call of the image failed.
-    failed: bool,
+    pub failed: bool,
 }
 
-impl<A: Allocator + Copy> FromSpec<A, GuestMemory<A>> for Slot<A> {
-    ghost use Rattle.std.specs.Prelude.{⊤};
-    ghost use Rattle.board.specs.Lent as lent;
-    ghost use Rattle.board.specs.Slot as slot;
-
-    ghost DiskFits = { λ spec. ⊤ };
-
-    ghost opened = { slot.opened };
-
-    ghost opened_over = { lent.opened_over };
-
-    fn open(alloc: A, spec: &SlotSpec) -> Result<Slot<A>, AllocError> {
+impl<A: Allocator + Copy> Slot<A> {
+    /// Opens a slot over a memory of zeros.
+    pub(crate) fn open(alloc: A, spec: &SlotSpec) -> Result<Slot<A>, AllocError>
+        requires memory { AreGoodRegions spec.now.regions }
+        requires disk { HasRoom spec.now }
+        ensures { IfOk result (λ slot. slot ≡ opened spec.now) }
+    {
         let Ok(memory) = GuestMemory::with_regions(alloc, spec.regions.as_slice()) else {
             return Err(AllocError);
         };
         Slot::over(alloc, spec, memory)
     }
 
-    fn over(alloc: A, spec: &SlotSpec, memory: GuestMemory<A>) -> Result<Slot<A>, AllocError> {
+    /// Opens a slot over a memory that is there.
+    pub(crate) fn over(
+        alloc: A,
+        spec: &SlotSpec,
+        memory: GuestMemory<A>,
+    ) -> Result<Slot<A>, AllocError>
+        requires { HasRoom spec.now }
+        ensures { IfOk result (λ slot. slot ≡ opened_over spec.now memory) }
+    {
         let Ok(console_device) = ConsoleDevice::new(alloc, spec.cols, spec.rows) else {
             return Err(AllocError);
         };
         Ok(Slot {
             memory,
-            block_device: BlockDevice::new(spec.extent, spec.read_only, spec.identity),
+            block_device: BlockDevice::new(share(spec), spec.read_only, spec.identity),
+            host: host_of(alloc, spec)?,
             block: Window::new(DeviceKind::Block, features::of_block(spec.read_only)),
             console_device,
             console: Window::new(DeviceKind::Console, features::of_console()),
@@ -123,52 +137,27 @@ impl<A: Allocator + Copy> FromSpec<A, GuestMemory<A>> for Slot<A> {
     }
 }
 
-impl<A: Allocator + Copy> Slot<A> {
-    /// Takes a turn, in which a service may pause where the budget is spent, and notes a refusal. What the console puts
-    /// out is appended to `out`.
-    #[inline(always)]
-    pub(crate) fn turn<I: Image, O: Outlet>(
-        &mut self,
-        alloc: A,
-        work: Work<'_, A>,
-        budget: Budget,
-        cache: &mut SectorCache<I, A>,
-        out: &mut O,
-    ) -> Turn<A>
-        requires lies { IsWithin (I.disk cache.old).sector_count self.old.extent }
-        ensures serves { ServesOver (Does work.entry budget) self.old self.new (I.disk cache.old) (I.disk cache.new)
-            result (O.bytes out.old) (O.bytes out.new) }
-        ensures within { DecidesOver (λ limit. DoesWithin limit work.entry budget) (O.limit out.old) self.old self.new
-            (I.disk cache.old) (I.disk cache.new) (O.bytes out.old) (O.bytes out.new) result }
-        ensures limit { O.limit out.new ≡ O.limit out.old }
-        ensures noted { self.new.disturbed ≡ (self.old.disturbed ||
-            met_in result (I.disk cache.old).failures (I.disk cache.new).failures) }
-        ensures stays { StaysInSlot self.old self.new (I.disk cache.old) (I.disk cache.new) }
-        ensures touches { TouchesExtent I.moment I.may_leave I.left_since self.old.extent cache.old cache.new }
-
-        // a slot that is there is never said to be missing, and what is refused changes nothing
-        ensures limited { PausesByLimit budget result }
-        ensures there { result ≢ Turn.Answered Reply.BadSlot }
-        ensures bad_range { result ≡ Turn.Answered Reply.BadRange → self.new ≡ self.old }
-        ensures bad_range_image { result ≡ Turn.Answered Reply.BadRange → cache.new ≡ cache.old }
-        ensures no_memory { result ≡ Turn.Answered Reply.NoMemory → (image : List ℕ) →
-            MayLackMemoryIn work.entry (state_of image self.old) }
-    {
-        match work {
-            Work::Begin(what) => {
-                let answer = self.answer(alloc, what, budget, cache, out);
-                self.note(answer)
-            }
-            Work::Resume(pause) => {
-                let answer = self.serve_piece(pause, Stage::Next, budget, cache, out);
-                self.note(answer)
-            }
+// The disk that the host serves a slot, if it does.
+fn host_of<A: Allocator + Copy>(
+    alloc: A,
+    spec: &SlotSpec,
+) -> Result<Option<Box<HostedDisk, A>>, AllocError>
+    requires { HasRoom spec.now }
+    ensures { IfOk result (λ host. option_map (λ disk. disk.value) host ≡ host_by spec.now.backing spec.now.extent) }
+{
+    match spec.backing {
+        Backing::Image => Ok(None),
+        Backing::Host => {
+            let disk = Box::new(alloc, HostedDisk::new(spec.extent.count))?;
+            Ok(Some(disk))
         }
     }
+}
 
-    // Notes a refusal, and hands on what the event came to.
+impl<A: Allocator + Copy> Slot<A> {
+    /// Notes a refusal, and hands on what the event came to.
     #[inline(always)]
-    fn note(&mut self, answer: Answer<A>) -> Turn<A>
+    pub(crate) fn note(&mut self, answer: Answer<A>) -> Turn<A>
         ensures turn { result ≡ answer.turn }
         ensures noted { self.new ≡ record self.old {
           disturbed = self.old.disturbed || (lacks_memory_in answer.turn || answer.failed);
@@ -182,9 +171,9 @@ impl<A: Allocator + Copy> Slot<A> {
         turn
     }
 
-    // Handles an event, and leaves it to the caller to note a refusal.
+    /// Handles an event of a slot whose disk is of the image, and leaves it to the caller to note a refusal.
     #[inline(always)]
-    fn answer<I: Image, O: Outlet>(
+    pub(crate) fn answer<I: Image, O: Outlet>(
         &mut self,
         alloc: A,
         what: &EventKind<A>,
@@ -193,12 +182,13 @@ impl<A: Allocator + Copy> Slot<A> {
         out: &mut O,
     ) -> Answer<A>
         requires lies { IsWithin (I.disk cache.old).sector_count self.old.extent }
-        ensures serves { ServesOver (Begins what.now budget) self.old self.new (I.disk cache.old) (I.disk cache.new)
+        ensures serves { ServesOver (BeginsOverImage what.now budget) self.old self.new (I.disk cache.old) (I.disk cache.new)
             result.turn (O.bytes out.old) (O.bytes out.new) }
-        ensures within { DecidesOver (λ limit. BeginsWithin limit what.now budget) (O.limit out.old) self.old self.new
+        ensures within { DecidesOver (λ limit. BeginsWithinOverImage limit what.now budget) (O.limit out.old) self.old self.new
             (I.disk cache.old) (I.disk cache.new) (O.bytes out.old) (O.bytes out.new) result.turn }
         ensures limit { O.limit out.new ≡ O.limit out.old }
         ensures unnoted { IsUnnoted self.old self.new (I.disk cache.old) (I.disk cache.new) result.failed }
+        ensures host { self.new.host ≡ self.old.host }
         ensures touches { TouchesExtent I.moment I.may_leave I.left_since self.old.extent cache.old cache.new }
         ensures limited { PausesByLimit budget result.turn }
         ensures there { result.turn ≢ Turn.Answered Reply.BadSlot }
@@ -233,15 +223,10 @@ impl<A: Allocator> Slot<A> {
 
     /// What the slot's devices did.
     pub(crate) fn counters(&self) -> Counters {
-        self.counters.with(self.chain.counts())
-    }
-
-    /// Counts a reply that is a refusal.
-    pub(crate) fn count_reply(&mut self, reply: &Reply<A>)
-        ensures { self.new ≡ self.old }
-    {
-        if matches!(reply, Reply::NoMemory) {
-            self.counters.refused();
+        let counters = self.counters.with(self.chain.counts());
+        match &self.host {
+            Some(disk) => counters.with(disk.counts()),
+            None => counters,
         }
     }
 

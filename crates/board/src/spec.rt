@@ -3,13 +3,24 @@
 use block_device::Extent;
 use guest_memory::Regions;
 
+/// Who has the bytes of a slot's disk.
+#[derive(Clone, Copy, Debug, PartialEq, Eq)]
+pub enum Backing {
+    /// The board's image, in the slot's extent.
+    Image,
+    /// The host, which serves a disk of its own for the slot.
+    Host,
+}
+
 /// What a slot is to be.
 #[derive(Clone, Copy, Debug, PartialEq, Eq)]
 pub struct SlotSpec {
     /// The regions of the guest's memory.
     pub regions: Regions,
-    /// The sectors that the guest's block device shows.
+    /// The sectors that the guest's block device shows: those of the image, or as many of a disk that the host serves.
     pub extent: Extent,
+    /// Who has their bytes.
+    pub backing: Backing,
     /// Whether the block device refuses writes (VIRTIO_BLK_F_RO, 5.2.3).
     pub read_only: bool,
     /// The columns of the console (5.3.4).

@@ -9,8 +9,8 @@ use Rattle.std.specs.declared.alloc.Allocator.{Ghosts}
 use Rattle.std.specs.contracts.alloc.Global as Heap
 use Rattle.std.specs.contracts.impls.GlobalAllocator.TheImpl.{ghosts, dict}
 use Rattle.std.proofs.alloc.Global.TheLaws as heap
-use Rattle.board_ffi.specs.contracts.any_session.AnySession as AnySession
-use Rattle.board_ffi.proofs.any_session.AnySession.TheLaws as session
+use Rattle.session.proofs.session.Session.TheLaws as session
+use Rattle.board_ffi.specs.Handle.{session_row}
 use Rattle.board_ffi.specs.contracts.handle.parts.Parts as Parts
 use Rattle.board_ffi.specs.contracts.handle.Handle as Handle
 
@@ -20,10 +20,10 @@ box_of X LX Z LZ g d drops =
     record { row = X; laws = LX; al = record { row = Z; laws = LZ; g = g; d = d; drops = drops } }
 
 abbrev pub Row : RattleType
-Row = AnySession.the_row
+Row = session_row
 
 abbrev pub E : Bx
-E = box_of Row session.the_row_laws Heap.the_row heap.the_row_laws ghosts dict (impl [] tnil dnil)
+E = box_of Row (session.the_row_laws Heap.the_row ghosts heap.the_row_laws) Heap.the_row heap.the_row_laws ghosts dict (impl [] tnil dnil)
 
 abbrev pub Of : RattleType
 Of = Parts.the_row Row Heap.the_row ghosts

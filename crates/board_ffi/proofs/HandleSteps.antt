@@ -31,7 +31,7 @@ use Rattle.std.proofs.GlobalToken.{dealloc_token-Testable}
 use Rattle.std_alloc.proofs.BoxSteps.Form.{handle}
 use Rattle.std.proofs.alloc.Calls.{Fits, handle_tells, token}
 use Rattle.board_ffi.proofs.AsBox.{E, Row}
-use Rattle.board_ffi.specs.declared.any_session.AnySession.{AnySession}
+use Rattle.session.specs.Session.{SessionState}
 use Rattle.board_ffi.specs.Handle.{Held, held}
 use Rattle.board_ffi.specs.contracts.handle.Handle as Handle
 
@@ -68,7 +68,7 @@ module _ {M : Type 1} {𝓤 : Ura M} {𝓛 : Logic 𝓤} {K : Type 0} {Γ : List
       ∷ [])) (vnull ∷ [], (hv ∷ [], tt)) $ fjoin t $ s)
 
 -- what a box owns tells that its pointer may be compared with null
-pub tested : {M : Type 1} {𝓤 : Ura M} (𝓛 : Logic 𝓤) (a : Global) (p : Ptr) (session : AnySession)
+pub tested : {M : Type 1} {𝓤 : Ura M} (𝓛 : Logic 𝓤) (a : Global) (p : Ptr) (session : SessionState)
     → ent 𝓤 (sem 𝓛 (box_owns (token E.al a) Row p session))
     (guard 𝓤 (Testable p) (sem 𝓛 (box_owns (token E.al a) Row p session)))
 tested {𝓤 = 𝓤} 𝓛 a p session =
@@ -89,7 +89,7 @@ module _ {M : Type 1} {𝓤 : Ura M} {𝓛 : Logic 𝓤} {K : Type 0} {Γ : List
 
   pub held_cases : K → (a : Global) (p : Ptr) (session : Held)
       → (p ≡ null_ptr → session ≡ None → Seq K 𝓛 Γ G)
-      → ((b o : ℕ) (x : AnySession) → p ≡ block_ptr b o → session ≡ Some x → Testable (block_ptr b o)
+      → ((b o : ℕ) (x : SessionState) → p ≡ block_ptr b o → session ≡ Some x → Testable (block_ptr b o)
       → Seq K 𝓛 (‵ (box_owns (token E.al a) Row (block_ptr b o) x) ∷ Γ) G)
       → Seq K 𝓛 (‵ (held a p session) ∷ Γ) G
   held_cases t a null_ptr session empty full = fpick t (λ none. drop t $ empty refl none)

@@ -4,7 +4,7 @@ use Rattle.std.specs.List.{slice_get}
 use Rattle.std.proofs.lemmas.Option.{same_Some}
 use Rattle.chain.specs.declared.segment.Segment.{Segment}
 use Rattle.board_ffi.specs.declared.operation.Run.{Run}
-use Rattle.board_ffi.specs.Hosted.{told_run, told_runs}
+use Rattle.board_ffi.specs.Disk.{told_run, told_runs}
 
 -- one more is told
 pub one_told : (place : ℕ) (runs : List Segment) (room : List Run) (run : Segment) → place < length room

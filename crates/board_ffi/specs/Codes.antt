@@ -1,7 +1,5 @@
 -- The number that stands for each answer.
-use Rattle.std.specs.Prelude.{ℕ, ◌==◌, ◌||◌, nat_lt, Bool, if◌then◌else◌, Result, Ok, Err}
-use Rattle.chain.specs.declared.budget.Progress.{Progress}
-use Rattle.chain.specs.declared.budget.Progress.TheVariants.{More, Done}
+use Rattle.std.specs.Prelude.{◌≡◌, ◌⊎◌, ℕ, ◌==◌, ◌||◌, nat_lt, Bool, List, [], ◌∷◌, if◌then◌else◌, Result, Ok, Err}
 use Rattle.guest_memory.specs.declared.fault.MemoryFault.{MemoryFault}
 use Rattle.guest_memory.specs.declared.fault.MemoryFault.TheVariants as memory
 use Rattle.sector_cache.specs.declared.fault.CacheFault.TheVariants.{BadCapacity}
@@ -22,8 +20,8 @@ use Rattle.board.specs.declared.saved.SaveRefusal.{SaveRefusal}
 use Rattle.board.specs.declared.saved.SaveRefusal.TheVariants as save
 use Rattle.session.specs.declared.refusal.Refusal.{Refusal}
 use Rattle.session.specs.declared.refusal.Refusal.TheVariants.{BadSlot, BadRange, NoRoom, Busy, Idle}
-use Rattle.session.specs.declared.hosted.progress.HostedProgress.{HostedProgress}
-use Rattle.session.specs.declared.hosted.progress.HostedProgress.TheVariants as now
+use Rattle.session.specs.declared.progress.Progress.{Progress}
+use Rattle.session.specs.declared.progress.Progress.TheVariants.{Asks, Done, More}
 use Rattle.session.specs.declared.fault.SessionFault.{SessionFault}
 use Rattle.session.specs.declared.fault.SessionFault.TheVariants as session
 
@@ -35,60 +33,48 @@ refusal_code NoRoom = 15
 refusal_code Busy = 19
 refusal_code Idle = 21
 
--- the board's response that a number stands for, where this one is what a call that is done is replied; where
--- an outlet has no room the board has no memory for the output
-abbrev pub response_of : {A : Type 0} → ℕ → Reply A → Response A
-response_of code done =
-    if code == 0 then response.Answered done
-    else (if code == 3 then response.Answered reply.BadSlot
-    else (if code == 4 then response.Answered reply.BadRange
-    else (if code == 15 then response.Answered reply.NoMemory
-    else (if code == 18 then response.More else response.Busy))))
+-- The board's response that a number stands for, where this one is what a call that is done is replied; what a disk is
+-- then asked for is told aside. Where an outlet has no room the board has no memory for the output. A slot is busy where a
+-- service of it is paused, and where the event waits for what is in flight.
+abbrev pub StandsFor : {A : Type 0} → ℕ → Reply A → Response A → Type 0
+StandsFor code done told =
+    ((code ≡ 0) × (told ≡ response.Answered done))
+    ⊎ ((code ≡ 3) × (told ≡ response.Answered reply.BadSlot))
+    ⊎ ((code ≡ 4) × (told ≡ response.Answered reply.BadRange))
+    ⊎ ((code ≡ 15) × (told ≡ response.Answered reply.NoMemory))
+    ⊎ ((code ≡ 18) × (told ≡ response.More))
+    ⊎ ((code ≡ 19) × ((told ≡ response.Busy) ⊎ (told ≡ response.Answered reply.Busy)))
+    ⊎ ((code ≡ 20) × (told ≡ response.Answered done))
+    ⊎ ((code ≡ 21) × (told ≡ response.Answered reply.Idle))
 
--- the numbers that a call answers which comes to a board's response
+-- the numbers that a call answers which comes to a board's response, but for 20
 abbrev pub is_response : ℕ → Bool
-is_response code = (code == 0) || (code == 3) || (code == 4) || (code == 15) || (code == 18) || (code == 19)
-
--- the reply of a board whose disks the host serves that a number stands for, where this one is what a call
--- that is done is replied; what a disk is then asked for is told aside
-abbrev pub hosted_reply_of : {A : Type 0} → ℕ → Reply A → Reply A
-hosted_reply_of code done =
-    if (code == 0) || (code == 20) then done
-    else (if code == 3 then reply.BadSlot
-    else (if code == 4 then reply.BadRange
-    else (if code == 15 then reply.NoMemory
-    else (if code == 19 then reply.Busy else reply.Idle))))
-
--- the numbers that a call answers which comes to such a reply
-abbrev pub is_hosted : ℕ → Bool
-is_hosted code = (code == 0) || (code == 3) || (code == 4) || (code == 15) || (code == 19) || (code == 21)
+is_response code =
+    (code == 0) || (code == 3) || (code == 4) || (code == 15) || (code == 18) || (code == 19) || (code == 21)
 
 -- a call that is done, or was refused
 abbrev pub code_by : {X : Type 0} → Result X Refusal → ℕ
 code_by (Ok done) = 0
 code_by (Err why) = refusal_code why
 
--- what a slot's disk is asked for once a call is done: something, or nothing that is new
-abbrev pub asking_code : HostedProgress → ℕ
-asking_code now.Done = 0
-asking_code now.Asks = 20
-
-abbrev pub hosted_code : Result HostedProgress Refusal → ℕ
-hosted_code (Ok progress) = asking_code progress
-hosted_code (Err why) = refusal_code why
-
 -- what is answered of a slot, if there is one of so many
 abbrev pub code_at : ℕ → ℕ → ℕ → ℕ
 code_at slot count code = if nat_lt slot count then code else 3
 
--- what is told of a service that went on
+-- what is told of a call that is done, or whose service pauses: 20 where the disk is asked for something from now on
 abbrev pub progress_code : Progress → ℕ
 progress_code Done = 0
 progress_code More = 18
+progress_code Asks = 20
 
 abbrev pub went_on_code : Result Progress Refusal → ℕ
 went_on_code (Ok progress) = progress_code progress
 went_on_code (Err why) = refusal_code why
+
+-- an image of no bytes is none
+abbrev pub image_code : List ℕ → ℕ
+image_code [] = 22
+image_code (byte ∷ bytes) = 0
 
 -- a slot that isn't saved
 abbrev pub save_refusal_code : SaveRefusal → ℕ

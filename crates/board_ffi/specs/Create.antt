@@ -3,13 +3,12 @@ use Rattle.std.specs.Prelude.{◌≡◌, ◌≢◌, ◌⊎◌, ◌↔◌, ℕ, �
 use Rattle.std.specs.List.{take_while}
 use Rattle.chain.specs.declared.budget.Budget.{Budget}
 use Rattle.guest_memory.specs.declared.spec.RegionSpec.{RegionSpec}
-use Rattle.board.specs.Fault.{AreGoodHosted, IsAccepted}
+use Rattle.board.specs.declared.spec.Backing.{Backing}
+use Rattle.board.specs.Fault.{IsAccepted}
 use Rattle.session.specs.declared.fault.SessionFault.{SessionFault}
 use Rattle.session.specs.declared.guest.GuestSpec.{GuestSpec}
-use Rattle.session.specs.Hosted.{IsHostedRefusedFor, new_hosted_session}
 use Rattle.session.specs.Session.{new_session, slots_of}
 use Rattle.session.specs.Refusing.{AreOutlets, IsRefusedFor}
-use Rattle.board_ffi.specs.declared.any_session.AnySession.TheVariants.{Hosted, OfImage}
 use Rattle.board_ffi.specs.declared.slot.Slot.{Slot}
 use Rattle.board_ffi.specs.Codes.{fault_code}
 use Rattle.board_ffi.specs.Handle.{Held}
@@ -18,12 +17,13 @@ use Rattle.board_ffi.specs.Handle.{Held}
 abbrev pub regions_of : List RegionSpec → List RegionSpec
 regions_of = take_while (λ region. nat_lt 0 region.len)
 
--- the guest of a slot that C describes
-abbrev pub guest_of : Slot → GuestSpec
-guest_of slot = record {
+-- the guest of a slot that C describes, whose disk is of the image or the host's
+abbrev pub guest_of : Backing → Slot → GuestSpec
+guest_of backing slot = record {
   slot = record {
     regions = regions_of slot.regions;
     extent = record { start = slot.start; count = slot.count };
+    backing = backing;
     read_only = slot.read_only;
     cols = slot.cols;
     rows = slot.rows;
@@ -48,6 +48,10 @@ limit_of limit = if limit == 0 then None else Some limit
 abbrev pub budget_of : ℕ → ℕ → Budget
 budget_of chains bytes = record { chains = limit_of chains; bytes = limit_of bytes }
 
+-- as much as there is
+abbrev pub no_limit : Budget
+no_limit = budget_of 0 0
+
 -- What a call does that makes a board of these slots: over a board it answers 2 and leaves that board. For
 -- an empty handle it answers 17 exactly where some slot says another size, whatever else is described, and
 -- leaves the handle empty. Else there is a board, or none.
@@ -70,7 +74,7 @@ AnswersEach Refused slots before code =
 -- there is a new board of these guests over the image
 pub record IsMade (guests : List GuestSpec) (image : List ℕ) (cache : ℕ) (budget : Budget)
     (after : Held) : Type 0 where
-  pub made : after ≡ Some (OfImage (new_session guests image budget))
+  pub made : after ≡ Some (new_session guests image budget)
   pub accepted : IsAccepted (length image / 512) (slots_of guests) cache
   pub outlets : AreOutlets guests
 
@@ -81,16 +85,3 @@ pub record IsNotMade (guests : List GuestSpec) (image : List ℕ) (cache : ℕ) 
   pub why : SessionFault
   pub code_is : code ≡ fault_code why
   pub fault : IsRefusedFor guests image cache budget why
-
--- there is a new board of these guests, whose disks the host serves
-pub record IsHostedMade (guests : List GuestSpec) (after : Held) : Type 0 where
-  pub made : after ≡ Some (Hosted (new_hosted_session guests))
-  pub accepted : AreGoodHosted (slots_of guests)
-  pub outlets : AreOutlets guests
-
--- there is none, and the number is that of a fault of what was described
-pub record IsHostedNotMade (guests : List GuestSpec) (code : ℕ) (after : Held) : Type 0 where
-  pub none : after ≡ None
-  pub why : SessionFault
-  pub code_is : code ≡ fault_code why
-  pub fault : IsHostedRefusedFor guests why

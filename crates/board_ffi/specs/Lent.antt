@@ -2,14 +2,12 @@
 use Rattle.std.specs.Prelude.{◌≡◌, ◌⊎◌, ℕ, ◌/◌, List, [], All, Some, None, drop, length, map, take}
 use Rattle.chain.specs.declared.budget.Budget.{Budget}
 use Rattle.guest_bytes.specs.declared.loan.Loan.{Loan}
-use Rattle.board.specs.Fault.{AreGoodHosted, IsAccepted}
+use Rattle.board.specs.Fault.{IsAccepted}
 use Rattle.board.specs.Lent.{AreBytesOf}
 use Rattle.session.specs.declared.fault.SessionFault.{SessionFault}
 use Rattle.session.specs.declared.guest.GuestSpec.{GuestSpec}
-use Rattle.session.specs.Hosted.{IsHostedLentRefusedFor, new_hosted_session_over}
 use Rattle.session.specs.Session.{new_session_over, slots_of}
 use Rattle.session.specs.Refusing.{AreOutlets, IsLentRefusedFor}
-use Rattle.board_ffi.specs.declared.any_session.AnySession.TheVariants.{Hosted, OfImage}
 use Rattle.board_ffi.specs.Codes.{fault_code}
 use Rattle.board_ffi.specs.Handle.{Held}
 
@@ -35,7 +33,7 @@ TakesLoans old new before code =
 -- there is a new board of these guests over the image, and over these bytes as their memories
 pub record IsMadeOver (guests : List GuestSpec) (bytes : List (List ℕ)) (image : List ℕ) (cache : ℕ)
     (budget : Budget) (after : Held) : Type 0 where
-  pub made : after ≡ Some (OfImage (new_session_over guests bytes image budget))
+  pub made : after ≡ Some (new_session_over guests bytes image budget)
   pub lent : AreBytesOf (slots_of guests) bytes
   pub accepted : IsAccepted (length image / 512) (slots_of guests) cache
   pub outlets : AreOutlets guests
@@ -47,18 +45,3 @@ pub record IsNotMadeOver (guests : List GuestSpec) (bytes : List (List ℕ)) (im
   pub why : SessionFault
   pub code_is : code ≡ fault_code why
   pub fault : (why ≡ SessionFault.NoMemory) ⊎ IsLentRefusedFor guests bytes image cache budget why
-
--- there is a new board of these guests, whose disks the host serves, over these bytes as their memories
-pub record IsHostedMadeOver (guests : List GuestSpec) (bytes : List (List ℕ)) (after : Held) : Type 0 where
-  pub made : after ≡ Some (Hosted (new_hosted_session_over guests bytes))
-  pub lent : AreBytesOf (slots_of guests) bytes
-  pub accepted : AreGoodHosted (slots_of guests)
-  pub outlets : AreOutlets guests
-
--- There is none, and the number is that of a fault of what was described, or of want of memory.
-pub record IsHostedNotMadeOver (guests : List GuestSpec) (bytes : List (List ℕ)) (code : ℕ)
-    (after : Held) : Type 0 where
-  pub none : after ≡ None
-  pub why : SessionFault
-  pub code_is : code ≡ fault_code why
-  pub fault : (why ≡ SessionFault.NoMemory) ⊎ IsHostedLentRefusedFor guests bytes why

@@ -1,8 +1,8 @@
 pub mod Handle
 pub mod Lending
 pub mod Codes
-pub mod OfImage
-pub mod Hosted
+pub mod Events
+pub mod Disk
 pub mod Kept
 pub mod Calls
 pub mod Create

@@ -3,11 +3,11 @@
 ghost use Rattle.std.specs.Prelude.{◌≡◌, ◌≢◌, ◌↔◌, IfOk, IsErr, IsErrOf, IsOk, IsTrue, Ok, OnErr};
 ghost use Rattle.board.specs.declared.saved.RestoreRefusal.{RestoreRefusal};
 ghost use Rattle.board.specs.declared.saved.SaveRefusal.{SaveRefusal};
-ghost use Rattle.board_ffi.specs.Codes.{board_code, code_by, fault_code, hosted_code, is_saving, memory_code, progress_code, refusal_code, restore_code, restore_fault_code, save_code, slot_fault_code, went_on_code};
+ghost use Rattle.board_ffi.specs.Codes.{board_code, code_by, fault_code, is_saving, memory_code, progress_code, refusal_code, restore_code, restore_fault_code, save_code, slot_fault_code, went_on_code};
 
 use session::{
-    BoardFault, CacheFault, HostedProgress, MemoryFault, Progress, Refusal, RestoreFault,
-    RestoreRefusal, SaveRefusal, SessionFault, SlotFault,
+    BoardFault, CacheFault, MemoryFault, Progress, Refusal, RestoreFault, RestoreRefusal,
+    SaveRefusal, SessionFault, SlotFault,
 };
 
 pub(crate) const DONE: u32 = 0;
@@ -108,7 +108,7 @@ pub(crate) fn told(answer: Result<u32, Refusal>, value: &mut u32) -> u32
     }
 }
 
-/// The number of a call whose service may pause.
+/// The number of a call whose service may pause, or ask the host for something.
 pub(crate) fn of_served(answer: Result<Progress, Refusal>) -> u32
     ensures { result ≡ went_on_code answer }
 {
@@ -118,24 +118,14 @@ pub(crate) fn of_served(answer: Result<Progress, Refusal>) -> u32
     }
 }
 
-/// The number of a call in which a disk may come to be asked for something.
-pub(crate) fn of_hosted_progress(answer: Result<HostedProgress, Refusal>) -> u32
-    ensures { result ≡ hosted_code answer }
-{
-    match answer {
-        Ok(HostedProgress::Done) => DONE,
-        Ok(HostedProgress::Asks) => IO,
-        Err(why) => of_refusal(why),
-    }
-}
-
-/// The number of a service that is done, or pauses.
+/// The number of a service that is done, pauses, or asks the host for something.
 pub(crate) fn of_progress(progress: Progress) -> u32
     ensures { result ≡ progress_code progress }
 {
     match progress {
         Progress::Done => DONE,
         Progress::More => MORE,
+        Progress::Asks => IO,
     }
 }
 

@@ -3,6 +3,7 @@
 ghost use Rattle.std.specs.Prelude.{◌≡◌, ◌≢◌, ◌⊎◌};
 ghost use Rattle.board_ffi.specs.Calls.{Calls, EventKind, IsMissing, MovesOutput, PausesBehind, Reply, Takes, Tells};
 
+use crate::answers::console;
 use crate::handle::{Handle, session_of};
 use crate::pending::Pending;
 
@@ -23,7 +24,7 @@ pub extern "C" fn kalyubos_input(
     ensures kept { result ≢ 0 → result ≢ 18 → took.new ≡ took.old }
     ensures pending { Tells slot board.new.session pending.old pending.new }
 {
-    session_of!(board).input(slot, bytes, took, pending)
+    console::input(session_of!(board), slot, bytes, took, pending)
 }
 
 /// Gives a guest's console another size, of which its driver is told, and tells what then waits.
@@ -39,7 +40,7 @@ pub extern "C" fn kalyubos_resize(
         (Takes slot (EventKind.Resize cols rows) result Reply.Done) }
     ensures pending { Tells slot board.new.session pending.old pending.new }
 {
-    session_of!(board).resize(slot, cols, rows, pending)
+    console::resize(session_of!(board), slot, cols, rows, pending)
 }
 
 /// Moves out the first bytes of what a guest's console put out, as many as find room, and tells how many
@@ -58,5 +59,5 @@ pub extern "C" fn kalyubos_take_output(
     ensures kept { result ≢ 0 → taken.new ≡ taken.old }
     ensures kept_into { result ≢ 0 → into.new ≡ into.old }
 {
-    session_of!(board).take_output(slot, into, taken)
+    console::take_output(session_of!(board), slot, into, taken)
 }

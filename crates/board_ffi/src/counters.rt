@@ -3,6 +3,7 @@
 ghost use Rattle.std.specs.Prelude.{◌≡◌, ◌≢◌};
 ghost use Rattle.board_ffi.specs.Calls.{Calls, HasCounters, IsMissing};
 
+use crate::answers::registers;
 use crate::handle::{Handle, session_of};
 use session::Counters;
 
@@ -15,5 +16,5 @@ pub extern "C" fn kalyubos_counters(board: &mut Handle, slot: u8, counters: &mut
         (IsMissing slot result) }
     ensures kept { result ≢ 0 → counters.new ≡ counters.old }
 {
-    session_of!(board).counters(slot, counters)
+    registers::counters(session_of!(board), slot, counters)
 }

@@ -2,22 +2,21 @@
 
 ghost use Rattle.std.specs.Prelude.{◌≡◌, ◌≢◌, ◌⊎◌, ◌/◌, [], All, Some, IfOk, IfErr, OnOk, IsErrAnd, length, map};
 ghost use Rattle.chain.specs.Budget.{IsSpent};
+ghost use Rattle.board.specs.declared.spec.Backing.{Backing};
 ghost use Rattle.board.specs.Fault.{IsAccepted};
 ghost use Rattle.board.specs.Lent.{AreBytesOf};
 ghost use Rattle.session.specs.declared.fault.SessionFault.{SessionFault};
 ghost use Rattle.session.specs.Refusing.{AreOutlets, IsLentRefusedFor};
 ghost use Rattle.session.specs.Session.{new_session_over, slots_of};
-ghost use Rattle.board_ffi.specs.declared.any_session.AnySession.{AnySession};
 ghost use Rattle.board_ffi.specs.Create.{AnswersEach, Creates, budget_of, guest_of};
 ghost use Rattle.board_ffi.specs.Lent.{IsMadeOver, IsNotMadeOver, TakesFront, TakesLoans, lent_bytes};
 
-use crate::any_session::AnySession;
 use crate::handle::Handle;
 use crate::loans::described;
 use crate::making::{boxed, budget, hold, judged_first};
 use crate::slot::Slot;
 use guest_bytes::Loan;
-use session::{Budget, Session, SessionFault};
+use session::{Backing, Budget, Session, SessionFault};
 use std::alloc::Global;
 
 /// Makes a board as `kalyubos_create` does, over bytes that the host lends: a loan for each region, slot by slot. Each loan
@@ -35,11 +34,11 @@ pub extern "C" fn kalyubos_create_lent(
     bytes: u64,
 ) -> u32
     ensures creates { Creates
-        (IsMadeOver (map guest_of slots.now) (lent_bytes loans.old) image.now cache (budget_of chains bytes))
-        (IsNotMadeOver (map guest_of slots.now) (lent_bytes loans.old) image.now cache (budget_of chains bytes))
+        (IsMadeOver (map (guest_of Backing.Image) slots.now) (lent_bytes loans.old) image.now cache (budget_of chains bytes))
+        (IsNotMadeOver (map (guest_of Backing.Image) slots.now) (lent_bytes loans.old) image.now cache (budget_of chains bytes))
         slots.now board.old.session board.new.session result }
     ensures exact { AnswersEach
-        (IsLentRefusedFor (map guest_of slots.now) (lent_bytes loans.old) image.now cache (budget_of chains bytes))
+        (IsLentRefusedFor (map (guest_of Backing.Image) slots.now) (lent_bytes loans.old) image.now cache (budget_of chains bytes))
         slots.now board.old.session result }
     ensures loans { TakesLoans loans.old loans.new board.old.session result }
 {
@@ -48,35 +47,44 @@ pub extern "C" fn kalyubos_create_lent(
     }
     hold(
         board,
-        session(alloc, slots, loans, image, cache, budget(chains, bytes)),
+        session(
+            alloc,
+            slots,
+            loans,
+            Backing::Image,
+            image,
+            cache,
+            budget(chains, bytes),
+        ),
     )
 }
 
-// A session of these slots over these loans.
+/// A session of these slots over these loans, whose disks are of the image or the host's.
 #[tactic(auto, using(crate::proofs::OneByOne::none_taken))]
-fn session(
+pub(crate) fn session(
     alloc: Global,
     slots: &[Slot],
     loans: &mut [Loan],
+    backing: Backing,
     image: &[u8],
     cache: u32,
     budget: Budget,
-) -> Result<Box<AnySession>, SessionFault>
+) -> Result<Box<Session>, SessionFault>
     requires { ¬ IsSpent budget }
     ensures made { IfOk result (λ session. session.value ≡
-        AnySession.OfImage (new_session_over (map guest_of slots.now) (lent_bytes loans.old) image.now budget)) }
-    ensures lent { OnOk result (AreBytesOf (slots_of (map guest_of slots.now)) (lent_bytes loans.old)) }
-    ensures accepted { OnOk result (IsAccepted (length image.now / 512) (slots_of (map guest_of slots.now)) cache) }
-    ensures outlets { OnOk result (AreOutlets (map guest_of slots.now)) }
+        new_session_over (map (guest_of backing) slots.now) (lent_bytes loans.old) image.now budget) }
+    ensures lent { OnOk result (AreBytesOf (slots_of (map (guest_of backing) slots.now)) (lent_bytes loans.old)) }
+    ensures accepted { OnOk result (IsAccepted (length image.now / 512) (slots_of (map (guest_of backing) slots.now)) cache) }
+    ensures outlets { OnOk result (AreOutlets (map (guest_of backing) slots.now)) }
     ensures fault { IfErr result (λ why. (why ≡ SessionFault.NoMemory) ⊎
-        IsLentRefusedFor (map guest_of slots.now) (lent_bytes loans.old) image.now cache budget why) }
+        IsLentRefusedFor (map (guest_of backing) slots.now) (lent_bytes loans.old) image.now cache budget why) }
     ensures exact { (why : SessionFault) → why ≢ SessionFault.NoMemory →
-        IsLentRefusedFor (map guest_of slots.now) (lent_bytes loans.old) image.now cache budget why →
+        IsLentRefusedFor (map (guest_of backing) slots.now) (lent_bytes loans.old) image.now cache budget why →
         IsErrAnd result (λ told. (told ≡ why) ⊎ (told ≡ SessionFault.NoMemory)) }
     ensures left { OnOk result (All (λ loan. loan.items ≡ []) loans.new) }
     ensures front { TakesFront loans.old loans.new }
 {
-    let (guests, bytes) = described(alloc, slots, loans)?;
+    let (guests, bytes) = described(alloc, slots, loans, backing)?;
     let session = Session::over_lent(alloc, &guests, bytes, image, cache, budget)?;
-    boxed(alloc, AnySession::OfImage(session))
+    boxed(alloc, session)
 }

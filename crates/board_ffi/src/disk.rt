@@ -3,6 +3,7 @@
 ghost use Rattle.std.specs.Prelude.{◌≡◌, ◌≢◌};
 ghost use Rattle.board_ffi.specs.Calls.{Calls, Completes, IsAskedFor, IsAtRest, Tells};
 
+use crate::answers::disk;
 use crate::handle::{Handle, session_of};
 use crate::operation::{Operation, Run};
 use crate::pending::Pending;
@@ -20,7 +21,7 @@ pub extern "C" fn kalyubos_operation(
     ensures rests { result ≢ 0 → Calls board.old.session board.new.session result (IsAtRest slot result) }
     ensures kept { result ≢ 0 → (operation.new ≡ operation.old) × (runs.new ≡ runs.old) }
 {
-    session_of!(board).operation(slot, operation, runs)
+    disk::operation(session_of!(board), slot, operation, runs)
 }
 
 /// Completes what is in flight of a guest, which was done or failed, and tells what then waits.
@@ -34,5 +35,5 @@ pub extern "C" fn kalyubos_completed(
     ensures step { Calls board.old.session board.new.session result (Completes slot failed result) }
     ensures pending { Tells slot board.new.session pending.old pending.new }
 {
-    session_of!(board).completed(slot, failed, pending)
+    disk::completed(session_of!(board), slot, failed, pending)
 }

@@ -9,8 +9,8 @@ ghost use Rattle.board_ffi.specs.Handle.{Held, held, held_coded};
 
 pub(crate) mod parts;
 
-use crate::any_session::AnySession;
 use parts::Parts;
+use session::Session;
 use std::alloc::Global;
 use std::marker::Model;
 
@@ -43,7 +43,7 @@ impl Handle {
 
     /// The session, if there is one.
     #[inline]
-    pub(crate) fn session(&mut self) -> Option<&mut AnySession>
+    pub(crate) fn session(&mut self) -> Option<&mut Session>
         ensures* lends { sem 𝓛 (LendsSession self.entry result) }
         ensures there { MatchOption result (self.old.session ≡ None)
             (λ lent. self.old.session ≡ Some lent.now) }
@@ -51,11 +51,11 @@ impl Handle {
         if std::ptr::eq(self.at, std::ptr::null_mut()) {
             return None;
         }
-        Some(unsafe { &mut *(self.at as *mut AnySession) })
+        Some(unsafe { &mut *(self.at as *mut Session) })
     }
 
     /// Holds this session from now on.
-    pub(crate) fn put(&mut self, session: Box<AnySession>)
+    pub(crate) fn put(&mut self, session: Box<Session>)
         ensures { self.new.session ≡ Some session.value }
     {
         *self = Handle::of_parts(Parts::of(session));
@@ -71,7 +71,7 @@ impl Handle {
         }
     }
 
-    fn of_parts(parts: Parts<AnySession, Global>) -> Handle
+    fn of_parts(parts: Parts<Session, Global>) -> Handle
         ensures { result.session ≡ Some parts.value }
     {
         let Parts { ptr, alloc } = parts;
@@ -81,7 +81,7 @@ impl Handle {
         }
     }
 
-    fn into_parts(self) -> Option<Parts<AnySession, Global>>
+    fn into_parts(self) -> Option<Parts<Session, Global>>
         ensures { MatchOption result (self.session ≡ None)
             (λ parts. self.session ≡ Some parts.value) }
     {
@@ -90,7 +90,7 @@ impl Handle {
             return None;
         }
         Some(Parts {
-            ptr: at as *mut AnySession,
+            ptr: at as *mut Session,
             alloc,
         })
     }

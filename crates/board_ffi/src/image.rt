@@ -3,6 +3,7 @@
 ghost use Rattle.std.specs.Prelude.{◌≡◌, ◌≢◌, length};
 ghost use Rattle.board_ffi.specs.Calls.{Calls, CopiesImage, HasImage, IsOutside};
 
+use crate::answers::image;
 use crate::handle::{Handle, session_of};
 
 /// Lends the image in place: where its first byte lies, and how many there are.
@@ -11,7 +12,7 @@ pub extern "C" fn kalyubos_image(board: &mut Handle, bytes: &mut *const u8, len:
     ensures told { Calls board.old.session board.new.session result (HasImage result len.new) }
     ensures kept { result ≢ 0 → (bytes.new ≡ bytes.old) × (len.new ≡ len.old) }
 {
-    session_of!(board).lend_image(bytes, len)
+    image::lend_image(session_of!(board), bytes, len)
 }
 
 /// The image's length in bytes.
@@ -20,7 +21,7 @@ pub extern "C" fn kalyubos_image_len(board: &mut Handle, len: &mut usize) -> u32
     ensures told { Calls board.old.session board.new.session result (HasImage result len.new) }
     ensures kept { result ≢ 0 → len.new ≡ len.old }
 {
-    session_of!(board).image_len(len)
+    image::image_len(session_of!(board), len)
 }
 
 /// Copies bytes out of the image, from byte `start` on.
@@ -32,5 +33,5 @@ pub extern "C" fn kalyubos_read_image(board: &mut Handle, start: usize, into: &m
         (IsOutside start (length into.old) result) }
     ensures kept { result ≢ 0 → into.new ≡ into.old }
 {
-    session_of!(board).read_image(start, into)
+    image::read_image(session_of!(board), start, into)
 }

@@ -2,7 +2,8 @@
 
 ghost use Rattle.std.specs.Prelude.{◌≡◌, ◌≢◌, ◌↔◌, ◌⊎◌, ℕ, IfErr, IfOk, IsErrOf, OnOk, map};
 ghost use Rattle.board.specs.declared.fault.BoardFault.{BoardFault};
-ghost use Rattle.board.specs.Fault.{AreGood, AreGoodHosted, Refuses, RefusesHosted};
+ghost use Rattle.board.specs.declared.spec.Backing.{Backing};
+ghost use Rattle.board.specs.Fault.{AreGood, Refuses};
 ghost use Rattle.session.specs.Refusing.{AreOutlets};
 ghost use Rattle.session.specs.Session.{slots_of};
 ghost use Rattle.board_ffi.specs.Codes.{board_code};
@@ -11,7 +12,7 @@ ghost use Rattle.board_ffi.specs.Judging.{IsJudged, first_of_large_outlet, first
 
 use crate::codes::{BAD_OUTLET, BAD_SIZE, DONE, NO_MEMORY, of_board_fault};
 use crate::slot::{Slot, are_outlets, are_sized, guests, sized, with_outlets};
-use board::{BoardFault, SlotFault, SlotSpec, check_hosted_slots, check_slots};
+use board::{Backing, BoardFault, SlotFault, SlotSpec, check_slots};
 use guest_memory::MemoryFault;
 use std::alloc::{AllocError, Global};
 
@@ -25,27 +26,20 @@ pub extern "C" fn kalyubos_judge(
     slot: &mut usize,
     region: &mut usize,
 ) -> u32
-    ensures good { result ≡ 0 → AreSized slots.now × AreOutlets (map guest_of slots.now)
-        × AreGood sectors (slots_of (map guest_of slots.now)) }
+    ensures good { result ≡ 0 → AreSized slots.now × AreOutlets (map (guest_of Backing.Image) slots.now)
+        × AreGood sectors (slots_of (map (guest_of Backing.Image) slots.now)) }
     ensures size { (result ≡ 17) ↔ ¬ AreSized slots.now }
     ensures place_of_size { result ≡ 17 → (slot.new ≡ first_of_other_size slots.now) × (region.new ≡ region.old) }
-    ensures outlet { AreSized slots.now → ((result ≡ 16) ↔ ¬ AreOutlets (map guest_of slots.now)) }
+    ensures outlet { AreSized slots.now → ((result ≡ 16) ↔ ¬ AreOutlets (map (guest_of Backing.Image) slots.now)) }
     ensures place_of_outlet { result ≡ 16 → (slot.new ≡ first_of_large_outlet slots.now) × (region.new ≡ region.old) }
-    ensures fault { AreSized slots.now → AreOutlets (map guest_of slots.now) → result ≢ 0 → result ≢ 5 →
-        IsJudged (λ fault. (cache : ℕ) → Refuses sectors (slots_of (map guest_of slots.now)) cache fault)
+    ensures fault { AreSized slots.now → AreOutlets (map (guest_of Backing.Image) slots.now) → result ≢ 0 → result ≢ 5 →
+        IsJudged (λ fault. (cache : ℕ) → Refuses sectors (slots_of (map (guest_of Backing.Image) slots.now)) cache fault)
         result slot.old slot.new region.old region.new }
-    ensures memory { result ≡ 5 → AreSized slots.now × AreOutlets (map guest_of slots.now)
+    ensures memory { result ≡ 5 → AreSized slots.now × AreOutlets (map (guest_of Backing.Image) slots.now)
         × (slot.new ≡ slot.old) × (region.new ≡ region.old) }
     ensures kept { result ≡ 0 → (slot.new ≡ slot.old) × (region.new ≡ region.old) }
 {
-    let specs = match described(alloc, slots, slot) {
-        Ok(specs) => specs,
-        Err(number) => return number,
-    };
-    match check_slots(&specs, sectors) {
-        Ok(()) => DONE,
-        Err(fault) => told(fault, slot, region),
-    }
+    judged(alloc, slots, Backing::Image, sectors, slot, region)
 }
 
 /// Judges slots as `kalyubos_create_hosted` does.
@@ -56,40 +50,70 @@ pub extern "C" fn kalyubos_judge_hosted(
     slot: &mut usize,
     region: &mut usize,
 ) -> u32
-    ensures good { result ≡ 0 → AreSized slots.now × AreOutlets (map guest_of slots.now)
-        × AreGoodHosted (slots_of (map guest_of slots.now)) }
+    ensures good { result ≡ 0 → AreSized slots.now × AreOutlets (map (guest_of Backing.Host) slots.now)
+        × AreGood 0 (slots_of (map (guest_of Backing.Host) slots.now)) }
     ensures size { (result ≡ 17) ↔ ¬ AreSized slots.now }
     ensures place_of_size { result ≡ 17 → (slot.new ≡ first_of_other_size slots.now) × (region.new ≡ region.old) }
-    ensures outlet { AreSized slots.now → ((result ≡ 16) ↔ ¬ AreOutlets (map guest_of slots.now)) }
+    ensures outlet { AreSized slots.now → ((result ≡ 16) ↔ ¬ AreOutlets (map (guest_of Backing.Host) slots.now)) }
     ensures place_of_outlet { result ≡ 16 → (slot.new ≡ first_of_large_outlet slots.now) × (region.new ≡ region.old) }
-    ensures fault { AreSized slots.now → AreOutlets (map guest_of slots.now) → result ≢ 0 → result ≢ 5 →
-        IsJudged (RefusesHosted (slots_of (map guest_of slots.now)))
+    ensures fault { AreSized slots.now → AreOutlets (map (guest_of Backing.Host) slots.now) → result ≢ 0 → result ≢ 5 →
+        IsJudged (λ fault. (cache : ℕ) → Refuses 0 (slots_of (map (guest_of Backing.Host) slots.now)) cache fault)
         result slot.old slot.new region.old region.new }
-    ensures memory { result ≡ 5 → AreSized slots.now × AreOutlets (map guest_of slots.now)
+    ensures memory { result ≡ 5 → AreSized slots.now × AreOutlets (map (guest_of Backing.Host) slots.now)
         × (slot.new ≡ slot.old) × (region.new ≡ region.old) }
     ensures kept { result ≡ 0 → (slot.new ≡ slot.old) × (region.new ≡ region.old) }
 {
-    let specs = match described(alloc, slots, slot) {
+    judged(alloc, slots, Backing::Host, 0, slot, region)
+}
+
+// Judges slots whose disks are of the image, of so many sectors, or the host's.
+fn judged(
+    alloc: Global,
+    slots: &[Slot],
+    backing: Backing,
+    sectors: u64,
+    slot: &mut usize,
+    region: &mut usize,
+) -> u32
+    ensures good { result ≡ 0 → AreSized slots.now × AreOutlets (map (guest_of backing) slots.now)
+        × AreGood sectors (slots_of (map (guest_of backing) slots.now)) }
+    ensures size { (result ≡ 17) ↔ ¬ AreSized slots.now }
+    ensures place_of_size { result ≡ 17 → (slot.new ≡ first_of_other_size slots.now) × (region.new ≡ region.old) }
+    ensures outlet { AreSized slots.now → ((result ≡ 16) ↔ ¬ AreOutlets (map (guest_of backing) slots.now)) }
+    ensures place_of_outlet { result ≡ 16 → (slot.new ≡ first_of_large_outlet slots.now) × (region.new ≡ region.old) }
+    ensures fault { AreSized slots.now → AreOutlets (map (guest_of backing) slots.now) → result ≢ 0 → result ≢ 5 →
+        IsJudged (λ fault. (cache : ℕ) → Refuses sectors (slots_of (map (guest_of backing) slots.now)) cache fault)
+        result slot.old slot.new region.old region.new }
+    ensures memory { result ≡ 5 → AreSized slots.now × AreOutlets (map (guest_of backing) slots.now)
+        × (slot.new ≡ slot.old) × (region.new ≡ region.old) }
+    ensures kept { result ≡ 0 → (slot.new ≡ slot.old) × (region.new ≡ region.old) }
+{
+    let specs = match described(alloc, slots, backing, slot) {
         Ok(specs) => specs,
         Err(number) => return number,
     };
-    match check_hosted_slots(&specs) {
+    match check_slots(&specs, sectors) {
         Ok(()) => DONE,
         Err(fault) => told(fault, slot, region),
     }
 }
 
 // The slots of the board that C describes, or the number of what is judged before them, and the slot that it is about.
-fn described(alloc: Global, slots: &[Slot], slot: &mut usize) -> Result<Vec<SlotSpec>, u32>
-    ensures specs { IfOk result (λ specs. specs.items ≡ slots_of (map guest_of slots.now)) }
+fn described(
+    alloc: Global,
+    slots: &[Slot],
+    backing: Backing,
+    slot: &mut usize,
+) -> Result<Vec<SlotSpec>, u32>
+    ensures specs { IfOk result (λ specs. specs.items ≡ slots_of (map (guest_of backing) slots.now)) }
     ensures sized { OnOk result (AreSized slots.now) }
-    ensures outlets { OnOk result (AreOutlets (map guest_of slots.now)) }
+    ensures outlets { OnOk result (AreOutlets (map (guest_of backing) slots.now)) }
     ensures number { IfErr result (λ number. (number ≡ 5) ⊎ (number ≡ 16) ⊎ (number ≡ 17)) }
     ensures bad_size { IsErrOf result 17 ↔ ¬ AreSized slots.now }
-    ensures bad_outlet { AreSized slots.now → (IsErrOf result 16 ↔ ¬ AreOutlets (map guest_of slots.now)) }
+    ensures bad_outlet { AreSized slots.now → (IsErrOf result 16 ↔ ¬ AreOutlets (map (guest_of backing) slots.now)) }
     ensures place_of_size { IsErrOf result 17 → slot.new ≡ first_of_other_size slots.now }
     ensures place_of_outlet { IsErrOf result 16 → slot.new ≡ first_of_large_outlet slots.now }
-    ensures memory { IsErrOf result 5 → AreSized slots.now × AreOutlets (map guest_of slots.now) × (slot.new ≡ slot.old) }
+    ensures memory { IsErrOf result 5 → AreSized slots.now × AreOutlets (map (guest_of backing) slots.now) × (slot.new ≡ slot.old) }
     ensures kept { OnOk result (slot.new ≡ slot.old) }
 {
     if !are_sized(slots) {
@@ -100,17 +124,17 @@ fn described(alloc: Global, slots: &[Slot], slot: &mut usize) -> Result<Vec<Slot
         *slot = with_outlets(slots);
         return Err(BAD_OUTLET);
     }
-    match specs(alloc, slots) {
+    match specs(alloc, slots, backing) {
         Ok(specs) => Ok(specs),
         Err(AllocError) => Err(NO_MEMORY),
     }
 }
 
 // The slots of the board that C describes.
-fn specs(alloc: Global, slots: &[Slot]) -> Result<Vec<SlotSpec>, AllocError>
-    ensures { IfOk result (λ specs. specs.items ≡ slots_of (map guest_of slots.now)) }
+fn specs(alloc: Global, slots: &[Slot], backing: Backing) -> Result<Vec<SlotSpec>, AllocError>
+    ensures { IfOk result (λ specs. specs.items ≡ slots_of (map (guest_of backing) slots.now)) }
 {
-    let guests = guests(alloc, slots)?;
+    let guests = guests(alloc, slots, backing)?;
     guests.iter().map(|guest| guest.slot).collect(alloc)
 }
 

@@ -8,24 +8,25 @@ ghost use Rattle.board_ffi.specs.Lent.{TakesFront, lent_bytes};
 
 use crate::slot::{Slot, guests};
 use guest_bytes::Loan;
-use session::{GuestSpec, SessionFault};
+use session::{Backing, GuestSpec, SessionFault};
 use std::alloc::{AllocError, Global};
 use std_alloc::vec::Lodged;
 
-/// The guests of these slots, and the bytes of all loans.
+/// The guests of these slots, whose disks are of the image or the host's, and the bytes of all loans.
 #[tactic(auto, using(crate::proofs::OneByOne::none_taken))]
 pub(crate) fn described(
     alloc: Global,
     slots: &[Slot],
     loans: &mut [Loan],
+    backing: Backing,
 ) -> Result<(Vec<GuestSpec>, Vec<Vec<u8, Lodged>>), SessionFault>
-    ensures guests { IfOk result (λ found. found.0.items ≡ map guest_of slots.now) }
+    ensures guests { IfOk result (λ found. found.0.items ≡ map (guest_of backing) slots.now) }
     ensures taken { IfOk result (λ found. map vec_items found.1.items ≡ lent_bytes loans.old) }
     ensures left { OnOk result (All (λ loan. loan.items ≡ []) loans.new) }
     ensures front { TakesFront loans.old loans.new }
     ensures fault { IfErr result (λ why. why ≡ SessionFault.NoMemory) }
 {
-    let Ok(guests) = guests(alloc, slots) else {
+    let Ok(guests) = guests(alloc, slots, backing) else {
         return Err(SessionFault::NoMemory);
     };
     let Ok(bytes) = taken(alloc, loans) else {

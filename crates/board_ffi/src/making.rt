@@ -6,11 +6,10 @@ ghost use Rattle.session.specs.declared.fault.SessionFault.{SessionFault};
 ghost use Rattle.board_ffi.specs.Codes.{fault_code};
 ghost use Rattle.board_ffi.specs.Create.{AreSized, budget_of};
 
-use crate::any_session::AnySession;
 use crate::codes::{BAD_SIZE, DONE, HAS_BOARD, of_fault};
 use crate::handle::Handle;
 use crate::slot::{Slot, are_sized};
-use session::{Budget, SessionFault};
+use session::{Budget, Session, SessionFault};
 use std::alloc::Global;
 
 /// What is judged before all that is described: a board that the handle holds, and the slots' sizes. The number of what
@@ -32,7 +31,7 @@ pub(crate) fn judged_first(board: &mut Handle, slots: &[Slot]) -> Option<u32>
 }
 
 /// Holds the session that was made, or tells why there is none.
-pub(crate) fn hold(board: &mut Handle, made: Result<Box<AnySession>, SessionFault>) -> u32
+pub(crate) fn hold(board: &mut Handle, made: Result<Box<Session>, SessionFault>) -> u32
     ensures made { IfOk made (λ session. (result ≡ 0) × (board.new.session ≡ Some session.value)) }
     ensures refused { IfErr made (λ why. (result ≡ fault_code why) × (board.new.session ≡ board.old.session)) }
 {
@@ -46,7 +45,7 @@ pub(crate) fn hold(board: &mut Handle, made: Result<Box<AnySession>, SessionFaul
 }
 
 /// The session in a box.
-pub(crate) fn boxed(alloc: Global, session: AnySession) -> Result<Box<AnySession>, SessionFault>
+pub(crate) fn boxed(alloc: Global, session: Session) -> Result<Box<Session>, SessionFault>
     ensures made { IfOk result (λ made. made.value ≡ session) }
     ensures fault { IfErr result (λ why. why ≡ SessionFault.NoMemory) }
 {

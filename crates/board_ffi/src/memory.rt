@@ -3,6 +3,7 @@
 ghost use Rattle.std.specs.Prelude.{◌≡◌, ◌≢◌, length};
 ghost use Rattle.board_ffi.specs.Calls.{Calls, EventKind, HasMemory, HasNoRegion, IsBusy, IsMissing, Reply, Takes};
 
+use crate::answers::memory;
 use crate::handle::{Handle, session_of};
 
 /// Copies bytes out of a guest's memory, from address `addr` on.
@@ -17,7 +18,7 @@ pub extern "C" fn kalyubos_read_memory(
         (Takes slot (EventKind.MemRead addr (length into.old)) result (Reply.Bytes into.new)) }
     ensures kept { result ≢ 0 → into.new ≡ into.old }
 {
-    session_of!(board).read_memory(slot, addr, into)
+    memory::read_memory(session_of!(board), slot, addr, into)
 }
 
 /// Copies bytes into a guest's memory, from address `addr` on.
@@ -26,7 +27,7 @@ pub extern "C" fn kalyubos_write_memory(board: &mut Handle, slot: u8, addr: u64,
     ensures step { Calls board.old.session board.new.session result
         (Takes slot (EventKind.MemWrite addr from.now) result Reply.Done) }
 {
-    session_of!(board).write_memory(slot, addr, from)
+    memory::write_memory(session_of!(board), slot, addr, from)
 }
 
 /// Lends a guest's memory in place: where the byte of address `addr` lies, and how many bytes there are from it to the end of
@@ -47,5 +48,5 @@ pub extern "C" fn kalyubos_memory(
     ensures busy { result ≡ 19 → Calls board.old.session board.new.session result (IsBusy slot result) }
     ensures kept { result ≢ 0 → (bytes.new ≡ bytes.old) × (len.new ≡ len.old) }
 {
-    session_of!(board).lend(slot, addr, bytes, len)
+    memory::lend(session_of!(board), slot, addr, bytes, len)
 }

@@ -1,7 +1,7 @@
 //! What a disk is asked for, as C has it.
 
 ghost use Rattle.std.specs.Prelude.{◌≡◌, ◌≤◌, length};
-ghost use Rattle.board_ffi.specs.Hosted.{kind_code, told_operation, told_run, told_runs};
+ghost use Rattle.board_ffi.specs.Disk.{kind_code, told_operation, told_run, told_runs};
 
 use session::{OperationKind, Segment};
 

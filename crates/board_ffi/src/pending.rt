@@ -3,8 +3,7 @@
 ghost use Rattle.std.specs.Prelude.{◌≡◌, IfNone, IfSome};
 ghost use Rattle.board_ffi.specs.Calls.{TellsOf, pending_by};
 
-use crate::any_session::AnySession;
-use session::Waits;
+use session::{Session, Waits};
 
 /// Both interrupt words of a slot, and how many bytes of its console's output wait to be taken.
 #[derive(Clone, Copy, Debug, PartialEq, Eq)]
@@ -20,17 +19,10 @@ pub struct Pending {
 
 impl Pending {
     /// Tells what waits for a slot; of one that isn't there nothing is told.
-    pub(crate) fn tell(&mut self, session: &AnySession, slot: u8)
+    pub(crate) fn tell(&mut self, session: &Session, slot: u8)
         ensures { TellsOf slot session.now self.old self.new }
     {
-        match session {
-            AnySession::OfImage(session) => {
-                self.tell_of(session.interrupts(slot), session.output_len(slot));
-            }
-            AnySession::Hosted(session) => {
-                self.tell_of(session.interrupts(slot), session.output_len(slot));
-            }
-        }
+        self.tell_of(session.interrupts(slot), session.output_len(slot));
     }
 
     /// Tells what a call of a slot told.

@@ -3,6 +3,7 @@
 ghost use Rattle.std.specs.Prelude.{◌≡◌, ◌≢◌, MatchOption};
 ghost use Rattle.board_ffi.specs.Calls.{AtWindow, Calls, EventKind, GoesOn, HasWords, IsMissing, IsUndisturbed, Reply, Takes, Tells, Writes, window_of};
 
+use crate::answers::registers;
 use crate::codes::BAD_WINDOW;
 use crate::handle::{Handle, session_of};
 use crate::pending::Pending;
@@ -25,7 +26,7 @@ pub extern "C" fn kalyubos_read(
     let Some(window) = window_numbered(window) else {
         return BAD_WINDOW;
     };
-    session_of!(board).read(slot, window, offset, width, value)
+    registers::read(session_of!(board), slot, window, offset, width, value)
 }
 
 /// A guest's write of a register. What it notifies is served within the budget, and what then waits is told.
@@ -47,7 +48,15 @@ pub extern "C" fn kalyubos_write(
     let Some(window) = window_numbered(window) else {
         return BAD_WINDOW;
     };
-    session_of!(board).write(slot, window, offset, width, value, pending)
+    registers::write(
+        session_of!(board),
+        slot,
+        window,
+        offset,
+        width,
+        value,
+        pending,
+    )
 }
 
 /// Goes on with a guest's service that is paused, and tells what then waits.
@@ -56,7 +65,7 @@ pub extern "C" fn kalyubos_go_on(board: &mut Handle, slot: u8, pending: &mut Pen
     ensures step { Calls board.old.session board.new.session result (GoesOn slot result) }
     ensures pending { Tells slot board.new.session pending.old pending.new }
 {
-    session_of!(board).go_on(slot, pending)
+    registers::go_on(session_of!(board), slot, pending)
 }
 
 // The window of a number.
@@ -84,7 +93,7 @@ pub extern "C" fn kalyubos_interrupts(
         (IsMissing slot result) }
     ensures kept { result ≢ 0 → (block.new ≡ block.old) × (console.new ≡ console.old) }
 {
-    session_of!(board).interrupts(slot, block, console)
+    registers::interrupts(session_of!(board), slot, block, console)
 }
 
 /// Tells whether a call of the image failed for a guest: none does, of an image in memory, or where there is none.
@@ -96,5 +105,5 @@ pub extern "C" fn kalyubos_disturbed(board: &mut Handle, slot: u8, disturbed: &m
         (IsMissing slot result) }
     ensures kept { result ≢ 0 → disturbed.new ≡ disturbed.old }
 {
-    session_of!(board).disturbed(slot, disturbed)
+    registers::disturbed(session_of!(board), slot, disturbed)
 }

@@ -3,6 +3,7 @@
 ghost use Rattle.std.specs.Prelude.{◌≡◌, ◌≢◌};
 ghost use Rattle.board_ffi.specs.Calls.{Calls, HasSavedLen, Restores, Saves, Tells};
 
+use crate::answers::saved;
 use crate::handle::{Handle, session_of};
 use crate::pending::Pending;
 
@@ -12,7 +13,7 @@ pub extern "C" fn kalyubos_saved_len(board: &mut Handle, slot: u8, len: &mut usi
     ensures told { Calls board.old.session board.new.session result (HasSavedLen slot result len.new) }
     ensures kept { result ≢ 0 → len.new ≡ len.old }
 {
-    session_of!(board).saved_len(slot, len)
+    saved::saved_len(session_of!(board), slot, len)
 }
 
 /// Writes the snapshot of a guest to the front of a buffer, and tells how many bytes it has.
@@ -27,7 +28,7 @@ pub extern "C" fn kalyubos_save(
         (Saves slot result into.old into.new written.new) }
     ensures kept { result ≢ 0 → (into.new ≡ into.old) × (written.new ≡ written.old) }
 {
-    session_of!(board).save(slot, into, written)
+    saved::save(session_of!(board), slot, into, written)
 }
 
 /// Puts the devices of a guest into the state of a snapshot, and tells what then waits.
@@ -43,7 +44,7 @@ pub extern "C" fn kalyubos_restore(
     ensures pending { Tells slot board.new.session pending.old pending.new }
 {
     let session = session_of!(board);
-    let answer = session.restore(slot, from);
+    let answer = saved::restore(session, slot, from);
     pending.tell(session, slot);
     answer
 }

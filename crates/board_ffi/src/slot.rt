@@ -1,13 +1,14 @@
 //! A slot of a board, as C describes it.
 
 ghost use Rattle.std.specs.Prelude.{◌≡◌, ◌↔◌, ◌≤◌, All, IsTrue, IfOk, map};
+ghost use Rattle.board.specs.declared.spec.Backing.{Backing};
 ghost use Rattle.session.specs.Refusing.{AreOutlets};
 ghost use Rattle.board_ffi.specs.Judging.{first_of_large_outlet, first_of_other_size};
 ghost use Rattle.board_ffi.specs.Create.{AreSized, guest_of};
 
 use crate::region::regions;
 use guest_memory::{MOST_REGIONS, RegionSpec};
-use session::{Extent, GuestSpec, SlotSpec};
+use session::{Backing, Extent, GuestSpec, SlotSpec};
 use std::alloc::{AllocError, Global};
 
 /// How many bytes of a console's output may wait at most.
@@ -34,9 +35,9 @@ pub struct Slot {
 }
 
 impl Slot {
-    // Its guest.
-    fn guest(&self) -> GuestSpec
-        ensures { result ≡ guest_of self.now }
+    // Its guest, whose disk is of the image or the host's.
+    fn guest(&self, backing: Backing) -> GuestSpec
+        ensures { result ≡ guest_of backing self.now }
     {
         let slot = SlotSpec {
             regions: regions(&self.regions),
@@ -44,6 +45,7 @@ impl Slot {
                 start: self.start,
                 count: self.count,
             },
+            backing,
             read_only: self.read_only,
             cols: self.cols,
             rows: self.rows,
@@ -65,7 +67,7 @@ pub(crate) fn are_sized(slots: &[Slot]) -> bool
 
 /// Whether no slot's outlet is larger than it may be.
 pub(crate) fn are_outlets(slots: &[Slot]) -> bool
-    ensures { IsTrue result ↔ AreOutlets (map guest_of slots.now) }
+    ensures { (backing : Backing) → IsTrue result ↔ AreOutlets (map (guest_of backing) slots.now) }
 {
     no_slot_passes(slots, MOST_WAITING)
 }
@@ -97,9 +99,13 @@ pub(crate) fn with_outlets(slots: &[Slot]) -> usize
         .count()
 }
 
-/// The guests of these slots.
-pub(crate) fn guests(alloc: Global, slots: &[Slot]) -> Result<Vec<GuestSpec>, AllocError>
-    ensures { IfOk result (λ guests. guests.items ≡ map guest_of slots.now) }
+/// The guests of these slots, whose disks are of the image or the host's.
+pub(crate) fn guests(
+    alloc: Global,
+    slots: &[Slot],
+    backing: Backing,
+) -> Result<Vec<GuestSpec>, AllocError>
+    ensures { IfOk result (λ guests. guests.items ≡ map (guest_of backing) slots.now) }
 {
-    slots.iter().map(|slot| slot.guest()).collect(alloc)
+    slots.iter().map(|slot| slot.guest(backing)).collect(alloc)
 }

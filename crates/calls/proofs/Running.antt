@@ -14,12 +14,11 @@ pub ran_more : {A : Type 0} (disks : Disks) (slots : List SlotSpec) (events : Li
     (before after : Disk) (Old New : List ℕ → Type 0) → ((text : List ℕ) → Old text → New text)
     → RanBy disks slots events before after Old → RanBy disks slots events before after New
 ran_more (Cached capacity) slots events before after Old New so run =
-    record { records = run.records; ran = run.ran; output = so _ run.output }
+    record { told = run.told; ran = run.ran; output = so _ run.output }
 ran_more Hosted slots events before after Old New so run = record {
-  moves = run.moves;
-  last = run.last;
-  line = run.line;
-  calls = run.calls;
+  told = run.told;
+  left = run.left;
+  ran = run.ran;
   image = run.image;
   output = so _ run.output;
 }

@@ -74,7 +74,7 @@ static uint32_t create(const struct kalyubos_slot *slots, const struct setup *se
 
 static void take_image(void)
 {
-    if (!hosted)
+    if (!hosted && image_len > 0)
         must(kalyubos_read_image(&board, 0, image, image_len));
 }
 

@@ -1,38 +1,48 @@
 -- What a board answers to an event, and its record.
-use Rattle.std.proofs.Common.{◌≡◌, ℕ, ◌<◌, true, false, List, [], ◌∷◌, Option, None, Some, length, map, refl, sym, ap, subst, ◌∙◌, append-nil, arith, inl, inr, ◌↔◌, IsTrue}
+use Rattle.std.proofs.Common.{◌≡◌, ℕ, ◌<◌, Bool, true, false, List, [], ◌∷◌, ◌++◌, Option, None, Some, length, map, refl, sym, ap, subst, ◌∙◌, append-nil, arith, inl, inr, ◌↔◌, IsTrue}
 use Rattle.std.proofs.Math.Seq.{map-set}
 use Rattle.std.proofs.lemmas.Bool.{cases_Bool}
 use Rattle.std.proofs.lemmas.Option.{slice_get_cases, slice_get-map}
 use Rattle.std.specs.List.{slice_get}
-use Rattle.std.specs.Option.{option_map}
-use Rattle.std.specs.Prelude.{IsSomeAnd, MatchOption, slice_set}
+use Rattle.std.specs.Option.{option_and_then, option_map}
+use Rattle.std.specs.Prelude.{IsSomeAnd, MatchOption, if◌then◌else◌, is_none, is_some, slice_set}
 use Rattle.guest_memory.specs.Memory.{Inside, Memory, is_inside, put}
 use Rattle.guest_memory.proofs.Ranges.{is_inside-tells}
 use Rattle.mmio_window.specs.declared.device_kind.DeviceKind.{DeviceKind}
 use Rattle.sector_cache.specs.Disk.{Disk}
+use Rattle.chain.specs.declared.segment.Segment.{Segment}
+use Rattle.block_device.specs.declared.operation.Operation.{Operation}
+use Rattle.block_device.specs.declared.operation.Verdict.{Verdict}
 use Rattle.board.specs.declared.event.Event.{Event}
+use Rattle.board.specs.declared.event.EventKind.{EventKind}
 use Rattle.board.specs.declared.event.EventKind.TheVariants.{MemRead, MemWrite, Read}
 use Rattle.board.specs.declared.reply.Reply.{Reply}
 use Rattle.board.specs.declared.reply.Reply.TheVariants.{BadRange, BadSlot, Bytes, Done, Value}
 use Rattle.board.specs.declared.reply.Record.{Record}
-use Rattle.board.specs.Image.{Tells, bytes_of, health_of}
-use Rattle.board.specs.Line.{IsRun}
+use Rattle.board.specs.Backing.{HostDisk, InFlight, flight_in, operation_in}
+use Rattle.board.specs.Hosting.{has_part, must_wait, notifies_block, verdict_in}
+use Rattle.board.specs.Image.{Health, Tells, bytes_of, health_of}
+use Rattle.board.specs.Line.{Move}
 use Rattle.board.specs.Machine.{block_irq, console_irq, record_of, register}
-use Rattle.board.specs.Outcome.{replies}
+use Rattle.board.specs.Outcome.{Outcome, replies}
 use Rattle.board.specs.Slot.{BoardSlot, SlotState, state_of}
-use Rattle.board.specs.World.{Answers, BoardState, Handles, MayGive, MissingStep, SlotStep, World, disturbed_of, extents_of, lacks_memory, seen, world_of}
-use Rattle.board.proofs.Blocks.{read_given}
-use Rattle.board.proofs.Runs.{answered, step_run}
+use Rattle.board.specs.World.{Answers, BoardState, Handles, MayGive, MayGiveOverImage, MissingStep, SlotStep, World, disturbed_of, extents_of, lacks_memory, seen, world_of}
+use Rattle.board.proofs.OnHost.{passes_by}
+use Rattle.board.proofs.Runs.{answered}
 use Rattle.board.proofs.Alone.{get_set}
 use Rattle.board.proofs.Seats.{extents_of-set, handles_missing, noted_none, set_same, step_there}
-use Rattle.replay.specs.Pieces.{SendsRun}
-use Rattle.trace.specs.Records.{entry_of, read_line, record_line, records_text}
-use Rattle.replay.specs.Running.{AnswersEvent, AnswersParsed, IsPart, RunsParsed, words_of}
+use Rattle.trace.specs.Asked.{asked_field, asked_line}
+use Rattle.trace.specs.Records.{entry_of, read_line, record_fields, record_line}
+use Rattle.trace.specs.declared.disks.Disks.{Disks}
+use Rattle.trace.specs.declared.disks.Disks.TheVariants.{Cached, Hosted}
+use Rattle.replay.specs.Running.{AnswersEvent, AnswersParsed, IsPart, RunsParsed, flight_of, words_of}
+use Rattle.replay.specs.Telling.{LineTelling, SendsRun, Told, asked_between, asked_by, begins, flight_at, told_line, told_of_flight, told_text}
 use Rattle.trace.specs.declared.read.parsed_event.ParsedEvent.{ParsedEvent}
 use Rattle.trace.specs.ParsedEvent.{IsFineParsed}
 use Rattle.trace.specs.Sends.{Sends}
-use Rattle.trace.specs.Text.{ended, joined}
-use Rattle.trace.proofs.Passing.{sends_same}
+use Rattle.trace.specs.Text.{ended, joined, line}
+use Rattle.trace.proofs.Passing.{sends_more, sends_same}
+use Rattle.trace.proofs.RecordLines.{asked_is}
 
 -- ---- what is refused
 
@@ -50,6 +60,24 @@ pub past_slots : {I : Type 0} (board : BoardState I) (slot : ℕ) → (slot < le
     → slice_get board.slots slot ≡ None
 past_slots board slot past =
     elim (slice_get_cases board.slots slot).1 [ inl there ↦ absurd (past there.1) | inr none ↦ none.1 ]
+
+-- An event that is no completion, never waits, and notifies nobody: what comes of it over an image comes of it
+-- whoever has the disk.
+no_part : {A : Type 0} (host : Option HostDisk) (what : EventKind A) (state : SlotState)
+    → verdict_in what ≡ None → must_wait what ≡ false → notifies_block what state ≡ false
+    → has_part host what state ≡ false
+no_part None what state own free still = refl
+no_part (Some disk) what state own free still = by_flight (is_some disk.flight) refl
+  where
+    by_flight : (busy : Bool) → is_some disk.flight ≡ busy → has_part (Some disk) what state ≡ false
+    by_flight true is = rw (own, free, still, is) refl
+    by_flight false is = rw (own, free, still, is) refl
+
+beside : {A : Type 0} (state : SlotState) (what : EventKind A) (health : Health) (outcome : Outcome A)
+    → verdict_in what ≡ None → must_wait what ≡ false → notifies_block what state ≡ false
+    → MayGiveOverImage state what health health outcome → MayGive state what health health outcome
+beside state what health outcome own free still given =
+    passes_by state.host state what health outcome (no_part state.host what state own free still) given
 
 -- an event that changed nothing
 quiet : {A : Type 0} (slots : List BoardSlot) (disk : Disk) (event : Event A) (reply : Reply A)
@@ -93,11 +121,12 @@ outside_memory A slots disk h found addr bytes here out =
     ]
     in
     quiet slots disk (record { slot = h; what = MemWrite addr bytes }) BadRange found here refl
+    (beside (state_of (bytes_of disk) found) (MemWrite addr bytes) (health_of disk) _ refl refl refl
     (inl (record {
       alike = record { alike = rw test refl; image = refl };
       answered = λ no'. absurd (cc);
       failures = refl;
-    }))
+    })))
 
 pub range_refused : (A : Type 0) {I : Type 0} (disk : I → Disk) (old new : BoardState I) (slot addr : ℕ)
     (bytes : List ℕ) → new ≡ old → slot < length old.slots
@@ -131,11 +160,14 @@ part_read A disk board slot addr len part it =
     record {
       answers = λ tells.
           quiet board.slots (disk board.image) (record { slot = slot; what = MemRead addr len }) (Bytes part)
-          it.found it.here refl (inl (record {
+          it.found it.here refl
+          (beside (state_of (bytes_of (disk board.image)) it.found) (MemRead addr len)
+          (health_of (disk board.image)) _ refl refl refl
+          (inl (record {
             alike = record { alike = rw (test, is) refl; image = refl };
             answered = λ no'. absurd (cc);
             failures = refl;
-          }));
+          })));
       keeps = record { tells = λ tells. tells; extents = refl };
     }
 
@@ -154,7 +186,17 @@ register_in A disk board slot window offset width value (Some found) here is = r
   answers = λ tells.
       quiet board.slots (disk board.image) (record { slot = slot; what = Read window offset width })
       (Value value) found here refl
-      (read_given (state_of (bytes_of (disk board.image)) found) window offset width value _ (is tells));
+      (beside (state_of (bytes_of (disk board.image)) found) (Read window offset width)
+      (health_of (disk board.image)) (replies (state_of (bytes_of (disk board.image)) found) (Value value))
+      refl refl refl
+      (inl (record {
+        alike = record {
+          alike = ap (λ v. replies (state_of (bytes_of (disk board.image)) found) (Value v)) (is tells);
+          image = refl;
+        };
+        answered = λ no'. absurd (cc);
+        failures = refl;
+      })));
   keeps = record { tells = λ tells. tells; extents = refl };
 }
 
@@ -194,6 +236,16 @@ bytes_written A disk old new slot addr bytes image answers is = record {
     extents = extents_put old.slots new.slots slot (λ found. put found.memory addr bytes)
         (slice_get old.slots slot) refl is;
   };
+}
+
+-- an event that left the image and all extents, and put nothing out
+pub changed : {A I : Type 0} (disk : I → Disk) (old new : BoardState I) (event : Event A) (reply : Reply A)
+    → (Tells (disk old.image) → Answers (world_of disk old) event reply [] [] (world_of disk new))
+    → new.image ≡ old.image → extents_of new.slots ≡ extents_of old.slots
+    → AnswersEvent disk old event reply [] new
+changed disk old new event reply answers image extents = record {
+  answers = answers;
+  keeps = record { tells = λ tells. rw image tells; extents = extents };
 }
 
 -- ---- the record
@@ -259,59 +311,185 @@ pub answered_alone : {A : Type 0} {old new : World} {event : Event A} {reply : R
 answered_alone {A} {old} {new} {event} {reply} {out = out} none h =
     subst (λ (xs : List ℕ). Answers old event reply xs out new) none (answered h)
 
-one_line : {A : Type 0} (entry : Record A) → ended (record_line entry) ≡ records_text (entry ∷ [])
-unfolding joined
-one_line entry = sym (append-nil (ended (record_line entry)))
+-- ---- what began
 
--- an event was answered, and the text of its record sent
-pub event_run : {A I : Type 0} (disk : I → Disk) (old new : BoardState I) (event : Event A) (reply : Reply A)
-    (out : List ℕ) (words : ℕ × ℕ) (a b s t : Option (List ℕ)) → AnswersEvent disk old event reply out new
+-- whether something is in flight, as the board tells it
+one_told : (f : Option InFlight) → is_none (operation_in f) ≡ is_none f
+one_told None = refl
+one_told (Some here) = refl
+
+none_told : (o : Option BoardSlot)
+    → is_none (option_and_then (λ (s : BoardSlot). operation_in (flight_in s.host)) o) ≡ is_none (flight_of o)
+none_told None = refl
+none_told (Some slot) = one_told (flight_in slot.host)
+
+pub begins_by : (verdict : Option Verdict) (slot : Option BoardSlot) (found : Option Operation) (none : Bool)
+    → verdict ≡ None → found ≡ option_and_then (λ (s : BoardSlot). operation_in (flight_in s.host)) slot
+    → none ≡ is_none found → none ≡ begins verdict (flight_of slot)
+begins_by None slot found none is told test = test ∙ ap is_none told ∙ none_told slot
+begins_by (Some v) slot found none is told test = absurd cc
+
+-- nothing that was in flight begins with a read of memory
+pub nothing_begins : (f : Option InFlight) → asked_between None f f ≡ None
+nothing_begins None = refl
+nothing_begins (Some here) = refl
+
+-- what is in flight is seen
+seen_at : (bytes : List ℕ) (o : Option BoardSlot)
+    → option_and_then (λ (s : SlotState). flight_in s.host) (option_map (state_of bytes) o) ≡ flight_of o
+seen_at bytes None = refl
+seen_at bytes (Some slot) = refl
+
+flight_seen : (slots : List BoardSlot) (disk : Disk) (h : ℕ)
+    → flight_at (seen slots disk).slots h ≡ flight_of (slice_get slots h)
+flight_seen slots disk h =
+    ap (λ (o : Option SlotState). option_and_then (λ (s : SlotState). flight_in s.host) o)
+    (slice_get-map (state_of (bytes_of disk)) slots h)
+    ∙ seen_at (bytes_of disk) (slice_get slots h)
+
+-- the operation that began with an event of a board
+abbrev asked_on : {A I : Type 0} → Event A → BoardState I → BoardState I → Option (Operation × List Segment)
+asked_on event old new =
+    asked_between (verdict_in event.what) (flight_of (slice_get old.slots event.slot))
+    (flight_of (slice_get new.slots event.slot))
+
+-- ---- one event
+
+one_line : {A : Type 0} (disks : Disks) (told : Told A)
+    → ended (told_line disks told) ≡ told_text disks (told ∷ [])
+unfolding joined
+one_line disks told = sym (append-nil (ended (told_line disks told)))
+
+-- an event was answered, and the text of what it came to sent
+event_run : {A I : Type 0} (disks : Disks) (disk : I → Disk) (old new : BoardState I) (event : Event A)
+    (reply : Reply A) (out : List ℕ) (words : ℕ × ℕ) (a b s t : Option (List ℕ))
+    → AnswersEvent disk old event reply out new
     → (Tells (disk old.image) → words ≡ words_of (slice_get new.slots event.slot))
-    → Sends a b s (ended (record_line (entry_of event.slot reply out words))) t
-    → SendsRun disk old new (event ∷ []) a b s t
-event_run {A} disk old new event reply out words a b s t it is sent =
-    let entry : Record A = entry_of event.slot reply out words in
+    → Sends a b s (ended (told_line disks (record {
+      written = entry_of event.slot reply out words;
+      asked = asked_on event old new;
+    }))) t
+    → SendsRun disks disk old new (event ∷ []) a b s t
+event_run {A} {I} disks disk old new event reply out words a b s t it is sent =
+    let told : Told A = record {
+      written = entry_of event.slot reply out words;
+      asked = asked_on event old new;
+    } in
     record {
-      records = entry ∷ [];
-      run = λ tells.
-          let answers = it.answers tells in
-          let same : answers.written ≡ entry = entry_told disk old new event reply out answers
-          ∙ ap (λ ws. entry_of event.slot reply out ws) (sym (is tells)) in
-          subst (λ (w : Record A). IsRun (world_of disk old) (world_of disk new) (event ∷ []) [] (w ∷ []))
-          same (step_run (world_of disk old) (world_of disk new) event answers.written [] answers.step);
+      told = told ∷ [];
+      run = line;
       tells = it.keeps.tells;
       extents = it.keeps.extents;
-      sent = sends_same a b s t _ _ (one_line entry) sent;
+      sent = sends_same a b s t _ _ (one_line disks told) sent;
     }
+  where
+    line : Tells (disk old.image) → LineTelling (world_of disk old) (world_of disk new) (event ∷ [])
+        (record { written = entry_of event.slot reply out words; asked = asked_on event old new } ∷ [])
+    line tells =
+        let answers = it.answers tells in
+        let move : Move A = record { event = event; written = answers.written; after = world_of disk new } in
+        let same : entry_of event.slot reply out words ≡ answers.written =
+        ap (λ ws. entry_of event.slot reply out ws) (is tells)
+        ∙ sym (entry_told disk old new event reply out answers) in
+        let began : asked_on event old new
+        ≡ asked_by event.slot event.what (world_of disk old).slots (world_of disk new).slots =
+        rw (
+          flight_seen old.slots (disk old.image) event.slot,
+          flight_seen new.slots (disk new.image) event.slot,
+        ) refl in
+        record {
+          moves = move ∷ [];
+          line = (answers.step, refl);
+          events_are = refl;
+          told_are = rw (same, began) refl;
+        }
 
-pub parsed_run : {A I : Type 0} (disk : I → Disk) (parsed : ParsedEvent A) (old new : BoardState I)
-    (reply : Reply A) (out : List ℕ) (words : ℕ × ℕ) (a b s t : Option (List ℕ))
+-- the event that was said was answered
+pub parsed_run : {A I : Type 0} (capacity : ℕ) (disk : I → Disk) (parsed : ParsedEvent A)
+    (old new : BoardState I) (reply : Reply A) (out : List ℕ) (words : ℕ × ℕ) (a b s t : Option (List ℕ))
     → AnswersParsed disk parsed old reply out new
     → (Tells (disk old.image) → words ≡ words_of (slice_get new.slots parsed.event.slot))
     → Sends a b s (ended (record_line (entry_of parsed.event.slot reply out words))) t
-    → RunsParsed parsed (λ event. SendsRun disk old new (event ∷ []) a b s t)
-parsed_run disk parsed old new reply out words a b s t it is sent = record {
+    → RunsParsed parsed (λ event. SendsRun (Cached capacity) disk old new (event ∷ []) a b s t)
+parsed_run capacity disk parsed old new reply out words a b s t it is sent = record {
   event = it.event;
   fields = it.fields;
   fine = it.fine;
-  run = event_run disk old new it.event reply out words a b s t it.answered (rw it.slot is) (rw it.slot sent);
+  run = event_run (Cached capacity) disk old new it.event reply out words a b s t it.answered (rw it.slot is)
+      (rw it.slot sent);
 }
 
 -- the same of a read of memory, whose bytes were put where they lie
-pub read_run : {A I : Type 0} (disk : I → Disk) (parsed : ParsedEvent A) (board : BoardState I) (addr len : ℕ)
-    (part : List ℕ) (words : ℕ × ℕ) (a b s t : Option (List ℕ)) → IsFineParsed parsed
+pub read_run : {A I : Type 0} (capacity : ℕ) (disk : I → Disk) (parsed : ParsedEvent A) (board : BoardState I)
+    (addr len : ℕ) (part : List ℕ) (words : ℕ × ℕ) (a b s t : Option (List ℕ)) → IsFineParsed parsed
     → parsed.event.what ≡ MemRead addr len → IsPart board parsed.event.slot addr len part
     → words ≡ words_of (slice_get board.slots parsed.event.slot)
     → Sends a b s (ended (read_line parsed.event.slot part words)) t
-    → RunsParsed parsed (λ event. SendsRun disk board board (event ∷ []) a b s t)
+    → RunsParsed parsed (λ event. SendsRun (Cached capacity) disk board board (event ∷ []) a b s t)
 unfolding read_line record_line
-read_run {A} disk parsed board addr len part words a b s t fine is it same sent =
+read_run {A} capacity disk parsed board addr len part words a b s t fine is it same sent =
     let event : Event A = record { slot = parsed.event.slot; what = MemRead addr len } in
     let plain = rw is at fine.what in
     record {
       event = event;
       fields = rw is refl;
       fine = record { fits = record { slot = fine.slot; what = plain.range }; printable = tt };
-      run = event_run disk board board event (Bytes part) [] words a b s t
+      run = event_run (Cached capacity) disk board board event (Bytes part) [] words a b s t
           (part_read A disk board parsed.event.slot addr len part it) (λ tells. same) sent;
+    }
+
+-- ---- and one of a trace whose disks the host serves
+
+-- its record and what began go out one after the other
+asking_sent : {A : Type 0} (entry : Record A) (asked : Option (Operation × List Segment))
+    (a b c s t u : Option (List ℕ)) → Sends a b s (line (record_fields entry) ++ 32 ∷ []) t
+    → Sends b c t (asked_field asked ++ 10 ∷ []) u → Sends a c s (ended (asked_line entry asked)) u
+asking_sent entry asked a b c s t u front last =
+    sends_same a c s u _ _ (asked_is entry asked) (sends_more a b c s t u _ _ front last)
+
+pub parsed_asking : {A I : Type 0} (disk : I → Disk) (parsed : ParsedEvent A) (old new : BoardState I)
+    (reply : Reply A) (out : List ℕ) (words : ℕ × ℕ) (next : Bool) (asked : Option (Operation × List Segment))
+    (a b c s t u : Option (List ℕ)) → AnswersParsed disk parsed old reply out new
+    → (Tells (disk old.image) → words ≡ words_of (slice_get new.slots parsed.event.slot))
+    → next ≡ begins (verdict_in parsed.event.what) (flight_of (slice_get old.slots parsed.event.slot))
+    → asked ≡ told_of_flight (if next then flight_of (slice_get new.slots parsed.event.slot) else None)
+    → Sends a b s (line (record_fields (entry_of parsed.event.slot reply out words)) ++ 32 ∷ []) t
+    → Sends b c t (asked_field asked ++ 10 ∷ []) u
+    → RunsParsed parsed (λ event. SendsRun Hosted disk old new (event ∷ []) a c s u)
+parsed_asking disk parsed old new reply out words next asked a b c s t u it is test begun front last =
+    let event = it.event in
+    let asks : asked ≡ asked_on event old new = begun ∙ rw (it.slot, it.verdict, test) refl in
+    let whole = asking_sent (entry_of parsed.event.slot reply out words) asked a b c s t u front last in
+    record {
+      event = event;
+      fields = it.fields;
+      fine = it.fine;
+      run = event_run Hosted disk old new event reply out words a c s u it.answered (rw it.slot is)
+          (subst (λ (n : ℕ). Sends a c s (ended (asked_line (entry_of n reply out words)
+          (asked_on event old new))) u) (sym it.slot)
+          (subst (λ (o : Option (Operation × List Segment)). Sends a c s
+          (ended (asked_line (entry_of parsed.event.slot reply out words) o)) u) asks whole));
+    }
+
+pub read_asking : {A I : Type 0} (disk : I → Disk) (parsed : ParsedEvent A) (board : BoardState I)
+    (addr len : ℕ) (part : List ℕ) (words : ℕ × ℕ) (a b c s t u : Option (List ℕ)) → IsFineParsed parsed
+    → parsed.event.what ≡ MemRead addr len → IsPart board parsed.event.slot addr len part
+    → words ≡ words_of (slice_get board.slots parsed.event.slot)
+    → Sends a b s (read_line parsed.event.slot part words ++ 32 ∷ []) t
+    → Sends b c t (asked_field None ++ 10 ∷ []) u
+    → RunsParsed parsed (λ event. SendsRun Hosted disk board board (event ∷ []) a c s u)
+unfolding read_line
+read_asking {A} disk parsed board addr len part words a b c s t u fine is it same front last =
+    let event : Event A = record { slot = parsed.event.slot; what = MemRead addr len } in
+    let plain = rw is at fine.what in
+    let none : asked_on event board board ≡ None =
+    nothing_begins (flight_of (slice_get board.slots parsed.event.slot)) in
+    let entry : Record A = entry_of parsed.event.slot (Bytes part) [] words in
+    record {
+      event = event;
+      fields = rw is refl;
+      fine = record { fits = record { slot = fine.slot; what = plain.range }; printable = tt };
+      run = event_run Hosted disk board board event (Bytes part) [] words a c s u
+          (part_read A disk board parsed.event.slot addr len part it) (λ tells. same)
+          (rw none (asking_sent entry None a b c s t u front last));
     }

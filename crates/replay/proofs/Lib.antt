@@ -5,7 +5,6 @@ pub mod LastLines
 pub mod Gathering
 pub mod OneSlotLemmas
 pub mod RunLemmas
-pub mod Pieces
+pub mod Telling
 pub mod Answering
 pub mod Lines
-pub mod Hosting

@@ -8,7 +8,7 @@ use Rattle.std.proofs.lemmas.Bool.{cases_lt, le-ltb}
 use Rattle.std.proofs.lemmas.List.{get_or_default}
 use Rattle.std.proofs.lemmas.List.Edits.{map_over_more}
 use Rattle.board.specs.declared.spec.SlotSpec.{SlotSpec}
-use Rattle.board.specs.Fault.{AreGoodHosted, IsAccepted}
+use Rattle.board.specs.Fault.{IsAccepted}
 use Rattle.guest_memory.specs.Faults.{AreGood, size_of}
 use Rattle.trace.specs.declared.format.Format.{Format}
 use Rattle.replay.specs.Limits.{IsSmallMemory, asked_of_board, most_memory, no_memory}
@@ -125,26 +125,3 @@ module _ (format : Format) (sectors cache : ℕ) (slots asked : List SlotSpec)
   made_when Made result accepted made =
       made_of format (λ s. IsAccepted sectors s cache) (accepted_good sectors cache) slots asked same Made
       result accepted made
-
--- ---- where the host serves the disks
-
-hosted_good : (slots : List SlotSpec) (i : ℕ) (spec : SlotSpec) → AreGoodHosted slots
-    → slice_get slots i ≡ Some spec → AreGood spec.regions
-hosted_good slots i spec good there = (good.each i spec (slice_get_within slots i spec there) there).memory
-
-module _ (format : Format) (slots asked : List SlotSpec)
-    (same : asked ≡ map (asked_of_board format) slots) where
-  pub hosted_small_when : {V E : Type 0} (result : Result V E) → OnOk result (AreGoodHosted asked)
-      → OnOk result (All (IsSmallMemory format) slots)
-  hosted_small_when result accepted =
-      small_of format AreGoodHosted hosted_good slots asked same result accepted
-
-  pub hosted_accepted_when : {V E : Type 0} (result : Result V E) → OnOk result (AreGoodHosted asked)
-      → OnOk result (AreGoodHosted slots)
-  hosted_accepted_when result accepted =
-      taken_of format AreGoodHosted hosted_good slots asked same result accepted
-
-  pub hosted_made_when : {V E : Type 0} (Made : V → List SlotSpec → Type 0) (result : Result V E)
-      → OnOk result (AreGoodHosted asked) → IfOk result (λ v. Made v asked) → IfOk result (λ v. Made v slots)
-  hosted_made_when Made result accepted made =
-      made_of format AreGoodHosted hosted_good slots asked same Made result accepted made

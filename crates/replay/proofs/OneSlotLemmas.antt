@@ -11,6 +11,7 @@ use Rattle.board.specs.declared.event.Event.{Event}
 use Rattle.board.specs.declared.reply.Record.{Record}
 use Rattle.board.specs.declared.spec.SlotSpec.{SlotSpec}
 use Rattle.board.specs.Extent.{IsApart, outside_of}
+use Rattle.board.specs.Fault.{share}
 use Rattle.board.specs.Image.{bytes_of}
 use Rattle.board.specs.Line.{HadMemory, IsLine, IsQuiet, IsRun, Move, RunsAlone, events_of, own_events, own_records, records_of}
 use Rattle.board.specs.Machine.{RunsOnItsOwn}
@@ -139,17 +140,17 @@ last_state (slot ∷ slots) bytes extent state there is =
 pub one_slot : {A : Type 0} (spec : SlotSpec) (old new : Disk) (last : List BoardSlot)
     (events : List (Event A)) (records : List (Record A))
     → IsRun (seen (map opened (spec ∷ [])) old) (seen last new) events [] records
-    → extents_of last ≡ spec.extent ∷ [] → new.failures ≡ old.failures → HadMemory 0 records
+    → extents_of last ≡ share spec ∷ [] → new.failures ≡ old.failures → HadMemory 0 records
     → IsMachine spec (bytes_of old) (bytes_of new) events records
 one_slot {A} spec old new last events records run place stood had =
     let first : World = seen (map opened (spec ∷ [])) old in
     let state = machine spec (bytes_of old) in
     let quiet : IsQuiet 0 first run.moves = run.quiet stood 0 (subst (HadMemory 0) run.records_are had) in
     let alone : RunsAlone 0 state run.moves (seen last new) = run.alone 0 quiet state refl in
-    let stayed : outside_of (extents_of last) (bytes_of new) ≡ outside_of (spec.extent ∷ []) (bytes_of old) =
+    let stayed : outside_of (extents_of last) (bytes_of new) ≡ outside_of (share spec ∷ []) (bytes_of old) =
     line_outside first run.moves (seen last new) run.line in
     let same = ap (λ es. outside_of es (bytes_of new)) (sym place) ∙ stayed in
-    let extent_is = last_state last (bytes_of new) spec.extent alone.last place alone.state_after in
+    let extent_is = last_state last (bytes_of new) (share spec) alone.last place alone.state_after in
     let own : List (Record A) = own_records 0 (records_of run.moves) in
     record {
       own = own;
@@ -158,6 +159,6 @@ one_slot {A} spec old new last events records run place stood had =
           run.events_are alone.own;
       told = run.records_are ∙ (told first run.moves (seen last new) refl run.line
           ∙ ap (λ (es : List (Event A)). with_missing es own) run.events_are);
-      image = around spec.extent (bytes_of old) (bytes_of new) same
-          ∙ ap (with_extent (bytes_of old) spec.extent) extent_is;
+      image = around (share spec) (bytes_of old) (bytes_of new) same
+          ∙ ap (with_extent (bytes_of old) (share spec)) extent_is;
     }

@@ -1,15 +1,14 @@
 -- What comes of a text that is a trace's, once there is a board for it.
-use Rattle.std.proofs.Common.{◌≡◌, ◌∙◌, ℕ, ◌<◌, List, Option, Some, Result, Ok, Err, length, map, ap, subst, sym, inl, inr}
+use Rattle.std.proofs.Common.{◌≡◌, ◌∙◌, ℕ, ◌<◌, List, [], Option, Some, Result, Ok, Err, length, map, ap, subst, sym, inl, inr}
 use Rattle.std.proofs.KnownBytes.{Keeps-refl}
 use Rattle.std.specs.Prelude.{All}
-use Rattle.sector_cache.specs.Disk.{Disk}
+use Rattle.sector_cache.specs.Disk.{Disk, new_disk}
 use Rattle.board.specs.declared.event.Event.{Event}
 use Rattle.board.specs.declared.fault.BoardFault.{BoardFault}
 use Rattle.board.specs.declared.spec.SlotSpec.{SlotSpec}
 use Rattle.trace.specs.declared.disks.Disks.{Disks}
 use Rattle.trace.specs.declared.disks.Disks.TheVariants.{Cached, Hosted}
-use Rattle.board.specs.Fault.{AreGoodHosted, IsAccepted}
-use Rattle.board.specs.Hosting.{HostedState, hosted_opened}
+use Rattle.board.specs.Fault.{IsAccepted, Refuses}
 use Rattle.board.specs.Slot.{opened}
 use Rattle.board.specs.World.{BoardState}
 use Rattle.trace.specs.Validating.{AreLinesOf, IsValidated, Validation}
@@ -94,18 +93,36 @@ played_over {A} {I} disk text old new before after outcome j capacity slots boar
     old new outcome) made
     (ended slots events (ap (λ (b : BoardState I). b.slots) made) are))
 
--- and on a board whose disks the host serves
-pub played_hosted : {A I : Type 0} (disk : I → Disk) (text : List ℕ) (old new : Option (List ℕ))
+-- and where the host serves the disks, on a board over an image without a sector
+pub played_hosted : {A I J : Type 0} (disk : I → Disk) (text : List ℕ) (old new : Option (List ℕ))
     (before after : I) (outcome : Result (Unit {0}) ReplayFault) (j : Validation) (slots : List SlotSpec)
-    (board : List HostedState)
-    → IsValidated A text j → j.disks ≡ Hosted → slots ≡ j.slots → board ≡ map hosted_opened slots
-    → All (IsSmallMemory j.format) slots → AreGoodHosted slots
-    → ((specs : List SlotSpec) (events : List (Event A)) → board ≡ map hosted_opened specs
-    → AreLinesOf events j.events → AfterRun Hosted disk specs events before after old new outcome)
+    (over : J → Disk) (none : J) (board : BoardState J)
+    → IsValidated A text j → j.disks ≡ Hosted → slots ≡ j.slots
+    → board ≡ record { slots = map opened slots; image = none } → over none ≡ new_disk []
+    → All (IsSmallMemory j.format) slots → IsAccepted (over none).sector_count slots 1
+    → ((specs : List SlotSpec) (events : List (Event A)) → board.slots ≡ map opened specs
+    → over board.image ≡ new_disk [] → AreLinesOf events j.events
+    → AfterRun Hosted disk specs events before after old new outcome)
     → Replays A disk (Some text) old new before after outcome
-played_hosted disk text old new before after outcome j slots board is kind same made small accepted ended =
+played_hosted {J = J} disk text old new before after outcome j slots over none board is kind same made empty small
+    accepted ended =
     played disk text old new before after outcome j Hosted slots is kind same
-    (few_hosted text j slots is kind) small accepted (λ events are. ended slots events made are)
+    (few_hosted text j slots is kind) small
+    (subst (λ (d : Disk). IsAccepted d.sector_count slots 1) empty accepted)
+    (λ events are. ended slots events (ap (λ (b : BoardState J). b.slots) made)
+    (ap (λ (b : BoardState J). over b.image) made ∙ empty) are)
+
+-- why there is no such board
+pub refuses_hosted : {A : Type 0} (text : List ℕ) (j : Validation) (slots : List SlotSpec) (sectors : ℕ)
+    (none : Disk) (fault : BoardFault) → IsValidated A text j → j.disks ≡ Hosted → none ≡ new_disk []
+    → RefusesBoardOf none.sector_count (front A j.format (Cached 1) slots) fault
+    → RefusesBoardOf sectors (front A j.format Hosted slots) fault
+refuses_hosted text j slots sectors none fault is kind empty (inl many) =
+    absurd (few_hosted text j slots is kind (record { version = many.0.version; many = many.0.many }))
+refuses_hosted text j slots sectors none fault is kind empty (inr own) = inr (
+  few_hosted text j slots is kind,
+  subst (λ (d : Disk). Refuses d.sector_count (map (asked_of_board j.format) slots) 1 fault) empty own.1,
+)
 
 -- there is no board for the slots that were validated
 pub refused_board : {A I : Type 0} (disk : I → Disk) (text : List ℕ) (old : Option (List ℕ))

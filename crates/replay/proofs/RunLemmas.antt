@@ -10,6 +10,7 @@ use Rattle.board.specs.Slot.{BoardSlot, opened}
 use Rattle.board.specs.World.{BoardState, extents_of, seen, world_of}
 use Rattle.replay.specs.OneSlot.{IsMachine}
 use Rattle.replay.specs.Replay.{RunsOn}
+use Rattle.replay.specs.Telling.{LineTelling, Told, records_in}
 use Rattle.replay.proofs.OneSlotLemmas.{one_slot}
 
 one_of : {A : Type 0} (slots : List SlotSpec) (old new : Disk) (last : List BoardSlot)
@@ -25,30 +26,31 @@ one_of slots old new last events records run extents spec one stood had =
     (extents ∙ ap (λ (specs : List SlotSpec). extents_of (map opened specs)) one) stood had
 
 runs : {A : Type 0} (slots : List SlotSpec) (old new : Disk) (last : List BoardSlot) (events : List (Event A))
-    (records : List (Record A)) → IsRun (seen (map opened slots) old) (seen last new) events [] records
-    → extents_of last ≡ extents_of (map opened slots) → Tells new → RunsOn slots old new events records
-runs slots old new last events records run extents tells = record {
+    (told : List (Told A)) → IsRun (seen (map opened slots) old) (seen last new) events [] (records_in told)
+    → LineTelling (seen (map opened slots) old) (seen last new) events told
+    → extents_of last ≡ extents_of (map opened slots) → Tells new → RunsOn slots old new events told
+runs slots old new last events told run telling extents tells = record {
   last = last;
   run = run;
+  telling = telling;
   extents = extents;
   tells = tells;
-  one = one_of slots old new last events records run extents;
+  one = one_of slots old new last events (records_in told) run extents;
 }
 
--- the run of a board that was new, with no record before it
+-- the run of a board that was new
 pub runs_on : {A I : Type 0} (disk : I → Disk) (slots : List SlotSpec) (board after : BoardState I)
-    (image : I) (events done : List (Event A)) (before records : List (Record A))
-    → board.slots ≡ map opened slots → before ≡ [] → image ≡ after.image → events ≡ done
+    (image : I) (events : List (Event A)) (told : List (Told A))
+    → board.slots ≡ map opened slots → image ≡ after.image
     → extents_of after.slots ≡ extents_of board.slots → Tells (disk after.image)
-    → IsRun (world_of disk board) (world_of disk after) events before records
-    → RunsOn slots (disk board.image) (disk image) done records
-runs_on disk slots board after image events done before records new none kept same extents tells run =
+    → IsRun (world_of disk board) (world_of disk after) events [] (records_in told)
+    → LineTelling (world_of disk board) (world_of disk after) events told
+    → RunsOn slots (disk board.image) (disk image) events told
+runs_on disk slots board after image events told new kept extents tells run telling =
     rw kept
-    (runs slots (disk board.image) (disk after.image) after.slots done records
-    (subst (λ (es : List (Event _)). IsRun (seen (map opened slots) (disk board.image))
-    (seen after.slots (disk after.image)) es [] records) same
-    (subst (λ (rs : List (Record _)). IsRun (seen (map opened slots) (disk board.image))
-    (seen after.slots (disk after.image)) events rs records) none
+    (runs slots (disk board.image) (disk after.image) after.slots events told
     (subst (λ (bs : List BoardSlot). IsRun (seen bs (disk board.image)) (seen after.slots (disk after.image))
-    events before records) new run)))
+    events [] (records_in told)) new run)
+    (subst (λ (bs : List BoardSlot). LineTelling (seen bs (disk board.image))
+    (seen after.slots (disk after.image)) events told) new telling)
     (extents ∙ ap extents_of new) tells)

@@ -1,7 +1,6 @@
 pub mod Limits
 pub mod LastLine
 pub mod OneSlot
-pub mod Hosted
+pub mod Telling
 pub mod Replay
-pub mod Pieces
 pub mod Running

@@ -1,13 +1,12 @@
 -- What a replay comes to: the trace that it read, the run on that trace's board, and what it wrote.
 use Rattle.std.specs.Prelude.{◌≡◌, ◌≢◌, ◌⊎◌, ℕ, ◌<◌, ⊤, All, List, [], ◌∷◌, length, map, take, Option, IfSome, Result, Ok, Err}
 use Rattle.std.specs.Io.KnownBytes.{Appends, IsAtEnd, Keeps}
-use Rattle.sector_cache.specs.Disk.{Disk}
+use Rattle.sector_cache.specs.Disk.{Disk, new_disk}
 use Rattle.board.specs.declared.event.Event.{Event}
 use Rattle.board.specs.declared.fault.BoardFault.{BoardFault}
 use Rattle.board.specs.declared.fault.BoardFault.TheVariants.{TooManySlots}
-use Rattle.board.specs.declared.reply.Record.{Record}
 use Rattle.board.specs.declared.spec.SlotSpec.{SlotSpec}
-use Rattle.board.specs.Fault.{AreGoodHosted, IsAccepted, Refuses, RefusesHosted}
+use Rattle.board.specs.Fault.{IsAccepted, Refuses}
 use Rattle.board.specs.Image.{Tells, bytes_of}
 use Rattle.board.specs.Line.{HadMemory, IsRun}
 use Rattle.board.specs.Slot.{BoardSlot, opened}
@@ -23,35 +22,46 @@ use Rattle.replay.specs.declared.fault.ReplayFault.{ReplayFault}
 use Rattle.replay.specs.declared.fault.ReplayFault.TheVariants.{Read, Trace, Board, Run, Write, NoMemory}
 use Rattle.trace.specs.Sends.{AppendsFront}
 use Rattle.replay.specs.Limits.{IsSmallMemory, asked_of_board}
-use Rattle.replay.specs.Hosted.{RecordedHosted}
 use Rattle.replay.specs.OneSlot.{IsMachine}
+use Rattle.replay.specs.Telling.{LineTelling, Told, records_in, told_text}
 use Rattle.trace.specs.Reading.{IsTraceFault, IsTraceOf}
-use Rattle.trace.specs.Records.{records_text}
 use Rattle.trace.specs.Text.{Content}
 
--- A run over these events on a new board of these slots, which found the image so and left it so. A
--- board of one slot that met no refusal did what the one-slot machine does.
+-- A run over these events on a new board of these slots, which found the image so and left it so, and in which
+-- this was told. A board of one slot that met no refusal did what the one-slot machine does.
 pub record RunsOn {A : Type 0} (slots : List SlotSpec) (old new : Disk) (events : List (Event A))
-    (records : List (Record A)) : Type 0 where
+    (told : List (Told A)) : Type 0 where
   pub last : List BoardSlot
-  pub run : IsRun (seen (map opened slots) old) (seen last new) events [] records
+  pub run : IsRun (seen (map opened slots) old) (seen last new) events [] (records_in told)
+  pub telling : LineTelling (seen (map opened slots) old) (seen last new) events told
   pub extents : extents_of last ≡ extents_of (map opened slots)
   pub tells : Tells new
-  pub one : (spec : SlotSpec) → slots ≡ spec ∷ [] → new.failures ≡ old.failures → HadMemory 0 records
-      → IsMachine spec (bytes_of old) (bytes_of new) events records
+  pub one : (spec : SlotSpec) → slots ≡ spec ∷ [] → new.failures ≡ old.failures
+      → HadMemory 0 (records_in told)
+      → IsMachine spec (bytes_of old) (bytes_of new) events (records_in told)
 
--- The records of such a run, of whose text this holds.
-pub record Recorded {A I : Type 0} (disk : I → Disk) (slots : List SlotSpec) (events : List (Event A))
-    (before after : I) (Output : List ℕ → Type 0) : Type 0 where
-  pub records : List (Record A)
-  pub ran : Tells (disk before) → RunsOn slots (disk before) (disk after) events records
-  pub output : Output (records_text records)
+-- What was told in such a run, of whose text this holds.
+pub record Recorded {A I : Type 0} (disks : Disks) (disk : I → Disk) (slots : List SlotSpec)
+    (events : List (Event A)) (before after : I) (Output : List ℕ → Type 0) : Type 0 where
+  pub told : List (Told A)
+  pub ran : Tells (disk before) → RunsOn slots (disk before) (disk after) events told
+  pub output : Output (told_text disks told)
+
+-- The same where the host serves the disks: over an image without a sector. The image that was handed in has no
+-- part in it.
+pub record RecordedHosted {A I : Type 0} (slots : List SlotSpec) (events : List (Event A)) (before after : I)
+    (Output : List ℕ → Type 0) : Type 0 where
+  pub told : List (Told A)
+  pub left : Disk
+  pub ran : RunsOn slots (new_disk []) left events told
+  pub image : after ≡ before
+  pub output : Output (told_text Hosted told)
 
 -- a run on the board of a trace, by where its disks are
 abbrev pub RecordedBy : {A I : Type 0} → Disks → (I → Disk) → List SlotSpec → List (Event A) → I → I
     → (List ℕ → Type 0) → Type 0
 RecordedBy (Cached capacity) disk slots events before after Output =
-    Recorded disk slots events before after Output
+    Recorded (Cached capacity) disk slots events before after Output
 RecordedBy Hosted disk slots events before after Output = RecordedHosted slots events before after Output
 
 -- the same over the first of the events, which may be none or all of them
@@ -96,14 +106,14 @@ pub record IsAdmittedUntil {A : Type 0} (format : Format) (trace : Content A) : 
   pub small : trace.format ≢ Extended → format ≡ Extended → All (IsSmallMemory trace.format) trace.slots
 
 -- which slots there may be on the board of a trace, and why it is refused, by where its disks are: over an
--- image of so many sectors, or each on a disk of its own
+-- image of so many sectors, or over one without a sector and a cache of one
 abbrev pub AcceptsBy : Disks → ℕ → List SlotSpec → Type 0
 AcceptsBy (Cached capacity) sectors slots = IsAccepted sectors slots capacity
-AcceptsBy Hosted sectors slots = AreGoodHosted slots
+AcceptsBy Hosted sectors slots = IsAccepted 0 slots 1
 
 abbrev pub RefusesBy : Disks → ℕ → List SlotSpec → BoardFault → Type 0
 RefusesBy (Cached capacity) sectors slots fault = Refuses sectors slots capacity fault
-RefusesBy Hosted sectors slots fault = RefusesHosted slots fault
+RefusesBy Hosted sectors slots fault = Refuses 0 slots 1 fault
 
 -- Why there is no board for a trace: it has too many slots for its version, before any of them is looked at;
 -- else it is the fault of the board that is asked for.

@@ -1,13 +1,12 @@
 //! The replay of a trace: from its text to the text of its records.
 //!
 //! `replaying` has both passes over a text: `trace` validates it whole, and `runs` then
-//! runs it line by line, on a board over an image (`running`) or one whose disks the host serves (`hosted`). `input` gathers what a reader gives, `fault` says why a replay did not come to its end, `last_line` tells how a program ends
+//! runs it line by line, each event by `running`. `input` gathers what a reader gives, `fault` says why a replay did not come to its end, `last_line` tells how a program ends
 //! after it, `limits` says which memories a trace may describe, and `laws` that the format of a trace says nothing of what
 //! comes of it.
 #![tactic(auto)]
 
 mod fault;
-mod hosted;
 mod input;
 mod last_line;
 mod laws;

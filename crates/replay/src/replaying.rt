@@ -2,11 +2,12 @@
 //!
 //! The text goes through two passes: `validate` looks at all of it, and `run_text` then reads and runs line by line.
 
-ghost use Rattle.std.specs.Prelude.{◌≡◌, ◌≢◌, ℕ, All, List, Some, Err, IfErr, IfOk, OnOk, length, map};
+ghost use Rattle.std.specs.Prelude.{◌≡◌, ◌≢◌, ℕ, [], All, List, Some, Err, IfErr, IfOk, OnOk, length, map};
 ghost use Rattle.board.specs.declared.event.Event.{Event};
 ghost use Rattle.board.specs.declared.spec.SlotSpec.{SlotSpec};
-ghost use Rattle.board.specs.Fault.{AreGoodHosted, IsAccepted, RefusesHosted};
-ghost use Rattle.board.specs.Hosting.{hosted_opened};
+ghost use Rattle.sector_cache.specs.Disk.{new_disk};
+ghost use Rattle.sector_cache.specs.MemoryImage.{disk_of};
+ghost use Rattle.board.specs.Fault.{IsAccepted};
 ghost use Rattle.board.specs.Slot.{opened};
 ghost use Rattle.replay.specs.declared.fault.ReplayFault.{ReplayFault};
 ghost use Rattle.trace.specs.declared.disks.Disks.{Disks};
@@ -18,8 +19,8 @@ use crate::fault::ReplayFault;
 use crate::input::gather;
 use crate::limits::limit_memories;
 use crate::runs::run_text;
-use board::{Board, BoardFault, HostedBoard, SlotSpec};
-use sector_cache::{Image, Refused};
+use board::{Board, BoardFault, SlotSpec};
+use sector_cache::{Image, ImageFault, MemoryImage, Refused};
 use std::alloc::Allocator;
 use std::io::{Read, Write};
 use trace::{Disks, FaultKind, Format, TraceFault, Validated, Version, validate};
@@ -29,6 +30,9 @@ const NO_ROOM: TraceFault = TraceFault {
     line: 1,
     kind: FaultKind::NoMemory,
 };
+
+/// How many sectors the cache of a board has over no image: no board has fewer.
+const LEAST_CACHE: u32 = 1;
 
 /// How many slots a trace of version 1 has at most.
 const MOST_SLOTS_IN_VERSION_1: usize = 16;
@@ -108,7 +112,7 @@ fn replay_over<W: Write, I: Image, A: Allocator + Copy>(
         &mut validated.slots,
         image,
     ) {
-        Ok(board) => run_validated(alloc, board, validated.events, room, writer),
+        Ok(board) => run_validated(alloc, board, capacity, validated.events, room, writer),
         Err(Refused { image, why }) => (image, Err(ReplayFault::Board(why))),
     }
 }
@@ -128,9 +132,25 @@ fn replay_hosted<W: Write, I: Image, A: Allocator + Copy>(
     ensures read { result.1 ≢ Err ReplayFault.Read }
     ensures whole { (done : ℕ) → result.1 ≢ Err (ReplayFault.Run done) }
 {
-    match hosted_board_of(alloc, validated.format, &mut validated.slots) {
+    match board_of(
+        alloc,
+        validated.format,
+        LEAST_CACHE,
+        &mut validated.slots,
+        empty_image(alloc),
+    ) {
         Ok(board) => run_hosted(alloc, board, validated.events, room, writer, image),
-        Err(why) => (image, Err(ReplayFault::Board(why))),
+        Err(Refused { image: _, why }) => (image, Err(ReplayFault::Board(why))),
+    }
+}
+
+// An image without a sector.
+fn empty_image<A: Allocator>(alloc: A) -> MemoryImage<A>
+    ensures { disk_of result ≡ new_disk [] }
+{
+    match MemoryImage::new(Vec::new(alloc)) {
+        Ok(image) => image,
+        Err(ImageFault::BadSize) => unreachable!(),
     }
 }
 
@@ -157,53 +177,41 @@ fn board_of<I: Image, A: Allocator + Copy>(
     Board::new(alloc, slots, image, capacity)
 }
 
-// The board of a trace of this format whose disks the host serves, with these slots.
-fn hosted_board_of<A: Allocator + Copy>(
-    alloc: A,
-    format: Format,
-    slots: &mut [SlotSpec],
-) -> Result<HostedBoard<A>, BoardFault>
-    ensures made { IfOk result (λ board. board ≡ map hosted_opened slots.old) }
-    ensures small { OnOk result (All (IsSmallMemory format) slots.old) }
-    ensures accepted { OnOk result (AreGoodHosted slots.old) }
-    ensures fault { IfErr result (RefusesHosted (map (asked_of_board format) slots.old)) }
-{
-    limit_memories(format, slots);
-    HostedBoard::new(alloc, slots)
-}
-
 // Runs the events of the lines on their board, which is new, and writes the text of their records.
 fn run_validated<W: Write, I: Image, A: Allocator + Copy>(
     alloc: A,
     mut board: Board<I, A>,
+    capacity: u32,
     lines: &[u8],
     room: &mut [u8],
     writer: &mut W,
 ) -> (I, Result<(), ReplayFault>)
     requires { AreEventLines A (length room.old) lines.now }
-    ensures ended { (capacity : ℕ) (slots : List SlotSpec) (events : List (Event A)) →
+    ensures ended { (slots : List SlotSpec) (events : List (Event A)) →
         board.slots ≡ map opened slots → AreLinesOf events lines.now →
         AfterRun (Disks.Cached capacity) I.disk slots events board.image result.0 (W.contents writer.old) (W.contents writer.new) result.1 }
     ensures whole { (done : ℕ) → result.1 ≢ Err (ReplayFault.Run done) }
 {
-    let outcome = run_text(alloc, &mut board, lines, room, writer);
+    let disks = Disks::Cached { capacity };
+    let outcome = run_text(alloc, &mut board, disks, lines, room, writer);
     (board.into_image(), outcome)
 }
 
 // The same on a board whose disks the host serves. The image is handed back as it was.
 fn run_hosted<W: Write, I: Image, A: Allocator + Copy>(
     alloc: A,
-    mut board: HostedBoard<A>,
+    mut board: Board<MemoryImage<A>, A>,
     lines: &[u8],
     room: &mut [u8],
     writer: &mut W,
     image: I,
 ) -> (I, Result<(), ReplayFault>)
     requires { AreEventLines A (length room.old) lines.now }
-    ensures ended { (slots : List SlotSpec) (events : List (Event A)) → board ≡ map hosted_opened slots → AreLinesOf events lines.now →
+    ensures ended { (slots : List SlotSpec) (events : List (Event A)) →
+        board.slots ≡ map opened slots → disk_of board.image ≡ new_disk [] → AreLinesOf events lines.now →
         AfterRun Disks.Hosted I.disk slots events image result.0 (W.contents writer.old) (W.contents writer.new) result.1 }
     ensures whole { (done : ℕ) → result.1 ≢ Err (ReplayFault.Run done) }
 {
-    let outcome = run_text(alloc, &mut board, lines, room, writer);
+    let outcome = run_text(alloc, &mut board, Disks::Hosted, lines, room, writer);
     (image, outcome)
 }

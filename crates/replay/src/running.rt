@@ -1,52 +1,125 @@
-//! Running events on a board over an image.
+//! Running an event on a board, and sending the text of what it came to.
+//!
+//! Memory that is read is printed where it lies. Where the host serves the disks, each record says besides which operation
+//! began with its event.
 
-ghost use Rattle.std.specs.Prelude.{◌≡◌, ◌≤◌, ◌/◌, [], IfSome, length};
+ghost use Rattle.std.specs.Prelude.{◌≡◌, ◌≤◌, ◌∷◌, ◌/◌, ℕ, [], if◌then◌else◌, None, IfSome, length};
 ghost use Rattle.std.specs.List.{slice_get};
+ghost use Rattle.std.specs.Option.{option_map};
 ghost use Rattle.board.specs.declared.event.EventKind.{EventKind};
+ghost use Rattle.board.specs.Hosting.{verdict_in};
 ghost use Rattle.board.specs.Image.{Tells};
 ghost use Rattle.board.specs.Slot.{AreInterruptWords};
+ghost use Rattle.trace.specs.declared.disks.Disks.{Disks};
+ghost use Rattle.trace.specs.Sends.{waiting};
 ghost use Rattle.trace.specs.Validating.{parsed_len};
-ghost use Rattle.replay.specs.Pieces.{SendsRun};
-ghost use Rattle.replay.specs.Running.{AnswersEvent, AnswersParsed, IsPart, words_of};
+ghost use Rattle.replay.specs.Running.{AnswersEvent, AnswersParsed, IsPart, RunsParsed, flight_of, words_of};
+ghost use Rattle.replay.specs.Telling.{SendsRun, begins, told_of_flight};
 ghost use Rattle.trace.specs.ParsedEvent.{IsFineParsed};
 ghost use Rattle.hexadecimal.specs.Fields.{IsBytesField};
 ghost use Rattle.trace.specs.Words.{Says, Bytes as ByBytes};
 
-use crate::runs::RunsEvents;
-use board::{Board, DeviceKind, EventKind, Handled, Reply};
+use block_device::Operation;
+use board::{Board, DeviceKind, Event, EventKind, Handled, Reply, RestoreRefusal};
+use chain::Segment;
 use sector_cache::Image;
 use std::alloc::Allocator;
 use std::io::Write;
-use trace::{Buffer, ParsedEvent, put_line, put_read, read_bytes, spelled_len};
+use trace::{
+    Buffer, ParsedEvent, put_asked, put_fields, put_line, put_read, read_bytes, spelled_len,
+};
 
-impl<I: Image, A: Allocator + Copy> RunsEvents<A> for Board<I, A> {
-    ghost sends = { λ old new events before after waits left. SendsRun I.disk old new events before after waits left };
-
-    #[inline(always)]
-    fn run_event<W: Write>(
-        &mut self,
-        parsed: &ParsedEvent<'_, A>,
-        room: &mut [u8],
-        output: &mut Vec<u8, A>,
-        text: &mut Buffer<A>,
-        writer: &mut W,
-    ) {
-        output.clear();
-        let slot = parsed.event.slot;
-        if let EventKind::MemRead { addr, len } = parsed.event.what {
-            if let Some(part) = part_of(self, slot, addr, len) {
-                put_read(text, writer, slot, part, words(self, slot), b'\n');
-                return;
-            }
+/// Runs an event over an image, and sends the text of its record. What the console puts out waits in `output` meanwhile.
+#[inline(always)]
+pub(crate) fn run_event<W: Write, I: Image, A: Allocator + Copy>(
+    board: &mut Board<I, A>,
+    parsed: &ParsedEvent<'_, A>,
+    room: &mut [u8],
+    output: &mut Vec<u8, A>,
+    text: &mut Buffer<A>,
+    writer: &mut W,
+)
+    requires fine { IsFineParsed parsed.now }
+    requires room { parsed_len parsed.now ≤ length room.old }
+    ensures { (capacity : ℕ) → RunsParsed parsed.now (λ event. SendsRun (Disks.Cached capacity) I.disk board.old board.new (event ∷ [])
+        (W.contents writer.old) (W.contents writer.new) (waiting text.old) (waiting text.new)) }
+{
+    output.clear();
+    let slot = parsed.event.slot;
+    if let EventKind::MemRead { addr, len } = parsed.event.what {
+        if let Some(part) = part_of(board, slot, addr, len) {
+            put_read(text, writer, slot, part, words(board, slot), b'\n');
+            return;
         }
-        let Handled {
-            reply,
-            block_irq,
-            console_irq,
-        } = answer(self, parsed, room, output);
-        let words = (block_irq, console_irq);
-        put_line(text, writer, slot, &reply, output.as_slice(), words);
     }
+    let Handled {
+        reply,
+        block_irq,
+        console_irq,
+    } = answer(board, parsed, room, output);
+    let words = (block_irq, console_irq);
+    put_line(text, writer, slot, &reply, output.as_slice(), words);
+}
+
+/// The same where the host serves the disks.
+pub(crate) fn run_hosted_event<W: Write, I: Image, A: Allocator + Copy>(
+    board: &mut Board<I, A>,
+    parsed: &ParsedEvent<'_, A>,
+    room: &mut [u8],
+    output: &mut Vec<u8, A>,
+    text: &mut Buffer<A>,
+    writer: &mut W,
+)
+    requires fine { IsFineParsed parsed.now }
+    requires room { parsed_len parsed.now ≤ length room.old }
+    ensures { RunsParsed parsed.now (λ event. SendsRun Disks.Hosted I.disk board.old board.new (event ∷ [])
+        (W.contents writer.old) (W.contents writer.new) (waiting text.old) (waiting text.new)) }
+{
+    output.clear();
+    let slot = parsed.event.slot;
+    if let EventKind::MemRead { addr, len } = parsed.event.what {
+        if let Some(part) = part_of(board, slot, addr, len) {
+            put_read(text, writer, slot, part, words(board, slot), b' ');
+            put_asked(text, writer, None);
+            return;
+        }
+    }
+    let is_next = begins_next(board, &parsed.event);
+    let Handled {
+        reply,
+        block_irq,
+        console_irq,
+    } = answer(board, parsed, room, output);
+    let words = (block_irq, console_irq);
+    put_fields(text, writer, slot, &reply, output.as_slice(), words, b' ');
+    put_asked(text, writer, begun(board, slot, is_next));
+}
+
+// Whether what is in flight behind the event begins with it.
+fn begins_next<I: Image, A: Allocator>(board: &Board<I, A>, event: &Event<A>) -> bool
+    ensures { result ≡ begins (verdict_in event.now.what) (flight_of (slice_get board.now.slots event.now.slot)) }
+{
+    match event.what {
+        EventKind::Complete { .. } => true,
+        _ => board.operation(event.slot).is_none(),
+    }
+}
+
+// What is in flight of a slot, where it began with the last event.
+fn begun<I: Image, A: Allocator>(
+    board: &Board<I, A>,
+    slot: u8,
+    is_next: bool,
+) -> Option<(Operation, &[Segment])>
+    ensures { option_map (λ asked. (asked.0, asked.1.now)) result ≡
+        told_of_flight (if is_next then flight_of (slice_get board.now.slots slot) else None) }
+{
+    if !is_next {
+        return None;
+    }
+    let operation = board.operation(slot)?;
+    let runs = board.runs(slot)?;
+    Some((operation, runs))
 }
 
 // The bytes of a slot's memory from an address on, where they lie.
@@ -115,9 +188,9 @@ fn answer<I: Image, A: Allocator + Copy>(
     }
 }
 
-/// What an event came to, by its reply and both interrupt words after it.
+// What an event came to, by its reply and both interrupt words after it.
 #[inline]
-pub(crate) fn told<A: Allocator>(reply: Reply<A>, words: (u8, u8)) -> Handled<A>
+fn told<A: Allocator>(reply: Reply<A>, words: (u8, u8)) -> Handled<A>
     ensures { result ≡ record { reply = reply; block_irq = words.0; console_irq = words.1 } }
 {
     Handled {
@@ -127,8 +200,8 @@ pub(crate) fn told<A: Allocator>(reply: Reply<A>, words: (u8, u8)) -> Handled<A>
     }
 }
 
-/// Writes the bytes that a field spells to the front of the room, and answers that front.
-pub(crate) fn bytes_in<'a>(room: &'a mut [u8], field: &[u8]) -> &'a [u8]
+// Writes the bytes that a field spells to the front of the room, and answers that front.
+fn bytes_in<'a>(room: &'a mut [u8], field: &[u8]) -> &'a [u8]
     requires spelled { Says ByBytes field.now }
     requires room { length field.now / 2 ≤ length room.old }
     ensures { IsBytesField field.now result.now }
@@ -190,8 +263,9 @@ fn restore<I: Image, A: Allocator>(board: &mut Board<I, A>, slot: u8, bytes: &[u
     ensures { AnswersEvent I.disk board.old (record { slot = slot; what = EventKind.Restore bytes.now }) result [] board.new }
 {
     match board.restore(slot, bytes) {
-        Some(Ok(())) => Reply::Done,
-        Some(Err(_)) => Reply::BadState,
-        None => Reply::BadSlot,
+        Ok(()) => Reply::Done,
+        Err(RestoreRefusal::BadSlot) => Reply::BadSlot,
+        Err(RestoreRefusal::Busy) => Reply::Busy,
+        Err(RestoreRefusal::Fault(_)) => Reply::BadState,
     }
 }

@@ -1,64 +1,49 @@
-//! Running the events of lines that were validated, one after another, on a board of either kind.
+//! Running the events of lines that were validated, one after another.
 //!
 //! Each line is read, its event handled and the text of its record sent before the next. Bytes that it spells are
 //! written into room that is lent.
 
-ghost use Rattle.std.specs.Prelude.{◌≡◌, ◌≢◌, ◌≤◌, ℕ, [], ◌∷◌, List, Option, Err, length};
+ghost use Rattle.std.specs.Prelude.{◌≡◌, ◌≢◌, ◌≤◌, ℕ, [], ◌∷◌, List, Err, length};
 ghost use Rattle.board.specs.declared.event.Event.{Event};
 ghost use Rattle.replay.specs.declared.fault.ReplayFault.{ReplayFault};
-ghost use Rattle.replay.specs.Running.{AfterLines, HasRoomFor, Joins, RunsLine, RunsParsed};
+ghost use Rattle.replay.specs.Running.{AfterLines, HasRoomFor, RunsLine, RunsParsed};
+ghost use Rattle.replay.specs.Telling.{SendsRun};
 ghost use Rattle.trace.specs.Events.{BeginsWithEvent};
 ghost use Rattle.trace.specs.ParsedEvent.{IsFineParsed};
 ghost use Rattle.trace.specs.Sends.{waiting};
 ghost use Rattle.trace.specs.Validating.{AreEventLines, AreLinesOf, parsed_len};
 
 use crate::fault::ReplayFault;
+use crate::running::{run_event, run_hosted_event};
+use board::Board;
+use sector_cache::Image;
 use std::alloc::Allocator;
 use std::io::Write;
-use trace::{Buffer, ParsedEvent, take_event, take_input, take_mem_write, take_read, take_write};
+use trace::{
+    Buffer, Disks, ParsedEvent, take_event, take_input, take_mem_write, take_read, take_write,
+};
 
 /// How many bytes of text wait for the writer at most.
 const TEXT_ROOM: usize = 65536;
 
-/// A board that runs events, and sends the text of their records.
-pub(crate) trait RunsEvents<A: Allocator> {
-    // these events lead from one board to another, and the text of their records is added to what waits for a writer
-    ghost sends: { Self → Self → List (Event A) → Option (List ℕ) → Option (List ℕ) → Option (List ℕ) → Option (List ℕ) → Type 0 };
-
-    /// Runs an event, and sends the text of its record. What the console puts out waits in `output` meanwhile. Memory that
-    /// is read is printed where it lies.
-    fn run_event<W: Write>(
-        &mut self,
-        parsed: &ParsedEvent<'_, A>,
-        room: &mut [u8],
-        output: &mut Vec<u8, A>,
-        text: &mut Buffer<A>,
-        writer: &mut W,
-    )
-        requires fine { IsFineParsed parsed.now }
-        requires room { parsed_len parsed.now ≤ length room.old }
-        ensures { RunsParsed parsed.now (λ event. sends self.old self.new (event ∷ [])
-            (W.contents writer.old) (W.contents writer.new) (waiting text.old) (waiting text.new)) };
-}
-
 /// Runs the events that the lines say, and writes the text of their records.
-pub(crate) fn run_text<W: Write, B: RunsEvents<A>, A: Allocator + Copy>(
+pub(crate) fn run_text<W: Write, I: Image, A: Allocator + Copy>(
     alloc: A,
-    board: &mut B,
+    board: &mut Board<I, A>,
+    disks: Disks,
     lines: &[u8],
     room: &mut [u8],
     writer: &mut W,
 ) -> Result<(), ReplayFault>
-    requires joins { Joins B.sends }
     requires lines { AreEventLines A (length room.old) lines.now }
     ensures after { (events : List (Event A)) → AreLinesOf events lines.now →
-        AfterLines B.sends events board.old board.new (W.contents writer.old) (W.contents writer.new) result }
+        AfterLines disks I.disk events board.old board.new (W.contents writer.old) (W.contents writer.new) result }
     ensures whole { (done : ℕ) → result ≢ Err (ReplayFault.Run done) }
 {
     let Ok(mut text) = Buffer::with_room(alloc, TEXT_ROOM) else {
         return Err(ReplayFault::NoMemory);
     };
-    run_lines(alloc, board, lines, room, &mut text, writer);
+    run_lines(alloc, board, disks, lines, room, &mut text, writer);
     text.flush(writer);
     if text.is_broken() {
         return Err(ReplayFault::Write);
@@ -68,31 +53,32 @@ pub(crate) fn run_text<W: Write, B: RunsEvents<A>, A: Allocator + Copy>(
 
 // Runs the events that the lines say, and sends the text of their records. Where the writer fails the run goes on, so
 // that what becomes of the image isn't decided by the writer.
-fn run_lines<W: Write, B: RunsEvents<A>, A: Allocator + Copy>(
+fn run_lines<W: Write, I: Image, A: Allocator + Copy>(
     alloc: A,
-    board: &mut B,
+    board: &mut Board<I, A>,
+    disks: Disks,
     lines: &[u8],
     room: &mut [u8],
     text: &mut Buffer<A>,
     writer: &mut W,
 )
-    requires joins { Joins B.sends }
     requires lines { AreEventLines A (length room.old) lines.now }
     ensures { (events : List (Event A)) → AreLinesOf events lines.now →
-        B.sends board.old board.new events (W.contents writer.old) (W.contents writer.new) (waiting text.old) (waiting text.new) }
+        SendsRun disks I.disk board.old board.new events (W.contents writer.old) (W.contents writer.new) (waiting text.old) (waiting text.new) }
 {
     let mut output = Vec::new(alloc);
     let mut rest = lines;
     while !rest.is_empty() {
-        rest = run_line(alloc, board, rest, room, &mut output, text, writer);
+        rest = run_line(alloc, board, disks, rest, room, &mut output, text, writer);
     }
 }
 
 // Runs the event that the first line says, sends the text of its record, and answers what follows that line. Each kind of
 // line that comes often has a call of its own, which knows the kind of its event.
-fn run_line<'a, W: Write, B: RunsEvents<A>, A: Allocator + Copy>(
+fn run_line<'a, W: Write, I: Image, A: Allocator + Copy>(
     alloc: A,
-    board: &mut B,
+    board: &mut Board<I, A>,
+    disks: Disks,
     lines: &'a [u8],
     room: &mut [u8],
     output: &mut Vec<u8, A>,
@@ -101,34 +87,56 @@ fn run_line<'a, W: Write, B: RunsEvents<A>, A: Allocator + Copy>(
 ) -> &'a [u8]
     requires begins { BeginsWithEvent A lines.now }
     requires room { HasRoomFor A lines.now (length room.old) }
-    ensures { RunsLine A lines.now result.now (λ event. B.sends board.old board.new (event ∷ [])
+    ensures { RunsLine A lines.now result.now (λ event. SendsRun disks I.disk board.old board.new (event ∷ [])
         (W.contents writer.old) (W.contents writer.new) (waiting text.old) (waiting text.new)) }
 {
     match lines {
         [b'r', b' ', rest @ ..] => {
             let (parsed, after) = take_read(rest);
-            board.run_event(&parsed, room, output, text, writer);
+            run(board, disks, &parsed, room, output, text, writer);
             after
         }
         [b'w', b' ', rest @ ..] => {
             let (parsed, after) = take_write(rest);
-            board.run_event(&parsed, room, output, text, writer);
+            run(board, disks, &parsed, room, output, text, writer);
             after
         }
         [b'm', b'w', b' ', rest @ ..] => {
             let (parsed, after) = take_mem_write(alloc, rest);
-            board.run_event(&parsed, room, output, text, writer);
+            run(board, disks, &parsed, room, output, text, writer);
             after
         }
         [b'i', b'n', b' ', rest @ ..] => {
             let (parsed, after) = take_input(alloc, rest);
-            board.run_event(&parsed, room, output, text, writer);
+            run(board, disks, &parsed, room, output, text, writer);
             after
         }
         _ => {
             let (parsed, after) = take_event(alloc, lines);
-            board.run_event(&parsed, room, output, text, writer);
+            run(board, disks, &parsed, room, output, text, writer);
             after
         }
+    }
+}
+
+// Runs an event, and sends the text of its record.
+#[inline(always)]
+fn run<W: Write, I: Image, A: Allocator + Copy>(
+    board: &mut Board<I, A>,
+    disks: Disks,
+    parsed: &ParsedEvent<'_, A>,
+    room: &mut [u8],
+    output: &mut Vec<u8, A>,
+    text: &mut Buffer<A>,
+    writer: &mut W,
+)
+    requires fine { IsFineParsed parsed.now }
+    requires room { parsed_len parsed.now ≤ length room.old }
+    ensures { RunsParsed parsed.now (λ event. SendsRun disks I.disk board.old board.new (event ∷ [])
+        (W.contents writer.old) (W.contents writer.new) (waiting text.old) (waiting text.new)) }
+{
+    match disks {
+        Disks::Cached { .. } => run_event(board, parsed, room, output, text, writer),
+        Disks::Hosted => run_hosted_event(board, parsed, room, output, text, writer),
     }
 }

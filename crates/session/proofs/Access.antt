@@ -1,6 +1,6 @@
 -- A write to a guest's memory and a restore without an event, as the turn of their event.
 use Rattle.std.proofs.Common.{◌≡◌, inl, ℕ, zero, suc, ◌<◌, Bool, true, false, List, [], ◌∷◌, Option, Some, None, length, refl, sym, ◌∙◌, ap, subst, arith}
-use Rattle.std.specs.Prelude.{◌↔◌, Ok, Err, MatchOption, IfSome, IsOk, IsSome, IsSomeAnd, Result, slice_set}
+use Rattle.std.specs.Prelude.{Ok, Err, MatchOption, IsSomeAnd, Result, slice_set}
 use Rattle.std.specs.Bool.{OnTrue, OnFalse}
 use Rattle.std.specs.List.{slice_get}
 use Rattle.std.specs.Option.{option_map}
@@ -14,9 +14,10 @@ use Rattle.board.specs.declared.event.EventKind.{EventKind}
 use Rattle.board.specs.declared.event.EventKind.TheVariants.{MemWrite, Restore}
 use Rattle.board.specs.declared.pause.Turn.TheVariants as turn
 use Rattle.board.specs.declared.reply.Reply.{Reply}
-use Rattle.board.specs.declared.reply.Reply.TheVariants.{Done, BadRange, BadState}
+use Rattle.board.specs.declared.reply.Reply.TheVariants.{Done, BadRange}
 use Rattle.board.specs.declared.reply.Record.{Record}
-use Rattle.board.specs.declared.saved.RestoreFault.{RestoreFault}
+use Rattle.board.specs.declared.saved.RestoreRefusal.{RestoreRefusal}
+use Rattle.board.specs.declared.saved.RestoreRefusal.TheVariants as refusal
 use Rattle.board.specs.Image.{Health, bytes_of}
 use Rattle.board.specs.Machine.{block_irq, console_irq}
 use Rattle.board.specs.Outcome.{Outcome}
@@ -25,13 +26,15 @@ use Rattle.board.specs.Restoring.{restore_reply}
 use Rattle.board.specs.Slot.{BoardSlot, SlotState, state_of}
 use Rattle.board.specs.World.{Answers, BoardState, KeepsOthers, MayGive, MissingStep, SlotStep, World, extents_of, world_of}
 use Rattle.board.proofs.Seats.{extents_of-set, noted_none, others_kept}
+use Rattle.session.specs.declared.response.Response.{Response}
 use Rattle.session.specs.declared.response.Response.TheVariants.{Answered}
 use Rattle.session.specs.Pacing.{Handle, PacedState, Responds, paced_world}
-use Rattle.session.specs.Restoring.{restore_response, told_of}
+use Rattle.session.specs.Restoring.{restore_response}
+use Rattle.session.proofs.Parts.{asks_nothing, given}
 use Rattle.session.proofs.Places.{not_true, set_same}
 use Rattle.session.proofs.Turns.{begun}
 
-found_at : (slots : List BoardSlot) (h : ℕ) → h < length slots → (found : BoardSlot)
+pub found_at : (slots : List BoardSlot) (h : ℕ) → h < length slots → (found : BoardSlot)
     × (slice_get slots h ≡ Some found)
 found_at [] h fits = absurd (omega (arith, fits))
 found_at (s ∷ slots) zero fits = (s, refl)
@@ -87,11 +90,13 @@ refused_turn A old h addr bytes budget state here outside = record {
     state = state;
     there = here;
     after = state;
-    comes = inl (record {
-      alike = record { alike = rw outside refl; image = refl };
-      answered = λ is. absurd (cc);
-      failures = refl;
-    });
+    comes = rw (asks_nothing {A = A} (MemWrite addr bytes) state refl)
+        (given state (MemWrite addr bytes) old.health
+        (record { state = state; reply = BadRange; output = [] }) refl refl refl (inl (record {
+          alike = record { alike = rw outside refl; image = refl };
+          answered = λ is. absurd (cc);
+          failures = refl;
+        })));
     block_is = refl;
     console_is = refl;
     slots = sym (set_same old.slots h state state here refl);
@@ -135,7 +140,9 @@ module _ (A : Type 0) {I : Type 0} (disk : I → Disk) (old : PacedState I) (boa
       → Answers (world_of disk old.board) write Done [] [] (world_of disk board)
       → Responds old.budget (paced_world disk old) (Handle write) (Answered Done) [] []
       (paced_world disk (record old { board = board }))
-  wrote waits fits answers = answered (MemWrite addr bytes) Done (λ state. refl) waits fits answers
+  wrote waits fits answers =
+      answered (MemWrite addr bytes) Done (λ state. asks_nothing (MemWrite addr bytes) state refl) waits
+      fits answers
 
   pub not_written : slice_get old.paused h ≡ Some None → h < length old.board.slots
       → (IsSomeAnd (slice_get old.board.slots h) (λ found. Inside found.memory addr (length bytes)) → ⊥)
@@ -174,30 +181,25 @@ keeps old new h addr bytes false is kept = rw kept (refl, λ other differ. refl)
 
 -- ---- a restore
 
-module _ (r : Option (Result (Unit {0}) RestoreFault)) where
-  pub restored : (A : Type 0) {I : Type 0} (disk : I → Disk) (old : PacedState I) (board : BoardState I)
-      (h : ℕ) (bytes : List ℕ) → (IsSome r ↔ (h < length old.board.slots))
-      → IfSome r (λ d. Answers {A = A} (world_of disk old.board) (record { slot = h; what = Restore bytes })
-      (restore_reply d) [] [] (world_of disk board))
-      → slice_get old.paused h ≡ Some None → h < length old.board.slots
-      → Responds {A = A} old.budget (paced_world disk old)
-      (Handle (record { slot = h; what = Restore bytes })) (restore_response (told_of r)) [] []
-      (paced_world disk (record old { board = board }))
-  restored A disk old board h bytes there answers waits fits = restored_at r refl
-    where
-      restored_at : (o : Option (Result (Unit {0}) RestoreFault)) → r ≡ o
-          → Responds {A = A} old.budget (paced_world disk old)
-          (Handle (record { slot = h; what = Restore bytes })) (restore_response (told_of o)) [] []
-          (paced_world disk (record old { board = board }))
-      restored_at None is = let some = there.1 fits in absurd (cc)
-      restored_at (Some (Ok done)) is =
-          answered A disk old board h 0 bytes (Restore bytes) Done (λ state. refl) waits
-          fits (rw is at answers)
-      restored_at (Some (Err why)) is =
-          answered A disk old board h 0 bytes (Restore bytes) BadState (λ state. refl) waits
-          fits (rw is at answers)
+-- where nothing is paused it is answered what the board's is
+pub restore_told : (A : Type 0) (r : Result (Unit {0}) RestoreRefusal)
+    → restore_response {A = A} None r ≡ Answered (restore_reply r)
+restore_told A (Ok done) = refl
+restore_told A (Err refusal.BadSlot) = refl
+restore_told A (Err refusal.Busy) = refl
+restore_told A (Err (refusal.Fault why)) = refl
 
-pub taken_told : (r : Option (Result (Unit {0}) RestoreFault)) → IsSomeAnd r IsOk → IsOk (told_of r)
-taken_told None ok = absurd ok
-taken_told (Some (Ok done)) ok = refl
-taken_told (Some (Err why)) ok = ok
+pub restored : (A : Type 0) {I : Type 0} (disk : I → Disk) (old : PacedState I) (board : BoardState I)
+    (h : ℕ) (bytes : List ℕ) (r : Result (Unit {0}) RestoreRefusal)
+    → Answers {A = A} (world_of disk old.board) (record { slot = h; what = Restore bytes })
+    (restore_reply r) [] [] (world_of disk board)
+    → slice_get old.paused h ≡ Some None → h < length old.board.slots
+    → Responds {A = A} old.budget (paced_world disk old)
+    (Handle (record { slot = h; what = Restore bytes })) (restore_response None r) [] []
+    (paced_world disk (record old { board = board }))
+restored A disk old board h bytes r answers waits fits =
+    subst (λ (told : Response A). Responds {A = A} old.budget (paced_world disk old)
+    (Handle (record { slot = h; what = Restore bytes })) told [] []
+    (paced_world disk (record old { board = board }))) (sym (restore_told A r))
+    (answered A disk old board h 0 bytes (Restore bytes) (restore_reply r)
+    (λ state. asks_nothing (Restore bytes) state refl) waits fits answers)

@@ -19,8 +19,8 @@ use Rattle.session.specs.Pacing.{Call, GoOn, Handle, PacedWorld, Responds, pause
 use Rattle.session.specs.Pacing as paced
 use Rattle.session.proofs.Access.{answered_turn}
 use Rattle.session.specs.declared.refusal.Refusal.TheVariants as refusal
-use Rattle.session.specs.Answering.{refusing_response}
-use Rattle.session.specs.Pausing.{ComesTo, IsCall, IsWhole}
+use Rattle.session.specs.Answering.{RefusalMeans}
+use Rattle.session.specs.Pausing.{ComesTo, IsCall}
 use Rattle.session.specs.Session.{IsIdle, IsStep, SessionState, world_of}
 use Rattle.session.proofs.Places.{set_same}
 
@@ -103,18 +103,11 @@ call_of_step s new event reply idle many asks step =
     step_call_at s new event reply (slice_get s.paused event.slot) refl idle many asks step
 
 -- what a range that isn't in the memory is answered
-pub refused_whole : {A : Type 0} (s : SessionState) (event : Event A) (inside : Bool)
-    → IsStep s event (if inside then BadRange else BadSlot) s
-    → IsWhole s event (refusing_response (if inside then refusal.BadRange else refusal.BadSlot)) s
-refused_whole s _ true step = step
-refused_whole s _ false step = step
-
-pub refused_call : {A : Type 0} (s : SessionState) (event : Event A) (inside : Bool) → IsIdle event.slot s
-    → length s.paused ≡ length s.slots → ((state : SlotState) → asked event.what state ≡ None)
-    → IsStep s event (if inside then BadRange else BadSlot) s
-    → IsCall s (Handle event) (refusing_response (if inside then refusal.BadRange else refusal.BadSlot)) s
-refused_call s event true idle many asks step = call_of_step s s event BadRange idle many asks step
-refused_call s event false idle many asks step = call_of_step s s event BadSlot idle many asks step
+pub refused_range : (A : Type 0) (inside : Bool)
+    → RefusalMeans {A = A} (if inside then refusal.BadRange else refusal.BadSlot)
+    (Answered (if inside then BadRange else BadSlot))
+refused_range A true = refl
+refused_range A false = refl
 
 -- ---- how many slots may be paused
 

@@ -1,7 +1,8 @@
 -- Calls for a slot of which nothing is paused, where the paced board is told by its parts and by itself.
 use Rattle.std.proofs.Common.{◌≡◌, ℕ, ◌<◌, List, [], length, Option, Some, None, refl, sym, ◌∙◌, ap, subst}
-use Rattle.std.specs.Prelude.{◌↔◌, IfSome, IsSome, IsSomeAnd, Result, slice_set}
+use Rattle.std.specs.Prelude.{IsSomeAnd, Result, slice_set}
 use Rattle.std.specs.List.{slice_get}
+use Rattle.std.specs.Option.{option_and_then}
 use Rattle.std.proofs.lemmas.Option.{slice_get_within}
 use Rattle.guest_memory.specs.Memory.{Inside}
 use Rattle.sector_cache.specs.Disk.{Disk}
@@ -10,15 +11,15 @@ use Rattle.board.specs.declared.event.EventKind.TheVariants.{MemWrite, Restore}
 use Rattle.board.specs.declared.pause.Pause.{Pause}
 use Rattle.board.specs.declared.pause.Turn.{Turn}
 use Rattle.board.specs.declared.reply.Reply.TheVariants.{BadRange, Done}
-use Rattle.board.specs.declared.saved.RestoreFault.{RestoreFault}
+use Rattle.board.specs.declared.saved.RestoreRefusal.{RestoreRefusal}
 use Rattle.board.specs.Image.{Tells}
 use Rattle.board.specs.Pausing.{Begins, TakesTurn}
 use Rattle.board.specs.Restoring.{restore_reply}
 use Rattle.board.specs.World.{Answers, BoardState, world_of}
 use Rattle.session.specs.declared.response.Response.{Response}
 use Rattle.session.specs.declared.response.Response.TheVariants.{Answered}
-use Rattle.session.specs.Pacing.{Handle, PacedState, Responds, paced_world, paused_by, response_to}
-use Rattle.session.specs.Restoring.{restore_response, told_of}
+use Rattle.session.specs.Pacing.{Handle, PacedState, Responds, paced_world, paused_at, paused_by, response_to}
+use Rattle.session.specs.Restoring.{restore_response}
 use Rattle.session.proofs.Access.{not_written, restored, wrote}
 use Rattle.session.proofs.Turns.{begun}
 
@@ -29,6 +30,10 @@ module _ {I : Type 0} (disk : I → Disk) {parts paced : PacedState I} (same : p
   waits : slice_get parts.paused slot ≡ Some None
   waits = ap (λ (p : PacedState I). slice_get p.paused slot) same ∙ sym found ∙ is
       ∙ ap (λ (o : Option Pause). Some o) none
+
+  pub idle : paused_at paced.paused slot ≡ None
+  idle = ap (λ (o : Option (Option Pause)). option_and_then (λ (here : Option Pause). here) o)
+      (sym found ∙ is ∙ ap (λ (o : Option Pause). Some o) none)
 
   few : slot < length parts.board.slots
   few = rw (← many) (slice_get_within parts.paused slot None waits)
@@ -69,14 +74,13 @@ module _ {I : Type 0} (disk : I → Disk) {parts paced : PacedState I} (same : p
         (record { slot = slot; what = what }) new refl waits (takes tells few) told left)
 
     module _ (board : BoardState I) where
-      pub restores : (r : Option (Result (Unit {0}) RestoreFault)) (bytes : List ℕ)
-          → IsSome r ↔ (slot < length parts.board.slots)
-          → (Tells (disk parts.board.image) → IfSome r (λ done. Answers {A = A} (world_of disk parts.board)
-          (record { slot = slot; what = Restore bytes }) (restore_reply done) [] [] (world_of disk board)))
-          → RespondsFrom paced (Restore bytes) (restore_response (told_of r)) (with_board board)
-      restores r bytes there answers =
-          responds (Restore bytes) (restore_response (told_of r)) (with_board board)
-          (λ tells. restored r A disk parts board slot bytes there (answers tells) waits few)
+      pub restores : (r : Result (Unit {0}) RestoreRefusal) (bytes : List ℕ)
+          → (Tells (disk parts.board.image) → Answers {A = A} (world_of disk parts.board)
+          (record { slot = slot; what = Restore bytes }) (restore_reply r) [] [] (world_of disk board))
+          → RespondsFrom paced (Restore bytes) (restore_response None r) (with_board board)
+      restores r bytes answers =
+          responds (Restore bytes) (restore_response None r) (with_board board)
+          (λ tells. restored A disk parts board slot bytes r (answers tells) waits few)
 
       module _ (addr : ℕ) (bytes : List ℕ) where
         pub writes :

@@ -11,7 +11,7 @@ use Rattle.sector_cache.specs.Disk.{Disk}
 use Rattle.board.specs.declared.event.EventKind.TheVariants.{MemWrite}
 use Rattle.board.specs.declared.reply.Reply.TheVariants.{Done}
 use Rattle.board.specs.Extent.{outside_of}
-use Rattle.board.specs.Image.{bytes_of}
+use Rattle.board.specs.Image.{bytes_of, health_of}
 use Rattle.board.specs.Lending.{put_back}
 use Rattle.board.specs.Slot.{BoardSlot, state_of}
 use Rattle.board.specs.World.{Answers, met_refusal, seen}
@@ -21,6 +21,7 @@ use Rattle.session.specs.Pacing.{Handle}
 use Rattle.session.specs.Pausing.{IsCall}
 use Rattle.session.specs.Session.{IsStep, SessionState, disk_of, with_memory, with_slot_bytes}
 use Rattle.session.proofs.Calls.{idle_step_call}
+use Rattle.session.proofs.Parts.{asks_nothing, given}
 use Rattle.session.proofs.Ranges.{was_written}
 
 -- nothing is noted of it
@@ -47,11 +48,13 @@ answers A slots disk h found addr bytes here inside =
           (slice_get-map (state_of (bytes_of disk)) slots h ∙ rw here refl)
           (record {
             outcome = record { state = state_of (bytes_of disk) new; reply = Done; output = [] };
-            given = inl (record {
-              alike = record { alike = rw test refl; image = refl };
-              answered = λ no. absurd (cc);
-              failures = refl;
-            });
+            given = given (state_of (bytes_of disk) found) (MemWrite addr bytes) (health_of disk)
+                (record { state = state_of (bytes_of disk) new; reply = Done; output = [] }) refl refl refl
+                (inl (record {
+                  alike = record { alike = rw test refl; image = refl };
+                  answered = λ no. absurd (cc);
+                  failures = refl;
+                }));
             recorded = refl;
             slots = map-set (state_of (bytes_of disk)) slots h new;
             disturbed = noted_set slots h found new (met_refusal {A = A} Done disk.failures disk.failures)
@@ -120,5 +123,5 @@ pub in_place_call : (A : Type 0) (old : SessionState) (slot addr : ℕ) (found :
 in_place_call A old slot addr found bytes here inside idle =
     rw idle (idle_step_call {A = A} old (with_slot_bytes slot addr old bytes)
     (record { slot = slot; what = MemWrite addr bytes }) Done idle
-    (slice_get_within old.slots slot found here) (λ state. refl)
+    (slice_get_within old.slots slot found here) (λ state. asks_nothing (MemWrite addr bytes) state refl)
     (in_place_lent A old slot addr found bytes here inside))

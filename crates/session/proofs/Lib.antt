@@ -21,9 +21,9 @@ pub mod Made
 pub mod InPlace
 pub mod Outputs
 pub mod Telling
-pub mod HostedSteps
-pub mod HostedAlone
-pub mod HostedLaws
-pub mod HostedExact
 pub mod Loans
+pub mod Parts
+pub mod Exact
+pub mod Asking
+pub mod Kept
 pub mod Refusals

@@ -1,5 +1,5 @@
 -- A guest of a new session is as it is in one of its own.
-use Rattle.std.proofs.Common.{◌≡◌, ℕ, zero, suc, ◌+◌, ◌*◌, ◌/◌, ◌<◌, ◌≤◌, List, [], ◌∷◌, Option, Some, None, length, replicate, map, take, drop, sym, ap, subst, ◌∙◌, arith}
+use Rattle.std.proofs.Common.{◌≡◌, ℕ, zero, suc, ◌+◌, ◌*◌, ◌/◌, ◌<◌, ◌≤◌, List, [], ◌∷◌, Option, Some, None, length, replicate, map, take, drop, refl, sym, ap, subst, ◌∙◌, arith}
 use Rattle.std.specs.Prelude.{◌-◌, ◌^◌, min, unwrap_or}
 use Rattle.std.specs.List.{slice_get}
 use Rattle.std.proofs.lemmas.List.{length-take, length-drop, length-replicate, get_or-replicate, take_all}
@@ -8,10 +8,15 @@ use Rattle.circular_buffer.proofs.Places.{slice_get-some}
 use Rattle.chain.specs.declared.budget.Budget.{Budget}
 use Rattle.board.specs.declared.pause.Pause.{Pause}
 use Rattle.sector_cache.specs.Sector.{extent_of}
+use Rattle.block_device.specs.declared.extent.Extent.{Extent}
+use Rattle.block_device.specs.Extent.{IsWithin}
+use Rattle.board.specs.declared.spec.Backing.{Backing}
+use Rattle.board.specs.declared.spec.Backing.TheVariants.{Image, Host}
 use Rattle.board.specs.declared.spec.SlotSpec.{SlotSpec}
-use Rattle.board.specs.Fault.{IsAccepted, IsGoodSlot}
+use Rattle.board.specs.Backing.{HostDisk}
+use Rattle.board.specs.Fault.{IsAccepted, IsGoodSlot, place_by, room_by}
 use Rattle.board.specs.Pausing.{HasLimit}
-use Rattle.board.specs.Slot.{SlotState, opened, state_of}
+use Rattle.board.specs.Slot.{SlotState, extent_by, host_by, opened, state_of}
 use Rattle.session.specs.declared.guest.GuestSpec.{GuestSpec}
 use Rattle.session.specs.Alone.{SeeAlike, at_front, new_session_alone, own_askings, part_of_image}
 use Rattle.session.specs.Course.{SessionStep, IsCourse, NeverPauses}
@@ -27,12 +32,34 @@ front_of_part image start count =
     take_all (512 * count) (take (512 * count) (drop (512 * start) image))
     (omega (arith, length-take (512 * count) (drop (512 * start) image)))
 
+-- by who has its disk
+abbrev bytes_by : Backing → Extent → List ℕ → List ℕ
+bytes_by backing extent image =
+    extent_of image (extent_by backing extent).start (extent_by backing extent).count
+
+front_by : (backing : Backing) (extent : Extent) (image : List ℕ)
+    → bytes_by backing (record extent { start = 0 }) (bytes_by backing extent image)
+    ≡ bytes_by backing extent image
+front_by Image extent image = front_of_part image extent.start extent.count
+front_by Host extent image = front_of_part image 0 0
+
+host_of_count : (backing : Backing) (extent : Extent) → host_by backing (record extent { start = 0 })
+    ≡ host_by backing extent
+host_of_count Image extent = refl
+host_of_count Host extent = refl
+
+seen_as : (spec : SlotSpec) (bytes bytes' : List ℕ) (host host' : Option HostDisk) → bytes ≡ bytes'
+    → host ≡ host'
+    → ◌≡◌ {A = SlotState} (record (state_of bytes (opened spec)) { extent = bytes; host = host })
+    (record (state_of bytes (opened spec)) { extent = bytes'; host = host' })
+seen_as spec bytes bytes' host host' p q = rw (p, q) refl
+
 -- the guest's state is what it is alone
 same_state : (guest : GuestSpec) (image : List ℕ)
     → state_of (part_of_image guest image) (opened (at_front guest).slot) ≡ state_of image (opened guest.slot)
 same_state guest image =
-    ap (λ (bytes : List ℕ). record (state_of image (opened guest.slot)) { extent = bytes })
-    (front_of_part image guest.slot.extent.start guest.slot.extent.count)
+    seen_as guest.slot _ _ _ _ (front_by guest.slot.backing guest.slot.extent image)
+    (host_of_count guest.slot.backing guest.slot.extent)
 
 there_in : (guests : List GuestSpec) (g : ℕ) (guest : GuestSpec) (image : List ℕ) (budget : Budget)
     → slice_get guests g ≡ Some guest → slice_get (world_of (new_session guests image budget)).slots g
@@ -98,16 +125,24 @@ part_sectors : (n count : ℕ) → n ≡ 512 * count → 0 + count ≤ n / 512
 part_sectors n count is = omega (arith, is)
 
 -- the part of an image has the extent's sectors
-has_sectors : (guest : GuestSpec) (image : List ℕ)
-    → guest.slot.extent.start + guest.slot.extent.count ≤ length image / 512
-    → 0 + guest.slot.extent.count ≤ length (part_of_image guest image) / 512
-has_sectors guest image fits =
-    let start = guest.slot.extent.start in
-    let count = guest.slot.extent.count in
-    part_sectors (length (part_of_image guest image)) count
-    (part_len count start (length image) (length (part_of_image guest image))
-    (length (drop (512 * start) image)) fits
-    (length-drop (512 * start) image) (length-take (512 * count) (drop (512 * start) image)))
+has_sectors : (extent : Extent) (image : List ℕ)
+    → extent.start + extent.count ≤ length image / 512
+    → 0 + extent.count ≤ length (extent_of image extent.start extent.count) / 512
+has_sectors extent image fits =
+    let part = extent_of image extent.start extent.count in
+    part_sectors (length part) extent.count
+    (part_len extent.count extent.start (length image) (length part)
+    (length (drop (512 * extent.start) image)) fits
+    (length-drop (512 * extent.start) image) (length-take (512 * extent.count) (drop (512 * extent.start)
+    image)))
+
+-- a disk of the host's lies where it did
+fits_by : (backing : Backing) (extent : Extent) (image : List ℕ)
+    → IsWithin (room_by backing (length image / 512)) (place_by backing extent)
+    → IsWithin (room_by backing (length (bytes_by backing extent image) / 512))
+    (place_by backing (record extent { start = 0 }))
+fits_by Image extent image fits = has_sectors extent image fits
+fits_by Host extent image fits = fits
 
 outlet_at : (guests : List GuestSpec) (g : ℕ) (guest : GuestSpec) → slice_get guests g ≡ Some guest
     → AreOutlets guests → guest.outlet ≤ 2 ^ 24
@@ -131,7 +166,7 @@ good_alone : (guest : GuestSpec) (image : List ℕ) (earlier : List SlotSpec)
 good_alone guest image earlier good =
     record {
       memory = good.memory;
-      within = has_sectors guest image good.within;
+      within = fits_by guest.slot.backing guest.slot.extent image good.within;
       apart = λ k d fits. absurd (omega (arith, fits));
     }
 

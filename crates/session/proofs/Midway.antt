@@ -1,5 +1,5 @@
 -- A service that is paused: its pieces so far, as one part of the service of the guest that is alone.
-use Rattle.std.proofs.Common.{◌≡◌, ℕ, Option, Some, None, List, [], ◌++◌, refl, sym, ap, subst, ◌∙◌, inl, inr, append_assoc, append-nil, arith}
+use Rattle.std.proofs.Common.{◌≡◌, ℕ, false, Option, Some, None, List, [], ◌++◌, refl, sym, ap, subst, ◌∙◌, inl, inr, append_assoc, append-nil, arith}
 use Rattle.std.proofs.lemmas.Option.{same_Some}
 use Rattle.guest_memory.specs.Memory.{Memory}
 use Rattle.chain.specs.declared.budget.Budget.{Budget}
@@ -29,16 +29,21 @@ use Rattle.board.specs.declared.pause.Service.TheVariants.{Block, Receive, Trans
 use Rattle.board.specs.declared.reply.Reply.{Reply}
 use Rattle.board.specs.declared.reply.Reply.TheVariants.{Done, Took}
 use Rattle.board.specs.Image.{Health, health_of, sectors_of, disk_with}
-use Rattle.board.specs.Machine.{IsNext, at_rest, task_at, with_input, with_write}
+use Rattle.board.specs.Backing.{HostDisk}
+use Rattle.board.specs.Hosting.{has_part, is_block_task, notifies_block}
+use Rattle.board.specs.Machine.{GivesBy, GivesOverImage, IsNext, at_rest, task_at, with_input, with_write}
 use Rattle.board.specs.Outcome.{Outcome}
-use Rattle.board.specs.Pausing.{IsBlockPiece, IsPiece, IsReceivePiece, IsTransmitPiece, asked, asked_by, readied, reply_of}
+use Rattle.board.specs.Pausing.{IsBlockPiece, IsPiece, IsReceivePiece, IsTransmitPiece, asked, asked_by, asked_over_image, is_hosts, readied, reply_of}
 use Rattle.board.specs.Slot.{SlotState}
 use Rattle.board.specs.declared.task.Task.{Task}
 use Rattle.board.specs.declared.task.Task.TheVariants.{Nothing, Serve, PutOut}
 use Rattle.board.specs.Task.{Finishes, IsBlockService, IsReceiveService, IsTransmitService, device_of}
 use Rattle.board.proofs.Alike.{PieceAs, piece_as}
 use Rattle.board.proofs.Guests.{same_disk}
+use Rattle.board.proofs.Identities.{readied_fixed}
+use Rattle.board.proofs.OnHost.{is_beside, passes}
 use Rattle.board.proofs.Whole.{came}
+use Rattle.session.proofs.Parts.{asks_freely, serves_itself}
 
 -- ---- a queue, for any device
 
@@ -369,6 +374,8 @@ way_ended A Transmit budget mid now out before after new output stood w h =
 record Finished {A : Type 0} (task : Task) (mid : SlotState) (outcome : Outcome A) : Type 0 where
   after : Health
   finishes : Finishes task mid at_rest after outcome
+  -- the image has no part in the other services
+  rests : is_block_task task ≡ false → after ≡ at_rest
 
 finished : {A : Type 0} (task : Task) (pause : Pause) (mid new : SlotState) (out : List ℕ)
     → asked_by task ≡ Some pause → Ended A pause.service mid new out
@@ -377,36 +384,78 @@ finished Nothing pause mid new out asks = absurd (cc)
 finished {A} (Serve Block) pause mid new out asks =
     subst (λ (p : Pause). Ended A p.service mid new out
     → Finished {A = A} (Serve Block) mid (came new (reply_of p) out)) (same_Some _ pause asks)
-    (λ e. record { after = e.health; finishes = e.service })
+    (λ e. record { after = e.health; finishes = e.service; rests = λ other. absurd (cc (other)) })
 finished {A} (Serve Receive) pause mid new out asks =
     subst (λ (p : Pause). Ended A p.service mid new out
     → Finished {A = A} (Serve Receive) mid (came new (reply_of p) out)) (same_Some _ pause asks)
-    (λ e. record { after = at_rest; finishes = e Done })
+    (λ e. record { after = at_rest; finishes = e Done; rests = λ other. refl })
 finished {A} (Serve Transmit) pause mid new out asks =
     subst (λ (p : Pause). Ended A p.service mid new out
     → Finished {A = A} (Serve Transmit) mid (came new (reply_of p) out)) (same_Some _ pause asks)
-    (λ e. record { after = at_rest; finishes = e })
+    (λ e. record { after = at_rest; finishes = e; rests = λ other. refl })
 finished (PutOut byte) pause mid new out asks = absurd (cc)
 
-next_ended : {A : Type 0} (what : EventKind A) (state : SlotState) (pause : Pause) (new : SlotState)
-    (out : List ℕ) → asked what state ≡ Some pause → Ended A pause.service (readied what state) new out
-    → IsNext state what (came new (reply_of pause) out)
-next_ended (Read window offset width) state pause new out asks e = absurd (cc)
-next_ended {A} (Write window offset width value) state pause new out asks e =
+-- what comes of an event over an image
+record Gave {A : Type 0} (what : EventKind A) (state : SlotState) (outcome : Outcome A) : Type 0 where
+  after : Health
+  gives : GivesOverImage state what at_rest after outcome
+  rests : notifies_block what state ≡ false → after ≡ at_rest
+
+gave : {A : Type 0} (what : EventKind A) (state : SlotState) (pause : Pause) (new : SlotState)
+    (out : List ℕ) → asked_over_image what state ≡ Some pause
+    → Ended A pause.service (readied what state) new out
+    → Gave what state (came new (reply_of pause) out)
+gave (Read window offset width) state pause new out asks e = absurd (cc)
+gave {A} (Write window offset width value) state pause new out asks e =
     let f : Finished {A = A} (task_at window offset width value state)
     (with_write window offset width value state) (came new (reply_of pause) out) =
     finished (task_at window offset width value state) pause
     (with_write window offset width value state) new out asks e in
-    record { after = f.after; gives = f.finishes }
-next_ended (MemRead addr len) state pause new out asks e = absurd (cc)
-next_ended (MemWrite addr bytes) state pause new out asks e = absurd (cc)
-next_ended {A} (Input bytes) state pause new out asks e =
+    record { after = f.after; gives = f.finishes; rests = f.rests }
+gave (MemRead addr len) state pause new out asks e = absurd (cc)
+gave (MemWrite addr bytes) state pause new out asks e = absurd (cc)
+gave {A} (Input bytes) state pause new out asks e =
     subst (λ (p : Pause). Ended A p.service (with_input bytes state) new out
-    → IsNext {A = A} state (Input bytes) (came new (reply_of p) out)) (same_Some _ pause asks)
-    (λ e. record { after = at_rest; gives = e (Took (fitting state.pending bytes)) }) e
-next_ended (Resize cols rows) state pause new out asks e = absurd (cc)
-next_ended (Restore bytes) state pause new out asks e = absurd (cc)
-next_ended (Complete verdict) state pause new out asks e = absurd (cc)
+    → Gave {A = A} (Input bytes) state (came new (reply_of p) out)) (same_Some _ pause asks)
+    (λ e. record {
+      after = at_rest;
+      gives = e (Took (fitting state.pending bytes));
+      rests = λ quiet. refl;
+    }) e
+gave (Resize cols rows) state pause new out asks e = absurd (cc)
+gave (Restore bytes) state pause new out asks e = absurd (cc)
+gave (Complete verdict) state pause new out asks e = absurd (cc)
+
+-- and whoever has the guest's disk
+next_by : {A : Type 0} (host : Option HostDisk) (what : EventKind A) (state : SlotState) (outcome : Outcome A)
+    → state.host ≡ host → has_part host what state ≡ false → Gave what state outcome
+    → IsNext state what outcome
+next_by {A} None what state outcome is free g = record {
+  after = g.after;
+  gives = subst (λ (k : Option HostDisk). GivesBy {A = A} k state what at_rest g.after outcome) (sym is)
+      g.gives;
+}
+next_by {A} (Some disk) what state outcome is free g =
+    let beside = is_beside disk what state free in
+    let given : GivesOverImage state what at_rest at_rest outcome =
+    subst (λ (h : Health). GivesOverImage state what at_rest h outcome) (g.rests beside.quiet) g.gives in
+    record {
+      after = at_rest;
+      gives = subst (λ (k : Option HostDisk). GivesBy {A = A} k state what at_rest at_rest outcome) (sym is)
+          (record {
+            gives = passes (λ (o : Outcome A). GivesOverImage state what at_rest at_rest o) disk state what
+                outcome free given;
+            image = refl;
+          });
+    }
+
+next_ended : {A : Type 0} (what : EventKind A) (state : SlotState) (pause : Pause) (new : SlotState)
+    (out : List ℕ) → asked what state ≡ Some pause → Ended A pause.service (readied what state) new out
+    → IsNext state what (came new (reply_of pause) out)
+next_ended what state pause new out asks e =
+    let freely = asks_freely what state pause asks in
+    next_by state.host what state (came new (reply_of pause) out) refl freely.free
+    (gave what state pause new out freely.asks e)
 
 -- So what it comes to is what comes of its event for a guest that is alone.
 pub next_of_pieces : {A : Type 0} (what : EventKind A) (budget : Budget) (state : SlotState) (pause : Pause)
@@ -419,3 +468,19 @@ next_of_pieces {A} what budget state pause now out before after new output asks 
     next_ended what state pause new (out
     ++ output) asks (way_ended A pause.service budget (readied what state) now out before after
     new output stood w h)
+
+-- ---- and a service that goes on is one that the board serves itself
+
+way_host : (service : Service) (mid now : SlotState) (out : List ℕ) → Way service mid now out
+    → now.host ≡ mid.host
+way_host Block mid now out w = ap (λ (s : SlotState). s.host) w.is
+way_host Receive mid now out w = ap (λ (s : SlotState). s.host) w.is
+way_host Transmit mid now out w = ap (λ (s : SlotState). s.host) w.is
+
+pub goes_by_piece : {A : Type 0} (what : EventKind A) (state : SlotState) (pause : Pause) (now : SlotState)
+    (out : List ℕ) → asked what state ≡ Some pause → Way pause.service (readied what state) now out
+    → is_hosts now.host pause.service ≡ false
+goes_by_piece what state pause now out asks w =
+    ap (λ (host : Option HostDisk). is_hosts host pause.service)
+    (way_host pause.service (readied what state) now out w ∙ (readied_fixed what state).host)
+    ∙ serves_itself what state pause asks

@@ -1,5 +1,5 @@
 -- What is noted of a guest says exactly whether an event of it has met a refusal, however its services pause.
-use Rattle.std.proofs.Common.{◌≡◌, ◌≢◌, inl, inr, ℕ, ◌≤◌, Bool, false, List, Option, Some, None, refl, sym, ◌∙◌, ap, arith}
+use Rattle.std.proofs.Common.{◌≡◌, ◌≢◌, inl, inr, ℕ, ◌≤◌, Bool, true, false, List, Option, Some, None, refl, sym, ◌∙◌, ap, arith}
 use Rattle.std.specs.Prelude.{◌↔◌}
 use Rattle.std.specs.List.{slice_get}
 use Rattle.chain.specs.declared.budget.Budget.{Budget}
@@ -16,9 +16,9 @@ use Rattle.board.specs.declared.pause.Turn.TheVariants as turn
 use Rattle.board.specs.declared.reply.Reply.TheVariants.{Done, NoMemory}
 use Rattle.board.specs.Image.{Health}
 use Rattle.board.specs.Pausing as pausing
-use Rattle.board.specs.Pausing.{Begins, GoesOn, IsPiece, TurnsTo, asked, met_in, readied}
+use Rattle.board.specs.Pausing.{Begins, GoesOn, GoesOnBy, IsPiece, TurnsTo, asked, is_hosts, met_in, readied}
 use Rattle.board.specs.Slot.{SlotState}
-use Rattle.board.specs.World.{noted}
+use Rattle.board.specs.World.{MayGive, noted}
 use Rattle.board.proofs.Failures.{given_failures}
 use Rattle.board.proofs.Noted.{met, noted_exactly, unmet}
 use Rattle.board.proofs.Steps.{noted_along}
@@ -54,12 +54,21 @@ comes_rises pause stage budget old before after new output (turn.More next) (is,
 
 begins_rises : {A : Type 0} (o : Option Pause) (what : EventKind A) (budget : Budget) (old : SlotState)
     (before after : Health) (new : SlotState) (output : List ℕ) (t : Turn A)
-    → TurnsTo o what budget old before after new output t → before.failures ≤ after.failures
+    → TurnsTo (MayGive old what before after) o what budget old before after new output t
+    → before.failures ≤ after.failures
 begins_rises (Some pause) what budget old before after new output t h =
     comes_rises pause First budget (readied what old) before after new output t h
 begins_rises None what budget old before after new output (turn.Answered reply) h =
     given_failures old what before after (came new reply output) h
 begins_rises None what budget old before after new output (turn.More pause) h = absurd h
+
+goes_rises : {A : Type 0} (hosts : Bool) (pause : Pause) (budget : Budget) (old : SlotState)
+    (before after : Health) (new : SlotState) (output : List ℕ) (t : Turn A)
+    → GoesOnBy hosts pause budget old before after new output t → before.failures ≤ after.failures
+goes_rises true pause budget old before after new output t h = let same =
+    ap (λ (x : Health). x.failures) h.image in omega (arith, same)
+goes_rises false pause budget old before after new output t h =
+    comes_rises pause Next budget old before after new output t h
 
 -- ---- one move
 
@@ -131,8 +140,8 @@ notes_at g budget old move (Handle event) (Some None) is c =
 notes_at g budget old move (Handle event) (Some (Some pause)) is c = notes_unchanged g old move _ (λ no. cc) c
 notes_at g budget old move (GoOn slot) (Some None) is c = notes_unchanged g old move _ (λ no. cc) c
 notes_at {A} g budget old move (GoOn slot) (Some (Some pause)) is c =
-    notes_turn (GoesOn pause budget) (λ s f k s' output t h. comes_rises {A = A} pause Next budget s f k s'
-    output t h) g slot old move (ap slot_in is) c
+    notes_turn (GoesOn pause budget) (λ s f k s' output t h. goes_rises {A = A} (is_hosts s.host pause.service)
+    pause budget s f k s' output t h) g slot old move (ap slot_in is) c
 
 -- and a whole line
 pub line_noted : {A : Type 0} (g : ℕ) (budget : Budget) (old new : PacedWorld) (moves : List (Move A))

@@ -1,5 +1,5 @@
 -- A guest whose own events met no refusal is told what it would be told alone, however its services pause.
-use Rattle.std.proofs.Common.{◌≡◌, ◌≢◌, inl, inr, ℕ, true, false, List, [], ◌∷◌, ◌++◌, Option, Some, None, eqb, refl, sym, ◌∙◌, ap, subst}
+use Rattle.std.proofs.Common.{◌≡◌, ◌≢◌, inl, inr, ℕ, Bool, true, false, List, [], ◌∷◌, ◌++◌, Option, Some, None, eqb, refl, sym, ◌∙◌, ap, subst}
 use Rattle.std.specs.Prelude.{⊤}
 use Rattle.std.specs.List.{slice_get}
 use Rattle.std.proofs.lemmas.Option.{same_Some}
@@ -15,8 +15,11 @@ use Rattle.board.specs.declared.reply.Record.{Record}
 use Rattle.board.specs.Image.{Health}
 use Rattle.board.specs.Machine.{IsNext, IsToldAlone, RunsOnItsOwn, record_of}
 use Rattle.board.specs.Outcome.{Outcome}
-use Rattle.board.specs.Pausing.{Begins, GoesOn, TurnsTo, asked, readied, reply_of}
+use Rattle.board.specs.Pausing as pausing
+use Rattle.board.specs.Pausing.{Begins, GoesOn, GoesOnBy, TurnsTo, asked, readied, reply_of}
 use Rattle.board.specs.Slot.{SlotState}
+use Rattle.board.specs.World.{MayGive}
+use Rattle.mmio_window.specs.declared.stage.Stage.TheVariants.{Next}
 use Rattle.board.proofs.Alone.{served}
 use Rattle.board.proofs.Lists.{get_set, get_set_other}
 use Rattle.board.proofs.OneRun.{next_of}
@@ -27,7 +30,7 @@ use Rattle.session.specs.declared.response.Response.{Response}
 use Rattle.session.specs.declared.response.Response.TheVariants.{Answered, More, Busy, Idle}
 use Rattle.session.specs.Line.{IsIdle, IsLine, IsQuiet, IsUndisturbed, RunsAlone, begun_by, own_events, own_records, record_at, told_by}
 use Rattle.session.specs.Pacing.{Call, ComesTo, Handle, GoOn, IsMove, IsTurn, IsUnchanged, Move, PacedWorld, paused_by, response_to, slot_in}
-use Rattle.session.proofs.Midway.{Way, next_of_pieces, way_again, way_first}
+use Rattle.session.proofs.Midway.{Way, goes_by_piece, next_of_pieces, way_again, way_first}
 
 -- ---- how a guest may sit in a line
 
@@ -138,7 +141,8 @@ turned Does g old move state was here waits t = record {
 first_pause : {A : Type 0} (o : Option Pause) (what : EventKind A) (budget : Budget) (state : SlotState)
     (before after : Health) (new : SlotState) (output : List ℕ) (pause : Pause) → asked what state ≡ o
     → after.failures ≡ before.failures
-    → TurnsTo o what budget state before after new output (turn.More pause) → (asked what state ≡ Some pause)
+    → TurnsTo (MayGive state what before after) o what budget state before after new output (turn.More pause)
+    → (asked what state ≡ Some pause)
     × Way pause.service (readied what state) new output
 first_pause None what budget state before after new output pause is stood h = absurd h
 first_pause {A} (Some asking) what budget state before after new output pause is stood h = (
@@ -227,7 +231,8 @@ module _ {A : Type 0} (budget : Budget) (old : PacedWorld) (move : Move A) (stat
   -- a service that goes on
   goes_on : (slot : ℕ) (event : Begun A) (m : IsMidway slot old state event)
       (t : Turned (GoesOn m.pause budget) slot old move m.now) (turn : Turn A) → t.turn ≡ turn
-      → GoesOn m.pause budget m.now old.world.health move.after.world.health t.after move.output turn
+      → pausing.ComesTo m.pause Next budget m.now old.world.health move.after.world.health t.after move.output
+      turn
       → OwnMove slot state (Some event) (GoOn slot) move.response move
   goes_on slot event m t (turn.Answered reply) is (inl (done, piece)) =
       let next : IsNext state event.what (came t.after (reply_of m.pause) (event.out ++ move.output)) =
@@ -280,7 +285,9 @@ module _ {A : Type 0} (budget : Budget) (old : PacedWorld) (move : Move A) (stat
   own_at (GoOn slot) (Some begun) test c s =
       let t = turned (GoesOn s.pause budget) slot old move s.now (Some s.pause) s.there s.paused
       (subst (λ (p : Option (Option Pause)). ComesOf (GoOn slot) p) s.paused c) in
-      goes_on slot begun s t t.turn refl t.does
+      goes_on slot begun s t t.turn refl
+      (subst (λ (hosts : Bool). GoesOnBy hosts s.pause budget s.now old.world.health move.after.world.health
+      t.after move.output t.turn) (goes_by_piece begun.what state s.pause s.now begun.out s.asks s.way) t.does)
 
 pub own_move : {A : Type 0} (budget : Budget) (old : PacedWorld) (move : Move A) (state : SlotState)
     (begun : Option (Begun A)) → eqb (slot_in move.call) (slot_in move.call) ≡ true → IsMove budget old move

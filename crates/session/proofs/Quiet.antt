@@ -1,5 +1,6 @@
 -- A call that puts nothing out and touches no output.
-use Rattle.std.proofs.Common.{◌≡◌, ℕ, ◌≤◌, ◌↔◌, List, [], length, Option, Some, None, refl, sym, ◌∙◌, ap, subst, append-nil, arith}
+use Rattle.std.proofs.Common.{◌≡◌, ◌⊎◌, inl, inr, ℕ, ◌≤◌, ◌↔◌, Bool, true, false, List, [], length, Option, Some, None, refl, sym, ◌∙◌, ap, subst, append-nil, arith}
+use Rattle.std.specs.Prelude.{IsSomeAnd, if◌then◌else◌}
 use Rattle.std.specs.List.{slice_get}
 use Rattle.std.proofs.lemmas.Option.{slice_get_cases}
 use Rattle.chain.specs.declared.budget.Budget.{Budget}
@@ -8,13 +9,17 @@ use Rattle.sector_cache.specs.MemoryImage.{disk_of as memory_disk_of}
 use Rattle.board.specs.declared.event.Event.{Event}
 use Rattle.board.specs.declared.event.EventKind.{EventKind}
 use Rattle.board.specs.declared.event.EventKind.TheVariants.{MemWrite, Input, Restore}
+use Rattle.board.specs.declared.pause.Pause.{Pause}
+use Rattle.board.specs.declared.pause.Service.TheVariants.{Receive}
 use Rattle.board.specs.declared.pause.Turn.{Turn}
 use Rattle.board.specs.declared.pause.Turn.TheVariants as turn
+use Rattle.board.specs.declared.reply.Reply.{Reply}
 use Rattle.board.specs.declared.reply.Reply.TheVariants.{BadSlot, BadRange, NoMemory}
-use Rattle.board.specs.Pausing.{HasLimit}
+use Rattle.board.specs.Hosting.{has_part}
+use Rattle.board.specs.Pausing.{HasLimit, asked, input_service}
 use Rattle.board.specs.Slot.{SlotState}
 use Rattle.board.specs.World.{KeepsOthers, extents_of}
-use Rattle.board.specs.Within.{BeginsWithin}
+use Rattle.board.specs.Within.{BeginsWithin, TakesWithin, TurnWithin}
 use Rattle.session.specs.declared.response.Response.{Response}
 use Rattle.session.specs.declared.response.Response.TheVariants.{Answered, More, Busy, Idle}
 use Rattle.session.specs.Pacing.{Handle, PacedState, Responds, paced_world}
@@ -23,6 +28,7 @@ use Rattle.session.specs.Course.{paced_world_of}
 use Rattle.session.specs.Pausing.{IsCall, IsEventCall, IsWhole}
 use Rattle.session.specs.Session.{HasNoRead, SessionState, Waiting}
 use Rattle.session.proofs.Calls.{called_past}
+use Rattle.session.proofs.Parts.{asks_nothing}
 use Rattle.session.proofs.Places.{set_same}
 use Rattle.session.proofs.Unchanged.{missing}
 use Rattle.session.proofs.Steps.{as_many, called, shown, suits_call, whole}
@@ -38,32 +44,49 @@ pub record PutsNothingOut {A : Type 0} (what : EventKind A) : Type 0 where
   pub room : SuitsCall {A = A} what (Answered NoMemory) → ⊥
 
 -- what is typed, a restore and a write of memory put nothing out
+quiet_by : {A : Type 0} (asks : Option Pause) (limit : ℕ) (what : EventKind A) (budget : Budget)
+    (found after : SlotState) (waiting left : List ℕ) (t : Turn A)
+    → ((reply : Reply A) → TakesWithin limit found what after waiting left reply)
+    → (asks ≡ None) ⊎ IsSomeAnd asks (λ pause. pause.service ≡ Receive)
+    → TurnWithin limit asks what budget found after waiting left t
+quiet_by None limit what budget found after waiting left (turn.Answered reply) quiet kind = quiet reply
+quiet_by None limit what budget found after waiting left (turn.More pause) quiet kind = tt
+quiet_by (Some pause) limit what budget found after waiting left t quiet (inl none) = absurd (cc (none))
+quiet_by (Some pause) limit what budget found after waiting left t quiet (inr receives) = rw receives tt
+
+typed_by : (part : Bool) (pause : Pause) → pause.service ≡ Receive
+    → ((if part then None else Some pause) ≡ None)
+    ⊎ IsSomeAnd (if part then None else Some pause) (λ asks. asks.service ≡ Receive)
+typed_by true pause receives = inl refl
+typed_by false pause receives = inr receives
+
 pub quiet_input : {A : Type 0} (bytes : List ℕ) → PutsNothingOut {A = A} (Input bytes)
-quiet_input bytes = record {
+quiet_input {A} bytes = record {
   no_read = tt;
-  quiet = λ limit budget found after waiting left t. tt;
+  quiet = λ limit budget found after waiting left t.
+      quiet_by (asked (Input bytes) found) limit (Input bytes) budget found after waiting left t
+      (λ reply. tt)
+      (typed_by (has_part {A = A} found.host (Input bytes) found) (input_service found.pending bytes) refl);
   room = λ never. never;
 }
 
-quiet_restored : {A : Type 0} (limit : ℕ) (bytes : List ℕ) (budget : Budget) (found after : SlotState)
-    (waiting left : List ℕ) (t : Turn A)
-    → BeginsWithin limit (Restore bytes) budget found after waiting left t
-quiet_restored limit bytes budget found after waiting left (turn.Answered reply) = tt
-quiet_restored limit bytes budget found after waiting left (turn.More pause) = tt
-
 pub quiet_restore : {A : Type 0} (bytes : List ℕ) → PutsNothingOut {A = A} (Restore bytes)
-quiet_restore bytes =
-    record { no_read = tt; quiet = λ limit. quiet_restored limit bytes; room = λ never. never }
-
-quiet_written : {A : Type 0} (limit addr : ℕ) (bytes : List ℕ) (budget : Budget) (found after : SlotState)
-    (waiting left : List ℕ) (t : Turn A)
-    → BeginsWithin limit (MemWrite addr bytes) budget found after waiting left t
-quiet_written limit addr bytes budget found after waiting left (turn.Answered reply) = tt
-quiet_written limit addr bytes budget found after waiting left (turn.More pause) = tt
+quiet_restore bytes = record {
+  no_read = tt;
+  quiet = λ limit budget found after waiting left t.
+      quiet_by (asked (Restore bytes) found) limit (Restore bytes) budget found after waiting left t
+      (λ reply. tt) (inl (asks_nothing (Restore bytes) found refl));
+  room = λ never. never;
+}
 
 pub quiet_write : {A : Type 0} (addr : ℕ) (bytes : List ℕ) → PutsNothingOut {A = A} (MemWrite addr bytes)
-quiet_write addr bytes =
-    record { no_read = tt; quiet = λ limit. quiet_written limit addr bytes; room = λ never. never }
+quiet_write addr bytes = record {
+  no_read = tt;
+  quiet = λ limit budget found after waiting left t.
+      quiet_by (asked (MemWrite addr bytes) found) limit (MemWrite addr bytes) budget found after waiting left
+      t (λ reply. tt) (inl (asks_nothing (MemWrite addr bytes) found refl));
+  room = λ never. never;
+}
 
 -- as many outputs and pauses as slots
 abbrev pub AreAsMany : {X : Type 0} → PacedState (MemoryImage X) → List Waiting → Type 0

@@ -20,6 +20,7 @@ use Rattle.board.specs.World.{World, Answers}
 use Rattle.board.proofs.Blocks.{read_given}
 use Rattle.board.proofs.Seats.{extents_of-set, others_kept}
 use Rattle.session.specs.Session.{IsStep, SessionState, Waiting, world_of}
+use Rattle.session.proofs.Parts.{given}
 use Rattle.session.proofs.Places.{not_true}
 use Rattle.session.proofs.Unchanged.{refused_at, unchanged}
 use Rattle.session.proofs.Steps.{session}
@@ -41,7 +42,8 @@ read_at A s slot addr n new None here inside is = absurd inside
 read_at A s slot addr n new (Some found) here inside is =
     unchanged s (record { slot = slot; what = MemRead addr n }) (Bytes new) found here refl
     (λ is. absurd (cc)) (λ is. absurd (cc))
-    (inl (record {
+    (given (state_of s.image found) (MemRead addr n) (world_of s).health
+    (replies (state_of s.image found) (Bytes new)) refl refl refl (inl (record {
       alike = record {
         alike = rw (held found addr n inside)
             (ap (λ (bytes : List ℕ). replies {A = A} (state_of s.image found) (Bytes bytes)) is);
@@ -49,7 +51,7 @@ read_at A s slot addr n new (Some found) here inside is =
       };
       answered = λ is. absurd (cc);
       failures = refl;
-    })) (λ limit found after waiting left reply. tt)
+    }))) (λ limit found after waiting left reply. tt)
 
 register_in : (A : Type 0) (s : SessionState) (slot : ℕ) (window : DeviceKind) (offset width value : ℕ)
     (o : Option BoardSlot) → slice_get s.slots slot ≡ o
@@ -59,7 +61,9 @@ register_in A s slot window offset width value None here is = absurd is
 register_in A s slot window offset width value (Some found) here is =
     unchanged s (record { slot = slot; what = Read window offset width }) (Value value) found here refl
     (λ is. absurd (cc)) (λ is. absurd (cc))
-    (read_given (state_of s.image found) window offset width value _ is)
+    (given (state_of s.image found) (Read window offset width) (world_of s).health
+    (replies (state_of s.image found) (Value value)) refl refl refl
+    (read_given (state_of s.image found) window offset width value _ is))
     (λ limit found after waiting left reply. tt)
 
 -- a register that was read is the answer to that read
@@ -92,14 +96,15 @@ pub not_read : (A : Type 0) (s : SessionState) (slot addr n : ℕ) →
     (if nat_lt slot (length s.slots) then BadRange else BadSlot) s
 not_read A s slot addr n outside =
     refused_at s (record { slot = slot; what = MemRead addr n }) (slice_get s.slots slot) refl
-    (λ found is. inl (record {
+    (λ found is. given (state_of s.image found) (MemRead addr n) (world_of s).health
+    (replies (state_of s.image found) BadRange) refl refl refl (inl (record {
       alike = record {
         alike = rw (outside_of_slot (slice_get s.slots slot) addr n outside found is) refl;
         image = refl;
       };
       answered = λ is. absurd (cc);
       failures = refl;
-    })) (λ limit found after waiting left reply. tt)
+    }))) (λ limit found after waiting left reply. tt)
 
 -- a step that put nothing out keeps whatever stands in the output
 behind : {A : Type 0} {old : World} {event : Event A} {reply : Reply A} {new : World} (output : List ℕ)

@@ -13,7 +13,6 @@ use Rattle.board.specs.Lent.{AreBytesOf, made_over}
 use Rattle.session.specs.declared.fault.SessionFault.{SessionFault}
 use Rattle.session.specs.declared.fault.SessionFault.TheVariants.{BadLoan, BadImage, BadOutlet, SpentBudget, Board, NoMemory}
 use Rattle.session.specs.declared.guest.GuestSpec.{GuestSpec}
-use Rattle.session.specs.Hosted.{IsHostedBoardFault, IsHostedLentRefusedFor}
 use Rattle.session.specs.Refusing.{AreOutlets, IsJudged, IsLentRefusedFor, IsRefusedFor}
 use Rattle.session.specs.Session.{slots_of}
 use Rattle.session.proofs.Loans.{Run}
@@ -51,11 +50,6 @@ pub never_spent : {T : Type 0} (r : Result T SessionFault) → IfErr r (λ why. 
     → IsErrOf r SpentBudget → ⊥
 never_spent (Ok x) want is = cc
 never_spent (Err e) want is = cc
-
-pub never_outlet : {T : Type 0} (r : Result T SessionFault) → IfErr r (λ why. why ≡ NoMemory)
-    → IsErrOf r BadOutlet → ⊥
-never_outlet (Ok x) want is = cc
-never_outlet (Err e) want is = cc
 
 -- as many slots are made as there are described
 length-made_over : {X : Type 0} (made : SlotSpec → Memory → X) (slots : List SlotSpec)
@@ -162,19 +156,3 @@ module _ (guests : List GuestSpec) (image : List ℕ) (cache : ℕ) (budget : Bu
     then_board r judged by SpentBudget other is = absurd (judged.2 is.1.2)
     then_board r judged by (Board fault) other is = by fault is.1.other is.1.refused
     then_board r judged by NoMemory other is = absurd (other refl)
-
-module _ (guests : List GuestSpec) (bytes : List (List ℕ)) (are : AreBytesOf (slots_of guests) bytes) where
-  abbrev HostedLentRefused : SessionFault → Type 0
-  HostedLentRefused = IsHostedLentRefusedFor guests bytes
-
-  pub then_hosted_board : {T : Type 0} (r : Result T SessionFault) → AreOutlets guests
-      → ((fault : BoardFault) → IsHostedBoardFault guests fault
-      → IsErrAnd r (λ why. (why ≡ Board fault) ⊎ (why ≡ NoMemory)))
-      → (why : SessionFault) → why ≢ NoMemory → HostedLentRefused why
-      → IsErrAnd r (λ told. (told ≡ why) ⊎ (told ≡ NoMemory))
-  then_hosted_board r good by BadLoan other is = absurd (is are)
-  then_hosted_board r good by BadImage other is = absurd is.1
-  then_hosted_board r good by BadOutlet other is = absurd (is.1 good)
-  then_hosted_board r good by SpentBudget other is = absurd is.1
-  then_hosted_board r good by (Board fault) other is = by fault is.1
-  then_hosted_board r good by NoMemory other is = absurd (other refl)

@@ -102,7 +102,7 @@ task_puts (Serve Receive) state h = h
 task_puts (Serve Transmit) state h = tt
 task_puts (PutOut byte) state h = tt
 
-lacks_puts : {A : Type 0} (state : SlotState) (what : EventKind A) → HasNoRead what → MayLackMemory state what
+pub lacks_puts : {A : Type 0} (state : SlotState) (what : EventKind A) → HasNoRead what → MayLackMemory state what
     → MayPutOut state what
 lacks_puts state (Read window offset width) why h = h
 lacks_puts state (Write window offset width value) why h =

@@ -15,13 +15,17 @@ use Rattle.board.specs.Image.{Health}
 use Rattle.board.specs.declared.reply.Reply.TheVariants as reply
 use Rattle.board.specs.Outcome.{Outcome}
 use Rattle.board.specs.Replies.{MayReply}
-use Rattle.board.specs.Pausing.{Begins}
+use Rattle.board.specs.declared.pause.Pause.{Pause}
+use Rattle.board.specs.Backing.{HostDisk, InFlight}
+use Rattle.board.specs.Pausing.{Begins, TurnsTo, asked, asked_over_image}
 use Rattle.board.specs.Slot.{SlotState}
-use Rattle.board.specs.World.{World, Answers, MayGive, MissingStep, SlotStep}
+use Rattle.board.specs.World.{World, Answers, MayGive, MayGiveBy, MayGiveOverImage, MissingStep, SlotStep}
 use Rattle.board.proofs.Replies.{given_replies, of_read, of_write}
+use Rattle.board.proofs.Ways.{Lands, Looks, Passes, Rests, Stands, Waits, Way, way}
 use Rattle.session.specs.declared.response.Response.TheVariants.{More}
 use Rattle.session.specs.Pacing.{response_to}
 use Rattle.session.specs.Answering.{Suits, SuitsCall}
+use Rattle.session.proofs.Parts.{asks_nothing}
 
 -- ---- which replies an event may get
 
@@ -63,21 +67,47 @@ suits {A} {old} {event} {reply} {before} {after} {new} answers =
 
 -- ---- what is refused for its range puts nothing out
 
+silent_over_image : {A : Type 0} (state : SlotState) (what : EventKind A) (old new : Health)
+    (outcome : Outcome A)
+    → MayReply what BadRange → MayGiveOverImage state what old new outcome → outcome.output ≡ []
+silent_over_image state (Read window offset width) old new outcome may h = absurd may
+silent_over_image state (Write window offset width value) old new outcome may h = absurd may
+silent_over_image {A} state (MemRead addr len) old new outcome may (inl served) =
+    of_read (λ (o : Outcome A). o.output ≡ []) state addr len outcome served.alike.alike refl refl
+silent_over_image {A} state (MemRead addr len) old new outcome may (inr unread) =
+    ap (λ (o : Outcome A). o.output) unread.unchanged
+silent_over_image {A} state (MemWrite addr bytes) old new outcome may (inl served) =
+    of_write (λ (o : Outcome A). o.output ≡ []) state addr bytes outcome served.alike.alike refl refl
+silent_over_image state (MemWrite addr bytes) old new outcome may (inr never) = absurd never
+silent_over_image state (Input bytes) old new outcome may h = absurd may
+silent_over_image state (Resize cols rows) old new outcome may h = absurd may
+silent_over_image state (Restore bytes) old new outcome may h = absurd may
+silent_over_image state (Complete verdict) old new outcome may h = absurd may
+
+silent_way : {A : Type 0} (flight : Option InFlight) (state : SlotState) (what : EventKind A) (health : Health)
+    (outcome : Outcome A) → MayReply what BadRange
+    → Way (λ (o : Outcome A). MayGiveOverImage state what health health o) flight state what outcome
+    → outcome.output ≡ []
+silent_way flight state what health outcome may (Waits here flies waits h) = ap (λ o. o.output) h
+silent_way flight state what health outcome may (Passes own free quiet h) =
+    silent_over_image state what health health outcome may h
+silent_way flight state what health outcome may (Looks none rings looks h) = ap (λ o. o.output) h
+silent_way flight state what health outcome may (Stands here flies free rings h) = ap (λ o. o.output) h
+silent_way flight state what health outcome may (Rests verdict completes none h) = ap (λ o. o.output) h
+silent_way flight state what health outcome may (Lands verdict completes here flies lands h) =
+    ap (λ o. o.output) h
+
+silent_by : {A : Type 0} (host : Option HostDisk) (state : SlotState) (what : EventKind A) (old new : Health)
+    (outcome : Outcome A) → MayReply what BadRange → MayGiveBy host state what old new outcome
+    → outcome.output ≡ []
+silent_by None state what old new outcome may h = silent_over_image state what old new outcome may h
+silent_by {A} (Some disk) state what old new outcome may h =
+    silent_way disk.flight state what old outcome may
+    (way (λ (o : Outcome A). MayGiveOverImage state what old old o) disk.flight state what outcome h.gives)
+
 given_silent : {A : Type 0} (state : SlotState) (what : EventKind A) (old new : Health) (outcome : Outcome A)
     → MayReply what BadRange → MayGive state what old new outcome → outcome.output ≡ []
-given_silent state (Read window offset width) old new outcome may h = absurd may
-given_silent state (Write window offset width value) old new outcome may h = absurd may
-given_silent {A} state (MemRead addr len) old new outcome may (inl served) =
-    of_read (λ (o : Outcome A). o.output ≡ []) state addr len outcome served.alike.alike refl refl
-given_silent {A} state (MemRead addr len) old new outcome may (inr unread) =
-    ap (λ (o : Outcome A). o.output) unread.unchanged
-given_silent {A} state (MemWrite addr bytes) old new outcome may (inl served) =
-    of_write (λ (o : Outcome A). o.output ≡ []) state addr bytes outcome served.alike.alike refl refl
-given_silent state (MemWrite addr bytes) old new outcome may (inr never) = absurd never
-given_silent state (Input bytes) old new outcome may h = absurd may
-given_silent state (Resize cols rows) old new outcome may h = absurd may
-given_silent state (Restore bytes) old new outcome may h = absurd may
-given_silent state (Complete verdict) old new outcome may h = absurd may
+given_silent state what old new outcome may h = silent_by state.host state what old new outcome may h
 
 silent_at : {A : Type 0} (old : World) (event : Event A) (written : Record A) (new : World)
     (o : Option SlotState) → MatchOption o (MissingStep old event.slot written new)
@@ -99,16 +129,37 @@ silent {A} {old} {event} {reply} {before} {after} {new} answers is =
     (answers.replied ∙ is))
     ∙ append-nil before)
 
+-- an event that asks for no service doesn't pause
+pub never_paused : {A : Type 0} (o : Option Pause) (what : EventKind A) (budget : Budget) (state : SlotState)
+    (before after : Health) (new : SlotState) (output : List ℕ) (pause : Pause) → o ≡ None
+    → TurnsTo (MayGive state what before after) o what budget state before after new output (turn.More pause)
+    → ⊥
+never_paused None what budget state before after new output pause is h = h
+never_paused (Some other) what budget state before after new output pause is h = absurd (cc (is))
+
+pub asks_none : {A : Type 0} (what : EventKind A) (budget : Budget) (state : SlotState) (before after : Health)
+    (new : SlotState) (output : List ℕ) (pause : Pause) → asked_over_image what state ≡ None
+    → Begins what budget state before after new output (turn.More pause) → ⊥
+asks_none what budget state before after new output pause none h =
+    never_paused (asked what state) what budget state before after new output pause
+    (asks_nothing what state none) h
+
 pub paused_suits : {A : Type 0} (what : EventKind A) (budget : Budget) (state : SlotState)
     (before after : Health) (new : SlotState) (output : List ℕ) (t : Turn A) → More ≡ response_to t
     → Begins what budget state before after new output t → SuitsCall what More
 paused_suits what budget state before after new output (turn.Answered reply) told h = absurd (cc (told))
-paused_suits (Read window offset width) budget state before after new output (turn.More pause) told h = h
+paused_suits (Read window offset width) budget state before after new output (turn.More pause) told h =
+    asks_none (Read window offset width) budget state before after new output pause refl h
 paused_suits (Write window offset width value) budget state before after new output (turn.More pause) told h =
     tt
-paused_suits (MemRead addr len) budget state before after new output (turn.More pause) told h = h
-paused_suits (MemWrite addr bytes) budget state before after new output (turn.More pause) told h = h
+paused_suits (MemRead addr len) budget state before after new output (turn.More pause) told h =
+    asks_none (MemRead addr len) budget state before after new output pause refl h
+paused_suits (MemWrite addr bytes) budget state before after new output (turn.More pause) told h =
+    asks_none (MemWrite addr bytes) budget state before after new output pause refl h
 paused_suits (Input bytes) budget state before after new output (turn.More pause) told h = tt
-paused_suits (Resize cols rows) budget state before after new output (turn.More pause) told h = h
-paused_suits (Restore bytes) budget state before after new output (turn.More pause) told h = h
-paused_suits (Complete verdict) budget state before after new output (turn.More pause) told h = h
+paused_suits (Resize cols rows) budget state before after new output (turn.More pause) told h =
+    asks_none (Resize cols rows) budget state before after new output pause refl h
+paused_suits (Restore bytes) budget state before after new output (turn.More pause) told h =
+    asks_none (Restore bytes) budget state before after new output pause refl h
+paused_suits (Complete verdict) budget state before after new output (turn.More pause) told h =
+    asks_none (Complete verdict) budget state before after new output pause refl h

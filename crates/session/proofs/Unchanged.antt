@@ -16,7 +16,7 @@ use Rattle.board.specs.World.{Answers, MayGive, bad_slot, lacks_memory}
 use Rattle.board.specs.Within.{TakesWithin}
 use Rattle.session.specs.Session.{IsStep, SessionState, limit_of, output_of, world_of}
 
-shown_at : (slots : List BoardSlot) (bytes : List ℕ) (h : ℕ) (slot : BoardSlot)
+pub shown_at : (slots : List BoardSlot) (bytes : List ℕ) (h : ℕ) (slot : BoardSlot)
     → slice_get slots h ≡ Some slot → slice_get (map (state_of bytes) slots) h ≡ Some (state_of bytes slot)
 shown_at slots bytes h slot here = rw (slice_get-map (state_of bytes) slots h, here) refl
 

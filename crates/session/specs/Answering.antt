@@ -1,7 +1,5 @@
 -- What a call answers, as the board's response to its event.
-use Rattle.std.specs.Prelude.{ℕ, List, ⊤, Result, Ok, Err}
-use Rattle.chain.specs.declared.budget.Progress.{Progress}
-use Rattle.chain.specs.declared.budget.Progress.TheVariants as progress
+use Rattle.std.specs.Prelude.{◌≡◌, ◌⊎◌, ℕ, List, ⊤, Result, Ok, Err}
 use Rattle.board.specs.declared.event.EventKind.{EventKind}
 use Rattle.board.specs.declared.event.EventKind.TheVariants.{Write, Input}
 use Rattle.board.specs.declared.reply.Reply.{Reply}
@@ -9,29 +7,39 @@ use Rattle.board.specs.declared.reply.Reply.TheVariants as reply
 use Rattle.board.specs.Replies.{MayReply}
 use Rattle.session.specs.declared.paced.turn_kind.TurnKind.{TurnKind}
 use Rattle.session.specs.declared.paced.turn_kind.TurnKind.TheVariants.{Begin, Resume}
+use Rattle.session.specs.declared.progress.Progress.{Progress}
+use Rattle.session.specs.declared.progress.Progress.TheVariants as progress
 use Rattle.session.specs.declared.response.Response.{Response}
 use Rattle.session.specs.declared.response.Response.TheVariants as response
 use Rattle.session.specs.declared.refusal.Refusal.{Refusal}
 use Rattle.session.specs.declared.refusal.Refusal.TheVariants.{BadSlot, BadRange, NoRoom, Busy, Idle}
 use Rattle.session.specs.declared.typed.Typed.{Typed}
 
--- the response that a refusal stands for: where an outlet has no room the board has no memory for the output
-abbrev pub refusing_response : {A : Type 0} → Refusal → Response A
-refusing_response BadSlot = response.Answered reply.BadSlot
-refusing_response BadRange = response.Answered reply.BadRange
-refusing_response NoRoom = response.Answered reply.NoMemory
-refusing_response Busy = response.Busy
-refusing_response Idle = response.Idle
+-- The response that a refusal stands for. Where an outlet has no room the board has no memory for the output.
+-- A slot is busy where a service of it is paused, and where the event waits for what is in flight.
+abbrev pub RefusalMeans : {A : Type 0} → Refusal → Response A → Type 0
+RefusalMeans BadSlot told = told ≡ response.Answered reply.BadSlot
+RefusalMeans BadRange told = told ≡ response.Answered reply.BadRange
+RefusalMeans NoRoom told = told ≡ response.Answered reply.NoMemory
+RefusalMeans Busy told = (told ≡ response.Busy) ⊎ (told ≡ response.Answered reply.Busy)
+RefusalMeans Idle told = told ≡ response.Answered reply.Idle
+
+-- and so an answer, where each value of it stands for one
+abbrev pub Means : {A T : Type 0} → (T → Response A) → Result T Refusal → Response A → Type 0
+Means wanted (Ok value) told = told ≡ wanted value
+Means wanted (Err why) told = RefusalMeans why told
 
 -- a response that refuses
 abbrev pub IsRefusing : {A : Type 0} → Response A → Type 0
 IsRefusing (response.Answered reply.BadSlot) = ⊤
 IsRefusing (response.Answered reply.BadRange) = ⊤
 IsRefusing (response.Answered reply.NoMemory) = ⊤
+IsRefusing (response.Answered reply.Busy) = ⊤
+IsRefusing (response.Answered reply.Idle) = ⊤
 IsRefusing response.Busy = ⊤
 IsRefusing told = ⊥
 
--- or one that says that a write is done, or that its service is paused
+-- or one that says that a write or a completion is done, or that its service is paused
 abbrev pub IsServing : {A : Type 0} → Response A → Type 0
 IsServing (response.Answered reply.Done) = ⊤
 IsServing response.More = ⊤
@@ -42,35 +50,38 @@ abbrev pub IsDoneOrRefusing : {A : Type 0} → Response A → Type 0
 IsDoneOrRefusing (response.Answered reply.Done) = ⊤
 IsDoneOrRefusing told = IsRefusing told
 
--- the response to a read of a window
-abbrev pub value_response : {A : Type 0} → Result ℕ Refusal → Response A
-value_response (Ok value) = response.Answered (reply.Value value)
-value_response (Err why) = refusing_response why
+-- or one that says how many bytes were taken that were typed, or that their service is paused
+abbrev pub IsTyping : {A : Type 0} → Response A → Type 0
+IsTyping (response.Answered (reply.Took taken)) = ⊤
+IsTyping response.More = ⊤
+IsTyping told = IsRefusing told
 
--- the response to an event that has nothing to tell
-abbrev pub done_response : {A : Type 0} → Result (Unit {0}) Refusal → Response A
-done_response (Ok _) = response.Answered reply.Done
-done_response (Err why) = refusing_response why
+-- the response to a read of a window that gave this
+abbrev pub value_response : {A : Type 0} → ℕ → Response A
+value_response value = response.Answered (reply.Value value)
 
--- and to one that has nothing to tell, but that its service is paused
-abbrev pub served_response : {A : Type 0} → Result Progress Refusal → Response A
-served_response (Ok progress.Done) = response.Answered reply.Done
-served_response (Ok progress.More) = response.More
-served_response (Err why) = refusing_response why
+-- to an event that is done, and has nothing to tell
+abbrev pub done_response : {A : Type 0} → Unit {0} → Response A
+done_response done = response.Answered reply.Done
 
--- the response to a read of memory that left these bytes
-abbrev pub bytes_response : {A : Type 0} → Result (Unit {0}) Refusal → List ℕ → Response A
-bytes_response (Ok _) bytes = response.Answered (reply.Bytes bytes)
-bytes_response (Err why) bytes = refusing_response why
+-- to one that has nothing to tell, but that its service is paused
+abbrev pub served_response : {A : Type 0} → Progress → Response A
+served_response progress.Done = response.Answered reply.Done
+served_response progress.More = response.More
+served_response progress.Asks = response.Answered reply.Done
 
--- the response to what is typed, of which so many bytes were taken
+-- to a read of memory that left these bytes
+abbrev pub bytes_response : {A : Type 0} → List ℕ → Unit {0} → Response A
+bytes_response bytes done = response.Answered (reply.Bytes bytes)
+
+-- and to what is typed, of which so many bytes were taken
 abbrev pub typed_by : {A : Type 0} → ℕ → Progress → Response A
 typed_by taken progress.Done = response.Answered (reply.Took taken)
 typed_by taken progress.More = response.More
+typed_by taken progress.Asks = response.Answered (reply.Took taken)
 
-abbrev pub typed_response : {A : Type 0} → Result Typed Refusal → Response A
-typed_response (Ok typed) = typed_by typed.taken typed.progress
-typed_response (Err why) = refusing_response why
+abbrev pub typed_response : {A : Type 0} → Typed → Response A
+typed_response typed = typed_by typed.taken typed.progress
 
 -- what is told of a service that went on: the end of it, which one that isn't paused has reached
 abbrev pub went_on_to : {A : Type 0} → Response A → Result Progress Refusal

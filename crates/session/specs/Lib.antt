@@ -9,6 +9,4 @@ pub mod Refusing
 pub mod Steps
 pub mod Course
 pub mod Alone
-pub mod Hosted
-pub mod HostedAnswering
-pub mod HostedCourse
+pub mod Operations

@@ -2,7 +2,6 @@
 use Rattle.std.specs.Prelude.{⊤, ◌≡◌, ℕ, Option, Some, None, ◌++◌, List, length, slice_set, Result}
 use Rattle.std.specs.List.{slice_get}
 use Rattle.std.specs.Option.{option_and_then}
-use Rattle.chain.specs.declared.budget.Progress.{Progress}
 use Rattle.board.specs.declared.event.Event.{Event}
 use Rattle.board.specs.declared.event.EventKind.{EventKind}
 use Rattle.board.specs.declared.pause.Pause.{Pause}
@@ -13,6 +12,7 @@ use Rattle.board.specs.Pausing.{Begins, GoesOn, HasLimit, SlotTurn}
 use Rattle.board.specs.Slot.{SlotState}
 use Rattle.board.specs.Within.{BeginsWithin, GoesOnWithin}
 use Rattle.board.specs.World.{KeepsOthers, extents_of}
+use Rattle.session.specs.declared.progress.Progress.{Progress}
 use Rattle.session.specs.declared.response.Response.{Response}
 use Rattle.session.specs.declared.response.Response.TheVariants.{Answered, More, Busy, Idle}
 use Rattle.session.specs.Pacing.{Call, Handle, GoOn, paused_at, paused_by, response_to, slot_in}
@@ -85,6 +85,14 @@ pub record IsEventCall {A : Type 0} (old : SessionState) (slot : ℕ) (what : Ev
     (new : SessionState) : Type 0 where
   pub turn : IsCall old (Handle (record { slot = slot; what = what })) response new
   pub whole : IsWhole old (record { slot = slot; what = what }) response new
+
+-- An event of a slot is called, and what is told of it means the response.
+pub record IsToldCall {A : Type 0} (old : SessionState) (slot : ℕ) (what : EventKind A)
+    (Tells : Response A → Type 0)
+    (new : SessionState) : Type 0 where
+  pub response : Response A
+  pub call : IsEventCall old slot what response new
+  pub told : Tells response
 
 -- The service of a slot goes on, and this is told of it.
 pub record WentOn (A : Type 0) (old : SessionState) (slot : ℕ) (result : Result Progress Refusal)

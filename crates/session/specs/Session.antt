@@ -3,7 +3,7 @@ use Rattle.std.specs.Prelude.{⊤, ◌≡◌, ◌≢◌, ◌↔◌, ℕ, ◌≤�
 use Rattle.std.specs.List.{slice_get}
 use Rattle.std.specs.Option.{option_map}
 use Rattle.chain.specs.declared.budget.Budget.{Budget}
-use Rattle.guest_memory.specs.Memory.{Memory}
+use Rattle.guest_memory.specs.Memory.{Inside, Memory}
 use Rattle.sector_cache.specs.Disk.{Disk, new_disk}
 use Rattle.board.specs.declared.event.Event.{Event}
 use Rattle.board.specs.declared.event.EventKind.{EventKind}
@@ -148,6 +148,18 @@ abbrev pub with_slot_bytes : ℕ → ℕ → SessionState → List ℕ → Sessi
 with_slot_bytes slot addr session bytes = record session {
   slots = put_back slot (slice_get session.slots slot) addr bytes session.slots;
 }
+
+-- the slot is there, and not all of a range of so many bytes lies in its memory
+abbrev pub IsOutside : ℕ → ℕ → ℕ → List BoardSlot → Type 0
+IsOutside slot addr count slots =
+    IsSomeAnd (slice_get slots slot) (λ found. ¬ Inside found.memory addr count)
+
+-- nothing that can be seen of a session is other
+pub record IsKept (old new : SessionState) : Type 0 where
+  pub world : world_of new ≡ world_of old
+  pub outputs : (slot : ℕ) → waiting_at slot new.outputs ≡ waiting_at slot old.outputs
+  pub paused : new.paused ≡ old.paused
+  pub budget : new.budget ≡ old.budget
 
 -- an event that is no read of memory
 abbrev pub HasNoRead : {A : Type 0} → EventKind A → Type 0

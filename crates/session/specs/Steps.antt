@@ -1,5 +1,4 @@
--- What happens to a session of either kind, one step after another, and what one guest has of it: its own
--- steps.
+-- What happens to a session, one step after another, and what one guest has of it: its own steps.
 use Rattle.std.specs.Prelude.{◌≡◌, ℕ, ⊤, List}
 use Rattle.std.specs.List.{AllByRecursion}
 

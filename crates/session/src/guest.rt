@@ -17,7 +17,7 @@ const MOST_WAITING: u32 = 0x100_0000;
 /// What a guest is to have.
 #[derive(Clone, Copy, Debug, PartialEq, Eq)]
 pub struct GuestSpec {
-    /// Its slot of the board.
+    /// Its slot of the board. Its `backing` says who has its disk.
     pub slot: SlotSpec,
     /// How many bytes of its console's output may wait to be taken, 2^24 at most. A longer chain is never put
     /// out.

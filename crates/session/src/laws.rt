@@ -1,25 +1,29 @@
 //! What holds of every session, by itself. The bodies are empty: each contract is a theorem.
 
-ghost use Rattle.std.specs.Prelude.{◌≡◌, ◌/◌, ℕ, List, [], ◌∷◌, length, Some};
+ghost use Rattle.std.specs.Prelude.{◌≡◌, ◌/◌, ℕ, List, [], ◌∷◌, length, Some, true};
 ghost use Rattle.std.specs.List.{slice_get};
 ghost use Rattle.chain.specs.declared.budget.Budget.{Budget};
 ghost use Rattle.guest_memory.specs.Memory.{Inside, put};
+ghost use Rattle.board.specs.declared.event.Event.{Event};
 ghost use Rattle.board.specs.declared.event.EventKind.{EventKind};
 ghost use Rattle.board.specs.declared.reply.Reply.{Reply};
+ghost use Rattle.board.specs.Backing.{InFlight};
 ghost use Rattle.board.specs.Fault.{IsAccepted};
+ghost use Rattle.board.specs.Hosting.{IsOwn, must_wait};
 ghost use Rattle.board.specs.Pausing.{HasLimit};
 ghost use Rattle.board.specs.Slot.{BoardSlot, SlotState};
 ghost use Rattle.board.specs.Within.{Seat};
 ghost use Rattle.session.specs.Line.{IsIdle};
-ghost use Rattle.session.specs.Pacing.{Handle};
+ghost use Rattle.session.specs.Pacing.{Call, Handle, IfEvent};
 ghost use Rattle.session.specs.declared.response.Response.{Response};
 ghost use Rattle.session.specs.declared.guest.GuestSpec.{GuestSpec};
 ghost use Rattle.session.specs.Alone.{IsSeatCourse, IsSeatedAlone, OwnCall, SeeAlike, at_front, new_session_alone, own_askings, part_of_image};
-ghost use Rattle.session.specs.Course.{SessionStep, HadRoom, IsCourse, NeverPauses, RunsAlone, paced_world_of};
+ghost use Rattle.session.specs.Operations.{flight_at};
+ghost use Rattle.session.specs.Course.{SessionStep, HadRoom, IsCalled, IsCourse, NeverPauses, RunsAlone, paced_world_of};
 ghost use Rattle.session.specs.Pausing.{IsCall};
 ghost use Rattle.session.specs.Refusing.{AreOutlets};
 ghost use Rattle.session.specs.Steps.{Answer, Asking};
-ghost use Rattle.session.specs.Session.{IsStep, SessionState, limit_of, new_session, output_of, slots_of, with_memory, with_slot_bytes, world_of};
+ghost use Rattle.session.specs.Session.{IsKept, IsStep, SessionState, limit_of, new_session, output_of, slots_of, with_memory, with_slot_bytes, world_of};
 
 use std::alloc::Allocator;
 
@@ -64,6 +68,13 @@ pub fn the_outlet_decides<A: Allocator>()
     ensures runs { (g : ℕ) (old new : SessionState) (steps : List (SessionStep A)) (state : SlotState) →
         IsCourse old steps new → NeverPauses g steps → IsIdle g (paced_world_of old) →
         slice_get (world_of old).slots g ≡ Some state → IsSeatedAlone g state old steps new }
+
+    // so without a budget of every guest
+    ensures without { (g : ℕ) (old new : SessionState) (steps : List (SessionStep A)) (state : SlotState) →
+        IsCourse old steps new → ¬ HasLimit old.budget → IsIdle g (paced_world_of old) →
+        slice_get (world_of old).slots g ≡ Some state → IsSeatedAlone g state old steps new }
+
+    // and there is one answer
     ensures once { (limit : ℕ) (old one other : Seat) (askings : List (Asking (OwnCall A)))
         (answers answers' : List (Answer (Response A))) →
         IsSeatCourse limit old askings answers one → IsSeatCourse limit old askings answers' other →
@@ -113,4 +124,20 @@ pub fn a_write_in_place_is_an_event<A: Allocator>()
         IsIdle slot (paced_world_of old) →
         IsCall {A = A} old (Handle (record { slot = slot; what = EventKind.MemWrite addr bytes }))
         (Response.Answered Reply.Done) (with_slot_bytes slot addr old bytes) }
+{}
+
+/// What is in flight of a slot stays in flight, whatever is called, for its guest or for others: only the completion ends it.
+pub fn a_flight_outlasts_own_events<A: Allocator>()
+    ensures { (old new : SessionState) (call : Call A) (response : Response A) (slot : ℕ) (here : InFlight) →
+        IfEvent call (λ event. IsOwn event.what) → IsCalled old call response new →
+        flight_at slot old.slots ≡ Some here → flight_at slot new.slots ≡ Some here }
+{}
+
+/// An event that waits for what is in flight changes nothing, and only two writes and a restore may wait; nor does a
+/// completion of nothing.
+pub fn what_waits_changes_nothing<A: Allocator>()
+    ensures busy { (old new : SessionState) (event : Event A) →
+        IsStep old event Reply.Busy new → IsKept old new × (must_wait event.what ≡ true) }
+    ensures idle { (old new : SessionState) (event : Event A) →
+        IsStep old event Reply.Idle new → IsKept old new }
 {}

@@ -1,11 +1,12 @@
 //! Sessions: a board by calls rather than events, with what each guest's console put out until it is taken. A program in
 //! another language stands on them.
 //!
-//! `session` is a board over an image in memory, a module for each kind of call: `registers`, `memory`, `console`, `image`
-//! and `saved`. `hosted` is a session whose guests' disks the host serves.
+//! `session` is a board over an image in memory, where each guest's disk is of the image or one that the host serves, a
+//! module for each kind of call: `registers`, `disk`, `memory`, `console`, `image` and `saved`.
 //!
 //! `paced` is what a session stands on: a board, over any image, whose calls are bounded. A service pauses where the budget
-//! of its call is spent, before its next chain, and goes on when it is told to. `response` says what a call of it comes to.
+//! of its call is spent, before its next chain, and goes on when it is told to. `response` says what a call of it comes to,
+//! and `progress` what one of a session does.
 //!
 //! `guest` is what a session is made of, and `output_queue` keeps what a console put out. `fault` says why there is no
 //! session, `refusal` why a call was refused, `typed` what became of input, and `laws` what holds of every session.
@@ -13,10 +14,10 @@
 
 mod fault;
 mod guest;
-mod hosted;
 mod laws;
 mod output_queue;
 mod paced;
+mod progress;
 mod refusal;
 mod response;
 mod session;
@@ -25,22 +26,19 @@ mod typed;
 
 pub use block_device::{Operation, OperationKind, Verdict};
 pub use board::{
-    Board, BoardFault, Budget, CacheFault, Counters, DeviceKind, Event, EventKind, Extent,
+    Backing, Board, BoardFault, Budget, CacheFault, Counters, DeviceKind, Event, EventKind, Extent,
     GuestMemory, MemoryFault, Outlet, Pause, RegionSpec, Regions, Reply, RestoreFault,
     RestoreRefusal, SaveRefusal, Service, SlotFault, SlotSpec,
 };
-pub use chain::{Progress, Segment};
+pub use chain::Segment;
 pub use fault::SessionFault;
 pub use guest::GuestSpec;
-pub use hosted::{
-    HostedProgress, HostedSession, a_flight_outlasts_own_events,
-    a_hosted_write_in_place_is_an_event, each_hosted_guest_is_alone, what_waits_changes_nothing,
-};
 pub use laws::{
-    a_guest_with_room_runs_alone, a_write_in_place_is_an_event, each_guest_is_alone,
-    the_outlet_decides,
+    a_flight_outlasts_own_events, a_guest_with_room_runs_alone, a_write_in_place_is_an_event,
+    each_guest_is_alone, the_outlet_decides, what_waits_changes_nothing,
 };
 pub use paced::{Paced, PacedFault, each_paced_guest_is_alone, refusals_are_noted};
+pub use progress::Progress;
 pub use refusal::Refusal;
 pub use response::Response;
 pub use session::Session;

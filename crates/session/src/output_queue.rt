@@ -2,7 +2,6 @@
 
 ghost use Rattle.std.specs.Prelude.{◌≡◌, ◌++◌, ◌-◌, ◌≤◌, Some, length, vec_capacity, min, take, drop, IfOk};
 ghost use Rattle.sector_cache.specs.MemoryImage.{disk_of};
-ghost use Rattle.board.specs.HostedLine.{KeepsOtherGuests, TakesCall};
 ghost use Rattle.board.specs.Slot.{BoardSlot, interrupt_words};
 ghost use Rattle.std.specs.List.{slice_get};
 ghost use Rattle.session.specs.Pacing.{IsPacedCall, call_of};
@@ -10,7 +9,7 @@ ghost use Rattle.session.specs.Session.{none_waiting};
 
 use crate::paced::{Paced, TurnKind};
 use crate::response::Shown;
-use board::{EventKind, Handled, HostedBoard, MemoryImage};
+use board::MemoryImage;
 use console_device::{NoMemory, Outlet};
 use std::alloc::{AllocError, Allocator, Global};
 use std::marker::Model;
@@ -143,20 +142,5 @@ impl<A: Allocator + Copy> OutputQueue<A> {
         ensures limit { self.new.limit ≡ self.old.limit }
     {
         paced.turn(slot, kind, self)
-    }
-
-    /// Handles an event of a board whose disks the host serves, and keeps what is put out behind what waits.
-    pub(crate) fn step_hosted(
-        &mut self,
-        board: &mut HostedBoard<A>,
-        slot: u8,
-        what: &EventKind<A>,
-    ) -> Handled<A>
-        ensures takes { TakesCall board.old slot what.now (Some self.old.limit) result.reply
-            result.block_irq result.console_irq self.old.bytes self.new.bytes board.new }
-        ensures others { KeepsOtherGuests slot board.old board.new }
-        ensures limit { self.new.limit ≡ self.old.limit }
-    {
-        board.step(slot, what, self)
     }
 }

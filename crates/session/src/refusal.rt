@@ -2,8 +2,7 @@
 
 ghost use Rattle.std.specs.Prelude.{◌≡◌, nat_lt, if◌then◌else◌};
 ghost use Rattle.session.specs.declared.refusal.Refusal.{Refusal};
-ghost use Rattle.session.specs.Answering.{IsRefusing, refusing_response};
-ghost use Rattle.session.specs.HostedAnswering.{IsHostedRefusing, hosted_refusing};
+ghost use Rattle.session.specs.Answering.{IsRefusing, RefusalMeans};
 
 use crate::response::Response;
 use board::Reply;
@@ -22,7 +21,7 @@ pub enum Refusal {
     /// What the guest's console puts out next doesn't fit behind what waits. What came before it was put out.
     #[error("the guest's output has no room until some of it is taken")]
     NoRoom,
-    /// A service of the slot is paused, or the write waits for what the host does for the slot. Nothing has changed.
+    /// A service of the slot is paused, or the event waits for what is in flight of it. Nothing has changed.
     #[error("a service of the guest is paused, or its disk is at work")]
     Busy,
     /// Nothing of the slot is in flight. Nothing has changed.
@@ -46,27 +45,13 @@ impl Refusal {
     #[inline(always)]
     pub(crate) fn of<A: Allocator>(response: &Response<A>) -> Refusal
         requires { IsRefusing response.now }
-        ensures { response.now ≡ refusing_response result }
+        ensures { RefusalMeans result response.now }
     {
         match response {
             Response::Answered(Reply::NoMemory) => Refusal::NoRoom,
             Response::Answered(Reply::BadRange) => Refusal::BadRange,
-            Response::Busy => Refusal::Busy,
-            _ => Refusal::BadSlot,
-        }
-    }
-
-    /// The refusal that a reply of a board says whose disks the host serves.
-    #[inline(always)]
-    pub(crate) fn of_hosted<A: Allocator>(reply: &Reply<A>) -> Refusal
-        requires { IsHostedRefusing reply.now }
-        ensures { reply.now ≡ hosted_refusing result }
-    {
-        match reply {
-            Reply::NoMemory => Refusal::NoRoom,
-            Reply::BadRange => Refusal::BadRange,
-            Reply::Busy => Refusal::Busy,
-            Reply::Idle => Refusal::Idle,
+            Response::Answered(Reply::Busy) | Response::Busy => Refusal::Busy,
+            Response::Answered(Reply::Idle) => Refusal::Idle,
             _ => Refusal::BadSlot,
         }
     }

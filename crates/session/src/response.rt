@@ -32,11 +32,3 @@ pub(crate) struct Turned<A: Allocator = Global> {
     pub response: Response<A>,
     pub waits: Option<Waits>,
 }
-
-/// What a call of a board whose disks the host serves is answered, and what then waits for its slot, where there is such
-/// a slot.
-#[derive(Drop)]
-pub(crate) struct Replied<A: Allocator = Global> {
-    pub reply: Reply<A>,
-    pub waits: Option<Waits>,
-}

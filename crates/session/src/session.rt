@@ -1,4 +1,5 @@
-//! The session: a board over an image in memory, and what its consoles put out.
+//! The session: a board over an image in memory, and what its consoles put out. Where the host serves all disks the image is
+//! empty.
 
 ghost use Rattle.std.specs.Prelude.{◌≡◌, ◌≢◌, ◌⊎◌, ◌↔◌, ◌%◌, ◌/◌, ℕ, None, Some, map, length, replicate, IsFalse, IfNone, IfOk, IfSome, OnOk, IfErr, OnErr, IsErrAnd, IsErrOf};
 ghost use Rattle.std.specs.List.{slice_get};
@@ -13,13 +14,16 @@ ghost use Rattle.board.specs.Lent.{AreBytesOf, made_over, opened_over};
 ghost use Rattle.board.specs.Slot.{BoardSlot, interrupt_words, opened};
 ghost use Rattle.session.specs.declared.fault.SessionFault.{SessionFault};
 ghost use Rattle.board.specs.declared.event.EventKind.{EventKind};
+ghost use Rattle.board.specs.declared.reply.Reply.{Reply};
+ghost use Rattle.session.specs.declared.response.Response.{Response};
 ghost use Rattle.session.specs.Pacing.{call_of};
 ghost use Rattle.session.specs.Answering.{SuitsCall, SuitsTurn};
 ghost use Rattle.session.specs.Pausing.{IsCall, IsEventCall, IsWholeCall};
-ghost use Rattle.session.specs.Session.{BeginsNoRead, IsIdle, new_session, new_session_over, none_waiting, slots_of, waits_at};
+ghost use Rattle.session.specs.Session.{BeginsNoRead, IsIdle, IsOutside, new_session, new_session_over, none_waiting, slots_of, waits_at};
 ghost use Rattle.session.specs.Refusing.{AreOutlets, IsBoardFault, IsJudged, IsLentRefusedFor, IsRefusedFor};
 
 mod console;
+mod disk;
 mod image;
 mod memory;
 mod registers;
@@ -67,7 +71,7 @@ impl<A: Allocator> Model for Session<A> {
 
 impl<A: Allocator + Copy> Session<A> {
     /// A session over a copy of these bytes, with these guests and a cache of at most `cache` sectors before
-    /// the image. Each call serves within the budget.
+    /// the image. Each call serves within the budget. Of a guest whose disk the host serves the extent's count alone is read.
     pub fn new(
         alloc: A,
         guests: &[GuestSpec],
@@ -160,6 +164,7 @@ impl<A: Allocator + Copy> Session<A> {
         ensures call { IsCall self.old (call_of slot kind.entry) result.response self.new }
         ensures whole { IsWholeCall self.old (call_of slot kind.entry) result.response self.new }
         ensures suits { SuitsTurn kind.entry result.response }
+        ensures as_many { length self.old.paused ≡ length self.old.slots }
         ensures waits { result.waits ≡ waits_at slot self.new }
     {
         let Some(output) = self.outputs.get_mut(slot as usize) else {
@@ -184,6 +189,7 @@ impl<A: Allocator + Copy> Session<A> {
     fn put_in(&mut self, slot: u8, bytes: &[u8]) -> Turned<A>
         ensures call { IsEventCall self.old slot (EventKind.Input bytes.now) result.response self.new }
         ensures suits { SuitsCall (EventKind.Input bytes.now) result.response }
+        ensures as_many { length self.old.paused ≡ length self.old.slots }
         ensures waits { result.waits ≡ waits_at slot self.new }
     {
         let shown = self.paced.type_in(slot, bytes);
@@ -214,6 +220,9 @@ impl<A: Allocator> Session<A> {
     fn store(&mut self, slot: u8, addr: u64, from: &[u8]) -> Response<A>
         ensures call { IsEventCall self.old slot (EventKind.MemWrite addr from.now) result self.new }
         ensures suits { SuitsCall (EventKind.MemWrite addr from.now) result }
+        ensures as_many { length self.old.paused ≡ length self.old.slots }
+        ensures bad_range { (result ≡ Response.Answered Reply.BadRange) ↔
+            (IsIdle slot self.old × IsOutside slot addr (length from.now) self.old.slots) }
     {
         self.paced.write_memory(slot, addr, from)
     }

@@ -1,6 +1,11 @@
 //! What a call tells: what it is answered, and what then waits.
 
+ghost use Rattle.session.specs.Answering.{IsDoneOrRefusing, Means, done_response};
+
 use crate::refusal::Refusal;
+use crate::response::Response;
+use board::Reply;
+use std::alloc::Allocator;
 
 /// What waits for a guest and for its host once a call is answered.
 #[derive(Clone, Copy, Debug, PartialEq, Eq)]
@@ -18,4 +23,16 @@ pub struct Waits {
 pub struct Told<T> {
     pub answer: Result<T, Refusal>,
     pub waits: Option<Waits>,
+}
+
+/// What an event is answered that has nothing to tell.
+#[inline(always)]
+pub(crate) fn done<A: Allocator>(response: Response<A>) -> Result<(), Refusal>
+    requires { IsDoneOrRefusing response }
+    ensures { Means done_response result response }
+{
+    match response {
+        Response::Answered(Reply::Done) => Ok(()),
+        response => Err(Refusal::of(&response)),
+    }
 }

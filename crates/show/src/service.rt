@@ -237,7 +237,7 @@ fn say_outcome(
     say_used(text, used);
 }
 
-// Says that a service went past more than the chain that was ahead, as a hosted board does in one piece.
+// Says that a service went past more than the chain that was ahead, as one of a disk that the host serves does in one piece.
 fn say_further(board: &Watched, served: SlotQueue, ahead: Ahead, text: &mut Text) {
     match (ahead, place_of(board, served)) {
         (Ahead::Chain { place, next, .. }, Some(last)) if last != place && last != next => {

@@ -249,9 +249,9 @@ behind format s = num s.extent.start ∷ num s.extent.count ∷ mode s.read_only
 abbrev slot_rest : Format → SlotSpec → List (List ℕ)
 slot_rest format s = memory_fields format s.regions ++ behind format s
 
-slot_stands : (format : Format) (s : SlotSpec) → IsFineSlot format s
+slot_stands : (format : Format) (disks : Disks) (s : SlotSpec) → IsFineSlot format disks s
     → EachStands (shapes format Slot (slot_rest format s)) (slot_rest format s)
-slot_stands format s h =
+slot_stands format disks s h =
     let width = width_among (slot_rest format s) in
     let fits = h.fits in
     stand_both (shape_of width) (memory_in format) (behind_memory format) (memory_fields format s.regions)
@@ -270,15 +270,15 @@ slot_stands format s h =
       ),
     )
 
-pub entered_slot : (format : Format) (s : SlotSpec) → IsFineSlot format s
+pub entered_slot : (format : Format) (disks : Disks) (s : SlotSpec) → IsFineSlot format disks s
     → Entered format (slot_line format s) Slot
 unfolding slot_line
-entered_slot format s h = entered format Slot (slot_rest format s) (slot_stands format s h)
+entered_slot format disks s h = entered format Slot (slot_rest format s) (slot_stands format disks s h)
 
-pub cut_slot : (format : Format) (s : SlotSpec) → IsFineSlot format s
+pub cut_slot : (format : Format) (disks : Disks) (s : SlotSpec) → IsFineSlot format disks s
     → fields_of (slot_line format s) ≡ slot_fields format s
 unfolding slot_line
-cut_slot format s h = cut_line format Slot (slot_rest format s) (slot_stands format s h)
+cut_slot format disks s h = cut_line format Slot (slot_rest format s) (slot_stands format disks s h)
 
 -- ---- the line of an event
 

@@ -33,7 +33,7 @@ alone_fits events fine = record {
   range = record { disks = omega arith; slots = All-nil SlotInRange; events = λ k d lt. (fine k d lt).fits };
   printable = record {
     disks = tt;
-    slots = All-nil (IsPrintableSlot Extended);
+    slots = All-nil (IsPrintableSlot Extended (Cached 0));
     events = λ k d lt. (fine k d lt).printable;
     words =
         λ k d lt. word_of_extended (word_for (get_or events k d).what);

@@ -1,6 +1,7 @@
 -- What the formats of a trace have in common.
 use Rattle.std.proofs.Common.{◌≡◌, ◌≢◌, ℕ, ◌≤◌, List, get_or, map, refl, arith}
 use Rattle.board.specs.declared.spec.SlotSpec.{SlotSpec}
+use Rattle.trace.specs.declared.disks.Disks.{Disks}
 use Rattle.trace.specs.declared.format.Format.{Format}
 use Rattle.trace.specs.declared.format.Format.TheVariants.{Plain, Extended}
 use Rattle.trace.specs.declared.format.Version.TheVariants.{One, Two}
@@ -57,10 +58,11 @@ memory_goes old (Plain One) count goes h = one_region old count (λ is. absurd c
 memory_goes old (Plain Two) count goes h = one_region old count goes h
 memory_goes old Extended count goes h = some_regions old count h
 
-slot_goes : (old new : Format) (s : SlotSpec) → GoesInto old new → IsPrintableSlot old s
-    → IsPrintableSlot new s
-slot_goes old new s goes h = record {
+slot_goes : (old new : Format) (disks : Disks) (s : SlotSpec) → GoesInto old new
+    → IsPrintableSlot old disks s → IsPrintableSlot new disks s
+slot_goes old new disks s goes h = record {
   memory = memory_goes old new _ goes h.memory;
+  backed = h.backed;
   identity = λ is. h.identity (first_is_1 old new goes is);
 }
 
@@ -69,7 +71,7 @@ pub fits_format : {A : Type 0} (format : Format) (t : Content A) → GoesInto t.
     → IsPrintable (as_format format t)
 fits_format format t goes h = record {
   disks = word_goes t.format format (disks_word t.disks) goes h.disks;
-  slots = λ k d lt. slot_goes t.format format (get_or t.slots k d) goes (h.slots k d lt);
+  slots = λ k d lt. slot_goes t.format format t.disks (get_or t.slots k d) goes (h.slots k d lt);
   events = h.events;
   words = λ k d lt. word_goes t.format format (word_for (get_or t.events k d).what) goes (h.words k d lt);
 }

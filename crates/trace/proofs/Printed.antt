@@ -82,7 +82,7 @@ text_is c =
 -- a trace has a text where four tests say so, of which the first three passed
 pub printable_when : {A : Type 0} (t : Content A) (front slots lines words : Bool) → IsTrue front
     ↔ IsWordOf t.format (disks_word t.disks)
-    → IsTrue slots ↔ All (IsPrintableSlot t.format) t.slots → IsTrue lines
+    → IsTrue slots ↔ All (IsPrintableSlot t.format t.disks) t.slots → IsTrue lines
     ↔ All (λ e. IsPrintableKind e.what) t.events → IsTrue words
     ↔ All (λ e. IsWordOf t.format (word_for e.what)) t.events
     → front ≡ true → slots ≡ true → lines ≡ true → IsTrue words ↔ IsPrintable t

@@ -31,11 +31,11 @@ pub record Fits {A : Type 0} (c : Content A) : Type 0 where
   pub range : InRange c
   pub printable : IsPrintable c
 
-slot_lines : (format : Format) (slots : List SlotSpec) → All SlotInRange slots
-    → All (IsPrintableSlot format) slots → All (IsSlotLine format) (map (slot_line format) slots)
-slot_lines format slots h fine =
+slot_lines : (format : Format) (disks : Disks) (slots : List SlotSpec) → All SlotInRange slots
+    → All (IsPrintableSlot format disks) slots → All (IsSlotLine format) (map (slot_line format) slots)
+slot_lines format disks slots h fine =
     All-map (IsSlotLine format) (slot_line format) slots
-    (λ k d lt. entered_slot format (get_or slots k d) (record { fits = h k d lt; printable = fine k d lt }))
+    (λ k d lt. entered_slot format disks (get_or slots k d) (record { fits = h k d lt; printable = fine k d lt }))
 
 event_lines : {A : Type 0} (format : Format) (events : List (Event A)) → All EventInRange events
     → All (λ e. IsPrintableKind e.what) events → All (λ e. IsWordOf format (word_for e.what)) events
@@ -65,7 +65,7 @@ unbroken c h =
         second.entry.unbroken,
         above_lines (map (slot_line c.format) c.slots)
             (map event_line c.events) (unbroken_slots c.format (map (slot_line c.format) c.slots)
-            (slot_lines c.format c.slots h.range.slots h.printable.slots))
+            (slot_lines c.format c.disks c.slots h.range.slots h.printable.slots))
             (unbroken_events c.format (map event_line c.events)
             (event_lines c.format c.events h.range.events h.printable.events h.printable.words)),
       ),
@@ -99,7 +99,7 @@ module _ {A : Type 0} (text : List ℕ) (c : Content A) (k : ℕ) (rest : List �
       good c.format text (disks_line c.disks) (map (slot_line c.format) c.slots) (map event_line c.events)
       (lines_of rest) parts (some_lines rest)
       (entered_disks c.format c.disks s.fits.range.disks s.fits.printable.disks)
-      (slot_lines c.format c.slots s.fits.range.slots s.fits.printable.slots)
+      (slot_lines c.format c.disks c.slots s.fits.range.slots s.fits.printable.slots)
       (event_lines c.format c.events s.fits.range.events s.fits.printable.events s.fits.printable.words)
       j le (omega (arith, slots_len, events_len))
 
@@ -161,7 +161,7 @@ module _ {A : Type 0} (text : List ℕ) (c : Content A) (k : ℕ) (rest : List �
             only_slots c.format text (disks_line c.disks) (map (slot_line c.format) c.slots)
             (map event_line c.events) (lines_of rest) parts (some_lines rest)
             (entered_disks c.format c.disks s.fits.range.disks s.fits.printable.disks)
-            (slot_lines c.format c.slots s.fits.range.slots s.fits.printable.slots)
+            (slot_lines c.format c.disks c.slots s.fits.range.slots s.fits.printable.slots)
             (event_lines c.format c.events s.fits.range.events s.fits.printable.events
             s.fits.printable.words) (events_len
             ∙ none not_yet) j low (omega (arith, slots_len, events_len))
@@ -191,7 +191,7 @@ module _ {A : Type 0} (text : List ℕ) (c : Content A) (k : ℕ) (rest : List �
       (one_event c.format text (disks_line c.disks) (map (slot_line c.format) c.slots)
       (map event_line c.events) (lines_of rest) parts (some_lines rest)
       (entered_disks c.format c.disks s.fits.range.disks s.fits.printable.disks)
-      (slot_lines c.format c.slots s.fits.range.slots s.fits.printable.slots)
+      (slot_lines c.format c.disks c.slots s.fits.range.slots s.fits.printable.slots)
       (event_lines c.format c.events s.fits.range.events s.fits.printable.events s.fits.printable.words)
       (omega (arith, events_len)))
   refused begun fault end late some none h known = fault_after begun fault end late none h known
@@ -262,7 +262,7 @@ line_read text c d k rest l after fields so cut is lines fits more =
       count = omega arith;
     }
 
-fits_slot : {A : Type 0} (c : Content A) (s : SlotSpec) → Fits c → IsFineSlot c.format s
+fits_slot : {A : Type 0} (c : Content A) (s : SlotSpec) → Fits c → IsFineSlot c.format c.disks s
     → Fits (with_slot c s)
 fits_slot c s h fine =
     let range = h.range in
@@ -275,7 +275,7 @@ fits_slot c s h fine =
       };
       printable = record {
         disks = printable.disks;
-        slots = All-push (IsPrintableSlot c.format) c.slots s printable.slots fine.printable;
+        slots = All-push (IsPrintableSlot c.format c.disks) c.slots s printable.slots fine.printable;
         events = printable.events;
         words = printable.words;
       };
@@ -283,7 +283,7 @@ fits_slot c s h fine =
 
 pub slot_read : {A : Type 0} (text : List ℕ) (c : Content A) (k : ℕ) (rest l after : List ℕ) (s : SlotSpec)
     → Sofar text c k rest → rest ≡ l ++ 10 ∷ after → fields_of l ≡ slot_fields c.format s
-    → IsFineSlot c.format s → length c.events ≡ 0 → Sofar text (with_slot c s) (k + 1) after
+    → IsFineSlot c.format c.disks s → length c.events ≡ 0 → Sofar text (with_slot c s) (k + 1) after
 unfolding slot_line
 slot_read text c k rest l after s so cut is fine none =
     line_read text c (with_slot c s) k rest l after (slot_fields c.format s) so cut is (push_slot c s none)
@@ -341,7 +341,7 @@ begun_so text format disks rest h =
         };
         printable = record {
           disks = second.of_format;
-          slots = All-nil (IsPrintableSlot format);
+          slots = All-nil (IsPrintableSlot format disks);
           events = λ k d lt. absurd (omega arith);
           words = λ k d lt. absurd (omega arith);
         };

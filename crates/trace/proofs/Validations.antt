@@ -144,7 +144,7 @@ module _ (A : Type 0) (whole : List ℕ) (j : Validation) (k : ℕ) (rest : List
 -- one line more
 slot_more : (A : Type 0) (whole : List ℕ) (j : Validation) (k : ℕ) (rest l after : List ℕ) (begun : Bool)
     (slot : SlotSpec) → ValidatedSofar A whole j k rest → rest ≡ l ++ 10 ∷ after
-    → begun ≡ not (length j.events == length rest) → SaysSlot j.format begun l slot
+    → begun ≡ not (length j.events == length rest) → SaysSlot j.format j.disks begun l slot
     → ValidatedSofar A whole (record j { slots = j.slots ++ slot ∷ []; events = after }) (k + 1) after
 slot_more A whole j k rest l after begun slot s cut test parsed =
     let same : (length j.events == length rest) ≡ true =
@@ -152,7 +152,8 @@ slot_more A whole j k rest l after begun slot s cut test parsed =
     [ inl same ↦ same | inr other ↦ absurd (parsed.early (test ∙ ap not other)) ] in
     let none = no_events A whole j k rest s (eqb-true (length j.events) (length rest) same) in
     let is = subst (λ (v : Format). fields_of l ≡ slot_fields v slot) (sym s.format) parsed.fields in
-    let fine = subst (λ (v : Format). IsFineSlot v slot) (sym s.format) parsed.fine in
+    let fine = subst (λ (d : Disks). IsFineSlot s.trace.format d slot) (sym s.disks)
+    (subst (λ (v : Format). IsFineSlot v j.disks slot) (sym s.format) parsed.fine) in
     record {
       trace = with_slot s.trace slot;
       so = slot_read whole s.trace k rest l after slot s.so cut is fine none;

@@ -4,6 +4,8 @@ use Rattle.board.specs.declared.event.Event.{Event}
 use Rattle.board.specs.declared.event.EventKind.{EventKind}
 use Rattle.board.specs.declared.event.EventKind.TheVariants.{Read, Write, MemRead, MemWrite, Input, Resize, Restore, Complete}
 use Rattle.board.specs.declared.spec.SlotSpec.{SlotSpec}
+use Rattle.board.specs.declared.spec.Backing.{Backing}
+use Rattle.board.specs.declared.spec.Backing.TheVariants as backing
 use Rattle.trace.specs.declared.disks.Disks.{Disks}
 use Rattle.trace.specs.declared.disks.Disks.TheVariants.{Cached, Hosted}
 use Rattle.trace.specs.declared.format.Format.{Format}
@@ -39,15 +41,22 @@ abbrev pub IsPrintableMemory : Format → ℕ → Type 0
 IsPrintableMemory (Plain version) count = count ≡ 1
 IsPrintableMemory Extended count = 1 ≤ count
 
--- a slot that has a line in a format: version 1 leaves its identity out
-pub record IsPrintableSlot (format : Format) (s : SlotSpec) : Type 0 where
+-- who has the bytes of each disk, by where the disks are
+abbrev pub backing_by : Disks → Backing
+backing_by (Cached capacity) = backing.Image
+backing_by Hosted = backing.Host
+
+-- A slot that has a line in a trace of a format whose disks are there: the second line says who has the bytes of
+-- its disk, and version 1 leaves its identity out.
+pub record IsPrintableSlot (format : Format) (disks : Disks) (s : SlotSpec) : Type 0 where
   pub memory : IsPrintableMemory format (length s.regions)
+  pub backed : s.backing ≡ backing_by disks
   pub identity : format ≡ Plain One → s.identity ≡ identity_in_version_1
 
 -- a trace that has a text: each of its slots and events has a line, and each line's word is of its format
 pub record IsPrintable {A : Type 0} (t : Content A) : Type 0 where
   pub disks : IsWordOf t.format (disks_word t.disks)
-  pub slots : All (IsPrintableSlot t.format) t.slots
+  pub slots : All (IsPrintableSlot t.format t.disks) t.slots
   pub events : All (λ e. IsPrintableKind e.what) t.events
   pub words : All (λ e. IsWordOf t.format (word_for e.what)) t.events
 

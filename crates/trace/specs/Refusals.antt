@@ -61,14 +61,14 @@ entry_fields format (entry.Slot s) = slot_fields format s
 entry_fields format (entry.Event s) = parsed_fields s
 
 -- a slot that its integers admit and that has a line
-pub record IsFineSlot (format : Format) (s : SlotSpec) : Type 0 where
+pub record IsFineSlot (format : Format) (disks : Disks) (s : SlotSpec) : Type 0 where
   pub fits : SlotInRange s
-  pub printable : IsPrintableSlot format s
+  pub printable : IsPrintableSlot format disks s
 
 -- what was read has a line whose word is of the format, and a slot comes before every event
-abbrev pub IsFineEntry : {A : Type 0} → Format → Bool → Entry A → Type 0
-IsFineEntry format begun (entry.Slot s) = IsFineSlot format s × (begun ≡ true → ⊥)
-IsFineEntry format begun (entry.Event s) = IsFineParsed s × IsWordOf format (word_for s.event.what)
+abbrev pub IsFineEntry : {A : Type 0} → Format → Disks → Bool → Entry A → Type 0
+IsFineEntry format disks begun (entry.Slot s) = IsFineSlot format disks s × (begun ≡ true → ⊥)
+IsFineEntry format disks begun (entry.Event s) = IsFineParsed s × IsWordOf format (word_for s.event.what)
 
 -- the first line is cut off, or isn't the header
 pub record IsOtherHead (text : List ℕ) : Type 0 where
@@ -136,9 +136,10 @@ abbrev pub with_event : {A : Type 0} → Content A → Event A → Content A
 with_event c e = record c { events = c.events ++ e ∷ [] }
 
 -- the line is that of a slot, before all events
-pub record SaysSlot (format : Format) (begun : Bool) (line : List ℕ) (s : SlotSpec) : Type 0 where
+pub record SaysSlot (format : Format) (disks : Disks) (begun : Bool) (line : List ℕ) (s : SlotSpec)
+    : Type 0 where
   pub fields : fields_of line ≡ slot_fields format s
-  pub fine : IsFineSlot format s
+  pub fine : IsFineSlot format disks s
   pub early : begun ≡ true → ⊥
 
 -- the line is that of an event, whose word is of the format
@@ -150,7 +151,7 @@ pub record SaysEvent {A : Type 0} (format : Format) (line : List ℕ) (e : Event
 -- the new trace is the old one with the slot that the line says, or with the event
 pub record AddsSlot {A : Type 0} (old : Content A) (line : List ℕ) (new : Content A) : Type 0 where
   pub slot : SlotSpec
-  pub parsed : SaysSlot old.format (has_begun old) line slot
+  pub parsed : SaysSlot old.format old.disks (has_begun old) line slot
   pub added : new ≡ with_slot old slot
 
 pub record AddsEvent {A : Type 0} (old : Content A) (line : List ℕ) (new : Content A) : Type 0 where

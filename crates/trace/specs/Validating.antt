@@ -74,7 +74,7 @@ pub record IsValidated (A : Type 0) (text : List ℕ) (j : Validation) : Type 0 
 -- bytes are counted
 pub record ValidatesSlot (begun : Bool) (line after : List ℕ) (old new : Validation) : Type 0 where
   pub slot : SlotSpec
-  pub parsed : SaysSlot old.format begun line slot
+  pub parsed : SaysSlot old.format old.disks begun line slot
   pub is : new ≡ record old { slots = old.slots ++ slot ∷ []; events = after }
 
 pub record ValidatesEvent (A : Type 0) (line : List ℕ) (old new : Validation) : Type 0 where

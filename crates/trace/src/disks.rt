@@ -1,9 +1,11 @@
 //! Where the guests' disks are, as the second line says.
 
 ghost use Rattle.std.specs.Prelude.{◌≡◌};
+ghost use Rattle.trace.specs.Printable.{backing_by};
 ghost use Rattle.trace.specs.Text.{disks_word};
 
 use crate::word::Word;
+use board::Backing;
 
 /// Where the disks of a trace's guests are.
 #[derive(Clone, Copy, Debug, PartialEq, Eq)]
@@ -12,6 +14,16 @@ pub enum Disks {
     Cached { capacity: u32 },
     /// With the host, which serves each guest's own disk. Only the extended format has this.
     Hosted,
+}
+
+/// Who has the bytes of each disk.
+pub(crate) fn backing_of(disks: Disks) -> Backing
+    ensures { result ≡ backing_by disks }
+{
+    match disks {
+        Disks::Cached { .. } => Backing::Image,
+        Disks::Hosted => Backing::Host,
+    }
 }
 
 /// The word of the line that says so.

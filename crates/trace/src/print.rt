@@ -3,7 +3,7 @@
 //! `line` writes a line, `regions` one of its fields, and `range` says the bounds of its numbers. `records` puts records into the
 //! `buffer` before a writer, `asked` what a host is asked to do, and `write` writes whole texts.
 
-ghost use Rattle.std.specs.Prelude.{◌≡◌, ◌*◌, ◌^◌, ◌<◌, ◌↔◌, ◌++◌, ◌∷◌, All, IsTrue, IfOk, OnOk, map};
+ghost use Rattle.std.specs.Prelude.{◌≡◌, ◌*◌, ◌^◌, ◌<◌, ◌↔◌, ◌++◌, ◌∷◌, All, IsTrue, IfOk, OnOk, length, map};
 ghost use Rattle.trace.specs.Printable.{InRange, IsAccess, IsPrintable, IsPrintableKind, IsPrintableMemory, IsPrintableSlot};
 ghost use Rattle.trace.specs.Spelling.{field_text};
 ghost use Rattle.trace.specs.Text.{content, disks_word, text as text_of, ended, event_fields, event_line, front_text, joined, slot_line, word_for};
@@ -17,7 +17,7 @@ mod records;
 mod regions;
 mod write;
 
-use crate::disks::{Disks, word_of_disks};
+use crate::disks::{Disks, backing_of, word_of_disks};
 use crate::format::{Format, Version, header_of, identity_in_version_1};
 use crate::no_memory::NoMemory;
 pub use crate::print::asked::put_asked;
@@ -33,14 +33,14 @@ use guest_memory::RegionSpec;
 use std::alloc::{AllocError, Allocator};
 
 /// Whether the trace has a text. In each, the offset of a register access has three digits, its width is 1, 2 or 4, and a value
-/// that is written is within that width. In a plain trace, each memory has one region, the disks are on the image, there is no
+/// that is written is within that width. Each slot's disk is where the second line says that the disks are. In a plain trace, each memory has one region, the disks are on the image, there is no
 /// Restore and no Complete, and in version 1 each slot has the identity of that version. In an extended one, each memory has a
 /// region. Each trace that was read has a text.
 pub fn is_printable<A: Allocator>(trace: &Trace<A>) -> bool
     ensures { IsTrue result ↔ IsPrintable (content trace.now) }
 {
     disks_have_line(trace.format, trace.disks)
-        && slots_have_lines(trace.format, &trace.slots)
+        && slots_have_lines(trace.format, trace.disks, &trace.slots)
         && events_have_lines(&trace.events)
         && events_have_words(trace.format, &trace.events)
 }
@@ -52,18 +52,19 @@ fn disks_have_line(format: Format, disks: Disks) -> bool
     is_word_of(format, word_of_disks(disks))
 }
 
-// Whether each slot has a line in a format.
-fn slots_have_lines(format: Format, slots: &[SlotSpec]) -> bool
-    ensures { IsTrue result ↔ All (IsPrintableSlot format) slots.now }
+// Whether each slot has a line in a format, where the disks are there.
+fn slots_have_lines(format: Format, disks: Disks, slots: &[SlotSpec]) -> bool
+    ensures { IsTrue result ↔ All (IsPrintableSlot format disks) slots.now }
 {
-    slots.iter().all(|slot| slot_has_line(format, slot))
+    slots.iter().all(|slot| slot_has_line(format, disks, slot))
 }
 
-// Whether a slot has a line in a format.
-fn slot_has_line(format: Format, slot: &SlotSpec) -> bool
-    ensures { IsTrue result ↔ IsPrintableSlot format slot.now }
+// Whether a slot has a line in a format, where the disks are there.
+fn slot_has_line(format: Format, disks: Disks, slot: &SlotSpec) -> bool
+    ensures { IsTrue result ↔ IsPrintableSlot format disks slot.now }
 {
     has_memory(format, slot.regions.as_slice().len())
+        && slot.backing == backing_of(disks)
         && (format != Format::Plain(Version::One) || slot.identity == identity_in_version_1())
 }
 
@@ -159,7 +160,7 @@ fn push_slots<A: Allocator>(
     format: Format,
     slots: &[SlotSpec],
 ) -> Result<(), AllocError>
-    requires { All (IsPrintableSlot format) slots.now }
+    requires { All (λ slot. IsPrintableMemory format (length slot.regions)) slots.now }
     ensures { OnOk result (out.new.items ≡ out.old.items ++ joined (map (slot_line format) slots.now)) }
 {
     for slot in slots {
@@ -204,7 +205,7 @@ fn push_slot<A: Allocator>(
     format: Format,
     slot: &SlotSpec,
 ) -> Result<(), AllocError>
-    requires { IsPrintableSlot format slot.now }
+    requires { IsPrintableMemory format (length slot.now.regions) }
     ensures { OnOk result (out.new.items ≡ out.old.items ++ ended (slot_line format slot.now)) }
 {
     let regions = slot.regions.as_slice();

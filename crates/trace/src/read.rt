@@ -145,7 +145,7 @@ fn add_line<A: Allocator + Copy>(
         RefusesLine trace.old.format (has_begun (content trace.old)) line.now fault) }
 {
     let begun = !trace.events.is_empty();
-    match entry_of(alloc, trace.format, line, begun) {
+    match entry_of(alloc, trace.format, trace.disks, line, begun) {
         Ok(Entry::Slot(slot)) => match trace.slots.push(slot) {
             Ok(()) => Ok(()),
             Err(_) => Err(FaultKind::NoMemory),

@@ -59,7 +59,7 @@ impl<I: Image, A: Allocator> Board<I, A> {
             IsSomeAnd (slice_get self.now.slots slot) (λ found. memory.now ≡ found.memory)) }
     {
         let slot = self.slot(slot)?;
-        Some(slot.memory())
+        Some(slot.slot().memory())
     }
 
     /// The bytes of the slot's memory from `addr` to the end of the region that holds it, to be read and written.
@@ -125,7 +125,7 @@ impl<I: Image, A: Allocator + Copy> Board<I, A> {
             value ≡ register state window offset width)) }
     {
         let found = self.slots.get(slot as usize)?;
-        Some(found.read_window(window, offset, width))
+        Some(found.slot().read_window(window, offset, width))
     }
 
     /// Types bytes to the slot's console, and answers how many were taken: the event of that input, for who has

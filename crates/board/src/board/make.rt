@@ -12,8 +12,8 @@ ghost use Rattle.board.specs.World.{extents_of};
 use crate::board::Board;
 use crate::check::check_slots;
 use crate::fault::BoardFault;
+use crate::guest::Guest;
 use crate::opening;
-use crate::slot::Slot;
 use crate::spec::SlotSpec;
 use sector_cache::{CacheFault, Image, Refused, SectorCache};
 use std::alloc::{AllocError, Allocator};
@@ -97,7 +97,7 @@ fn cache_before<I: Image, A: Allocator + Copy>(
 // The board of slots that were opened, and where there was no memory for them the image.
 fn board_of<I: Image, A: Allocator>(
     alloc: A,
-    slots: Result<Vec<Slot<A>, A>, AllocError>,
+    slots: Result<Vec<Guest<A>, A>, AllocError>,
     cache: SectorCache<I, A>,
 ) -> Result<Board<I, A>, Refused<I, BoardFault>>
     requires { IfOk slots (λ slots. AreSound (I.disk cache).sector_count (extents_of slots.items)) }

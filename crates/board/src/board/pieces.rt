@@ -13,9 +13,9 @@ ghost use Rattle.board.specs.World.{HoldsAt, IsMissed, KeepsOthers, NotesRefusal
 ghost use Rattle.board.specs.Within.{DecidesSlot, DoesWithin};
 
 use crate::board::Board;
+use crate::guest::Guest;
 use crate::pause::{Turn, Work};
 use crate::reply::Reply;
-use crate::slot::Slot;
 use chain::Budget;
 use console_device::Outlet;
 use sector_cache::Image;
@@ -48,7 +48,7 @@ impl<A: Allocator> Taken<A> {
 
     // The slot took the turn.
     #[inline(always)]
-    fn after(turn: Turn<A>, slot: &Slot<A>) -> Taken<A>
+    fn after(turn: Turn<A>, slot: &Guest<A>) -> Taken<A>
         ensures turn { result.turn ≡ turn }
         ensures shown { (result.block_irq, result.console_irq) ≡ interrupt_words slot.now }
         ensures words { AreInterruptWords result.block_irq result.console_irq }

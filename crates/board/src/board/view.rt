@@ -1,7 +1,9 @@
 //! What somebody sees of a slot's devices who only looks. There is no answer for a slot that isn't there.
 
-ghost use Rattle.std.specs.Prelude.{◌≡◌, ◌↔◌, ◌<◌, IsSome, IfSome, IsSomeAnd, length};
+ghost use Rattle.std.specs.Prelude.{◌≡◌, ◌↔◌, ◌<◌, IsSome, IfSome, IsSomeAnd, is_some, length};
 ghost use Rattle.std.specs.List.{slice_get};
+ghost use Rattle.std.specs.Option.{option_map};
+ghost use Rattle.board.specs.Hosting.{device_at};
 
 use crate::board::Board;
 use crate::counters::Counters;
@@ -17,7 +19,7 @@ impl<I: Image, A: Allocator> Board<I, A> {
         ensures { IsSome result ↔ (slot < length self.now.slots) }
     {
         let slot = self.slot(slot)?;
-        Some(slot.counters())
+        Some(slot.slot().counters())
     }
 
     /// The window of the slot's block device. Its ConfigGeneration is always 0.
@@ -28,7 +30,7 @@ impl<I: Image, A: Allocator> Board<I, A> {
         ensures generation { IfSome result (λ window. window.now.config_generation ≡ 0) }
     {
         let slot = self.slot(slot)?;
-        Some(slot.block_window())
+        Some(slot.slot().block_window())
     }
 
     /// The window of the slot's console.
@@ -38,21 +40,26 @@ impl<I: Image, A: Allocator> Board<I, A> {
             IsSomeAnd (slice_get self.now.slots slot) (λ found. window.now ≡ found.console)) }
     {
         let slot = self.slot(slot)?;
-        Some(slot.console_window())
+        Some(slot.slot().console_window())
     }
 
-    /// The slot's block device.
+    /// The slot's block device, as its guest knows it. Its extent is of the image, or of a disk of its own, from the first
+    /// sector on, that the host serves.
     pub fn block_device(&self, slot: u8) -> Option<BlockDevice>
         ensures there { IsSome result ↔ (slot < length self.now.slots) }
-        ensures extent { IfSome result (λ device.
-            IsSomeAnd (slice_get self.now.slots slot) (λ found. device.extent ≡ found.extent)) }
-        ensures read_only { IfSome result (λ device.
-            IsSomeAnd (slice_get self.now.slots slot) (λ found. device.read_only ≡ found.read_only)) }
-        ensures identity { IfSome result (λ device.
-            IsSomeAnd (slice_get self.now.slots slot) (λ found. device.identity ≡ found.identity)) }
+        ensures value { IfSome result (λ device.
+            IsSomeAnd (slice_get self.now.slots slot) (λ found. device ≡ device_at found)) }
     {
         let slot = self.slot(slot)?;
-        Some(slot.block_device())
+        Some(slot.slot().device())
+    }
+
+    /// Whether the host serves the slot's disk.
+    pub fn is_hosted(&self, slot: u8) -> Option<bool>
+        ensures { result ≡ option_map (λ found. is_some found.host) (slice_get self.now.slots slot) }
+    {
+        let slot = self.slot(slot)?;
+        Some(slot.slot().is_hosted())
     }
 
     /// The slot's console.
@@ -64,6 +71,6 @@ impl<I: Image, A: Allocator> Board<I, A> {
             (λ found. (device.now.cols ≡ found.cols) × (device.now.rows ≡ found.rows))) }
     {
         let slot = self.slot(slot)?;
-        Some(slot.console_device())
+        Some(slot.slot().console_device())
     }
 }

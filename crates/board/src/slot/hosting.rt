@@ -1,34 +1,34 @@
 //! Beside a slot's disk: what comes of its events but for the block device's part, and, of a slot whose disk the host
 //! serves, the block device's looks at its queue.
 
-ghost use Rattle.std.specs.Prelude.{◌≡◌, ◌≢◌, ◌<◌, ◌*◌, ◌^◌, ℕ, List, Some, false, is_none, IfSome, IfNone};
+ghost use Rattle.std.specs.Prelude.{◌≡◌, ◌≢◌, ℕ, List, Some, None, false, is_none, is_some, IfSome, IfNone, IsSome, IsSomeAnd};
+ghost use Rattle.std.specs.Bool.{OnTrue, OnFalse};
+ghost use Rattle.std.specs.Option.{option_map};
 ghost use Rattle.guest_memory.specs.Memory.{SameRange};
 ghost use Rattle.mmio_window.specs.declared.stage.Stage.{Stage};
-ghost use Rattle.mmio_window.specs.Window.{queue_at};
-ghost use Rattle.sector_cache.specs.Disk.{Disk};
-ghost use Rattle.block_device.specs.Extent.{sector_len};
-ghost use Rattle.block_device.specs.Hosting.{CompletesIn, HostsTo, IfAsks, IsInFlight};
-ghost use Rattle.block_device.specs.Operation.{LiesInside};
+ghost use Rattle.block_device.specs.Hosting.{CompletesIn};
+ghost use Rattle.board.specs.Backing.{flight_in, with_flight};
 ghost use Rattle.board.specs.declared.event.EventKind.{EventKind};
 ghost use Rattle.board.specs.declared.pause.Pause.{Pause};
 ghost use Rattle.board.specs.declared.pause.Service.{Service};
 ghost use Rattle.board.specs.declared.pause.Turn.{Turn};
 ghost use Rattle.board.specs.declared.reply.Reply.{Reply};
-ghost use Rattle.board.specs.Hosting.{block_beside, device_at, must_wait, notifies_block, unlimited};
+ghost use Rattle.board.specs.Hosting.{HoldsFlight, LooksAtQueue, block_beside, device_at, must_wait, notifies_block};
 ghost use Rattle.board.specs.Image.{Health, sectors_of};
-ghost use Rattle.board.specs.Pausing.{Begins, ComesTo, PausesByLimit, ServesTurn, readied};
+ghost use Rattle.board.specs.Pausing.{BeginsOverImage, ComesTo, PausesByLimit, ServesTurn, readied};
 ghost use Rattle.board.specs.Slot.{state_of};
-ghost use Rattle.board.specs.Within.{BeginsWithin, PieceWithin};
+ghost use Rattle.board.specs.Within.{BeginsWithinOverImage, PieceWithin};
 ghost use Rattle.board.specs.World.{HasBytesToPutOut, MayLackMemory};
 
 use crate::event::EventKind;
+use crate::host_disk::HostedDisk;
 use crate::pause::{Pause, Service, Turn};
 use crate::reply::Reply;
 use crate::slot::Slot;
 use crate::slot::window::reply_to;
 use crate::task::Task;
-use block_device::{Flight, Hosted, Verdict};
-use chain::{Budget, Chain, Runs};
+use block_device::{BlockDevice, Extent, Verdict};
+use chain::Budget;
 use console_device::{NoMemory, Outlet};
 use mmio_window::{DeviceKind, Stage};
 use std::alloc::Allocator;
@@ -48,14 +48,15 @@ impl<A: Allocator + Copy> Slot<A> {
         ensures silent { IfNone result (O.bytes out.new ≡ O.bytes out.old) }
         ensures serves { IfSome result (λ turn. (image : List ℕ) (health : Health) →
             sectors_of (state_of image self.old).extent ≡ self.old.extent.count →
-            ServesTurn (Begins what.now budget) (state_of image self.old) health health (state_of image self.new) turn
+            ServesTurn (BeginsOverImage what.now budget) (state_of image self.old) health health (state_of image self.new) turn
             (O.bytes out.old) (O.bytes out.new)) }
         ensures within { IfSome result (λ turn. (image : List ℕ) (limit : ℕ) → O.limit out.old ≡ Some limit →
-            BeginsWithin limit what.now budget (state_of image self.old) (state_of image self.new)
+            BeginsWithinOverImage limit what.now budget (state_of image self.old) (state_of image self.new)
             (O.bytes out.old) (O.bytes out.new) turn) }
         ensures limited { IfSome result (PausesByLimit budget) }
         ensures limit { O.limit out.new ≡ O.limit out.old }
         ensures device { device_at self.new ≡ device_at self.old }
+        ensures host { self.new.host ≡ self.old.host }
         ensures block { must_wait what.now ≡ false → self.new.block ≡ block_beside what.now self.old }
         ensures range { SameRange self.old.memory self.new.memory }
         ensures extent { self.new.extent ≡ self.old.extent }
@@ -104,16 +105,18 @@ impl<A: Allocator + Copy> Slot<A> {
             state_of image self.new ≡ readied {A = A} (EventKind.Write window offset width value) (state_of image self.old)) }
         ensures silent { IfNone result (O.bytes out.new ≡ O.bytes out.old) }
         ensures serves { IfSome result (λ turn. (image : List ℕ) (health : Health) →
-            ServesTurn (Begins {A = A} (EventKind.Write window offset width value) budget)
+            ServesTurn (BeginsOverImage {A = A} (EventKind.Write window offset width value) budget)
             (state_of image self.old) health health (state_of image self.new) turn (O.bytes out.old) (O.bytes out.new)) }
         ensures within { IfSome result (λ turn. (image : List ℕ) (limit : ℕ) → O.limit out.old ≡ Some limit →
-            BeginsWithin {A = A} limit (EventKind.Write window offset width value) budget
+            BeginsWithinOverImage {A = A} limit (EventKind.Write window offset width value) budget
             (state_of image self.old) (state_of image self.new) (O.bytes out.old) (O.bytes out.new) turn) }
         ensures limited { IfSome result (PausesByLimit budget) }
         ensures limit { O.limit out.new ≡ O.limit out.old }
         ensures device { device_at self.new ≡ device_at self.old }
+        ensures host { self.new.host ≡ self.old.host }
         ensures block { self.new.block ≡ block_beside {A = A} (EventKind.Write window offset width value) self.old }
         ensures range { SameRange self.old.memory self.new.memory }
+        ensures extent { self.new.extent ≡ self.old.extent }
         ensures disturbed { self.new.disturbed ≡ self.old.disturbed }
         ensures there { IfSome result (λ turn. turn ≢ Turn.Answered Reply.BadSlot) }
         ensures bad_range { IfSome result (λ turn. turn ≡ Turn.Answered Reply.BadRange → self.new ≡ self.old) }
@@ -139,7 +142,7 @@ impl<A: Allocator + Copy> Slot<A> {
 
     /// Serves a piece of a service of the console. What it puts out is appended to `out`.
     #[inline(always)]
-    pub(super) fn serve_console<O: Outlet>(
+    pub(crate) fn serve_console<O: Outlet>(
         &mut self,
         pause: Pause,
         stage: Stage,
@@ -157,6 +160,7 @@ impl<A: Allocator + Copy> Slot<A> {
         ensures limited { PausesByLimit budget result }
         ensures limit { O.limit out.new ≡ O.limit out.old }
         ensures device { device_at self.new ≡ device_at self.old }
+        ensures host { self.new.host ≡ self.old.host }
         ensures block { self.new.block ≡ self.old.block }
         ensures range { SameRange self.old.memory self.new.memory }
         ensures extent { self.new.extent ≡ self.old.extent }
@@ -181,29 +185,81 @@ impl<A: Allocator + Copy> Slot<A> {
 }
 
 impl<A: Allocator> Slot<A> {
-    /// Lets the block device look at its queue, up to a chain that asks for the disk. Its buffers are left in `room`, and
-    /// where the bytes of its operation lie in `runs`.
-    pub(crate) fn host_piece(&mut self, room: &mut Chain, runs: &mut Runs) -> Hosted
-        requires disk { sector_len * self.old.extent.count < 2 ^ 64 }
-        ensures hosts { (disk : Disk) → HostsTo (device_at self.old) Stage.First unlimited (queue_at 0 self.old.block) result
-            self.old.memory self.new.memory self.old.block self.new.block room.new runs.new disk }
-        ensures flight { IfAsks (IsInFlight self.new.memory self.new.block room.new) result }
-        ensures inside { IfAsks (λ flight.
-            LiesInside self.old.extent.count self.new.memory flight.operation runs.new) result }
-        ensures rest { self.new ≡ record self.old { memory = self.new.memory; block = self.new.block } }
+    /// Whether the host serves the slot's disk.
+    #[inline(always)]
+    pub(crate) fn is_hosted(&self) -> bool
+        ensures { result ≡ is_some self.now.host }
     {
-        let (memory, window) = (&mut self.memory, &mut self.block);
-        self.block_device.host_piece(memory, window, Stage::First, Budget::UNLIMITED, room, runs)
+        self.host.is_some()
     }
 
-    /// Completes the chain in flight, whose buffers stand in `room`.
-    pub(crate) fn complete(&mut self, flight: Flight, room: &mut Chain, verdict: Verdict)
-        requires flight { IsInFlight self.old.memory self.old.block room.old flight }
-        ensures completes { CompletesIn flight verdict self.old.memory self.new.memory self.old.block self.new.block room.old }
-        ensures room { room.new ≡ room.old }
-        ensures rest { self.new ≡ record self.old { memory = self.new.memory; block = self.new.block } }
+    /// What is in flight, with the disk that it is of, where the host serves it.
+    pub(crate) fn host(&self) -> Option<&HostedDisk>
+        ensures { option_map (λ disk. disk.now) result ≡ self.now.host }
     {
-        self.counters.completed(verdict);
-        flight.complete(&mut self.memory, &mut self.block, room, verdict);
+        match &self.host {
+            Some(disk) => Some(&**disk),
+            None => None,
+        }
+    }
+
+    /// The block device as its guest knows it.
+    pub(crate) fn device(&self) -> BlockDevice
+        ensures { result ≡ device_at self.now }
+    {
+        match &self.host {
+            Some(disk) => BlockDevice {
+                extent: Extent {
+                    start: 0,
+                    count: disk.sectors(),
+                },
+                ..self.block_device
+            },
+            None => self.block_device,
+        }
+    }
+
+    /// The block device looks at its queue, up to a chain that asks the host for something. Nothing is done where the disk
+    /// is of the image.
+    pub(crate) fn look(&mut self)
+        requires rest { flight_in self.old.host ≡ None }
+        ensures looks { IsSome self.old.host → (image : List ℕ) →
+            LooksAtQueue (state_of image self.old) (state_of image self.new) }
+        ensures kept { self.old.host ≡ None → self.new ≡ self.old }
+        ensures held { HoldsFlight self.new }
+        ensures rest { self.new ≡ record self.old {
+          memory = self.new.memory;
+          block = self.new.block;
+          host = self.new.host;
+        } }
+    {
+        let device = self.device();
+        let Some(disk) = &mut self.host else {
+            return;
+        };
+        disk.look(device, &mut self.memory, &mut self.block);
+    }
+
+    /// Completes what is in flight. False where nothing is: nothing has changed then.
+    pub(crate) fn complete(&mut self, verdict: Verdict) -> bool
+        requires held { HoldsFlight self.old }
+        ensures test { result ≡ is_some (flight_in self.old.host) }
+        ensures completes { OnTrue result (IsSomeAnd (flight_in self.old.host) (λ here.
+            CompletesIn here.flight verdict self.old.memory self.new.memory self.old.block self.new.block here.buffers)) }
+        ensures rest { self.new ≡ record self.old {
+          memory = self.new.memory;
+          block = self.new.block;
+          host = with_flight None self.old.host;
+        } }
+        ensures kept { OnFalse result (self.new ≡ self.old) }
+    {
+        let Some(disk) = &mut self.host else {
+            return false;
+        };
+        let done = disk.complete(&mut self.memory, &mut self.block, verdict);
+        if done {
+            self.counters.completed(verdict);
+        }
+        done
     }
 }

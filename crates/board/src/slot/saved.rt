@@ -12,7 +12,7 @@ ghost use Rattle.board.specs.Hosting.{device_at};
 ghost use Rattle.board.specs.Image.{Health, sectors_of};
 ghost use Rattle.board.specs.Outcome.{replies};
 ghost use Rattle.board.specs.Slot.{BoardSlot, state_of};
-ghost use Rattle.board.specs.World.{MayGive};
+ghost use Rattle.board.specs.World.{MayGiveOverImage};
 
 use crate::reply::Reply;
 use crate::saved::RestoreFault;
@@ -61,7 +61,7 @@ impl<A: Allocator> Slot<A> {
         SavedSlot {
             base: self.memory.base(),
             len: self.memory.len(),
-            sectors: self.block_device.extent.count,
+            sectors: self.device().extent.count,
             read_only: self.block_device.read_only,
             identity: self.block_device.identity,
             block: self.block.saved(),
@@ -78,6 +78,7 @@ impl<A: Allocator> Slot<A> {
         ensures kept { OnErr result (self.new ≡ self.old) }
         ensures extent { self.new.extent ≡ self.old.extent }
         ensures device { device_at self.new ≡ device_at self.old }
+        ensures host { self.new.host ≡ self.old.host }
         ensures memory { self.new.memory ≡ self.old.memory }
         ensures disturbed { self.new.disturbed ≡ self.old.disturbed }
         ensures taken { (slot : BoardSlot) → IsSnapshotOf from.now slot → IsLike slot self.old →
@@ -93,10 +94,11 @@ impl<A: Allocator> Slot<A> {
     pub(super) fn answer_restore(&mut self, from: &[u8]) -> Reply<A>
         ensures given { (image : List ℕ) (health : Health) →
             sectors_of (state_of image self.old).extent ≡ self.old.extent.count →
-            MayGive (state_of image self.old) (EventKind.Restore from.now) health health
+            MayGiveOverImage (state_of image self.old) (EventKind.Restore from.now) health health
             (replies (state_of image self.new) result) }
         ensures extent { self.new.extent ≡ self.old.extent }
         ensures device { device_at self.new ≡ device_at self.old }
+        ensures host { self.new.host ≡ self.old.host }
         ensures memory { self.new.memory ≡ self.old.memory }
         ensures disturbed { self.new.disturbed ≡ self.old.disturbed }
         ensures there { result ≢ Reply.BadSlot }
@@ -118,6 +120,7 @@ impl<A: Allocator> Slot<A> {
         ensures kept { OnErr result (self.new ≡ self.old) }
         ensures extent { self.new.extent ≡ self.old.extent }
         ensures device { device_at self.new ≡ device_at self.old }
+        ensures host { self.new.host ≡ self.old.host }
         ensures memory { self.new.memory ≡ self.old.memory }
         ensures disturbed { self.new.disturbed ≡ self.old.disturbed }
     {
@@ -158,7 +161,7 @@ impl<A: Allocator> Slot<A> {
     {
         saved.base == self.memory.base()
             && saved.len == self.memory.len()
-            && saved.sectors == self.block_device.extent.count
+            && saved.sectors == self.device().extent.count
             && saved.read_only == self.block_device.read_only
             && saved.identity == self.block_device.identity
             && saved.block.negotiation.offered == self.block.negotiation().offered().bits()

@@ -29,7 +29,7 @@ use std::alloc::Allocator;
 impl<A: Allocator + Copy> Slot<A> {
     /// Serves a piece of a service. What the console puts out is appended to `out`.
     #[inline(always)]
-    pub(super) fn serve_piece<I: Image, O: Outlet>(
+    pub(crate) fn serve_piece<I: Image, O: Outlet>(
         &mut self,
         pause: Pause,
         stage: Stage,
@@ -44,6 +44,7 @@ impl<A: Allocator + Copy> Slot<A> {
             (I.disk cache.old) (I.disk cache.new) (O.bytes out.old) (O.bytes out.new) result.turn }
         ensures limit { O.limit out.new ≡ O.limit out.old }
         ensures unnoted { IsUnnoted self.old self.new (I.disk cache.old) (I.disk cache.new) result.failed }
+        ensures host { self.new.host ≡ self.old.host }
         ensures touches { TouchesExtent I.moment I.may_leave I.left_since self.old.extent cache.old cache.new }
         ensures no_memory { result.turn ≡ Turn.Answered Reply.NoMemory → stage ≡ Stage.First →
             (pause.service ≡ Service.Transmit) × HasBytesToPutOut self.old.memory self.old.console }

@@ -3,7 +3,6 @@
 ghost use Rattle.std.specs.Prelude.{◌≡◌};
 
 use crate::slot::Slot;
-use block_device::BlockDevice;
 use console_device::ConsoleDevice;
 use mmio_window::Window;
 use std::alloc::Allocator;
@@ -22,15 +21,6 @@ impl<A: Allocator> Slot<A> {
         ensures { result.now ≡ self.now.console }
     {
         &self.console
-    }
-
-    /// The block device.
-    pub(crate) fn block_device(&self) -> BlockDevice
-        ensures extent { result.extent ≡ self.now.extent }
-        ensures read_only { result.read_only ≡ self.now.read_only }
-        ensures identity { result.identity ≡ self.now.identity }
-    {
-        self.block_device
     }
 
     /// The console.

@@ -31,7 +31,7 @@ impl<A: Allocator + Copy> Slot<A> {
             return self.window(window).read_control(offset, width);
         }
         match window {
-            DeviceKind::Block => self.block.read(offset, width, &self.block_device.config()),
+            DeviceKind::Block => self.block.read(offset, width, &self.device().config()),
             DeviceKind::Console => self
                 .console
                 .read(offset, width, &self.console_device.config()),
@@ -62,6 +62,7 @@ impl<A: Allocator + Copy> Slot<A> {
         ensures written { (image : List ℕ) →
             state_of image self.new ≡ with_write window offset width value (state_of image self.old) }
         ensures extent { self.new.extent ≡ self.old.extent }
+        ensures host { self.new.host ≡ self.old.host }
         ensures disturbed { self.new.disturbed ≡ self.old.disturbed }
     {
         match window {

@@ -10,7 +10,7 @@ use crate::calls::answer::{put_number, put_word};
 use crate::calls::memory::regions_of;
 use crate::calls::subject::{Answered, Stuck, Subject};
 use crate::calls::words::Words;
-use board::{Board, Event, Extent, RegionSpec, Regions, SlotSpec};
+use board::{Backing, Board, Event, Extent, RegionSpec, Regions, SlotSpec};
 use linked_list_allocator::LocalHeap;
 use sector_cache::ScriptedImage;
 use session::{Budget, GuestSpec, Session};
@@ -187,6 +187,7 @@ fn slot_of(alloc: Global, words: &mut Words<'_>) -> Result<SlotSpec, Stuck> {
     Ok(SlotSpec {
         regions,
         extent: Extent { start, count },
+        backing: Backing::Image,
         read_only: false,
         cols: 80,
         rows: 25,

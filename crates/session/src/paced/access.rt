@@ -2,11 +2,12 @@
 //! it is.
 
 ghost use Rattle.guest_memory.specs.Memory.{Inside, IsRest};
-ghost use Rattle.std.specs.Prelude.{◌≡◌, ◌≢◌, ◌↔◌, ◌<◌, ◌≤◌, length, [], None, Some, IfOk, IsErrOf, IsOk, IsSomeAnd, OnErr};
+ghost use Rattle.std.specs.Prelude.{◌≡◌, ◌≢◌, ◌⊎◌, ◌↔◌, ◌<◌, ◌≤◌, length, [], None, Some, IfOk, IsErrOf, IsOk, IsSomeAnd, OnErr};
 ghost use Rattle.std.specs.Borrow.{sem, u8, Array, Lends};
 ghost use Rattle.std.specs.List.{slice_get};
 ghost use Rattle.board.specs.declared.event.EventKind.{EventKind};
 ghost use Rattle.board.specs.declared.reply.Reply.{Reply};
+ghost use Rattle.board.specs.Backing.{flight_in};
 ghost use Rattle.board.specs.Image.{Tells};
 ghost use Rattle.board.specs.declared.saved.RestoreFault.{RestoreFault};
 ghost use Rattle.board.specs.Pausing.{HasLimit};
@@ -14,14 +15,16 @@ ghost use Rattle.board.specs.Saved.{IsAs, IsCauseOf, IsLike, IsSavedTo, IsSnapsh
 ghost use Rattle.board.specs.Slot.{BoardSlot, interrupt_words};
 ghost use Rattle.board.specs.World.{KeepsOthers, disturbed_of, extents_of};
 ghost use Rattle.session.specs.Pacing.{Handle, Responds, paced_world, paused_at, with_slot_bytes};
-ghost use Rattle.session.specs.Restoring.{restore_response, told_of};
+ghost use Rattle.session.specs.Operations.{HasFlight};
+ghost use Rattle.session.specs.Restoring.{restore_response};
+ghost use Rattle.session.specs.Session.{IsOutside};
 ghost use Rattle.session.specs.contracts.paced.Paced.{the_row};
 ghost use Rattle.board.specs.declared.saved.RestoreRefusal.{RestoreRefusal};
 ghost use Rattle.board.specs.declared.saved.SaveRefusal.{SaveRefusal};
 
 use crate::paced::Paced;
 use crate::response::{Response, Shown};
-use board::{Image, Reply, RestoreFault, RestoreRefusal, SaveRefusal, ShortBuffer};
+use board::{Image, Reply, RestoreRefusal, SaveRefusal};
 use std::alloc::Allocator;
 
 impl<I: Image, A: Allocator + Copy> Paced<I, A> {
@@ -99,6 +102,8 @@ impl<I: Image, A: Allocator> Paced<I, A> {
         ensures others { KeepsOthers slot self.old.board.slots self.new.board.slots }
         ensures bad_slot { (result ≡ Response.Answered Reply.BadSlot) ↔ (length self.old.board.slots ≤ slot) }
         ensures bad_slot_keeps { result ≡ Response.Answered Reply.BadSlot → self.new ≡ self.old }
+        ensures bad_range { (result ≡ Response.Answered Reply.BadRange) ↔ ((paused_at self.old.paused slot ≡ None)
+            × IsOutside slot addr (length from.now) self.old.board.slots) }
         ensures bad_range_keeps { result ≡ Response.Answered Reply.BadRange → self.new ≡ self.old }
     {
         match self.waiting(slot) {
@@ -114,21 +119,20 @@ impl<I: Image, A: Allocator> Paced<I, A> {
         }
     }
 
-    /// How many bytes the slot's snapshot has, which is none while a service of the slot is paused.
+    /// How many bytes the slot's snapshot has. There is none while a service of the slot is paused or something of it is in
+    /// flight.
     pub fn saved_len(&self, slot: u8) -> Result<usize, SaveRefusal>
         ensures value { IfOk result (λ len. IsSomeAnd (slice_get self.now.board.slots slot)
             (λ found. len ≡ length (snapshot_of found))) }
         ensures missing { IsErrOf result SaveRefusal.BadSlot ↔ (length self.now.board.slots ≤ slot) }
-        ensures busy { IsErrOf result SaveRefusal.Busy ↔ ¬ (paused_at self.now.paused slot ≡ None) }
+        ensures busy { IsErrOf result SaveRefusal.Busy ↔ ((¬ (paused_at self.now.paused slot ≡ None))
+            ⊎ HasFlight slot self.now.board.slots) }
         ensures not_short { ¬ IsErrOf result SaveRefusal.ShortBuffer }
     {
         match self.waiting(slot) {
             None => Err(SaveRefusal::BadSlot),
             Some(Some(_)) => Err(SaveRefusal::Busy),
-            Some(None) => match self.board.saved_len(slot) {
-                Some(len) => Ok(len),
-                None => Err(SaveRefusal::BadSlot),
-            },
+            Some(None) => self.board.saved_len(slot),
         }
     }
 
@@ -138,7 +142,8 @@ impl<I: Image, A: Allocator> Paced<I, A> {
         ensures saved { IfOk result (λ len. IsSomeAnd (slice_get self.now.board.slots slot)
             (λ found. IsSavedTo found into.old into.new len)) }
         ensures missing { IsErrOf result SaveRefusal.BadSlot ↔ (length self.now.board.slots ≤ slot) }
-        ensures busy { IsErrOf result SaveRefusal.Busy ↔ ¬ (paused_at self.now.paused slot ≡ None) }
+        ensures busy { IsErrOf result SaveRefusal.Busy ↔ ((¬ (paused_at self.now.paused slot ≡ None))
+            ⊎ HasFlight slot self.now.board.slots) }
         ensures short { IsErrOf result SaveRefusal.ShortBuffer → IsSomeAnd (slice_get self.now.board.slots slot)
             (λ found. length into.old < length (snapshot_of found)) }
         ensures kept { OnErr result (into.new ≡ into.old) }
@@ -146,11 +151,7 @@ impl<I: Image, A: Allocator> Paced<I, A> {
         match self.waiting(slot) {
             None => Err(SaveRefusal::BadSlot),
             Some(Some(_)) => Err(SaveRefusal::Busy),
-            Some(None) => match self.board.save_into(slot, into) {
-                None => Err(SaveRefusal::BadSlot),
-                Some(Ok(len)) => Ok(len),
-                Some(Err(ShortBuffer)) => Err(SaveRefusal::ShortBuffer),
-            },
+            Some(None) => self.board.save(slot, into),
         }
     }
 
@@ -159,16 +160,18 @@ impl<I: Image, A: Allocator> Paced<I, A> {
     pub fn restore(&mut self, slot: u8, from: &[u8]) -> Result<(), RestoreRefusal>
         ensures responds { Tells (I.disk self.old.board.image) →
             Responds {A = A} self.old.budget (paced_world I.disk self.old)
-            (Handle (record { slot = slot; what = EventKind.Restore from.now })) (restore_response result) [] []
-            (paced_world I.disk self.new) }
+            (Handle (record { slot = slot; what = EventKind.Restore from.now }))
+            (restore_response (paused_at self.old.paused slot) result) [] [] (paced_world I.disk self.new) }
 
-        // what was saved of a slot is taken by every idle slot of its description, and brings it to its state
+        // what was saved of a slot is taken by every slot of its description at rest, and brings it to its state
         ensures taken { (saved old new : BoardSlot) → IsSnapshotOf from.now saved →
             slice_get self.old.board.slots slot ≡ Some old → slice_get self.new.board.slots slot ≡ Some new →
-            IsLike saved old → paused_at self.old.paused slot ≡ None → IsOk result × IsAs saved old new }
+            IsLike saved old → paused_at self.old.paused slot ≡ None → flight_in old.host ≡ None →
+            IsOk result × IsAs saved old new }
         ensures kept { OnErr result (self.new ≡ self.old) }
         ensures missing { IsErrOf result RestoreRefusal.BadSlot ↔ (length self.old.board.slots ≤ slot) }
-        ensures busy { IsErrOf result RestoreRefusal.Busy → ¬ (paused_at self.old.paused slot ≡ None) }
+        ensures busy { IsErrOf result RestoreRefusal.Busy ↔ ((¬ (paused_at self.old.paused slot ≡ None))
+            ⊎ HasFlight slot self.old.board.slots) }
         ensures fault { (why : RestoreFault) → IsErrOf result (RestoreRefusal.Fault why) →
             IsSomeAnd (slice_get self.old.board.slots slot) (λ old. IsCauseOf old from.now why) }
         ensures image { self.new.board.image ≡ self.old.board.image }
@@ -180,7 +183,7 @@ impl<I: Image, A: Allocator> Paced<I, A> {
         match self.waiting(slot) {
             None => Err(RestoreRefusal::BadSlot),
             Some(Some(_)) => Err(RestoreRefusal::Busy),
-            Some(None) => told(self.board.restore(slot, from)),
+            Some(None) => self.board.restore(slot, from),
         }
     }
 
@@ -196,16 +199,5 @@ impl<I: Image, A: Allocator> Paced<I, A> {
             (λ found. IsRest found.memory addr result.now) }
     {
         self.board.memory_mut(slot, addr)
-    }
-}
-
-// What is told of a restore by the board.
-fn told(restored: Option<Result<(), RestoreFault>>) -> Result<(), RestoreRefusal>
-    ensures { result ≡ told_of restored }
-{
-    match restored {
-        None => Err(RestoreRefusal::BadSlot),
-        Some(Ok(())) => Ok(()),
-        Some(Err(why)) => Err(RestoreRefusal::Fault(why)),
     }
 }

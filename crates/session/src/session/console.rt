@@ -1,22 +1,21 @@
 //! A guest's console, from the outside: what is typed, its size, and what it puts out.
 
-ghost use Rattle.std.specs.Prelude.{◌≡◌, ◌⊎◌, ◌<◌, ◌↔◌, length, min, take, drop, ◌++◌, Some, IsSome, IfSome, IfNone, IfOk, IfErr};
-ghost use Rattle.chain.specs.declared.budget.Progress.{Progress};
+ghost use Rattle.std.specs.Prelude.{◌≡◌, ◌≢◌, ◌⊎◌, ◌<◌, ◌≤◌, ◌↔◌, length, min, take, drop, ◌++◌, Some, IsSome, IfSome, IfNone, IfOk, IfErr, IsErrOf};
 ghost use Rattle.board.specs.declared.event.EventKind.{EventKind};
+ghost use Rattle.session.specs.declared.progress.Progress.{Progress};
 ghost use Rattle.session.specs.declared.refusal.Refusal.{Refusal};
-ghost use Rattle.session.specs.Answering.{IsDoneOrRefusing, done_response, typed_response};
+ghost use Rattle.session.specs.Answering.{Means, done_response, typed_response};
 ghost use Rattle.session.specs.Course.{IsTaken};
-ghost use Rattle.session.specs.Pausing.{IsEventCall, taken_at};
-ghost use Rattle.session.specs.Session.{output_of, waits_at};
+ghost use Rattle.session.specs.Pausing.{IsToldCall, taken_at};
+ghost use Rattle.session.specs.Session.{IsIdle, output_of, waits_at};
 
 use crate::paced::TurnKind;
 use crate::refusal::Refusal;
-use crate::response::{Response, Turned};
+use crate::response::Turned;
 use crate::session::Session;
-use crate::told::Told;
-use crate::typed::Typed;
-use board::{EventKind, Pause, Reply};
-use chain::Progress;
+use crate::told::{Told, done};
+use crate::typed::{Typed, typing};
+use board::EventKind;
 use std::alloc::Allocator;
 
 impl<A: Allocator + Copy> Session<A> {
@@ -24,44 +23,31 @@ impl<A: Allocator + Copy> Session<A> {
     /// 4096 until its guest reads them. Where more is to come, `go_on` goes on with the service of its receive queue. It
     /// is refused for a bad slot, and while a service of the slot is paused.
     pub fn input(&mut self, slot: u8, bytes: &[u8]) -> Told<Typed>
-        ensures call { IsEventCall {A = A} self.old slot (EventKind.Input bytes.now)
-            (typed_response result.answer) self.new }
+        ensures call { IsToldCall {A = A} self.old slot (EventKind.Input bytes.now)
+            (Means typed_response result.answer) self.new }
         ensures taken { IfOk result.answer (λ typed. typed.progress ≡ Progress.More →
             taken_at slot self.new ≡ Some typed.taken) }
+        ensures never_asks { IfOk result.answer (λ typed. typed.progress ≢ Progress.Asks) }
         ensures refused { IfErr result.answer (λ why. (why ≡ Refusal.BadSlot) ⊎ (why ≡ Refusal.Busy)) }
+        ensures bad_slot { IsErrOf result.answer Refusal.BadSlot ↔ (length self.old.slots ≤ slot) }
+        ensures busy { IsErrOf result.answer Refusal.Busy ↔ ¬ IsIdle slot self.old }
         ensures waits { result.waits ≡ waits_at slot self.new }
     {
         let Turned { response, waits } = self.put_in(slot, bytes);
-        let answer = match response {
-            Response::Answered(Reply::Took(taken)) => Ok(Typed {
-                taken,
-                progress: Progress::Done,
-            }),
-            Response::More => {
-                let Some(
-                    Pause {
-                        service: _,
-                        taken: Some(taken),
-                    },
-                ) = self.paced.paused(slot)
-                else {
-                    unreachable!()
-                };
-                Ok(Typed {
-                    taken,
-                    progress: Progress::More,
-                })
-            }
-            response => Err(Refusal::of(&response)),
-        };
-        Told { answer, waits }
+        let taken = self.taken(slot);
+        Told {
+            answer: typing(response, taken),
+            waits,
+        }
     }
 
     /// Gives the guest's console another size, of which its driver is told. It is refused for a bad slot, and while a
     /// service of the slot is paused.
     pub fn resize(&mut self, slot: u8, cols: u16, rows: u16) -> Told<()>
-        ensures call { IsEventCall {A = A} self.old slot (EventKind.Resize cols rows)
-            (done_response result.answer) self.new }
+        ensures call { IsToldCall {A = A} self.old slot (EventKind.Resize cols rows)
+            (Means done_response result.answer) self.new }
+        ensures bad_slot { IsErrOf result.answer Refusal.BadSlot ↔ (length self.old.slots ≤ slot) }
+        ensures busy { IsErrOf result.answer Refusal.Busy ↔ ¬ IsIdle slot self.old }
         ensures waits { result.waits ≡ waits_at slot self.new }
     {
         let what = EventKind::Resize { cols, rows };
@@ -73,19 +59,14 @@ impl<A: Allocator + Copy> Session<A> {
     }
 }
 
-// What an event is answered that has nothing to tell.
-#[inline(always)]
-fn done<A: Allocator>(response: Response<A>) -> Result<(), Refusal>
-    requires { IsDoneOrRefusing response }
-    ensures { response ≡ done_response result }
-{
-    match response {
-        Response::Answered(Reply::Done) => Ok(()),
-        response => Err(Refusal::of(&response)),
-    }
-}
-
 impl<A: Allocator> Session<A> {
+    // How many bytes the event took whose service is paused, where it typed some.
+    fn taken(&self, slot: u8) -> Option<usize>
+        ensures { result ≡ taken_at slot self.now }
+    {
+        self.paced.paused(slot)?.taken
+    }
+
     /// What the slot's console put out and nobody has taken yet, in two parts.
     pub fn output(&self, slot: u8) -> Option<(&[u8], &[u8])>
         ensures there { IsSome result ↔ (slot < length self.now.slots) }

@@ -6,29 +6,34 @@ ghost use Rattle.std.specs.List.{slice_get};
 ghost use Rattle.guest_memory.specs.Memory.{Inside, IsRest};
 ghost use Rattle.board.specs.declared.event.EventKind.{EventKind};
 ghost use Rattle.session.specs.declared.refusal.Refusal.{Refusal};
-ghost use Rattle.session.specs.Answering.{bytes_response, done_response};
-ghost use Rattle.session.specs.Pausing.{IsEventCall};
-ghost use Rattle.session.specs.Session.{IsIdle, with_slot_bytes};
+ghost use Rattle.session.specs.Answering.{Means, bytes_response, done_response};
+ghost use Rattle.session.specs.Pausing.{IsToldCall};
+ghost use Rattle.session.specs.Session.{IsIdle, IsOutside, with_slot_bytes};
 ghost use Rattle.session.specs.contracts.session.Session.{the_row};
 
 use crate::refusal::Refusal;
-use crate::response::Response;
 use crate::session::Session;
-use board::{GuestMemory, Reply};
+use crate::told::done;
+use board::GuestMemory;
 use std::alloc::Allocator;
 
 impl<A: Allocator> Session<A> {
     /// Copies bytes out of the slot's memory, from address `addr` on: the step of that read. After a
     /// refusal `into` is as it was.
     pub fn read_memory(&self, slot: u8, addr: u64, into: &mut [u8]) -> Result<(), Refusal>
-        ensures call { IsEventCall {A = A} self.now slot (EventKind.MemRead addr (length into.old))
-            (bytes_response result into.new) self.now }
+        ensures call { IsToldCall {A = A} self.now slot (EventKind.MemRead addr (length into.old))
+            (Means (bytes_response into.new) result) self.now }
+        ensures bad_slot { IsErrOf result Refusal.BadSlot ↔ (length self.now.slots ≤ slot) }
+        ensures busy { IsErrOf result Refusal.Busy ↔ ¬ IsIdle slot self.now }
+        ensures bad_range { IsErrOf result Refusal.BadRange ↔
+            (IsIdle slot self.now × IsOutside slot addr (length into.old) self.now.slots) }
         ensures kept { OnErr result (into.new ≡ into.old) }
     {
+        let board = self.paced.board();
         if self.is_paused(slot) {
             return Err(Refusal::Busy);
         }
-        if self.paced.board().read_memory(slot, addr, into) {
+        if board.read_memory(slot, addr, into) {
             return Ok(());
         }
         Err(Refusal::of_range(slot, self.slots()))
@@ -36,13 +41,14 @@ impl<A: Allocator> Session<A> {
 
     /// Copies bytes into the slot's memory, from address `addr` on: the step of that write.
     pub fn write_memory(&mut self, slot: u8, addr: u64, from: &[u8]) -> Result<(), Refusal>
-        ensures call { IsEventCall {A = A} self.old slot (EventKind.MemWrite addr from.now)
-            (done_response result) self.new }
+        ensures call { IsToldCall {A = A} self.old slot (EventKind.MemWrite addr from.now)
+            (Means done_response result) self.new }
+        ensures bad_slot { IsErrOf result Refusal.BadSlot ↔ (length self.old.slots ≤ slot) }
+        ensures busy { IsErrOf result Refusal.Busy ↔ ¬ IsIdle slot self.old }
+        ensures bad_range { IsErrOf result Refusal.BadRange ↔
+            (IsIdle slot self.old × IsOutside slot addr (length from.now) self.old.slots) }
     {
-        match self.store(slot, addr, from) {
-            Response::Answered(Reply::Done) => Ok(()),
-            response => Err(Refusal::of(&response)),
-        }
+        done(self.store(slot, addr, from))
     }
 
     /// The slot's memory, as it stands. It is refused for a bad slot, and while a service of the slot is paused.

@@ -1,21 +1,25 @@
 //! What a guest does to its devices' registers, and the words that stand for its interrupt lines.
 
-ghost use Rattle.std.specs.Prelude.{◌≡◌, ◌↔◌, ◌<◌, IsSome, length, false};
+ghost use Rattle.std.specs.Prelude.{◌≡◌, ◌⊎◌, ◌↔◌, ◌<◌, ◌≤◌, IfOk, IsErrOf, IsSome, IsSomeAnd, length, false};
 ghost use Rattle.std.specs.List.{slice_get};
 ghost use Rattle.std.specs.Option.{option_map};
 ghost use Rattle.board.specs.declared.event.EventKind.{EventKind};
-ghost use Rattle.board.specs.Slot.{interrupt_words};
-ghost use Rattle.session.specs.Answering.{IsServing, served_response, value_response, went_on_to};
-ghost use Rattle.session.specs.Pausing.{IsEventCall, WentOn};
-ghost use Rattle.session.specs.Session.{waits_at};
+ghost use Rattle.board.specs.Slot.{interrupt_words, state_of};
+ghost use Rattle.board.specs.Within.{MayPutOut};
+ghost use Rattle.session.specs.declared.progress.Progress.{Progress};
+ghost use Rattle.session.specs.declared.refusal.Refusal.{Refusal};
+ghost use Rattle.session.specs.Answering.{Means, served_response, value_response, went_on_to};
+ghost use Rattle.session.specs.Operations.{HasAsked, HoldsUp};
+ghost use Rattle.session.specs.Pausing.{IsToldCall, WentOn};
+ghost use Rattle.session.specs.Session.{IsIdle, waits_at};
 
 use crate::paced::TurnKind;
+use crate::progress::{Progress, has_asked, served};
 use crate::refusal::Refusal;
 use crate::response::{Response, Turned};
 use crate::session::Session;
 use crate::told::Told;
 use board::{Counters, DeviceKind, EventKind, Reply};
-use chain::Progress;
 use std::alloc::Allocator;
 
 impl<A: Allocator + Copy> Session<A> {
@@ -28,8 +32,10 @@ impl<A: Allocator + Copy> Session<A> {
         offset: u16,
         width: u8,
     ) -> Result<u32, Refusal>
-        ensures call { IsEventCall {A = A} self.old slot (EventKind.Read window offset width)
-            (value_response result) self.new }
+        ensures call { IsToldCall {A = A} self.old slot (EventKind.Read window offset width)
+            (Means value_response result) self.new }
+        ensures bad_slot { IsErrOf result Refusal.BadSlot ↔ (length self.old.slots ≤ slot) }
+        ensures busy { IsErrOf result Refusal.Busy ↔ ¬ IsIdle slot self.old }
     {
         if self.is_paused(slot) {
             return Err(Refusal::Busy);
@@ -41,8 +47,10 @@ impl<A: Allocator + Copy> Session<A> {
     }
 
     /// A guest's write. What it notifies is served to its end, or until the budget is spent: then more is to come, and
-    /// `go_on` goes on with it. Where what its console puts out doesn't fit behind what waits it is refused: the chain
-    /// stays on offer, those before it are served, and the same write goes on with it once there is room.
+    /// `go_on` goes on with it. A disk that the host serves goes up to a request that asks for something; while that is in
+    /// flight a write of the block window's Status or QueueReady is busy. Where what the guest's console puts out doesn't fit
+    /// behind what waits the write is refused: the chain stays on offer, those before it are served, and the same write goes
+    /// on with it once there is room.
     pub fn write(
         &mut self,
         slot: u8,
@@ -51,8 +59,15 @@ impl<A: Allocator + Copy> Session<A> {
         width: u8,
         value: u32,
     ) -> Told<Progress>
-        ensures call { IsEventCall {A = A} self.old slot (EventKind.Write window offset width value)
-            (served_response result.answer) self.new }
+        ensures call { IsToldCall {A = A} self.old slot (EventKind.Write window offset width value)
+            (Means served_response result.answer) self.new }
+        ensures asks { IfOk result.answer (λ progress.
+            (progress ≡ Progress.Asks) ↔ HasAsked slot self.old self.new) }
+        ensures bad_slot { IsErrOf result.answer Refusal.BadSlot ↔ (length self.old.slots ≤ slot) }
+        ensures busy { IsErrOf result.answer Refusal.Busy ↔ ((¬ IsIdle slot self.old)
+            ⊎ HoldsUp {A = A} slot (EventKind.Write window offset width value) self.old.slots) }
+        ensures no_room { IsErrOf result.answer Refusal.NoRoom → IsSomeAnd (slice_get self.old.slots slot)
+            (λ found. MayPutOut {A = A} (state_of self.old.image found) (EventKind.Write window offset width value)) }
         ensures waits { result.waits ≡ waits_at slot self.new }
     {
         let what = EventKind::Write {
@@ -61,17 +76,22 @@ impl<A: Allocator + Copy> Session<A> {
             width,
             value,
         };
+        let before = self.is_asking(slot);
         let Turned { response, waits } = self.turn(slot, TurnKind::Begin(&what));
+        let after = self.is_asking(slot);
+        let asks = has_asked(before, after);
         Told {
-            answer: served(response),
+            answer: served(response, asks),
             waits,
         }
     }
 
     /// Goes on with the service of a slot that is paused, within the budget of one call, and answers as the write did
-    /// that it serves. Where none is paused there is nothing left to do.
+    /// that it serves. Where none is paused there is nothing left to do. It never asks the host for anything.
     pub fn go_on<'s>(&'s mut self, slot: u8) -> Told<Progress>
         ensures call { WentOn A self.old slot result.answer self.new }
+        ensures asks { IfOk result.answer (λ progress.
+            (progress ≡ Progress.Asks) ↔ HasAsked slot self.old self.new) }
         ensures waits { result.waits ≡ waits_at slot self.new }
     {
         let kind: TurnKind<'s, A> = TurnKind::Resume;
@@ -80,19 +100,6 @@ impl<A: Allocator + Copy> Session<A> {
             answer: went_on(response),
             waits,
         }
-    }
-}
-
-// What a write is answered.
-#[inline(always)]
-fn served<A: Allocator>(response: Response<A>) -> Result<Progress, Refusal>
-    requires { IsServing response }
-    ensures { response ≡ served_response result }
-{
-    match response {
-        Response::Answered(Reply::Done) => Ok(Progress::Done),
-        Response::More => Ok(Progress::More),
-        response => Err(Refusal::of(&response)),
     }
 }
 

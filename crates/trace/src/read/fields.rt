@@ -17,7 +17,7 @@ ghost use Rattle.trace.specs.declared.format.Format.{Format};
 ghost use Rattle.trace.specs.Format.{identity_in_version_1, unless_version_1};
 ghost use Rattle.trace.specs.Words.{AreRight, Identity as ByIdentity, Mode as ByMode, Num, RegionInRange, shapes, spelled};
 
-use crate::disks::Disks;
+use crate::disks::{Disks, backing_of};
 use crate::format::{Format, Version, identity_in_version_1};
 use crate::read::parsed_event::ParsedEvent;
 use crate::read::regions::regions_of;
@@ -171,10 +171,11 @@ fn write_of<'a, A: Allocator>(values: &[FieldValue<'a>]) -> ParsedEvent<'a, A>
     ParsedEvent::plain(slot as u8, what)
 }
 
-/// The slot that the fields after its word say in a format. The first of them say its memory.
-pub(crate) fn slot_of(format: Format, rest: Option<&[u8]>) -> Option<SlotSpec>
+/// The slot that the fields after its word say in a format whose second line said where the `disks` are. The first of them
+/// say its memory.
+pub(crate) fn slot_of(format: Format, disks: Disks, rest: Option<&[u8]>) -> Option<SlotSpec>
     ensures fields { IfSome result (λ s. slot_fields format s ≡ spelled Word.Slot ∷ fields_left (option_copied rest.entry)) }
-    ensures fine { IfSome result (IsFineSlot format) }
+    ensures fine { IfSome result (IsFineSlot format disks) }
     ensures none { IfNone result (¬ AreRight format Word.Slot (fields_left (option_copied rest.entry))) }
 {
     let values = values_of(format, Word::Slot, rest)?;
@@ -195,6 +196,7 @@ pub(crate) fn slot_of(format: Format, rest: Option<&[u8]>) -> Option<SlotSpec>
     Some(SlotSpec {
         regions,
         extent,
+        backing: backing_of(disks),
         read_only,
         cols: cols as u16,
         rows: rows as u16,

@@ -98,7 +98,7 @@ impl<'a, A: Allocator + Copy> Validated<'a, A> {
         ensures err { IfErr result (λ fault. fault ≢ FaultKind.NoMemory →
             RefusesLine self.old.format begun this.now fault) }
     {
-        match entry_of(alloc, self.format, this, begun) {
+        match entry_of(alloc, self.format, self.disks, this, begun) {
             Ok(Entry::Slot(slot)) => {
                 if self.slots.push(slot).is_err() {
                     return Err(FaultKind::NoMemory);

@@ -1,5 +1,5 @@
 use Rattle.std.proofs.Common.{◌≡◌, take}
-use Rattle.board_ffi.specs.Hosted.{told_runs}
+use Rattle.board_ffi.specs.Disk.{told_runs}
 use Rattle.board_ffi.proofs.operation.tell_runs.Given as goal
 
 -- the runs before this place are told

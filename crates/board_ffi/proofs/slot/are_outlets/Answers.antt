@@ -5,9 +5,9 @@ use Rattle.board_ffi.proofs.Outlets.{All-unmap}
 use Rattle.board_ffi.proofs.slot.are_outlets.Goals as goal
 
 pub returns : goal.returns
-returns c = (
-  λ holds. All-map (λ guest. guest.outlet ≤ 2 ^ 24) guest_of c.args.slots.now
+returns c = λ backing. (
+  λ holds. All-map (λ guest. guest.outlet ≤ 2 ^ 24) (guest_of backing) c.args.slots.now
       (c.no_slot_passes.ensures.0 holds),
   λ outlets. c.no_slot_passes.ensures.1
-      (All-unmap (λ guest. guest.outlet ≤ 2 ^ 24) guest_of c.args.slots.now outlets),
+      (All-unmap (λ guest. guest.outlet ≤ 2 ^ 24) (guest_of backing) c.args.slots.now outlets),
 )

@@ -267,7 +267,7 @@ fn put_value(answer: &mut String, value: Result<u32, Refusal>) -> Answered {
     }
 }
 
-// `ok`, or `more` where the service is paused, or the refusal.
+// `ok`, or `more` where the service is paused, or `asks` where the host is asked, or the refusal.
 fn put_progress(answer: &mut String, progress: Result<Progress, Refusal>) -> Answered {
     match progress {
         Ok(progress) => put_word(answer, told(progress)),
@@ -279,6 +279,7 @@ fn told(progress: Progress) -> &'static str {
     match progress {
         Progress::More => "more",
         Progress::Done => "ok",
+        Progress::Asks => "asks",
     }
 }
 

@@ -4,7 +4,7 @@ use super::Guests;
 use crate::calls::answer::{put_bytes, put_result, put_word};
 use crate::calls::subject::{Answered, Stuck};
 use crate::calls::words::Words;
-use board::{Board, Bytes, Event, EventKind, Image, RestoreFault};
+use board::{Board, Bytes, Event, EventKind, Image, RestoreRefusal};
 use std::alloc::{AllocError, Allocator};
 
 impl<'h, B: Allocator> Guests<'h, B> {
@@ -27,9 +27,8 @@ impl<'h, B: Allocator> Guests<'h, B> {
         let Some(board) = &self.board else {
             return Err(Stuck::Conditions);
         };
-        match saved(board, words.u8()) {
-            Some(Ok(bytes)) => put_bytes(self.alloc, answer, &bytes),
-            Some(Err(_)) => Err(Stuck::NoMemory),
+        match saved(self.heap, board, words.u8())? {
+            Some(bytes) => put_bytes(self.alloc, answer, &bytes),
             None => put_word(answer, "none"),
         }
     }
@@ -45,8 +44,9 @@ impl<'h, B: Allocator> Guests<'h, B> {
             return Err(Stuck::Conditions);
         };
         match restored(board, slot, &bytes) {
-            Some(outcome) => put_result(answer, outcome),
-            None => put_word(answer, "none"),
+            Err(RestoreRefusal::BadSlot) => put_word(answer, "none"),
+            Err(RestoreRefusal::Fault(why)) => put_result(answer, Err(why)),
+            outcome => put_result(answer, outcome),
         }
     }
 
@@ -67,18 +67,27 @@ impl<'h, B: Allocator> Guests<'h, B> {
     }
 }
 
-// What both calls promise isn't needed here.
+// The snapshot of a slot, where it is there.
 fn saved<I: Image, A: Allocator + Copy>(
+    heap: A,
     board: &Board<I, A>,
     slot: u8,
-) -> Option<Result<Vec<u8, A>, AllocError>> {
-    board.save(slot)
+) -> Result<Option<Vec<u8, A>>, AllocError> {
+    let Ok(len) = board.saved_len(slot) else {
+        return Ok(None);
+    };
+    let mut bytes = vec![in heap; 0; len]?;
+    match board.save(slot, &mut bytes) {
+        Ok(_) => Ok(Some(bytes)),
+        Err(_) => Ok(None),
+    }
 }
 
+// What this call promises isn't needed here.
 fn restored<I: Image, A: Allocator>(
     board: &mut Board<I, A>,
     slot: u8,
     from: &[u8],
-) -> Option<Result<(), RestoreFault>> {
+) -> Result<(), RestoreRefusal> {
     board.restore(slot, from)
 }

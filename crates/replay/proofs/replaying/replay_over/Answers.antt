@@ -10,7 +10,7 @@ returns-in-Ok-clause-comes_to g c text is =
     played_over g.I.Image.disk text _ _ c.args.image c.run_validated.result.0 c.run_validated.result.1
     (validation c.args.validated) c.args.capacity c.deref_mut.result.now found.board
     is c.requires.disks c.deref_mut.ensures.value found.ensures.made found.ensures.few found.ensures.small
-    found.ensures.accepted (c.run_validated.ensures.ended c.args.capacity)
+    found.ensures.accepted c.run_validated.ensures.ended
 
 pub returns-clause-comes_to : goal.returns-clause-comes_to
 returns-clause-comes_to g c text is =
@@ -21,6 +21,6 @@ returns-clause-comes_to g c text is =
 pub returns-in-Ok-clause-read : goal.returns-in-Ok-clause-read
 returns-in-Ok-clause-read g c is =
     let lines = c.requires.room in
-    let run = c.run_validated.ensures.ended c.args.capacity c.deref_mut.result.now lines.events
+    let run = c.run_validated.ensures.ended c.deref_mut.result.now lines.events
     (ap (λ b. b.slots) c.in-Ok.ensures.made) lines.lines_of in
     rw is at run

@@ -1,10 +1,10 @@
-use Rattle.std.proofs.Common.{◌≡◌, ◌≤◌, None, [], arith, length, refl, sym, ◌∙◌, ap, rules}
+use Rattle.std.proofs.Common.{◌≡◌, ◌≤◌, None, [], arith, length, refl, sym, ◌∙◌, ap}
 use Rattle.std.specs.List.{slice_get}
-use Rattle.std.proofs.lemmas.Option.{same_Some, slice_get_past, slice_get_read}
+use Rattle.std.proofs.lemmas.Option.{same_Some, slice_get_past}
 use Rattle.board.specs.Image.{bytes_of, health_of}
 use Rattle.board.specs.World.{disturbed_of, extents_of}
 use Rattle.board.proofs.Access.{disturbed_kept, unmet_turn}
-use Rattle.board.proofs.Lists.{get_set, others_kept}
+use Rattle.board.proofs.Lists.{get_set, is_there, others_kept}
 use Rattle.board.proofs.Seats.{extents_of-set, sound_set, takes}
 use Rattle.board.proofs.board.Board.begin_input.Goals as goal
 
@@ -12,7 +12,7 @@ pub invariant_of-self-2 : goal.invariant_of-self-2
 invariant_of-self-2 g c =
     sound_set _ c.self.inside.slots.items c.args.slot c.in-Some.slot.now c.input-turn.new.self
     c.input-turn.ensures.extent
-    (search (rules, slice_get_read)) c.self.invariant
+    (is_there c.self.inside.slots.items c.args.slot c.in-Some.slot c.in-Some.ensures.item) c.self.invariant
 
 pub returns-clause-takes : goal.returns-clause-takes
 returns-clause-takes g c tells below =
@@ -20,12 +20,12 @@ returns-clause-takes g c tells below =
     rw (← c.self.view_is, c.after.ensures.turn)
     (takes _ c.self.inside.slots.items disk disk c.args.slot c.in-Some.slot.now c.input-turn.new.self
     c.input-turn.result _ _ [] []
-    c.self.invariant.apart (search (rules, slice_get_read)) c.input-turn.ensures.extent
+    c.self.invariant.apart (is_there c.self.inside.slots.items c.args.slot c.in-Some.slot c.in-Some.ensures.item) c.input-turn.ensures.extent
     (unmet_turn c.in-Some.slot.now c.input-turn.new.self c.input-turn.result disk.failures
     c.input-turn.ensures.disturbed c.input-turn.ensures.took) refl
     (record {
       output = [];
-      comes = c.input-turn.ensures.comes (bytes_of disk) (health_of disk);
+      comes = c.input-turn.ensures.begins (bytes_of disk) (health_of disk);
       appended = refl;
     })
     c.after.ensures.shown)
@@ -33,7 +33,7 @@ returns-clause-takes g c tells below =
 pub returns-clause-extents : goal.returns-clause-extents
 returns-clause-extents g c =
     extents_of-set c.self.inside.slots.items c.args.slot c.in-Some.slot.now c.input-turn.new.self
-    (search (rules, slice_get_read))
+    (is_there c.self.inside.slots.items c.args.slot c.in-Some.slot c.in-Some.ensures.item)
     c.input-turn.ensures.extent ∙ ap (λ b. extents_of b.slots) c.self.view_is
 
 pub returns-clause-others : goal.returns-clause-others
@@ -44,7 +44,7 @@ returns-clause-others g c other differ =
 pub returns-clause-disturbed : goal.returns-clause-disturbed
 returns-clause-disturbed g c =
     disturbed_kept c.self.inside.slots.items c.args.slot c.in-Some.slot.now c.input-turn.new.self
-    (search (rules, slice_get_read))
+    (is_there c.self.inside.slots.items c.args.slot c.in-Some.slot c.in-Some.ensures.item)
     c.input-turn.ensures.disturbed
     ∙ ap (λ b. disturbed_of b.slots) c.self.view_is
 
@@ -61,5 +61,5 @@ returns-clause-shown g c found here =
     let set : c.input-turn.new.self ≡ found =
     same_Some c.input-turn.new.self found
     (sym (get_set c.self.inside.slots.items c.args.slot c.in-Some.slot.now c.input-turn.new.self
-    (search (rules, slice_get_read))) ∙ here) in
+    (is_there c.self.inside.slots.items c.args.slot c.in-Some.slot c.in-Some.ensures.item)) ∙ here) in
     rw (← set) c.after.ensures.shown

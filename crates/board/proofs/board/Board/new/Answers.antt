@@ -4,7 +4,7 @@ use Rattle.std.specs.Vec.{vec_items}
 use Rattle.board.specs.Slot.{BoardSlot, opened}
 use Rattle.board.proofs.Loans.{made_of, same_sound}
 use Rattle.board.specs.declared.fault.BoardFault.TheVariants.{NoMemory}
-use Rattle.board.proofs.Specs.{memories, sound}
+use Rattle.board.proofs.Specs.{memories, rooms, sound}
 use Rattle.board.proofs.Faults.{one_fault}
 use Rattle.board.proofs.board.Board.new.Goals as goal
 
@@ -15,6 +15,9 @@ returns-in_err-cache-clause-exact g c = λ fault some refuses.
 
 pub open_all-requires-clause-memory : goal.open_all-requires-clause-memory
 open_all-requires-clause-memory g c = memories _ c.args.slots.now c.in_ok-cache.ensures.accepted.slots_good
+
+pub open_all-requires-clause-disk : goal.open_all-requires-clause-disk
+open_all-requires-clause-disk g c = rooms _ c.args.slots.now c.in_ok-cache.ensures.accepted.slots_good
 
 pub board_of-requires : goal.board_of-requires
 board_of-requires g c =

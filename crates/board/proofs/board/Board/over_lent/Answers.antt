@@ -5,7 +5,7 @@ use Rattle.board.specs.Lent.{made_over, opened_over}
 use Rattle.board.specs.Slot.{BoardSlot}
 use Rattle.board.proofs.Loans.{made_of, same_sound, sound_over}
 use Rattle.board.specs.declared.fault.BoardFault.TheVariants.{NoMemory}
-use Rattle.board.proofs.Specs.{memories}
+use Rattle.board.proofs.Specs.{memories, rooms}
 use Rattle.board.proofs.Faults.{one_fault}
 use Rattle.board.proofs.board.Board.over_lent.Goals as goal
 
@@ -17,6 +17,9 @@ returns-in_err-cache-clause-exact g c = λ fault some refuses.
 pub open_all_over-requires-clause-memory : goal.open_all_over-requires-clause-memory
 open_all_over-requires-clause-memory g c =
     memories _ c.args.slots.now c.in_ok-cache.ensures.accepted.slots_good
+
+pub open_all_over-requires-clause-disk : goal.open_all_over-requires-clause-disk
+open_all_over-requires-clause-disk g c = rooms _ c.args.slots.now c.in_ok-cache.ensures.accepted.slots_good
 
 pub board_of-requires : goal.board_of-requires
 board_of-requires g c =

@@ -1,13 +1,13 @@
-use Rattle.std.proofs.Common.{◌≡◌, ℕ, List, ◌≤◌, Option, Some, None, length, sym, ◌∙◌, ap, subst, arith, rules}
+use Rattle.std.proofs.Common.{◌≡◌, ℕ, List, ◌≤◌, Option, Some, None, length, sym, ◌∙◌, ap, subst, arith}
 use Rattle.std.specs.Prelude.{IsSomeAnd, slice_set}
 use Rattle.std.specs.List.{slice_get}
-use Rattle.std.proofs.lemmas.Option.{slice_get_past, slice_get_read, same_Some}
+use Rattle.std.proofs.lemmas.Option.{slice_get_past, same_Some}
 use Rattle.board.specs.Slot.{BoardSlot, state_of}
 use Rattle.board.specs.Image.{Tells}
 use Rattle.board.specs.Pausing.{MayLackMemoryIn}
 use Rattle.board.specs.World.{disturbed_of}
 use Rattle.board.proofs.Outside.{outside_kept}
-use Rattle.board.proofs.Lists.{get_set, others_kept}
+use Rattle.board.proofs.Lists.{get_set, is_there, others_kept}
 use Rattle.board.proofs.Seats.{extents_of-set, noted_none, noted_set, set_same, slot_within, stays_in_extents, stays_same, takes}
 use Rattle.board.proofs.Touching.{touches_missing, touches_slot}
 use Rattle.board.proofs.board.Board.turn.Goals as goal
@@ -26,13 +26,14 @@ returns-in_default-clause-stays g c =
 -- the slot of that number
 there : (g : _) (c : goal.After-self-2-1 g) → slice_get c.self.inside.slots.items c.args.slot
     ≡ Some c.in-Some.slot.now
-there g c = search (rules, slice_get_read)
+there g c =
+    is_there c.self.inside.slots.items c.args.slot c.in-Some.slot c.in-Some.ensures.item
 
 pub turn-turn-requires : goal.turn-turn-requires
 turn-turn-requires g c = record {
   lies =
       slot_within _ c.self.inside.slots.items c.args.slot c.in-Some.slot.now c.self.invariant.within
-      (search (rules, slice_get_read));
+      (is_there c.self.inside.slots.items c.args.slot c.in-Some.slot c.in-Some.ensures.item);
 }
 
 pub invariant_of-self-2 : goal.invariant_of-self-2

@@ -1,8 +1,8 @@
-use Rattle.std.proofs.Common.{◌≡◌, Some, length, sym, ◌∙◌, ap, rules}
+use Rattle.std.proofs.Common.{◌≡◌, Some, length, sym, ◌∙◌, ap}
 use Rattle.std.specs.List.{slice_get}
-use Rattle.std.proofs.lemmas.Option.{slice_get_read}
 use Rattle.guest_memory.proofs.Ranges.{is_inside-tells}
 use Rattle.board.specs.World.{disturbed_of}
+use Rattle.board.proofs.Lists.{is_there}
 use Rattle.board.proofs.Access.{bytes_put, bytes_stand, disturbed_kept}
 use Rattle.board.proofs.Seats.{sound_set}
 use Rattle.board.proofs.board.Board.write_memory.Goals as goal
@@ -11,26 +11,26 @@ pub invariant_of-self-2 : goal.invariant_of-self-2
 invariant_of-self-2 g c =
     sound_set _ c.self.inside.slots.items c.args.slot c.in-Some.slot.now c.put_bytes.new.self
     c.put_bytes.ensures.extent
-    (search (rules, slice_get_read)) c.self.invariant
+    (is_there c.self.inside.slots.items c.args.slot c.in-Some.slot c.in-Some.ensures.item) c.self.invariant
 
 pub returns-clause-step : goal.returns-clause-step
 returns-clause-step g c tells =
     rw (← c.self.view_is)
     (bytes_put _ c.self.inside.slots.items (g.I.Image.disk c.self.inside.cache) c.args.slot c.in-Some.slot.now
     c.put_bytes.new.self c.args.addr c.args.from.now c.put_bytes.result
-    c.self.invariant.apart (search (rules, slice_get_read)) c.put_bytes.ensures.test c.put_bytes.ensures.done)
+    c.self.invariant.apart (is_there c.self.inside.slots.items c.args.slot c.in-Some.slot c.in-Some.ensures.item) c.put_bytes.ensures.test c.put_bytes.ensures.done)
 
 pub returns-clause-inside : goal.returns-clause-inside
 returns-clause-inside g c =
     let here : slice_get c.args.self.now.slots c.args.slot ≡ Some c.in-Some.slot.now =
-    ap (λ b. slice_get b.slots c.args.slot) (sym c.self.view_is) ∙ search (rules, slice_get_read) in
+    ap (λ b. slice_get b.slots c.args.slot) (sym c.self.view_is) ∙ is_there c.self.inside.slots.items c.args.slot c.in-Some.slot c.in-Some.ensures.item in
     rw (here, c.put_bytes.ensures.test)
     (is_inside-tells c.in-Some.slot.now.memory c.args.addr (length c.args.from.now))
 
 pub returns-clause-disturbed : goal.returns-clause-disturbed
 returns-clause-disturbed g c =
     disturbed_kept c.self.inside.slots.items c.args.slot c.in-Some.slot.now c.put_bytes.new.self
-    (search (rules, slice_get_read))
+    (is_there c.self.inside.slots.items c.args.slot c.in-Some.slot c.in-Some.ensures.item)
     c.put_bytes.ensures.disturbed
     ∙ ap (λ b. disturbed_of b.slots) c.self.view_is
 
@@ -38,4 +38,4 @@ pub returns-clause-put : goal.returns-clause-put
 returns-clause-put g c =
     rw (← c.self.view_is)
     (bytes_stand c.self.inside.slots.items c.args.slot c.in-Some.slot.now c.put_bytes.new.self c.args.addr
-    c.args.from.now c.put_bytes.result (search (rules, slice_get_read)) c.put_bytes.ensures.done)
+    c.args.from.now c.put_bytes.result (is_there c.self.inside.slots.items c.args.slot c.in-Some.slot c.in-Some.ensures.item) c.put_bytes.ensures.done)

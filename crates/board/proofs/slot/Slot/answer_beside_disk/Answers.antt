@@ -5,7 +5,6 @@ use Rattle.board.specs.Hosting.{device_at, must_wait}
 use Rattle.board.specs.Slot.{BoardSlot, state_of}
 use Rattle.board.proofs.Beside.{range_of, same_range}
 use Rattle.board.proofs.Blocks.{completion_given, read_given}
-use Rattle.board.proofs.Hosts.{same_extent}
 use Rattle.board.proofs.Turns.{comes_first, silent_answer}
 use Rattle.board.proofs.slot.Slot.answer_beside_disk.Goals as goal
 use Rattle.board.proofs.slot.Slot.answer_beside_disk.Goals.{in-Read, in-MemRead, in-MemWrite, in-Resize, in-Restore, in-Complete}
@@ -24,13 +23,12 @@ returns-in-Input-clause-serves g c = λ image health filled.
 pub returns-in-Input-clause-device : goal.returns-in-Input-clause-device
 returns-in-Input-clause-device g c = ap device_at c.input.ensures.rest
 
+pub returns-in-Input-clause-host : goal.returns-in-Input-clause-host
+returns-in-Input-clause-host g c = ap (λ (slot : BoardSlot). slot.host) c.input.ensures.rest
+
 pub returns-in-Input-clause-block : goal.returns-in-Input-clause-block
 returns-in-Input-clause-block g c free =
     rw (c.in-Input.is) (ap (λ (slot : BoardSlot). slot.block) c.input.ensures.rest)
-
-pub returns-in-Write-clause-extent : goal.returns-in-Write-clause-extent
-returns-in-Write-clause-extent g c =
-    same_extent c.args.self.now c.write_beside_disk.new.self c.write_beside_disk.ensures.device
 
 pub returns-clause-serves : goal.returns-clause-serves
 returns-clause-serves g c = λ image health filled.
@@ -63,6 +61,17 @@ returns-clause-device g c =
       | in-MemWrite w ↦ rw (w.self-is) (ap device_at w.write_memory-reply.ensures.rest)
       | in-Resize w ↦ rw (w.self-is) (ap device_at w.resize-reply.ensures.rest)
       | in-Restore w ↦ rw (w.self-is) w.answer_restore-reply.ensures.device
+      | in-Complete w ↦ rw (w.self-is) refl
+    ]
+
+pub returns-clause-host : goal.returns-clause-host
+returns-clause-host g c =
+    elim c.match-what.branch [
+      | in-Read w ↦ rw (w.self-is) refl
+      | in-MemRead w ↦ rw (w.self-is) refl
+      | in-MemWrite w ↦ rw (w.self-is) (ap (λ (slot : BoardSlot). slot.host) w.write_memory-reply.ensures.rest)
+      | in-Resize w ↦ rw (w.self-is) (ap (λ (slot : BoardSlot). slot.host) w.resize-reply.ensures.rest)
+      | in-Restore w ↦ rw (w.self-is) w.answer_restore-reply.ensures.host
       | in-Complete w ↦ rw (w.self-is) refl
     ]
 

@@ -6,10 +6,10 @@ use Rattle.board.specs.declared.event.EventKind.TheVariants.{Write}
 use Rattle.board.specs.declared.pause.Turn.TheVariants.{Answered}
 use Rattle.board.specs.Hosting.{device_at}
 use Rattle.board.specs.Machine.{task_at, with_write}
-use Rattle.board.specs.Pausing.{Begins, ServesTurn, asked_by}
+use Rattle.board.specs.Pausing.{BeginsOverImage, ServesTurn, asked_by}
 use Rattle.board.specs.Slot.{BoardSlot, state_of}
 use Rattle.board.specs.Task.{Task, Serve}
-use Rattle.board.specs.Within.{BeginsWithin}
+use Rattle.board.specs.Within.{BeginsWithinOverImage}
 use Rattle.board.specs.World.{TakesMemory}
 use Rattle.board.proofs.Beside.{not_block, written_block, written_device, written_range}
 use Rattle.board.proofs.Turns.{begins_by, begins_within, nothing_turn, put_out_turn, put_out_within}
@@ -60,11 +60,13 @@ returns-in-Serve g c =
       device = served.ensures.device
           ∙ written_device c.args.window c.args.offset c.args.width c.args.value c.args.self.now
           c.write_registers.new.self written.written written.extent;
+      host = served.ensures.host ∙ written.host;
       block = served.ensures.block
           ∙ written_block g.row.A.Denot c.args.window c.args.offset c.args.width c.args.value c.args.self.now
           c.write_registers.new.self written.written;
       range = same_trans _ _ _ (written_range c.args.window c.args.offset c.args.width c.args.value
           c.args.self.now c.write_registers.new.self written.written) served.ensures.range;
+      extent = served.ensures.extent ∙ written.extent;
       disturbed = served.ensures.disturbed ∙ written.disturbed;
       there = served.ensures.there;
       bad_range = λ refused. absurd (served.ensures.in_range refused);
@@ -81,7 +83,7 @@ returns-in-PutOut-clause-serves g c = λ image health.
     let state = state_of image c.args.self.now in
     let what : EventKind g.row.A.Denot = Write c.args.window c.args.offset c.args.width c.args.value in
     rw (c.emergency-put_out.ensures.same)
-    (subst (λ (slot : BoardSlot). ServesTurn (Begins what c.args.budget) state health health
+    (subst (λ (slot : BoardSlot). ServesTurn (BeginsOverImage what c.args.budget) state health health
     (state_of image slot) (Answered c.reply_to.result) (g.O.Outlet.bytes c.args.out.now)
     (g.O.Outlet.bytes c.emergency-put_out.new.out)) (sym c.self.view_is)
     (rw (c.write_registers.ensures.written image) (put_out_turn state c.args.window c.args.offset c.args.width
@@ -95,7 +97,7 @@ returns-in-PutOut-clause-within g c = λ image limit limited.
     let state = state_of image c.args.self.now in
     let what : EventKind g.row.A.Denot = Write c.args.window c.args.offset c.args.width c.args.value in
     rw (c.emergency-put_out.ensures.same)
-    (subst (λ (slot : BoardSlot). BeginsWithin limit what c.args.budget state (state_of image slot)
+    (subst (λ (slot : BoardSlot). BeginsWithinOverImage limit what c.args.budget state (state_of image slot)
     (g.O.Outlet.bytes c.args.out.now) (g.O.Outlet.bytes c.emergency-put_out.new.out)
     (Answered c.reply_to.result)) (sym c.self.view_is)
     (rw (c.write_registers.ensures.written image)
@@ -144,3 +146,17 @@ pub returns-in-Nothing-clause-range : goal.returns-in-Nothing-clause-range
 returns-in-Nothing-clause-range g c =
     written_range c.args.window c.args.offset c.args.width c.args.value c.args.self.now
     c.write_registers.new.self c.write_registers.ensures.written
+
+pub returns-in-Serve-Block-clause-host : goal.returns-in-Serve-Block-clause-host
+returns-in-Serve-Block-clause-host g c = c.write_registers.ensures.host
+
+pub returns-in-PutOut-clause-host : goal.returns-in-PutOut-clause-host
+returns-in-PutOut-clause-host g c =
+    ap (λ (slot : BoardSlot). slot.host) c.self.view_is ∙ c.write_registers.ensures.host
+
+pub returns-in-Nothing-clause-host : goal.returns-in-Nothing-clause-host
+returns-in-Nothing-clause-host g c = c.write_registers.ensures.host
+
+pub returns-in-PutOut-clause-extent : goal.returns-in-PutOut-clause-extent
+returns-in-PutOut-clause-extent g c =
+    ap (λ (slot : BoardSlot). slot.extent) c.self.view_is ∙ c.write_registers.ensures.extent

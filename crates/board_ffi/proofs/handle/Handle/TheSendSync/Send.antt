@@ -11,13 +11,15 @@ use Rattle.std.specs.Global.{Global}
 use Rattle.std.proofs.Crossing as heap
 use Rattle.std_alloc.proofs.SendSync.{quiet, lies}
 use Rattle.std_heap.proofs.Global.TheSendSync as allocator
-use Rattle.board_ffi.proofs.any_session.AnySession.TheSendSync as session
+use Rattle.std.specs.contracts.alloc.Global as Heap
+use Rattle.std.specs.contracts.impls.GlobalAllocator.TheImpl.{ghosts}
+use Rattle.session.proofs.session.Session.TheSendSync as session
 use Rattle.board_ffi.proofs.AsBox.{Row}
 use Rattle.board_ffi.specs.Handle.{Held, held}
 use Rattle.board_ffi.specs.contracts.handle.Handle.{the_row, the_type}
 
 crosses : IsSend Row
-crosses = session.the_send
+crosses = session.the_send Heap.the_row ghosts allocator.the_send heap.frees
 
 owned : (alloc : Global) (p : Ptr) (session : Held) → Keyless (held alloc p session)
 owned alloc null_ptr session = λ _. tt

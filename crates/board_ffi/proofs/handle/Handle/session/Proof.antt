@@ -38,7 +38,7 @@ use Rattle.std.proofs.alloc.Calls.{token}
 use Rattle.std_alloc.proofs.BoxSteps.Form.{D, handle}
 use Rattle.std_alloc.proofs.BoxSteps.Steps.{box_in}
 use Rattle.guest_bytes.proofs.Walking.{called, walked_through}
-use Rattle.board_ffi.specs.declared.any_session.AnySession.{AnySession}
+use Rattle.session.specs.Session.{SessionState}
 use Rattle.board_ffi.specs.Lending.{with_session}
 use Rattle.board_ffi.proofs.AsBox.{E, Row}
 use Rattle.board_ffi.proofs.HandleSteps.{H, word, empty_in, handle_opens, held_cases}
@@ -91,7 +91,7 @@ module _ {M : Type 1} {𝓤 : Ura M} (𝓛 : Logic 𝓤) (at_mem : Memory → SP
     Rest = fsep (fsep (token E.al h.alloc (bare (lone Row.mir)) (block_ptr b o)) (handle E h.alloc hv))
         (cell_at full_share H.mir (word (block_ptr b o) hv ∷ []) rb ro)
 
-    back : h.at ≡ block_ptr b o → (w : AnySession)
+    back : h.at ≡ block_ptr b o → (w : SessionState)
         → ent 𝓤 (sep 𝓤 (sem 𝓛 ((mem Row).own_at w b o)) (sem 𝓛 Rest))
         (sem 𝓛 ((mem H).own_at (with_session h w) rb ro))
     unfolding part_of
@@ -108,14 +108,14 @@ module _ {M : Type 1} {𝓤 : Ura M} (𝓛 : Logic 𝓤) (at_mem : Memory → SP
         done !
 
     -- the session is lent
-    exits : (x : AnySession) → h.session ≡ Some x → (γ' : GName)
+    exits : (x : SessionState) → h.session ≡ Some x → (γ' : GName)
         → ent 𝓤 (sep 𝓤
         (sem 𝓛 (Lent.own_val (record { ref_ptr = (b, o); ghost_name = γ'; now = x }) (vptr b o ∷ [])))
         (sep 𝓤 (A.lft κ q) (sem 𝓛 (follows H Row γ γ' (with_session h)))))
         (Post (live 1 (of_list (vptr b o ∷ []))))
     unfolding follows_by
     exits x is γ' =
-        let r : MutBor AnySession = record { ref_ptr = (b, o); ghost_name = γ'; now = x } in
+        let r : MutBor SessionState = record { ref_ptr = (b, o); ghost_name = γ'; now = x } in
         let out : Val = live 1 (of_list (vptr b o ∷ [])) in
         qed 𝓛 (‵ (Lent.own_val r (vptr b o ∷ [])) ∷ ‵ (flft κ q)
         ∷ ‵ (follows H Row γ γ' (with_session h)) ∷ []) ∵

@@ -30,3 +30,6 @@ returns-clause-suits g c =
     (quiet_input c.args.bytes.now)
     (assumption (c.type_in-shown.ensures, c.type_in-shown.ensures.responds refl))
     c.type_in-shown.ensures.limited (λ never is. absurd never)).suits
+
+pub returns-clause-as_many : goal.returns-clause-as_many
+returns-clause-as_many g c = rw (← c.self.view_is) c.self.invariant.1

@@ -1,20 +1,29 @@
 -- A range of a guest's memory is read, or refused.
-use Rattle.std.proofs.Common.{◌≡◌, false, true, refl, length}
+use Rattle.std.proofs.Common.{◌≡◌, inl, false, true, Ok, Err, refl, length}
 use Rattle.std.specs.Prelude.{nat_lt, if◌then◌else◌}
 use Rattle.board.specs.declared.event.Event.{Event}
 use Rattle.board.specs.declared.event.EventKind.TheVariants.{MemRead}
 use Rattle.board.specs.declared.reply.Reply.TheVariants.{BadRange, BadSlot, Bytes}
-use Rattle.session.specs.Session.{IsStep}
-use Rattle.session.proofs.Calls.{call_of_step, called_busy, refused_call, refused_whole}
+use Rattle.session.specs.declared.refusal.Refusal.TheVariants as refusal
+use Rattle.session.specs.declared.response.Response.TheVariants.{Answered, Busy}
+use Rattle.session.specs.Answering.{bytes_response}
+use Rattle.session.specs.Session.{IsIdle, IsStep}
+use Rattle.session.proofs.Calls.{call_of_step, called_busy, refused_range}
+use Rattle.session.proofs.Exact.{outside_range, refuses}
+use Rattle.session.proofs.Parts.{asks_nothing}
 use Rattle.session.proofs.Ranges.{not_read, was_read}
 use Rattle.session.proofs.session.Session.read_memory.Goals as goal
 
 pub returns-then-is_paused-clause-call : goal.returns-then-is_paused-clause-call
 returns-then-is_paused-clause-call g c = record {
-  turn = called_busy c.args.self.now
-      (record { slot = c.args.slot; what = MemRead c.args.addr (length c.args.into.now) })
-      (λ idle. let is : true ≡ false = c.if-is_paused.ensures.1 idle in absurd (cc (is)));
-  whole = tt;
+  response = Busy;
+  call = record {
+    turn = called_busy c.args.self.now
+        (record { slot = c.args.slot; what = MemRead c.args.addr (length c.args.into.now) })
+        (λ idle. let is : true ≡ false = c.if-is_paused.ensures.1 idle in absurd (cc (is)));
+    whole = tt;
+  };
+  told = inl refl;
 }
 
 pub returns-then-read_memory-clause-call : goal.returns-then-read_memory-clause-call
@@ -25,11 +34,16 @@ returns-then-read_memory-clause-call g c =
     (Bytes c.read_memory.new.into) c.args.self.now =
     rw (← c.self.view_is)
     (was_read _ _ c.args.slot c.args.addr (length c.args.into.now) c.read_memory.new.into
-    (rw c.board.ensures at (told.inside.0 refl)) (rw c.board.ensures at told.read)) in
+    (rw c.board-board.ensures at (told.inside.0 refl)) (rw c.board-board.ensures at told.read)) in
     record {
-      turn = call_of_step c.args.self.now c.args.self.now _ _ (c.if-is_paused.ensures.0 refl)
-          (rw (← c.self.view_is) c.self.invariant.1) (λ state. refl) step;
-      whole = step;
+      response = Answered (Bytes c.read_memory.new.into);
+      call = record {
+        turn = call_of_step c.args.self.now c.args.self.now _ _ (c.if-is_paused.ensures.0 refl)
+            (rw (← c.self.view_is) c.self.invariant.1)
+            (λ state. asks_nothing (MemRead c.args.addr (length c.args.into.now)) state refl) step;
+        whole = step;
+      };
+      told = refl;
     }
 
 pub returns-clause-call : goal.returns-clause-call
@@ -42,9 +56,43 @@ returns-clause-call g c =
     let step : IsStep c.args.self.now reads (if there then BadRange else BadSlot) c.args.self.now =
     rw (← c.self.view_is)
     (not_read _ _ c.args.slot c.args.addr (length c.args.into.now) (λ inside. let is : false
-    ≡ true = c.if-read_memory.ensures.inside.1 (rw (← c.board.ensures) at inside) in absurd (cc (is)))) in
+    ≡ true = c.if-read_memory.ensures.inside.1 (rw (← c.board-board.ensures) at inside) in absurd (cc (is)))) in
     rw (c.of_range.ensures, c.slots.ensures) (record {
-      turn = refused_call c.args.self.now reads there (c.if-is_paused.ensures.0 refl)
-          (rw (← c.self.view_is) c.self.invariant.1) (λ state. refl) step;
-      whole = refused_whole c.args.self.now reads there step;
+      response = Answered (if there then BadRange else BadSlot);
+      call = record {
+        turn = call_of_step c.args.self.now c.args.self.now reads (if there then BadRange else BadSlot)
+            (c.if-is_paused.ensures.0 refl)
+            (rw (← c.self.view_is) c.self.invariant.1)
+            (λ state. asks_nothing (MemRead c.args.addr (length c.args.into.now)) state refl) step;
+        whole = step;
+      };
+      told = refused_range _ there;
     })
+
+-- ---- when it is refused
+
+pub returns-then-is_paused-clause-bad_slot : goal.returns-then-is_paused-clause-bad_slot
+unfolding returns-then-is_paused-clause-call
+returns-then-is_paused-clause-bad_slot g c =
+    let told = returns-then-is_paused-clause-call g c in
+    (refuses c.args.self.now c.args.self.now c.args.slot
+    (MemRead c.args.addr (length c.args.into.now)) Busy (bytes_response c.args.into.now) (Err refusal.Busy)
+    (λ done. refl) (inl refl) (rw (← c.self.view_is) c.self.invariant.1) told.call).bad_slot
+
+pub returns-then-read_memory-clause-bad_slot : goal.returns-then-read_memory-clause-bad_slot
+unfolding returns-then-read_memory-clause-call
+returns-then-read_memory-clause-bad_slot g c =
+    let told = returns-then-read_memory-clause-call g c in
+    (refuses c.args.self.now c.args.self.now c.args.slot
+    (MemRead c.args.addr (length c.args.into.now)) (Answered (Bytes c.read_memory.new.into))
+    (bytes_response c.read_memory.new.into) (Ok tt) (λ done. refl) refl
+    (rw (← c.self.view_is) c.self.invariant.1) told.call).bad_slot
+
+pub returns-clause-bad_range : goal.returns-clause-bad_range
+returns-clause-bad_range g c =
+    rw (c.of_range.ensures, c.slots.ensures)
+    (outside_range c.args.self.now.slots c.args.slot c.args.addr (length c.args.into.now)
+    (IsIdle c.args.slot c.args.self.now) (c.if-is_paused.ensures.0 refl)
+    (λ inside. let is : false ≡ true =
+    c.if-read_memory.ensures.inside.1 (rw (← c.self.view_is, ← c.board-board.ensures) at inside) in
+    absurd (cc (is))))

@@ -16,4 +16,9 @@ returns g c =
     (quiet_write c.args.addr c.args.from.now)
     (assumption (c.write_memory.ensures, c.write_memory.ensures.responds refl))
     (λ is. absurd (c.write_memory.ensures.not_more is)) (λ suited. c.write_memory.ensures.bad_range_keeps) in
-    rw (← c.self.view_is) (assumption (handled))
+    rw (← c.self.view_is) (record {
+      call = handled.call;
+      suits = handled.suits;
+      as_many = c.self.invariant.1;
+      bad_range = c.write_memory.ensures.bad_range;
+    })

@@ -18,6 +18,7 @@ returns-in_default g c =
       call = rw (← c.self.view_is) (turn_past _ c.args.slot c.args.kind far past).call;
       whole = rw (← c.self.view_is) (turn_past _ c.args.slot c.args.kind far past).whole;
       suits = suits_past c.args.kind;
+      as_many = rw (← c.self.view_is) c.self.invariant.1;
       waits = rw (slice_get_past c.self.inside.paced.board.slots c.args.slot past) refl;
     }
 
@@ -71,6 +72,9 @@ returns-clause-whole g c = rw (← c.self.view_is) (taken g c).whole
 
 pub returns-clause-suits : goal.returns-clause-suits
 returns-clause-suits g c = (taken g c).suits
+
+pub returns-clause-as_many : goal.returns-clause-as_many
+returns-clause-as_many g c = rw (← c.self.view_is) c.self.invariant.1
 
 pub returns-clause-waits : goal.returns-clause-waits
 returns-clause-waits g c =

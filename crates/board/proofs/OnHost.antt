@@ -1,0 +1,134 @@
+-- An event of a guest whose disk the host serves, and one over an image.
+use Rattle.std.proofs.Common.{◌≡◌, ◌⊎◌, inl, inr, Bool, true, false, ℕ, Option, Some, None, List, refl, sym, ap, subst}
+use Rattle.std.specs.Prelude.{◌&&◌, ◌||◌, is_some}
+use Rattle.block_device.specs.declared.operation.Verdict.{Verdict}
+use Rattle.chain.specs.declared.budget.Budget.{Budget}
+use Rattle.board.specs.declared.event.EventKind.{EventKind}
+use Rattle.board.specs.declared.pause.Pause.{Pause}
+use Rattle.board.specs.declared.pause.Turn.{Turn}
+use Rattle.board.specs.declared.pause.Turn.TheVariants.{Answered, More}
+use Rattle.board.specs.declared.reply.Reply.TheVariants.{NoMemory}
+use Rattle.board.specs.Backing.{HostDisk, InFlight}
+use Rattle.board.specs.Hosting.{CompletesOrGives, OwnGives, has_part, must_wait, notifies_block, verdict_in}
+use Rattle.board.specs.Image.{Health}
+use Rattle.board.specs.Outcome.{Outcome}
+use Rattle.board.specs.Pausing.{TurnsTo}
+use Rattle.board.specs.Slot.{SlotState}
+use Rattle.board.specs.World.{MayGive, MayGiveBy, MayGiveOverImage}
+use Rattle.board.proofs.Ways.{Lands, Looks, Passes, Rests, Stands, Waits, Way, way}
+
+-- ---- an event in which the host has no part
+
+-- it is an own one, waits for nothing, and doesn't notify the block device
+pub record IsBeside {A : Type 0} (flight : Option InFlight) (what : EventKind A) (state : SlotState)
+    : Type 0 where
+  pub own : verdict_in what ≡ None
+  pub free : (is_some flight && must_wait what) ≡ false
+  pub quiet : notifies_block what state ≡ false
+
+pub is_beside : {A : Type 0} (disk : HostDisk) (what : EventKind A) (state : SlotState)
+    → has_part (Some disk) what state ≡ false → IsBeside disk.flight what state
+is_beside disk what state free = by_verdict (verdict_in what) refl free
+  where
+    by_rest : (waits rings : Bool) → (is_some disk.flight && must_wait what) ≡ waits
+        → notifies_block what state ≡ rings → verdict_in what ≡ None → (waits || rings) ≡ false
+        → IsBeside disk.flight what state
+    by_rest false false waits rings own none = record { own = own; free = waits; quiet = rings }
+    by_rest true rings waits is own none = absurd (cc)
+    by_rest false true waits rings own none = absurd (cc)
+
+    by_verdict : (v : Option Verdict) → verdict_in what ≡ v
+        → (is_some v || ((is_some disk.flight && must_wait what) || notifies_block what state)) ≡ false
+        → IsBeside disk.flight what state
+    by_verdict None own none =
+        by_rest (is_some disk.flight && must_wait what) (notifies_block what state) refl refl own none
+    by_verdict (Some verdict) own none = absurd (cc)
+
+own_at : {A : Type 0} (Beside : Outcome A → Type 0) (flight : Option InFlight) (state : SlotState)
+    (what : EventKind A) (outcome : Outcome A) (waits : Bool) → must_wait what ≡ waits
+    → (is_some flight && waits) ≡ false → notifies_block what state ≡ false → Beside outcome
+    → OwnGives Beside flight state what outcome
+own_at Beside None state what outcome waits is free quiet h = rw quiet h
+own_at Beside (Some here) state what outcome true is free quiet h = absurd (cc)
+own_at Beside (Some here) state what outcome false is free quiet h = rw (is, quiet) h
+
+pub passes : {A : Type 0} (Beside : Outcome A → Type 0) (disk : HostDisk) (state : SlotState)
+    (what : EventKind A) (outcome : Outcome A) → has_part (Some disk) what state ≡ false → Beside outcome
+    → CompletesOrGives Beside (verdict_in what) disk.flight state what outcome
+passes Beside disk state what outcome free h =
+    let is = is_beside disk what state free in
+    rw is.own (own_at Beside disk.flight state what outcome (must_wait what) refl is.free is.quiet h)
+
+-- an event that notifies the block device is none
+pub ringing_part : {A : Type 0} (disk : HostDisk) (what : EventKind A) (state : SlotState)
+    → notifies_block what state ≡ true → has_part (Some disk) what state ≡ false → ⊥
+ringing_part disk what state rings free =
+    let quiet = (is_beside disk what state free).quiet in
+    cc (rings, quiet)
+
+-- what comes of it over an image that stays as it is comes of it
+pub passes_by : {A : Type 0} (host : Option HostDisk) (state : SlotState) (what : EventKind A)
+    (health : Health) (outcome : Outcome A) → has_part host what state ≡ false
+    → MayGiveOverImage state what health health outcome → MayGiveBy host state what health health outcome
+passes_by None state what health outcome free h = h
+passes_by {A} (Some disk) state what health outcome free h = record {
+  gives = passes (λ (o : Outcome A). MayGiveOverImage state what health health o) disk state what outcome free h;
+  image = refl;
+}
+
+-- and so the turn is the same
+pub turns_as : {A : Type 0} (May Other : Outcome A → Type 0) → ((outcome : Outcome A) → May outcome → Other outcome)
+    → (pause : Option Pause) (what : EventKind A) (budget : Budget) (old : SlotState) (before after : Health)
+    (new : SlotState) (output : List ℕ) (turn : Turn A)
+    → TurnsTo May pause what budget old before after new output turn
+    → TurnsTo Other pause what budget old before after new output turn
+turns_as May Other more (Some pause) what budget old before after new output turn h = h
+turns_as May Other more None what budget old before after new output (Answered reply) h = more _ h
+turns_as May Other more None what budget old before after new output (More pause) h = h
+
+-- ---- and one that isn't served
+
+-- where memory was wanting, it was over an image
+lacking_way : {A : Type 0} (flight : Option InFlight) (state : SlotState) (what : EventKind A)
+    (before : Health) (outcome : Outcome A) → outcome.reply ≡ NoMemory
+    → Way (λ (o : Outcome A). MayGiveOverImage state what before before o) flight state what outcome
+    → MayGiveOverImage state what before before outcome
+lacking_way flight state what before outcome lacks (Waits here flies waits h) =
+    let busy = ap (λ o. o.reply) h in absurd (cc)
+lacking_way flight state what before outcome lacks (Passes own free quiet h) = h
+lacking_way flight state what before outcome lacks (Looks none rings looks h) =
+    let done = ap (λ o. o.reply) h in absurd (cc)
+lacking_way flight state what before outcome lacks (Stands here flies free rings h) =
+    let done = ap (λ o. o.reply) h in absurd (cc)
+lacking_way flight state what before outcome lacks (Rests verdict completes none h) =
+    let idle = ap (λ o. o.reply) h in absurd (cc)
+lacking_way flight state what before outcome lacks (Lands verdict completes here flies lands h) =
+    let done = ap (λ o. o.reply) h in absurd (cc)
+
+lacking_by : {A : Type 0} (host : Option HostDisk) (state : SlotState) (what : EventKind A)
+    (before after : Health) (outcome : Outcome A) → outcome.reply ≡ NoMemory
+    → MayGiveBy host state what before after outcome → MayGiveOverImage state what before after outcome
+lacking_by None state what before after outcome lacks h = h
+lacking_by {A} (Some disk) state what before after outcome lacks h =
+    subst (λ (x : Health). MayGiveOverImage state what before x outcome) (sym h.image)
+    (lacking_way disk.flight state what before outcome lacks
+    (way (λ (o : Outcome A). MayGiveOverImage state what before before o) disk.flight state what outcome
+    h.gives))
+
+pub lacking_over_image : {A : Type 0} (state : SlotState) (what : EventKind A) (before after : Health)
+    (outcome : Outcome A) → outcome.reply ≡ NoMemory → MayGive state what before after outcome
+    → MayGiveOverImage state what before after outcome
+lacking_over_image state what before after outcome lacks h =
+    lacking_by state.host state what before after outcome lacks h
+
+-- and where the image failed, it was of the image, or it stayed as it was
+failing_by : {A : Type 0} (host : Option HostDisk) (state : SlotState) (what : EventKind A)
+    (before after : Health) (outcome : Outcome A) → MayGiveBy host state what before after outcome
+    → MayGiveOverImage state what before after outcome ⊎ (after ≡ before)
+failing_by None state what before after outcome h = inl h
+failing_by (Some disk) state what before after outcome h = inr h.image
+
+pub failing_over_image : {A : Type 0} (state : SlotState) (what : EventKind A) (before after : Health)
+    (outcome : Outcome A) → MayGive state what before after outcome
+    → MayGiveOverImage state what before after outcome ⊎ (after ≡ before)
+failing_over_image state what before after outcome h = failing_by state.host state what before after outcome h

@@ -1,0 +1,113 @@
+use Rattle.std.proofs.Common.{◌≡◌, List, ℕ, Bool, Option, false, true, sym, ap, subst, ◌∙◌, refl}
+use Rattle.std.specs.Prelude.{◌&&◌, IsSome, is_some}
+use Rattle.board.specs.declared.event.EventKind.TheVariants.{Complete}
+use Rattle.board.specs.declared.reply.Reply.TheVariants.{Done}
+use Rattle.board.specs.Backing.{HostDisk, flight_in}
+use Rattle.board.specs.Hosting.{has_part, must_wait, notifies_block}
+use Rattle.board.specs.Outcome.{replies}
+use Rattle.board.specs.Slot.{BoardSlot, state_of}
+use Rattle.board.proofs.Flights.{held_beside}
+use Rattle.board.proofs.Hosts.{completion_given, no_part, notified_given, own_of, part_by_ring, part_by_verdict, ringing_silent, serves_part, serves_passing, within_part, within_passing}
+use Rattle.board.proofs.guest.Guest.begin_hosted.Goals as goal
+
+pub returns-in-Complete-clause-serves : goal.returns-in-Complete-clause-serves
+returns-in-Complete-clause-serves g c = λ image health filled.
+    let state = state_of image c.args.self.now in
+    let verdict = c.in-Complete.verdict in
+    rw c.in-Complete.is
+    (serves_part (Complete verdict) c.args.budget state health (state_of image c.complete.new.self)
+    c.complete.result (g.O.Outlet.bytes c.args.out.now)
+    (part_by_verdict state.host (Complete verdict) state verdict c.requires.hosted refl)
+    (completion_given state verdict health (replies (state_of image c.complete.new.self) c.complete.result)
+    c.requires.hosted (c.complete.ensures.gives c.requires.hosted image)))
+
+-- the event doesn't wait
+free_of : (slot now : BoardSlot) (waits result : Bool) → slot ≡ now
+    → result ≡ (is_some (flight_in now.host) && waits) → result ≡ false
+    → (is_some (flight_in slot.host) && waits) ≡ false
+free_of slot now waits result same is free =
+    ap (λ (s : BoardSlot). is_some (flight_in s.host) && waits) same ∙ sym is ∙ free
+
+pub invariant_of-self : goal.invariant_of-self
+invariant_of-self g c =
+    let handled = c.answer_beside_disk.ensures in
+    held_beside c.args.what.now c.self.inside.slot c.answer_beside_disk.new.self
+    (free_of c.self.inside.slot c.args.self.now (must_wait c.args.what.now) c.holds_up.result c.self.view_is
+    c.holds_up.ensures c.if-holds_up.false)
+    handled.block handled.host handled.extent handled.range c.self.invariant
+
+pub invariant_of-self-in-None : goal.invariant_of-self-in-None
+invariant_of-self-in-None g c =
+    let handled = c.answer_beside_disk.ensures in
+    held_beside c.args.what.now c.self.inside.slot c.answer_beside_disk.new.self
+    (free_of c.self.inside.slot c.args.self.now (must_wait c.args.what.now) c.holds_up.result c.self.view_is
+    c.holds_up.ensures c.if-holds_up.false)
+    handled.block handled.host handled.extent handled.range c.self.invariant
+
+pub returns-in-Some : goal.returns-in-Some
+returns-in-Some g c =
+    let handled = c.in-Some.ensures in
+    let slot = c.self.inside.slot in
+    let free = free_of slot c.args.self.now (must_wait c.args.what.now) c.holds_up.result c.self.view_is
+    c.holds_up.ensures c.if-holds_up.false in
+    let passes : (image : List ℕ) → has_part slot.host c.args.what.now (state_of image slot) ≡ false =
+    λ image. no_part slot.host c.args.what.now (state_of image slot)
+    (own_of c.args.what.now c.in_default.not-Complete) free (sym (handled.notified image)) in
+    rw (← c.self.view_is)
+    (record {
+      serves = λ image health filled.
+          serves_passing c.args.what.now c.args.budget (state_of image slot) health
+          (state_of image c.answer_beside_disk.new.self) c.in-Some.turn _ _ (passes image)
+          (handled.serves image health filled);
+      within = λ image limit limited.
+          within_passing limit c.args.what.now c.args.budget (state_of image slot)
+          (state_of image c.answer_beside_disk.new.self) _ _ c.in-Some.turn (passes image)
+          (handled.within image limit limited);
+      limited = handled.limited;
+      limit = handled.limit;
+      extent = handled.extent;
+      disturbed = handled.disturbed;
+      there = handled.there;
+      bad_range = handled.bad_range;
+      no_memory = handled.no_memory;
+    })
+
+pub returns-in-None : goal.returns-in-None
+returns-in-None g c =
+    let handled = c.in-None.ensures in
+    let slot = c.self.inside.slot in
+    let mid = c.answer_beside_disk.new.self in
+    let hosted : IsSome slot.host =
+    subst (λ (s : BoardSlot). IsSome s.host) (sym c.self.view_is) c.requires.hosted in
+    let free = free_of slot c.args.self.now (must_wait c.args.what.now) c.holds_up.result c.self.view_is
+    c.holds_up.ensures c.if-holds_up.false in
+    let rings : (image : List ℕ) → notifies_block c.args.what.now (state_of image slot) ≡ true =
+    λ image. sym (handled.notified image) in
+    let part : (image : List ℕ) → has_part slot.host c.args.what.now (state_of image slot) ≡ true =
+    λ image. part_by_ring slot.host c.args.what.now (state_of image slot) hosted (rings image) in
+    rw (← c.self.view_is)
+    (record {
+      serves = λ image health filled.
+          rw (handled.silent)
+          (serves_part c.args.what.now c.args.budget (state_of image slot) health
+          (state_of image c.notified.new.self) Done (g.O.Outlet.bytes c.args.out.now) (part image)
+          (notified_given (state_of image slot) (state_of image mid) (state_of image c.notified.new.self)
+          c.args.what.now health hosted free (rings image) (handled.readied image)
+          (λ none. c.notified.ensures.looks (ap flight_in handled.host ∙ none) image)
+          (λ some. ap (state_of image) (c.notified.ensures.stays
+          (subst (λ (h : Option HostDisk). IsSome (flight_in h)) (sym handled.host) some)))));
+      within = λ image limit limited.
+          rw (handled.silent)
+          (within_part limit c.args.what.now c.args.budget (state_of image slot)
+          (state_of image c.notified.new.self) (g.O.Outlet.bytes c.args.out.now)
+          (g.O.Outlet.bytes c.args.out.now) Done (part image)
+          (ringing_silent limit (state_of image slot) (state_of image c.notified.new.self) c.args.what.now
+          (g.O.Outlet.bytes c.args.out.now) Done (rings image)));
+      limited = λ next is. absurd (cc);
+      limit = handled.limit;
+      extent = c.notified.ensures.extent ∙ handled.extent;
+      disturbed = c.notified.ensures.disturbed ∙ handled.disturbed;
+      there = λ is. cc;
+      bad_range = λ is. absurd (cc);
+      no_memory = λ is. absurd (cc);
+    })

@@ -1,5 +1,0 @@
-use Rattle.board.proofs.Honest.{honest}
-use Rattle.board.proofs.hosted.laws.an_honest_host_serves.Goals as goal
-
-pub returns : goal.returns
-returns g c = honest

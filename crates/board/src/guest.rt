@@ -1,0 +1,321 @@
+//! One guest's part of a board: its slot, of which what is in flight is held.
+//!
+//! At most one request is in flight of a disk that the host serves. Meanwhile the guest runs on: two writes of the block window
+//! and a restore wait for the completion, and everything else is done at once. What comes of an event is stated against the
+//! one-slot machine. `access` is what an embedder reaches between events, and `saved` the slot's snapshot.
+
+ghost use Rattle.std.specs.Prelude.{◌≡◌, ◌≢◌, ◌&&◌, ◌||◌, ℕ, List, None, Some, IfOk, IsSome, is_some};
+ghost use Rattle.guest_memory.specs.Faults.{AreGood as AreGoodRegions};
+ghost use Rattle.block_device.specs.Extent.{IsWithin, TouchesExtent};
+ghost use Rattle.board.specs.declared.pause.Turn.{Turn};
+ghost use Rattle.board.specs.declared.reply.Reply.{Reply};
+ghost use Rattle.board.specs.Backing.{flight_in};
+ghost use Rattle.board.specs.Fault.{HasRoom};
+ghost use Rattle.board.specs.Hosting.{CompletionGives, LooksAtQueue, must_wait};
+ghost use Rattle.board.specs.Image.{Health, sectors_of};
+ghost use Rattle.board.specs.Lent.{opened_over};
+ghost use Rattle.board.specs.Outcome.{replies};
+ghost use Rattle.board.specs.Pausing.{Begins, Does, GoesOn, MayLackMemoryIn, PausesByLimit, ServesOver, ServesTurn, met_in};
+ghost use Rattle.board.specs.Slot.{IsUnnoted, StaysInSlot, opened, state_of};
+ghost use Rattle.board.specs.Within.{BeginsWithin, DecidesOver, DoesWithin, GoesOnWithin};
+ghost use Rattle.board.specs.World.{MayLackMemory};
+
+mod access;
+mod saved;
+
+use crate::event::EventKind;
+use crate::pause::{Pause, Service, Turn, Work};
+use crate::reply::Reply;
+use crate::slot::{Answer, Slot};
+use crate::spec::SlotSpec;
+use block_device::Verdict;
+use chain::Budget;
+use console_device::Outlet;
+use guest_memory::GuestMemory;
+use mmio_window::{DeviceKind, Stage, may_stop_queues};
+use sector_cache::{Image, SectorCache};
+use std::alloc::{AllocError, Allocator, Global};
+use std::marker::Model;
+
+/// One guest's part of a board.
+#[derive(Drop)]
+pub(crate) struct Guest<A: Allocator = Global> {
+    slot: Slot<A>,
+}
+
+impl<A: Allocator> Model for Guest<A> {
+    ghost use Rattle.board.specs.Hosting.{HoldsFlight};
+    ghost use Rattle.board.specs.Slot.{BoardSlot};
+
+    ghost Value = { BoardSlot };
+
+    ghost view = { λ guest. guest.slot };
+
+    ghost invariant = { λ guest. HoldsFlight guest.slot };
+}
+
+impl<A: Allocator + Copy> Guest<A> {
+    /// Opens a slot over a memory of zeros.
+    pub(crate) fn open(alloc: A, spec: &SlotSpec) -> Result<Guest<A>, AllocError>
+        requires memory { AreGoodRegions spec.now.regions }
+        requires disk { HasRoom spec.now }
+        ensures { IfOk result (λ guest. guest ≡ opened spec.now) }
+    {
+        let slot = Slot::open(alloc, spec)?;
+        Ok(Guest { slot })
+    }
+
+    /// Opens a slot over a memory that is there.
+    pub(crate) fn over(
+        alloc: A,
+        spec: &SlotSpec,
+        memory: GuestMemory<A>,
+    ) -> Result<Guest<A>, AllocError>
+        requires { HasRoom spec.now }
+        ensures { IfOk result (λ guest. guest ≡ opened_over spec.now memory) }
+    {
+        let slot = Slot::over(alloc, spec, memory)?;
+        Ok(Guest { slot })
+    }
+
+    /// Takes a turn, in which a service may pause where the budget is spent, and notes a refusal. What the console puts
+    /// out is appended to `out`.
+    #[inline(always)]
+    pub(crate) fn turn<I: Image, O: Outlet>(
+        &mut self,
+        alloc: A,
+        work: Work<'_, A>,
+        budget: Budget,
+        cache: &mut SectorCache<I, A>,
+        out: &mut O,
+    ) -> Turn<A>
+        requires lies { IsWithin (I.disk cache.old).sector_count self.old.extent }
+        ensures serves { ServesOver (Does work.entry budget) self.old self.new (I.disk cache.old) (I.disk cache.new)
+            result (O.bytes out.old) (O.bytes out.new) }
+        ensures within { DecidesOver (λ limit. DoesWithin limit work.entry budget) (O.limit out.old) self.old self.new
+            (I.disk cache.old) (I.disk cache.new) (O.bytes out.old) (O.bytes out.new) result }
+        ensures limit { O.limit out.new ≡ O.limit out.old }
+        ensures noted { self.new.disturbed ≡ (self.old.disturbed ||
+            met_in result (I.disk cache.old).failures (I.disk cache.new).failures) }
+        ensures stays { StaysInSlot self.old self.new (I.disk cache.old) (I.disk cache.new) }
+        ensures touches { TouchesExtent I.moment I.may_leave I.left_since self.old.extent cache.old cache.new }
+
+        // a slot that is there is never said to be missing, and what is refused changes nothing
+        ensures limited { PausesByLimit budget result }
+        ensures there { result ≢ Turn.Answered Reply.BadSlot }
+        ensures bad_range { result ≡ Turn.Answered Reply.BadRange → self.new ≡ self.old }
+        ensures bad_range_image { result ≡ Turn.Answered Reply.BadRange → cache.new ≡ cache.old }
+        ensures no_memory { result ≡ Turn.Answered Reply.NoMemory → (image : List ℕ) →
+            MayLackMemoryIn work.entry (state_of image self.old) }
+    {
+        match work {
+            Work::Begin(what) => {
+                let answer = self.begin(alloc, what, budget, cache, out);
+                self.slot.note(answer)
+            }
+            Work::Resume(pause) => {
+                let answer = self.resume(pause, budget, cache, out);
+                self.slot.note(answer)
+            }
+        }
+    }
+
+    // Begins an event, and leaves it to the caller to note a refusal.
+    #[inline(always)]
+    fn begin<I: Image, O: Outlet>(
+        &mut self,
+        alloc: A,
+        what: &EventKind<A>,
+        budget: Budget,
+        cache: &mut SectorCache<I, A>,
+        out: &mut O,
+    ) -> Answer<A>
+        requires lies { IsWithin (I.disk cache.old).sector_count self.old.extent }
+        ensures serves { ServesOver (Begins what.now budget) self.old self.new (I.disk cache.old) (I.disk cache.new)
+            result.turn (O.bytes out.old) (O.bytes out.new) }
+        ensures within { DecidesOver (λ limit. BeginsWithin limit what.now budget) (O.limit out.old) self.old self.new
+            (I.disk cache.old) (I.disk cache.new) (O.bytes out.old) (O.bytes out.new) result.turn }
+        ensures limited { PausesByLimit budget result.turn }
+        ensures limit { O.limit out.new ≡ O.limit out.old }
+        ensures unnoted { IsUnnoted self.old self.new (I.disk cache.old) (I.disk cache.new) result.failed }
+        ensures touches { TouchesExtent I.moment I.may_leave I.left_since self.old.extent cache.old cache.new }
+        ensures there { result.turn ≢ Turn.Answered Reply.BadSlot }
+        ensures bad_range { result.turn ≡ Turn.Answered Reply.BadRange → self.new ≡ self.old }
+        ensures bad_range_image { result.turn ≡ Turn.Answered Reply.BadRange → cache.new ≡ cache.old }
+        ensures no_memory { result.turn ≡ Turn.Answered Reply.NoMemory → (image : List ℕ) →
+            MayLackMemory (state_of image self.old) what.now }
+    {
+        if self.slot.is_hosted() {
+            let turn = self.begin_hosted(alloc, what, budget, out);
+            return Answer {
+                turn,
+                failed: false,
+            };
+        }
+        self.slot.answer(alloc, what, budget, cache, out)
+    }
+
+    // Begins an event of a guest whose disk the host serves. The image has no part in it.
+    #[inline(never)]
+    fn begin_hosted<O: Outlet>(
+        &mut self,
+        alloc: A,
+        what: &EventKind<A>,
+        budget: Budget,
+        out: &mut O,
+    ) -> Turn<A>
+        requires hosted { IsSome self.old.host }
+        ensures serves { (image : List ℕ) (health : Health) →
+            sectors_of (state_of image self.old).extent ≡ self.old.extent.count →
+            ServesTurn (Begins what.now budget) (state_of image self.old) health health (state_of image self.new) result
+            (O.bytes out.old) (O.bytes out.new) }
+        ensures within { (image : List ℕ) (limit : ℕ) → O.limit out.old ≡ Some limit →
+            BeginsWithin limit what.now budget (state_of image self.old) (state_of image self.new)
+            (O.bytes out.old) (O.bytes out.new) result }
+        ensures limited { PausesByLimit budget result }
+        ensures limit { O.limit out.new ≡ O.limit out.old }
+        ensures extent { self.new.extent ≡ self.old.extent }
+        ensures disturbed { self.new.disturbed ≡ self.old.disturbed }
+        ensures there { result ≢ Turn.Answered Reply.BadSlot }
+        ensures bad_range { result ≡ Turn.Answered Reply.BadRange → self.new ≡ self.old }
+        ensures no_memory { result ≡ Turn.Answered Reply.NoMemory → (image : List ℕ) →
+            MayLackMemory (state_of image self.old) what.now }
+    {
+        if let EventKind::Complete { verdict } = what {
+            return Turn::Answered(self.complete(*verdict));
+        }
+        if self.holds_up(what) {
+            return Turn::Answered(Reply::Busy);
+        }
+        match self.slot.answer_beside_disk(alloc, what, budget, out) {
+            Some(turn) => turn,
+            None => {
+                self.notified();
+                Turn::Answered(Reply::Done)
+            }
+        }
+    }
+
+    // Goes on with a service that paused.
+    #[inline(always)]
+    fn resume<I: Image, O: Outlet>(
+        &mut self,
+        pause: Pause,
+        budget: Budget,
+        cache: &mut SectorCache<I, A>,
+        out: &mut O,
+    ) -> Answer<A>
+        requires lies { IsWithin (I.disk cache.old).sector_count self.old.extent }
+        ensures serves { ServesOver (GoesOn pause budget) self.old self.new (I.disk cache.old)
+            (I.disk cache.new) result.turn (O.bytes out.old) (O.bytes out.new) }
+        ensures within { DecidesOver (λ limit. GoesOnWithin limit pause budget) (O.limit out.old) self.old self.new
+            (I.disk cache.old) (I.disk cache.new) (O.bytes out.old) (O.bytes out.new) result.turn }
+        ensures limit { O.limit out.new ≡ O.limit out.old }
+        ensures unnoted { IsUnnoted self.old self.new (I.disk cache.old) (I.disk cache.new) result.failed }
+        ensures touches { TouchesExtent I.moment I.may_leave I.left_since self.old.extent cache.old cache.new }
+        ensures limited { PausesByLimit budget result.turn }
+        ensures there { result.turn ≢ Turn.Answered Reply.BadSlot }
+        ensures in_range { result.turn ≢ Turn.Answered Reply.BadRange }
+    {
+        if self.slot.is_hosted() {
+            let turn = self.resume_hosted(pause, budget, out);
+            return Answer {
+                turn,
+                failed: false,
+            };
+        }
+        self.slot
+            .serve_piece(pause, Stage::Next, budget, cache, out)
+    }
+
+    // Goes on with a service of a guest whose disk the host serves: one of the block device's never paused.
+    #[inline(never)]
+    fn resume_hosted<O: Outlet>(&mut self, pause: Pause, budget: Budget, out: &mut O) -> Turn<A>
+        requires hosted { IsSome self.old.host }
+        ensures serves { (image : List ℕ) (health : Health) →
+            ServesTurn (GoesOn pause budget) (state_of image self.old) health health (state_of image self.new) result
+            (O.bytes out.old) (O.bytes out.new) }
+        ensures within { (image : List ℕ) (limit : ℕ) → O.limit out.old ≡ Some limit →
+            GoesOnWithin limit pause budget (state_of image self.old) (state_of image self.new)
+            (O.bytes out.old) (O.bytes out.new) result }
+        ensures limited { PausesByLimit budget result }
+        ensures limit { O.limit out.new ≡ O.limit out.old }
+        ensures extent { self.new.extent ≡ self.old.extent }
+        ensures disturbed { self.new.disturbed ≡ self.old.disturbed }
+        ensures there { result ≢ Turn.Answered Reply.BadSlot }
+        ensures in_range { result ≢ Turn.Answered Reply.BadRange }
+    {
+        match pause.service {
+            Service::Block => Turn::Answered(pause.reply()),
+            Service::Receive | Service::Transmit => {
+                self.slot.serve_console(pause, Stage::Next, budget, out)
+            }
+        }
+    }
+}
+
+impl<A: Allocator> Guest<A> {
+    /// Completes what is in flight by what came of it, and looks at the queue again.
+    fn complete(&mut self, verdict: Verdict) -> Reply<A>
+        ensures gives { IsSome self.old.host → (image : List ℕ) →
+            CompletionGives {A = A} (flight_in self.old.host) (state_of image self.old) verdict
+            (replies (state_of image self.new) result) }
+        ensures extent { self.new.extent ≡ self.old.extent }
+        ensures disturbed { self.new.disturbed ≡ self.old.disturbed }
+        ensures there { result ≢ Reply.BadSlot }
+        ensures in_range { result ≢ Reply.BadRange }
+        ensures no_memory { result ≢ Reply.NoMemory }
+    {
+        if !self.slot.complete(verdict) {
+            return Reply::Idle;
+        }
+        self.slot.look();
+        Reply::Done
+    }
+
+    // The block device was notified: it looks at its queue, unless something is in flight.
+    fn notified(&mut self)
+        requires hosted { IsSome self.old.host }
+        ensures looks { flight_in self.old.host ≡ None → (image : List ℕ) →
+            LooksAtQueue (state_of image self.old) (state_of image self.new) }
+        ensures stays { IsSome (flight_in self.old.host) → self.new ≡ self.old }
+        ensures extent { self.new.extent ≡ self.old.extent }
+        ensures disturbed { self.new.disturbed ≡ self.old.disturbed }
+    {
+        if !self.is_busy() {
+            self.slot.look();
+        }
+    }
+
+    // Whether an event waits for the completion.
+    fn holds_up(&self, what: &EventKind<A>) -> bool
+        ensures { result ≡ (is_some (flight_in self.now.host) && must_wait what.now) }
+    {
+        self.is_busy() && waits(what)
+    }
+
+    // Whether something is in flight.
+    fn is_busy(&self) -> bool
+        ensures { result ≡ is_some (flight_in self.now.host) }
+    {
+        match self.slot.host() {
+            Some(disk) => disk.is_busy(),
+            None => false,
+        }
+    }
+}
+
+// Whether an event waits for what is in flight: a write of the block window that may stop its queue, or a restore.
+fn waits<A: Allocator>(what: &EventKind<A>) -> bool
+    ensures { result ≡ must_wait what.now }
+{
+    match what {
+        EventKind::Write {
+            window: DeviceKind::Block,
+            offset,
+            ..
+        } => may_stop_queues(*offset),
+        EventKind::Restore { .. } => true,
+        _ => false,
+    }
+}

@@ -1,0 +1,104 @@
+//! What an embedder reaches of a guest between its events.
+
+ghost use Rattle.std.specs.Prelude.{◌≡◌, ◌⊎◌, ℕ, List, [], IfNone, IfSome, length};
+ghost use Rattle.std.specs.Bool.{OnTrue, OnFalse};
+ghost use Rattle.std.specs.Borrow.{sem};
+ghost use Rattle.guest_memory.specs.Memory.{Inside, IsRest, SameRange, is_inside, put};
+ghost use Rattle.block_device.specs.Operation.{LiesInside};
+ghost use Rattle.board.specs.declared.event.EventKind.{EventKind};
+ghost use Rattle.board.specs.declared.pause.Turn.{Turn};
+ghost use Rattle.board.specs.Backing.{flight_in, operation_in};
+ghost use Rattle.board.specs.Image.{Health};
+ghost use Rattle.board.specs.Lending.{LendsBytes};
+ghost use Rattle.board.specs.Pausing.{Begins, PausesByLimit, input_service, reply_of};
+ghost use Rattle.board.specs.Slot.{AreInterruptWords, interrupt_words, sectors_in, state_of};
+
+use crate::guest::Guest;
+use crate::pause::Turn;
+use crate::slot::Slot;
+use block_device::Operation;
+use chain::{Budget, Segment};
+use std::alloc::Allocator;
+
+impl<A: Allocator> Guest<A> {
+    /// The slot, to be looked at.
+    #[inline(always)]
+    pub(crate) fn slot(&self) -> &Slot<A>
+        ensures { result.now ≡ self.now }
+    {
+        &self.slot
+    }
+
+    /// InterruptStatus of the block window and of the console window.
+    #[inline(always)]
+    pub(crate) fn interrupts(&self) -> (u8, u8)
+        ensures value { result ≡ interrupt_words self.now }
+        ensures words { AreInterruptWords result.0 result.1 }
+    {
+        self.slot.interrupts()
+    }
+
+    /// The bytes of the guest's memory from `addr` to the end of the region that holds it, to be written.
+    pub(crate) fn memory_mut(&mut self, addr: u64) -> &mut [u8]
+        requires { Inside self.old.memory addr 1 }
+        ensures* writes_back { sem 𝓛 (LendsBytes A.row A.Allocator self.entry addr result) }
+        ensures rest { IsRest self.old.memory addr result.now }
+    {
+        self.slot.memory_mut(addr)
+    }
+
+    /// Puts bytes into the memory, where all of the range lies in it.
+    pub(crate) fn put_bytes(&mut self, addr: u64, new: &[u8]) -> bool
+        ensures test { result ≡ is_inside self.old.memory addr (length new.now) }
+        ensures done { OnTrue result
+            (self.new ≡ record self.old { memory = put self.old.memory addr new.now }) }
+        ensures kept { OnFalse result (self.new ≡ self.old) }
+        ensures extent { self.new.extent ≡ self.old.extent }
+        ensures disturbed { self.new.disturbed ≡ self.old.disturbed }
+    {
+        self.slot.put_bytes(addr, new)
+    }
+
+    /// What the host is asked to do: the operation in flight.
+    pub(crate) fn operation(&self) -> Option<Operation>
+        ensures { result ≡ operation_in (flight_in self.now.host) }
+    {
+        self.slot.host()?.operation()
+    }
+
+    /// Where the bytes of the operation in flight lie: no runs where nothing is.
+    pub(crate) fn runs(&self) -> &[Segment]
+        ensures runs { IfSome (flight_in self.now.host) (λ here. result.now ≡ here.runs) }
+        ensures none { IfNone (flight_in self.now.host) (result.now ≡ []) }
+
+        // nothing that the host is told lies outside the guest's memory or its disk, whatever the guest has done since
+        ensures inside { IfSome (flight_in self.now.host) (λ here.
+            LiesInside (sectors_in self.now) self.now.memory here.flight.operation here.runs) }
+    {
+        match self.slot.host() {
+            Some(disk) => disk.runs(),
+            None => &[],
+        }
+    }
+}
+
+impl<A: Allocator + Copy> Guest<A> {
+    /// Types bytes to the guest's console, whose receive queue is served, and may pause where the budget is spent.
+    pub(crate) fn input(&mut self, bytes: &[u8], budget: Budget) -> Turn<A>
+        ensures begins { (image : List ℕ) (health : Health) →
+            Begins (EventKind.Input bytes.now) budget (state_of image self.old) health health
+            (state_of image self.new) [] result }
+        ensures rest { self.new ≡ record self.old {
+          memory = self.new.memory;
+          console = self.new.console;
+          pending = self.new.pending;
+        } }
+        ensures extent { self.new.extent ≡ self.old.extent }
+        ensures disturbed { self.new.disturbed ≡ self.old.disturbed }
+        ensures limited { PausesByLimit budget result }
+        ensures took { result ≡ Turn.More (input_service self.old.pending bytes.now)
+            ⊎ result ≡ Turn.Answered (reply_of (input_service self.old.pending bytes.now)) }
+    {
+        self.slot.input(bytes, budget)
+    }
+}

@@ -1,0 +1,551 @@
+-- When each refusal of a call comes.
+use Rattle.std.proofs.Common.{◌≡◌, ◌⊎◌, ◌↔◌, inl, inr, ℕ, ◌<◌, ◌≤◌, Bool, true, false, List, length, Option, Some, None, refl, sym, ◌∙◌, ap, subst, arith}
+use Rattle.std.specs.Prelude.{◌&&◌, ◌||◌, is_some, nat_lt, if◌then◌else◌, IsErrOf, IsSomeAnd, Result, Ok, Err}
+use Rattle.std.specs.List.{slice_get}
+use Rattle.std.specs.Option.{option_and_then}
+use Rattle.std.proofs.lemmas.Bool.Decides.{nat_tests}
+use Rattle.std.proofs.lemmas.Option.{slice_get_cases, slice_get_within, same_Some}
+use Rattle.guest_memory.specs.Memory.{Inside}
+use Rattle.block_device.specs.declared.operation.Verdict.{Verdict}
+use Rattle.board.specs.declared.event.Event.{Event}
+use Rattle.board.specs.declared.event.EventKind.{EventKind}
+use Rattle.board.specs.declared.event.EventKind.TheVariants.{Read, Write, MemRead, MemWrite, Input, Resize, Restore, Complete}
+use Rattle.board.specs.declared.pause.Pause.{Pause}
+use Rattle.board.specs.declared.pause.Turn.{Turn}
+use Rattle.board.specs.declared.pause.Turn.TheVariants as turn
+use Rattle.board.specs.declared.reply.Reply.{Reply}
+use Rattle.board.specs.declared.reply.Reply.TheVariants as reply
+use Rattle.board.specs.declared.reply.Record.{Record}
+use Rattle.board.specs.Backing.{HostDisk, InFlight, flight_in}
+use Rattle.board.specs.Hosting.{has_part, must_wait, verdict_in}
+use Rattle.board.specs.Image.{Health}
+use Rattle.board.specs.Outcome.{Outcome}
+use Rattle.board.specs.Pausing.{Begins, asked}
+use Rattle.board.specs.Replies.{MayReplyOverImage}
+use Rattle.board.specs.Slot.{BoardSlot, SlotState, state_of}
+use Rattle.board.specs.Within.{MayPutOut}
+use Rattle.board.specs.World.{MayGive, MayGiveBy, MayGiveOverImage, MayLackMemory}
+use Rattle.board.proofs.Alone.{slot_step}
+use Rattle.board.proofs.Replies.{given_over_image}
+use Rattle.board.proofs.Replies as board
+use Rattle.board.proofs.Ways.{Lands, Looks, Passes, Rests, Stands, Waits, Way, way}
+use Rattle.session.specs.declared.progress.Progress.{Progress}
+use Rattle.session.specs.declared.progress.Progress.TheVariants as progress
+use Rattle.session.specs.declared.refusal.Refusal.{Refusal}
+use Rattle.session.specs.declared.refusal.Refusal.TheVariants as refusal
+use Rattle.session.specs.declared.response.Response.{Response}
+use Rattle.session.specs.declared.response.Response.TheVariants.{Answered, More, Busy, Idle}
+use Rattle.session.specs.declared.typed.Typed.{Typed}
+use Rattle.session.specs.Answering.{Means, RefusalMeans, served_response, typed_by, typed_response}
+use Rattle.session.specs.Operations.{HasNoFlight, HoldsUp}
+use Rattle.session.specs.Pacing.{Handle, response_to}
+use Rattle.session.specs.Pausing.{ComesTo, IsBegun, IsEventCall, IsWhole}
+use Rattle.session.specs.Session.{HasNoRead, IsIdle, IsOutside, IsStep, SessionState, world_of}
+use Rattle.session.proofs.Access.{found_at}
+use Rattle.session.proofs.PacedCalls.{never_busy, never_idle}
+use Rattle.session.proofs.Steps.{lacks_puts}
+use Rattle.session.proofs.Suiting.{asks_none, never_paused}
+use Rattle.session.proofs.Unchanged.{shown_at}
+
+-- ---- what waits for what is in flight, and what finds nothing in flight
+
+busy_way : {A : Type 0} (flight : Option InFlight) (state : SlotState) (what : EventKind A) (health : Health)
+    (outcome : Outcome A)
+    → Way (λ (o : Outcome A). MayGiveOverImage state what health health o) flight state what outcome
+    → outcome.reply ≡ reply.Busy → (is_some flight && must_wait what) ≡ true
+busy_way flight state what health outcome (Waits here flies waits h) is = rw (flies, waits) refl
+busy_way {A} flight state what health outcome (Passes own free quiet h) is =
+    absurd (board.never_busy what (subst (λ (r : Reply A). MayReplyOverImage what r) is
+    (given_over_image state what health health outcome h)))
+busy_way flight state what health outcome (Looks none rings looks h) is =
+    let done = ap (λ o. o.reply) h in absurd (cc)
+busy_way flight state what health outcome (Stands here flies free rings h) is =
+    let done = ap (λ o. o.reply) h in absurd (cc)
+busy_way flight state what health outcome (Rests verdict completes none h) is =
+    let idle = ap (λ o. o.reply) h in absurd (cc)
+busy_way flight state what health outcome (Lands verdict completes here flies lands h) is =
+    let done = ap (λ o. o.reply) h in absurd (cc)
+
+busy_by : {A : Type 0} (host : Option HostDisk) (state : SlotState) (what : EventKind A) (old new : Health)
+    (outcome : Outcome A) → MayGiveBy host state what old new outcome → outcome.reply ≡ reply.Busy
+    → (is_some (flight_in host) && must_wait what) ≡ true
+busy_by {A} None state what old new outcome h is =
+    absurd (board.never_busy what (subst (λ (r : Reply A). MayReplyOverImage what r) is
+    (given_over_image state what old new outcome h)))
+busy_by {A} (Some disk) state what old new outcome h is =
+    busy_way disk.flight state what old outcome
+    (way (λ (o : Outcome A). MayGiveOverImage state what old old o) disk.flight state what outcome h.gives) is
+
+-- a completion waits for nothing
+completion_free : {A : Type 0} (v : Verdict) (what : EventKind A) → verdict_in what ≡ Some v
+    → must_wait what ≡ true → ⊥
+completion_free v (Read window offset width) is waits = cc
+completion_free v (Write window offset width value) is waits = cc
+completion_free v (MemRead addr len) is waits = cc
+completion_free v (MemWrite addr bytes) is waits = cc
+completion_free v (Input bytes) is waits = cc
+completion_free v (Resize cols rows) is waits = cc
+completion_free v (Restore bytes) is waits = cc
+completion_free v (Complete verdict) is waits = cc
+
+both_true : (a b : Bool) → (a && b) ≡ true → (a ≡ true) × (b ≡ true)
+both_true true true is = (refl, refl)
+both_true true false is = absurd (cc)
+both_true false b is = absurd (cc)
+
+waits_way : {A : Type 0} (flight : Option InFlight) (state : SlotState) (what : EventKind A) (health : Health)
+    (outcome : Outcome A) → (is_some flight && must_wait what) ≡ true
+    → Way (λ (o : Outcome A). MayGiveOverImage state what health health o) flight state what outcome
+    → outcome.reply ≡ reply.Busy
+waits_way flight state what health outcome holds (Waits here flies waits h) = ap (λ o. o.reply) h
+waits_way flight state what health outcome holds (Passes own free quiet h) = absurd (cc (holds, free))
+waits_way flight state what health outcome holds (Looks none rings looks h) =
+    let some = (both_true (is_some flight) (must_wait what) holds).0 in
+    let no = ap (λ (f : Option InFlight). is_some f) none in absurd (cc (some, no))
+waits_way flight state what health outcome holds (Stands here flies free rings h) =
+    let waits = (both_true (is_some flight) (must_wait what) holds).1 in absurd (cc (waits, free))
+waits_way flight state what health outcome holds (Rests verdict completes none h) =
+    let some = (both_true (is_some flight) (must_wait what) holds).0 in
+    let no = ap (λ (f : Option InFlight). is_some f) none in absurd (cc (some, no))
+waits_way flight state what health outcome holds (Lands verdict completes here flies lands h) =
+    absurd (completion_free verdict what completes (both_true (is_some flight) (must_wait what) holds).1)
+
+waits_by : {A : Type 0} (host : Option HostDisk) (state : SlotState) (what : EventKind A) (old new : Health)
+    (outcome : Outcome A) → (is_some (flight_in host) && must_wait what) ≡ true
+    → MayGiveBy host state what old new outcome → outcome.reply ≡ reply.Busy
+waits_by None state what old new outcome holds h = absurd (cc (holds))
+waits_by {A} (Some disk) state what old new outcome holds h =
+    waits_way disk.flight state what old outcome holds
+    (way (λ (o : Outcome A). MayGiveOverImage state what old old o) disk.flight state what outcome h.gives)
+
+-- and so no service of it begins
+held_part : {A : Type 0} (host : Option HostDisk) (state : SlotState) (what : EventKind A)
+    → (is_some (flight_in host) && must_wait what) ≡ true → has_part host what state ≡ true
+held_part None state what holds = absurd (cc (holds))
+held_part {A} (Some disk) state what holds = rw holds (by_verdict (verdict_in what))
+  where
+    by_verdict : (v : Option Verdict) → (is_some v || true) ≡ true
+    by_verdict None = refl
+    by_verdict (Some verdict) = refl
+
+held_asks : {A : Type 0} (state : SlotState) (what : EventKind A)
+    → (is_some (flight_in state.host) && must_wait what) ≡ true → asked what state ≡ None
+held_asks state what holds = rw (held_part state.host state what holds) refl
+
+-- what a completion finds
+rests_way : {A : Type 0} (flight : Option InFlight) (state : SlotState) (verdict : Verdict) (health : Health)
+    (outcome : Outcome A)
+    → Way (λ (o : Outcome A). MayGiveOverImage state (Complete verdict) health health o) flight state
+    (Complete verdict) outcome → (outcome.reply ≡ reply.Idle) ↔ (flight ≡ None)
+rests_way flight state verdict health outcome (Waits here flies waits h) = absurd (cc (waits))
+rests_way flight state verdict health outcome (Passes own free quiet h) = absurd (cc (own))
+rests_way flight state verdict health outcome (Looks none rings looks h) = absurd (cc (rings))
+rests_way flight state verdict health outcome (Stands here flies free rings h) = absurd (cc (rings))
+rests_way flight state verdict health outcome (Rests told completes none h) =
+    (λ is. none, λ is. ap (λ o. o.reply) h)
+rests_way flight state verdict health outcome (Lands told completes here flies lands h) =
+    let done = ap (λ o. o.reply) h in (λ is. absurd (cc), λ none. absurd (cc))
+
+rests_by : {A : Type 0} (host : Option HostDisk) (state : SlotState) (verdict : Verdict) (old new : Health)
+    (outcome : Outcome A) → MayGiveBy host state (Complete verdict) old new outcome
+    → (outcome.reply ≡ reply.Idle) ↔ (flight_in host ≡ None)
+rests_by {A} None state verdict old new outcome (inl served) =
+    (λ is. refl, λ none. ap (λ (o : Outcome A). o.reply) served.alike.alike)
+rests_by None state verdict old new outcome (inr never) = absurd never
+rests_by {A} (Some disk) state verdict old new outcome h =
+    rests_way disk.flight state verdict old outcome
+    (way (λ (o : Outcome A). MayGiveOverImage state (Complete verdict) old old o) disk.flight state
+    (Complete verdict) outcome h.gives)
+
+-- ---- the refusal that a response says
+
+abbrev pub refusal_of : {A : Type 0} → Response A → Option Refusal
+refusal_of (Answered reply.BadSlot) = Some refusal.BadSlot
+refusal_of (Answered reply.BadRange) = Some refusal.BadRange
+refusal_of (Answered reply.NoMemory) = Some refusal.NoRoom
+refusal_of (Answered reply.Busy) = Some refusal.Busy
+refusal_of (Answered reply.Idle) = Some refusal.Idle
+refusal_of Busy = Some refusal.Busy
+refusal_of told = None
+
+abbrev refused : {T : Type 0} → Result T Refusal → Option Refusal
+refused (Ok value) = None
+refused (Err why) = Some why
+
+meant : {A : Type 0} (why : Refusal) (told : Response A) → RefusalMeans why told
+    → refusal_of told ≡ Some why
+meant refusal.BadSlot told is = rw is refl
+meant refusal.BadRange told is = rw is refl
+meant refusal.NoRoom told is = rw is refl
+meant refusal.Busy told (inl is) = rw is refl
+meant refusal.Busy told (inr is) = rw is refl
+meant refusal.Idle told is = rw is refl
+
+means_refused : {A T : Type 0} (wanted : T → Response A) → ((value : T) → refusal_of (wanted value) ≡ None)
+    → (r : Result T Refusal) (told : Response A) → Means wanted r told → refusal_of told ≡ refused r
+means_refused wanted pure (Ok value) told is = rw is (pure value)
+means_refused wanted pure (Err why) told is = meant why told is
+
+is_err : {T : Type 0} (r : Result T Refusal) (why : Refusal) → refused r ≡ Some why → IsErrOf r why
+is_err (Ok value) why is = absurd (cc (is))
+is_err (Err w) why is = ap (λ x. Err x) (same_Some w why is)
+
+-- an answer is this refusal where the response says it
+pub refused_when : {A T : Type 0} (wanted : T → Response A) (told : Response A) (r : Result T Refusal)
+    (why : Refusal) {P : Type 0} → ((value : T) → refusal_of (wanted value) ≡ None) → Means wanted r told
+    → (refusal_of told ≡ Some why) ↔ P → IsErrOf r why ↔ P
+refused_when {A} {T} wanted told r why {P} pure means says =
+    let same = means_refused wanted pure r told means in (
+      λ is. says.0 (same ∙ ap (λ (x : Result T Refusal). refused x) is),
+      λ p. is_err r why (sym same ∙ says.1 p),
+    )
+
+-- ---- a call
+
+-- what each refusal of an event says
+pub record IsExact {A : Type 0} (old : SessionState) (slot : ℕ) (what : EventKind A) (response : Response A)
+    : Type 0 where
+  pub bad_slot : (refusal_of response ≡ Some refusal.BadSlot) ↔ (length old.slots ≤ slot)
+  pub busy : (refusal_of response ≡ Some refusal.Busy) ↔ ((¬ IsIdle slot old) ⊎ HoldsUp slot what old.slots)
+  pub no_room :
+      refusal_of response ≡ Some refusal.NoRoom → HasNoRead what →
+      IsSomeAnd (slice_get old.slots slot) (λ found. MayPutOut (state_of old.image found) what)
+
+-- what a reply says
+telling : {A : Type 0} (answer : Reply A) (why : Refusal) → refusal_of (Answered answer) ≡ Some why
+    → RefusalMeans why (Answered answer)
+telling {A} reply.BadSlot why is =
+    subst (λ w. RefusalMeans {A = A} w (Answered reply.BadSlot)) (same_Some refusal.BadSlot why is) refl
+telling {A} reply.BadRange why is =
+    subst (λ w. RefusalMeans {A = A} w (Answered reply.BadRange)) (same_Some refusal.BadRange why is) refl
+telling {A} reply.NoMemory why is =
+    subst (λ w. RefusalMeans {A = A} w (Answered reply.NoMemory)) (same_Some refusal.NoRoom why is) refl
+telling {A} reply.Busy why is =
+    subst (λ w. RefusalMeans {A = A} w (Answered reply.Busy)) (same_Some refusal.Busy why is) (inr refl)
+telling {A} reply.Idle why is =
+    subst (λ w. RefusalMeans {A = A} w (Answered reply.Idle)) (same_Some refusal.Idle why is) refl
+telling (reply.Value value) why is = absurd (cc (is))
+telling reply.Done why is = absurd (cc (is))
+telling (reply.Bytes bytes) why is = absurd (cc (is))
+telling (reply.Took taken) why is = absurd (cc (is))
+telling reply.BadState why is = absurd (cc (is))
+
+says_bad_slot : {A : Type 0} (answer : Reply A)
+    → (refusal_of (Answered answer) ≡ Some refusal.BadSlot) ↔ (answer ≡ reply.BadSlot)
+says_bad_slot {A} answer = (
+  λ is. let told : Answered answer ≡ Answered reply.BadSlot = telling answer refusal.BadSlot is in cc (told),
+  λ is. rw is refl,
+)
+
+says_busy : {A : Type 0} (answer : Reply A)
+    → (refusal_of (Answered answer) ≡ Some refusal.Busy) ↔ (answer ≡ reply.Busy)
+says_busy {A} answer = (
+  λ is. elim (telling answer refusal.Busy is) [
+    | inl never ↦ absurd (cc (never))
+    | inr told ↦ cc (told)
+  ],
+  λ is. rw is refl,
+)
+
+says_no_room : {A : Type 0} (answer : Reply A) → refusal_of (Answered answer) ≡ Some refusal.NoRoom
+    → answer ≡ reply.NoMemory
+says_no_room {A} answer is =
+    let told : Answered answer ≡ Answered reply.NoMemory = telling answer refusal.NoRoom is in cc (told)
+
+says_idle : {A : Type 0} (answer : Reply A)
+    → (refusal_of (Answered answer) ≡ Some refusal.Idle) ↔ (answer ≡ reply.Idle)
+says_idle {A} answer = (
+  λ is. let told : Answered answer ≡ Answered reply.Idle = telling answer refusal.Idle is in cc (told),
+  λ is. rw is refl,
+)
+
+-- where nothing of the slot is paused it is idle, and else not
+idle_at : (s : SessionState) (slot : ℕ) (o : Option (Option Pause)) → slice_get s.paused slot ≡ o
+    → option_and_then (λ (here : Option Pause). here) o ≡ None → IsIdle slot s
+idle_at s slot o is none = rw is none
+
+paused_not : (s : SessionState) (slot : ℕ) (pause : Pause) → slice_get s.paused slot ≡ Some (Some pause)
+    → ¬ IsIdle slot s
+paused_not s slot pause is idle =
+    let now : ◌≡◌ {A = Option Pause} (Some pause) None = rw is at idle in cc (now)
+
+-- what a slot that is there gives for an event that is answered
+record Gave {A : Type 0} (found : BoardSlot) (old : SessionState) (what : EventKind A) (answer : Reply A)
+    : Type 0 where
+  after : Health
+  outcome : Outcome A
+  given : MayGive (state_of old.image found) what (world_of old).health after outcome
+  said : outcome.reply ≡ answer
+
+gave : {A : Type 0} (old new : SessionState) (event : Event A) (answer : Reply A) (found : BoardSlot)
+    → slice_get old.slots event.slot ≡ Some found → IsStep old event answer new
+    → Gave found old event.what answer
+gave {A} old new event answer found here h =
+    let step = slot_step (world_of old) event h.answers.written (world_of new) (state_of old.image found)
+    (shown_at old.slots old.image event.slot found here) h.answers.step in
+    record {
+      after = (world_of new).health;
+      outcome = step.outcome;
+      given = step.given;
+      said = sym (ap (λ (w : Record A). w.reply) step.recorded) ∙ h.answers.replied;
+    }
+
+-- a slot that puts something out is there
+puts_at : {A : Type 0} (o : Option BoardSlot) (image : List ℕ) (what : EventKind A) → HasNoRead what
+    → IsSomeAnd o (λ slot. MayLackMemory (state_of image slot) what)
+    → IsSomeAnd o (λ found. MayPutOut (state_of image found) what)
+puts_at None image what any h = absurd h
+puts_at (Some found) image what any h = lacks_puts (state_of image found) what any h
+
+module _ {A : Type 0} (old new : SessionState) (event : Event A)
+    (many : length old.paused ≡ length old.slots) where
+  -- a slot that is there, and of which nothing is paused
+  module _ (here : slice_get old.paused event.slot ≡ Some None) where
+    below : event.slot < length old.slots
+    below = rw (← many) (slice_get_within old.paused event.slot None here)
+
+    abbrev found : BoardSlot
+    found = (found_at old.slots event.slot below).0
+
+    there : slice_get old.slots event.slot ≡ Some found
+    there = (found_at old.slots event.slot below).1
+
+    idle : IsIdle event.slot old
+    idle = idle_at old event.slot (Some None) here refl
+
+    abbrev Held : Type 0
+    Held = (is_some (flight_in found.host) && must_wait event.what) ≡ true
+
+    holds : Held → HoldsUp event.slot event.what old.slots
+    holds is = rw there is
+
+    held : HoldsUp event.slot event.what old.slots → Held
+    held is = rw there at is
+
+    answered : (answer : Reply A) → IsStep old event answer new
+        → IsExact old event.slot event.what (Answered answer)
+    answered answer h =
+        let came = gave old new event answer found there h in
+        let busy_says = says_busy answer in
+        record {
+          bad_slot = (
+            λ is. h.bad_slot.0 ((says_bad_slot answer).0 is),
+            λ past. (says_bad_slot answer).1 (h.bad_slot.1 past),
+          );
+          busy = (
+            λ is.
+                inr (holds (busy_by found.host (state_of old.image found) event.what _ came.after came.outcome
+                came.given (came.said ∙ busy_says.0 is))),
+            λ either. elim either [
+              | inl paused ↦ absurd (paused idle)
+              | inr waits ↦ busy_says.1 (sym came.said
+                  ∙ waits_by found.host (state_of old.image found) event.what _ came.after came.outcome
+                  (held waits) came.given)
+            ],
+          );
+          no_room = λ is any. puts_at (slice_get old.slots event.slot) old.image event.what any
+              (h.no_memory (says_no_room answer is));
+        }
+
+    -- a service of it pauses
+    pauses : IsBegun event old More new → IsExact {A = A} old event.slot event.what More
+    pauses h = record {
+      bad_slot = (λ is. absurd (cc (is)), λ past. absurd (omega (arith, past, below)));
+      busy = (
+        λ is. absurd (cc (is)),
+        λ either. elim either [
+          | inl paused ↦ absurd (paused idle)
+          | inr waits ↦ absurd (never_more _ _ h.turn.taken.after h.turn.output h.turn.turn (held waits)
+              h.turn.told
+              (subst (λ (s : SlotState). Begins event.what old.budget s _ _ h.turn.taken.after h.turn.output
+              h.turn.turn)
+              (same_Some h.turn.taken.state (state_of old.image found)
+              (sym h.turn.taken.there ∙ shown_at old.slots old.image event.slot found there))
+              h.turn.taken.comes))
+        ],
+      );
+      no_room = λ is any. absurd (cc (is));
+    }
+      where
+        never_more : (before after : Health) (last : SlotState) (output : List ℕ) (t : Turn A) → Held
+            → More ≡ response_to t
+            → Begins event.what old.budget (state_of old.image found) before after last output t → ⊥
+        never_more before after last output (turn.Answered reply) is told h = cc (told)
+        never_more before after last output (turn.More pause) is told h =
+            never_paused (asked event.what (state_of old.image found)) event.what old.budget
+            (state_of old.image found) before after last output pause
+            (held_asks (state_of old.image found) event.what is) h
+
+  exact_at : (response : Response A) (o : Option (Option Pause)) → slice_get old.paused event.slot ≡ o
+      → ComesTo (Handle event) o old response new → IsWhole old event response new
+      → IsExact old event.slot event.what response
+  exact_at response None is comes whole =
+      let past : length old.slots ≤ event.slot = grind (arith, many, slice_get_cases old.paused event.slot) in
+      rw (comes.0) (record {
+        bad_slot = (λ told. past, λ far. refl);
+        busy = (
+          λ told. absurd (cc (told)),
+          λ either. elim either [
+            | inl paused ↦ absurd (paused (idle_at old event.slot None is refl))
+            | inr waits ↦ absurd (past_holds (slice_get old.slots event.slot) refl past waits)
+          ],
+        );
+        no_room = λ told any. absurd (cc (told));
+      })
+    where
+      past_holds : (o : Option BoardSlot) → slice_get old.slots event.slot ≡ o
+          → length old.slots ≤ event.slot
+          → IsSomeAnd o (λ s. (is_some (flight_in s.host) && must_wait event.what) ≡ true) → ⊥
+      past_holds None is far waits = waits
+      past_holds (Some s) is far waits =
+          let fits = slice_get_within old.slots event.slot s is in omega (arith, fits, far)
+  exact_at response (Some (Some pause)) is comes whole =
+      let fits : event.slot < length old.slots =
+      rw (← many) (slice_get_within old.paused event.slot (Some pause) is) in
+      rw (comes.0) (record {
+        bad_slot = (λ told. absurd (cc (told)), λ past. absurd (omega (arith, past, fits)));
+        busy = (λ told. inl (paused_not old event.slot pause is), λ either. refl);
+        no_room = λ told any. absurd (cc (told));
+      })
+  exact_at (Answered answer) (Some None) is comes whole = answered is answer whole
+  exact_at More (Some None) is comes whole = pauses is comes
+  exact_at Busy (Some None) is comes whole = absurd (never_busy comes.turn.turn (sym comes.turn.told))
+  exact_at Idle (Some None) is comes whole = absurd (never_idle comes.turn.turn (sym comes.turn.told))
+
+pub exact : {A : Type 0} (old new : SessionState) (slot : ℕ) (what : EventKind A) (response : Response A)
+    → length old.paused ≡ length old.slots → IsEventCall old slot what response new
+    → IsExact old slot what response
+exact old new slot what response many call =
+    exact_at old new (record { slot = slot; what = what }) many response (slice_get old.paused slot) refl
+    call.turn call.whole
+
+-- what each refusal says that a call answers
+pub record Refuses {A T : Type 0} (old : SessionState) (slot : ℕ) (what : EventKind A) (r : Result T Refusal)
+    : Type 0 where
+  pub bad_slot : IsErrOf r refusal.BadSlot ↔ (length old.slots ≤ slot)
+  pub busy : IsErrOf r refusal.Busy ↔ ((¬ IsIdle slot old) ⊎ HoldsUp slot what old.slots)
+  pub no_room :
+      IsErrOf r refusal.NoRoom → HasNoRead what →
+      IsSomeAnd (slice_get old.slots slot) (λ found. MayPutOut (state_of old.image found) what)
+
+pub refuses : {A T : Type 0} (old new : SessionState) (slot : ℕ) (what : EventKind A) (told : Response A)
+    (wanted : T → Response A) (r : Result T Refusal) → ((value : T) → refusal_of (wanted value) ≡ None)
+    → Means wanted r told → length old.paused ≡ length old.slots → IsEventCall old slot what told new
+    → Refuses old slot what r
+refuses {A} {T} old new slot what told wanted r pure means many call =
+    let says : IsExact old slot what told = exact old new slot what told many call in
+    let same = means_refused wanted pure r told means in
+    record {
+      bad_slot = refused_when wanted told r refusal.BadSlot pure means says.bad_slot;
+      busy = refused_when wanted told r refusal.Busy pure means says.busy;
+      no_room = λ is any. says.no_room (same ∙ ap (λ (x : Result T Refusal). refused x) is) any;
+    }
+
+pub served_pure : (A : Type 0) (came : Progress) → refusal_of {A = A} (served_response came) ≡ None
+served_pure A progress.Done = refl
+served_pure A progress.More = refl
+served_pure A progress.Asks = refl
+
+typed_pure_by : (A : Type 0) (taken : ℕ) (came : Progress) → refusal_of {A = A} (typed_by taken came) ≡ None
+typed_pure_by A taken progress.Done = refl
+typed_pure_by A taken progress.More = refl
+typed_pure_by A taken progress.Asks = refl
+
+pub typed_pure : (A : Type 0) (typed : Typed) → refusal_of {A = A} (typed_response typed) ≡ None
+typed_pure A typed = typed_pure_by A typed.taken typed.progress
+
+-- an event that waits for nothing is busy where a service is paused
+pub only_paused : {A : Type 0} (old : SessionState) (slot : ℕ) (what : EventKind A) {P : Type 0}
+    → must_wait what ≡ false → P ↔ ((¬ IsIdle slot old) ⊎ HoldsUp slot what old.slots)
+    → P ↔ (¬ IsIdle slot old)
+only_paused old slot what free says = (
+  λ p. elim (says.0 p) [
+    | inl paused ↦ paused
+    | inr waits ↦ absurd (free_holds (slice_get old.slots slot) waits)
+  ],
+  λ paused. says.1 (inl paused),
+)
+  where
+    free_holds : (o : Option BoardSlot)
+        → IsSomeAnd o (λ s. (is_some (flight_in s.host) && must_wait what) ≡ true) → ⊥
+    free_holds None waits = waits
+    free_holds (Some s) waits =
+        let never = (both_true (is_some (flight_in s.host)) (must_wait what) waits).1 in cc (never, free)
+
+-- ---- a completion
+
+module _ {A : Type 0} (old new : SessionState) (slot : ℕ) (verdict : Verdict)
+    (many : length old.paused ≡ length old.slots) where
+  abbrev completion : Event A
+  completion = record { slot = slot; what = Complete verdict }
+
+  completed : (here : slice_get old.paused slot ≡ Some None) (answer : Reply A)
+      → IsStep old completion answer new
+      → (refusal_of (Answered answer) ≡ Some refusal.Idle) ↔ (IsIdle slot old × HasNoFlight slot old.slots)
+  completed here answer h =
+      let slot_there = there old new completion many here in
+      let one = found old new completion many here in
+      let came = gave old new completion answer one slot_there h in
+      let says = says_idle answer in
+      let rests = rests_by one.host (state_of old.image one) verdict _ came.after came.outcome came.given in (
+        λ is. (idle old new completion many here, rw slot_there (rests.0 (came.said ∙ says.0 is))),
+        λ rest. says.1 (sym came.said ∙ rests.1 (rw slot_there at (rest.1))),
+      )
+
+  idle_exact_at : (response : Response A) (o : Option (Option Pause)) → slice_get old.paused slot ≡ o
+      → ComesTo (Handle completion) o old response new → IsWhole old completion response new
+      → (refusal_of response ≡ Some refusal.Idle) ↔ (IsIdle slot old × HasNoFlight slot old.slots)
+  idle_exact_at response None is comes whole =
+      let past : length old.slots ≤ slot = grind (arith, many, slice_get_cases old.paused slot) in
+      rw (comes.0) (
+        λ told. absurd (cc (told)),
+        λ rest. absurd (past_rests (slice_get old.slots slot) refl past (rest.1)),
+      )
+    where
+      past_rests : (o : Option BoardSlot) → slice_get old.slots slot ≡ o → length old.slots ≤ slot
+          → IsSomeAnd o (λ s. flight_in s.host ≡ None) → ⊥
+      past_rests None is far rests = rests
+      past_rests (Some s) is far rests =
+          let fits = slice_get_within old.slots slot s is in omega (arith, fits, far)
+  idle_exact_at response (Some (Some pause)) is comes whole =
+      rw (comes.0) (λ told. absurd (cc (told)), λ rest. absurd (paused_not old slot pause is (rest.0)))
+  idle_exact_at (Answered answer) (Some None) is comes whole = completed is answer whole
+  idle_exact_at More (Some None) is comes whole = absurd (pauses_never comes.turn.taken.state _ _
+      comes.turn.taken.after comes.turn.output comes.turn.turn comes.turn.told comes.turn.taken.comes)
+    where
+      pauses_never : (state : SlotState) (before after : Health) (last : SlotState) (output : List ℕ)
+          (t : Turn A) → More ≡ response_to t
+          → Begins (Complete verdict) old.budget state before after last output t → ⊥
+      pauses_never state before after last output (turn.Answered reply) told h = cc (told)
+      pauses_never state before after last output (turn.More pause) told h =
+          asks_none (Complete verdict) old.budget state before after last output pause refl h
+  idle_exact_at Busy (Some None) is comes whole = absurd (never_busy comes.turn.turn (sym comes.turn.told))
+  idle_exact_at Idle (Some None) is comes whole = absurd (never_idle comes.turn.turn (sym comes.turn.told))
+
+pub idle_exact : {A : Type 0} (old new : SessionState) (slot : ℕ) (verdict : Verdict) (response : Response A)
+    → length old.paused ≡ length old.slots → IsEventCall old slot (Complete verdict) response new
+    → (refusal_of response ≡ Some refusal.Idle) ↔ (IsIdle slot old × HasNoFlight slot old.slots)
+idle_exact old new slot verdict response many call =
+    idle_exact_at old new slot verdict many response (slice_get old.paused slot) refl call.turn call.whole
+
+-- ---- a range that doesn't lie in the memory
+
+outside_at : (slots : List BoardSlot) (slot addr n : ℕ) (P : Type 0) → P → (o : Option BoardSlot)
+    → slice_get slots slot ≡ o
+    → (IsSomeAnd o (λ found. Inside found.memory addr n) → ⊥)
+    → (IsErrOf {T = Unit {0}} (Err (if nat_lt slot (length slots) then refusal.BadRange else refusal.BadSlot))
+    refusal.BadRange) ↔ (P × IsSomeAnd o (λ found. ¬ Inside found.memory addr n))
+outside_at slots slot addr n P p None here outside =
+    let test : nat_lt slot (length slots) ≡ false = grind (arith, nat_tests, slice_get_cases slots slot) in
+    rw test (λ is. absurd (cc (is)), λ both. absurd (both.1))
+outside_at slots slot addr n P p (Some found) here outside =
+    let fits : slot < length slots = slice_get_within slots slot found here in
+    let test : nat_lt slot (length slots) ≡ true = grind (arith, nat_tests) in
+    rw test (λ is. (p, outside), λ both. refl)
+
+pub outside_range : (slots : List BoardSlot) (slot addr n : ℕ) (P : Type 0) → P
+    → (IsSomeAnd (slice_get slots slot) (λ found. Inside found.memory addr n) → ⊥)
+    → (IsErrOf {T = Unit {0}} (Err (if nat_lt slot (length slots) then refusal.BadRange else refusal.BadSlot))
+    refusal.BadRange) ↔ (P × IsOutside slot addr n slots)
+outside_range slots slot addr n P p outside =
+    outside_at slots slot addr n P p (slice_get slots slot) refl outside

@@ -1,0 +1,292 @@
+-- What waits for what is in flight changes nothing, and what is in flight stays so.
+use Rattle.std.proofs.Common.{◌≡◌, ◌≢◌, inl, inr, ℕ, Bool, true, List, [], ◌++◌, Option, Some, None, refl, sym, ◌∙◌, ap, subst, append-nil}
+use Rattle.std.specs.Prelude.{MatchOption, nat_lt, slice_set}
+use Rattle.std.specs.List.{slice_get}
+use Rattle.std.specs.Option.{option_and_then}
+use Rattle.std.proofs.lemmas.Bool.{cases_eq}
+use Rattle.board.specs.declared.event.Event.{Event}
+use Rattle.board.specs.declared.event.EventKind.{EventKind}
+use Rattle.board.specs.declared.event.EventKind.TheVariants.{Read, Write, MemRead, MemWrite, Input, Resize, Restore, Complete}
+use Rattle.board.specs.declared.pause.Pause.{Pause}
+use Rattle.board.specs.declared.reply.Reply.{Reply}
+use Rattle.board.specs.declared.reply.Reply.TheVariants as reply
+use Rattle.board.specs.declared.reply.Record.{Record}
+use Rattle.board.specs.Backing.{HostDisk, InFlight, flight_in}
+use Rattle.board.specs.Hosting.{IsOwn, must_wait}
+use Rattle.board.specs.Image.{Health}
+use Rattle.board.specs.Outcome.{Outcome, replies}
+use Rattle.board.specs.Replies.{MayReplyOverImage}
+use Rattle.board.specs.Slot.{BoardSlot, SlotState}
+use Rattle.board.specs.World.{KeepsOthers, MayGive, MayGiveBy, MayGiveOverImage, MissingStep, SlotStep, World, met_refusal, noted}
+use Rattle.board.proofs.Alone.{get_set}
+use Rattle.board.proofs.Replies.{given_over_image, idle_completes}
+use Rattle.board.proofs.Replies as board
+use Rattle.board.proofs.Seats.{noted_none}
+use Rattle.board.proofs.Waiting.{busy_stays, outlasts}
+use Rattle.board.proofs.Ways.{Lands, Looks, Passes, Rests, Stands, Waits, Way, way}
+use Rattle.session.specs.declared.response.Response.{Response}
+use Rattle.session.specs.declared.response.Response.TheVariants.{Answered, More, Busy, Idle}
+use Rattle.session.specs.Course.{IsCalled}
+use Rattle.session.specs.Operations.{flight_at}
+use Rattle.session.specs.Pacing.{Call, GoOn, Handle, IfEvent, slot_in}
+use Rattle.session.specs.Pausing.{ComesTo, IsWhole}
+use Rattle.session.specs.Session.{IsKept, IsStep, SessionState, output_of, waiting_at, world_of}
+use Rattle.session.proofs.Asking.{going_on_keeps, pausing_keeps, seen_at}
+use Rattle.session.proofs.PacedCourses.{by_pause}
+use Rattle.session.proofs.Places.{set_same}
+use Rattle.session.proofs.PacedCalls.{never_busy, never_idle}
+use Rattle.session.proofs.Waiting.{others_wait, same_outlet}
+
+-- ---- an event that waits, and a completion of nothing
+
+-- an event that is answered so stays where it was
+record Stays {A : Type 0} (state : SlotState) (before after : Health) (outcome : Outcome A) : Type 0 where
+  same : outcome.state ≡ state
+  silent : outcome.output ≡ []
+  health : after ≡ before
+
+stays : {A : Type 0} (state : SlotState) (before after : Health) (outcome : Outcome A) (told : Reply A)
+    → outcome ≡ replies state told → after ≡ before → Stays state before after outcome
+stays {A} state before after outcome told is image = record {
+  same = ap (λ (o : Outcome A). o.state) is;
+  silent = ap (λ (o : Outcome A). o.output) is;
+  health = image;
+}
+
+busy_way : {A : Type 0} (flight : Option InFlight) (state : SlotState) (what : EventKind A) (health : Health)
+    (outcome : Outcome A)
+    → Way (λ (o : Outcome A). MayGiveOverImage state what health health o) flight state what outcome
+    → outcome.reply ≡ reply.Busy → outcome ≡ replies state reply.Busy
+busy_way flight state what health outcome (Waits here flies waits h) is = h
+busy_way {A} flight state what health outcome (Passes own free quiet h) is =
+    absurd (board.never_busy what (subst (λ (r : Reply A). MayReplyOverImage what r) is
+    (given_over_image state what health health outcome h)))
+busy_way flight state what health outcome (Looks none rings looks h) is =
+    let done = ap (λ o. o.reply) h in absurd (cc)
+busy_way flight state what health outcome (Stands here flies free rings h) is =
+    let done = ap (λ o. o.reply) h in absurd (cc)
+busy_way flight state what health outcome (Rests verdict completes none h) is =
+    let idle = ap (λ o. o.reply) h in absurd (cc)
+busy_way flight state what health outcome (Lands verdict completes here flies lands h) is =
+    let done = ap (λ o. o.reply) h in absurd (cc)
+
+busy_by : {A : Type 0} (host : Option HostDisk) (state : SlotState) (what : EventKind A) (old new : Health)
+    (outcome : Outcome A) → MayGiveBy host state what old new outcome → outcome.reply ≡ reply.Busy
+    → Stays state old new outcome
+busy_by {A} None state what old new outcome h is =
+    absurd (board.never_busy what (subst (λ (r : Reply A). MayReplyOverImage what r) is
+    (given_over_image state what old new outcome h)))
+busy_by {A} (Some disk) state what old new outcome h is =
+    stays state old new outcome reply.Busy
+    (busy_way disk.flight state what old outcome
+    (way (λ (o : Outcome A). MayGiveOverImage state what old old o) disk.flight state what outcome h.gives) is)
+    h.image
+
+over_image_idle : {A : Type 0} (state : SlotState) (what : EventKind A) (old new : Health) (outcome : Outcome A)
+    → MayGiveOverImage state what old new outcome → outcome.reply ≡ reply.Idle
+    → outcome ≡ replies state reply.Idle
+over_image_idle {A} state what old new outcome h is =
+    idle_completes state what old new outcome
+    (subst (λ (r : Reply A). MayReplyOverImage what r) is (given_over_image state what old new outcome h)) h
+
+idle_way : {A : Type 0} (flight : Option InFlight) (state : SlotState) (what : EventKind A) (health : Health)
+    (outcome : Outcome A)
+    → Way (λ (o : Outcome A). MayGiveOverImage state what health health o) flight state what outcome
+    → outcome.reply ≡ reply.Idle → outcome ≡ replies state reply.Idle
+idle_way flight state what health outcome (Waits here flies waits h) is =
+    let busy = ap (λ o. o.reply) h in absurd (cc)
+idle_way flight state what health outcome (Passes own free quiet h) is =
+    over_image_idle state what health health outcome h is
+idle_way flight state what health outcome (Looks none rings looks h) is =
+    let done = ap (λ o. o.reply) h in absurd (cc)
+idle_way flight state what health outcome (Stands here flies free rings h) is =
+    let done = ap (λ o. o.reply) h in absurd (cc)
+idle_way flight state what health outcome (Rests verdict completes none h) is = h
+idle_way flight state what health outcome (Lands verdict completes here flies lands h) is =
+    let done = ap (λ o. o.reply) h in absurd (cc)
+
+-- over an image a completion alone is answered so, and it has no part in it
+completion_image : {A : Type 0} (state : SlotState) (what : EventKind A) (old new : Health)
+    (outcome : Outcome A) → MayReplyOverImage what reply.Idle → MayGiveOverImage state what old new outcome
+    → new ≡ old
+completion_image state (Read window offset width) old new outcome may h = absurd may
+completion_image state (Write window offset width value) old new outcome may h = absurd may
+completion_image state (MemRead addr len) old new outcome may h = absurd may
+completion_image state (MemWrite addr bytes) old new outcome may h = absurd may
+completion_image state (Input bytes) old new outcome may h = absurd may
+completion_image state (Resize cols rows) old new outcome may h = absurd may
+completion_image state (Restore bytes) old new outcome may h = absurd may
+completion_image state (Complete verdict) old new outcome may (inl served) = served.alike.image
+completion_image state (Complete verdict) old new outcome may (inr never) = absurd never
+
+idle_by : {A : Type 0} (host : Option HostDisk) (state : SlotState) (what : EventKind A) (old new : Health)
+    (outcome : Outcome A) → MayGiveBy host state what old new outcome → outcome.reply ≡ reply.Idle
+    → Stays state old new outcome
+idle_by {A} None state what old new outcome h is =
+    stays state old new outcome reply.Idle (over_image_idle state what old new outcome h is)
+    (completion_image state what old new outcome
+    (subst (λ (r : Reply A). MayReplyOverImage what r) is (given_over_image state what old new outcome h)) h)
+idle_by {A} (Some disk) state what old new outcome h is =
+    stays state old new outcome reply.Idle
+    (idle_way disk.flight state what old outcome
+    (way (λ (o : Outcome A). MayGiveOverImage state what old old o) disk.flight state what outcome h.gives) is)
+    h.image
+
+-- ---- so the session stays
+
+same_world : (states states' : List SlotState) (flags flags' : List Bool) (outside outside' : List ℕ)
+    (health health' : Health) → states ≡ states' → flags ≡ flags' → outside ≡ outside' → health ≡ health'
+    → ◌≡◌ {A = World} (record { slots = states; disturbed = flags; outside = outside; health = health })
+    (record { slots = states'; disturbed = flags'; outside = outside'; health = health' })
+same_world states states' flags flags' outside outside' health health' p q r s = rw (p, q, r, s) refl
+
+unnoted : {A : Type 0} (told : Reply A) (h : ℕ) (before after : Health) (flags : List Bool)
+    → met_refusal told before.failures before.failures ≡ nat_lt before.failures before.failures
+    → after ≡ before → noted h (met_refusal told before.failures after.failures) flags ≡ flags
+unnoted told h before after flags quiet same = rw (same, quiet) (sym (noted_none h before.failures flags))
+
+stays_waiting : {A : Type 0} (old new : SessionState) (event : Event A) (told : Reply A)
+    → IsStep old event told new → output_of event.slot new ≡ output_of event.slot old
+    → (slot : ℕ) → waiting_at slot new.outputs ≡ waiting_at slot old.outputs
+stays_waiting old new event told h same slot =
+    elim (cases_eq event.slot slot) [
+      | inl is ↦ subst (λ k. waiting_at k new.outputs ≡ waiting_at k old.outputs) is
+          (same_outlet (waiting_at event.slot new.outputs) (waiting_at event.slot old.outputs) same
+          (h.limits event.slot))
+      | inr other ↦ others_wait slot event.slot old.outputs new.outputs h.outputs other
+    ]
+
+kept_at : {A : Type 0} (old new : SessionState) (event : Event A) (told : Reply A) (o : Option SlotState)
+    (h : IsStep old event told new) → slice_get (world_of old).slots event.slot ≡ o → told ≢ reply.BadSlot
+    → ((failures : ℕ) → met_refusal told failures failures ≡ nat_lt failures failures)
+    → ((state : SlotState) (before after : Health) (outcome : Outcome A)
+    → MayGive state event.what before after outcome → outcome.reply ≡ told
+    → Stays state before after outcome)
+    → MatchOption o (MissingStep (world_of old) event.slot h.answers.written (world_of new))
+    (λ state. SlotStep (world_of old) event.slot state event.what h.answers.written (world_of new))
+    → IsKept old new
+kept_at {A} old new event told None h here there quiet keeps step =
+    absurd (there (sym h.answers.replied ∙ ap (λ (w : Record A). w.reply) step.recorded))
+kept_at {A} old new event told (Some state) h here there quiet keeps step =
+    let said : step.outcome.reply ≡ told =
+    sym (ap (λ (w : Record A). w.reply) step.recorded) ∙ h.answers.replied in
+    let kept = keeps state (world_of old).health (world_of new).health step.outcome step.given said in
+    let silent : h.answers.written.output ≡ [] =
+    ap (λ (w : Record A). w.output) step.recorded ∙ kept.silent in
+    record {
+      world = same_world _ _ _ _ _ _ _ _
+          (step.slots ∙ ap (λ (s : SlotState). slice_set (world_of old).slots event.slot s) kept.same
+          ∙ set_same (world_of old).slots event.slot state state here refl)
+          (step.disturbed ∙ ap (λ (r : Reply A). noted event.slot
+          (met_refusal r (world_of old).health.failures (world_of new).health.failures)
+          (world_of old).disturbed) said
+          ∙ unnoted told event.slot (world_of old).health (world_of new).health (world_of old).disturbed
+          (quiet (world_of old).health.failures) kept.health)
+          step.outside kept.health;
+      outputs = stays_waiting old new event told h
+          (h.answers.appended ∙ ap (λ (bytes : List ℕ). output_of event.slot old ++ bytes) silent
+          ∙ append-nil (output_of event.slot old));
+      paused = h.paused;
+      budget = h.budget;
+    }
+
+pub busy_keeps : {A : Type 0} (old new : SessionState) (event : Event A) → IsStep old event reply.Busy new
+    → IsKept old new × (must_wait event.what ≡ true)
+busy_keeps {A} old new event h = (
+  kept_at old new event reply.Busy (slice_get (world_of old).slots event.slot) h refl (λ is. cc (is))
+      (λ failures. refl) (λ state before after outcome given is.
+      busy_by state.host state event.what before after outcome given is) h.answers.step,
+  waits (slice_get (world_of old).slots event.slot) h.answers.step,
+)
+  where
+    waits : (o : Option SlotState)
+        → MatchOption o (MissingStep (world_of old) event.slot h.answers.written (world_of new))
+        (λ state. SlotStep (world_of old) event.slot state event.what h.answers.written (world_of new))
+        → must_wait event.what ≡ true
+    waits None step =
+        let no : reply.BadSlot ≡ reply.Busy =
+        sym (ap (λ (w : Record A). w.reply) step.recorded) ∙ h.answers.replied in absurd (cc (no))
+    waits (Some state) step =
+        (busy_stays state event.what (world_of old).health (world_of new).health step.outcome step.given
+        (sym (ap (λ (w : Record A). w.reply) step.recorded) ∙ h.answers.replied)).1
+
+pub idle_keeps : {A : Type 0} (old new : SessionState) (event : Event A) → IsStep old event reply.Idle new
+    → IsKept old new
+idle_keeps {A} old new event h =
+    kept_at old new event reply.Idle (slice_get (world_of old).slots event.slot) h refl (λ is. cc (is))
+    (λ failures. refl) (λ state before after outcome given is.
+    idle_by state.host state event.what before after outcome given is) h.answers.step
+
+-- ---- what is in flight
+
+-- a call keeps every slot but its own
+called_others : {A : Type 0} (old new : SessionState) (call : Call A) (response : Response A)
+    (o : Option (Option Pause)) → ComesTo call o old response new
+    → KeepsOthers (slot_in call) old.slots new.slots
+called_others old new call response None h = λ other differ. ap (λ (s : SessionState). slice_get s.slots other) h.1
+called_others old new (Handle event) response (Some None) h = h.turn.others
+called_others old new (Handle event) response (Some (Some pause)) h =
+    λ other differ. ap (λ (s : SessionState). slice_get s.slots other) h.1
+called_others old new (GoOn slot) response (Some None) h =
+    λ other differ. ap (λ (s : SessionState). slice_get s.slots other) h.1
+called_others old new (GoOn slot) response (Some (Some pause)) h = h.others
+
+-- an event that is answered keeps what is in flight of its slot
+step_flies : {A : Type 0} (old new : SessionState) (event : Event A) (told : Reply A) (here : InFlight)
+    (o : Option SlotState) (h : IsStep old event told new) → slice_get (world_of old).slots event.slot ≡ o
+    → IsOwn event.what → option_and_then (λ (state : SlotState). flight_in state.host) o ≡ Some here
+    → MatchOption o (MissingStep (world_of old) event.slot h.answers.written (world_of new))
+    (λ state. SlotStep (world_of old) event.slot state event.what h.answers.written (world_of new))
+    → option_and_then (λ (state : SlotState). flight_in state.host)
+    (slice_get (world_of new).slots event.slot) ≡ Some here
+step_flies old new event told here None h there own flies step = absurd (cc (flies))
+step_flies old new event told here (Some state) h there own flies step =
+    ap (λ (o : Option SlotState). option_and_then (λ (s : SlotState). flight_in s.host) o)
+    (ap (λ (states : List SlotState). slice_get states event.slot) step.slots
+    ∙ get_set (world_of old).slots event.slot state step.outcome.state there)
+    ∙ outlasts state here event.what (world_of old).health (world_of new).health step.outcome own flies
+    step.given
+
+own_flies : {A : Type 0} (old new : SessionState) (event : Event A) (response : Response A)
+    (here : InFlight) (o : Option (Option Pause)) → IsOwn event.what
+    → ComesTo (Handle event) o old response new → IsWhole old event response new
+    → flight_at event.slot old.slots ≡ Some here → flight_at event.slot new.slots ≡ Some here
+own_flies old new event (Answered told) here o own comes whole flies =
+    seen_at flight_in new.slots new.image event.slot
+    ∙ step_flies old new event told here (slice_get (world_of old).slots event.slot) whole refl own
+    (sym (seen_at flight_in old.slots old.image event.slot) ∙ flies) whole.answers.step
+own_flies old new event More here o own comes whole flies =
+    pausing_keeps flight_in old new event o comes ∙ flies
+own_flies old new event Busy here None own comes whole flies =
+    ap (λ (s : SessionState). flight_at event.slot s.slots) comes.1 ∙ flies
+own_flies old new event Busy here (Some None) own comes whole flies =
+    absurd (never_busy comes.turn.turn (sym comes.turn.told))
+own_flies old new event Busy here (Some (Some pause)) own comes whole flies =
+    ap (λ (s : SessionState). flight_at event.slot s.slots) comes.1 ∙ flies
+own_flies old new event Idle here None own comes whole flies =
+    ap (λ (s : SessionState). flight_at event.slot s.slots) comes.1 ∙ flies
+own_flies old new event Idle here (Some None) own comes whole flies =
+    absurd (never_idle comes.turn.turn (sym comes.turn.told))
+own_flies old new event Idle here (Some (Some pause)) own comes whole flies =
+    ap (λ (s : SessionState). flight_at event.slot s.slots) comes.1 ∙ flies
+
+called_flies : {A : Type 0} (old new : SessionState) (call : Call A) (response : Response A)
+    (here : InFlight) → IfEvent call (λ event. IsOwn event.what) → IsCalled old call response new
+    → flight_at (slot_in call) old.slots ≡ Some here → flight_at (slot_in call) new.slots ≡ Some here
+called_flies old new (Handle event) response here own h flies =
+    own_flies old new event response here (slice_get old.paused event.slot) own h.turn h.whole flies
+called_flies old new (GoOn slot) response here own h flies =
+    going_on_keeps flight_in old new slot response (slice_get old.paused slot) h ∙ flies
+
+pub flies_on : {A : Type 0} (old new : SessionState) (call : Call A) (response : Response A) (slot : ℕ)
+    (here : InFlight) → IfEvent call (λ event. IsOwn event.what) → IsCalled old call response new
+    → flight_at slot old.slots ≡ Some here → flight_at slot new.slots ≡ Some here
+flies_on old new call response slot here own h flies =
+    elim (cases_eq (slot_in call) slot) [
+      | inl is ↦ subst (λ k. flight_at k new.slots ≡ Some here) is
+          (called_flies old new call response here own h
+          (subst (λ k. flight_at k old.slots ≡ Some here) (sym is) flies))
+      | inr other ↦ ap (λ (o : Option BoardSlot). option_and_then (λ (found : BoardSlot). flight_in found.host) o)
+          (called_others old new call response (slice_get old.paused (slot_in call))
+          (by_pause old call response new h) slot (λ same. other (sym same))) ∙ flies
+    ]

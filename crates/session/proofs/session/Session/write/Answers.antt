@@ -1,0 +1,47 @@
+-- When a write is refused, and when it asks the host for something.
+use Rattle.board.specs.declared.event.EventKind.TheVariants.{Write}
+use Rattle.session.specs.Answering.{served_response}
+use Rattle.session.specs.Operations.{HasAsked, operation_at}
+use Rattle.session.proofs.Asking.{asked_where, asks_where, pausing_asks}
+use Rattle.session.proofs.Exact.{refuses, served_pure}
+use Rattle.session.proofs.session.Session.write.Goals as goal
+
+pub returns-clause-asks : goal.returns-clause-asks
+returns-clause-asks g c =
+    let turn = c.turn-response in
+    let old = c.args.self.now in
+    let new = turn.new.self in
+    asks_where turn.result.response c.served.result c.has_asked-asks.result (HasAsked c.args.slot old new)
+    c.served.ensures.asks
+    (rw (c.has_asked-asks.ensures) (asked_where c.is_asking-before.result c.is_asking-after.result
+    (operation_at c.args.slot old.slots) (operation_at c.args.slot new.slots) c.is_asking-before.ensures
+    c.is_asking-after.ensures))
+    (pausing_asks old new c.args.slot
+    (Write c.args.window c.args.offset c.args.width c.args.value) turn.result.response turn.ensures.call)
+
+pub returns-clause-bad_slot : goal.returns-clause-bad_slot
+returns-clause-bad_slot g c =
+    let turn = c.turn-response in
+    let says = refuses c.args.self.now turn.new.self c.args.slot
+    (Write c.args.window c.args.offset c.args.width c.args.value) turn.result.response served_response
+    c.served.result (served_pure _) c.served.ensures.told turn.ensures.as_many
+    (record { turn = turn.ensures.call; whole = turn.ensures.whole }) in
+    says.bad_slot
+
+pub returns-clause-busy : goal.returns-clause-busy
+returns-clause-busy g c =
+    let turn = c.turn-response in
+    let says = refuses c.args.self.now turn.new.self c.args.slot
+    (Write c.args.window c.args.offset c.args.width c.args.value) turn.result.response served_response
+    c.served.result (served_pure _) c.served.ensures.told turn.ensures.as_many
+    (record { turn = turn.ensures.call; whole = turn.ensures.whole }) in
+    says.busy
+
+pub returns-clause-no_room : goal.returns-clause-no_room
+returns-clause-no_room g c =
+    let turn = c.turn-response in
+    let says = refuses c.args.self.now turn.new.self c.args.slot
+    (Write c.args.window c.args.offset c.args.width c.args.value) turn.result.response served_response
+    c.served.result (served_pure _) c.served.ensures.told turn.ensures.as_many
+    (record { turn = turn.ensures.call; whole = turn.ensures.whole }) in
+    λ is. says.no_room is tt
