@@ -93,7 +93,7 @@ impl BlockDevice {
                     operation,
                 })
             }
-            Ok(left) => Hosted::by(show(window, left, room)),
+            Ok(left) => Hosted::by(show(window, REQUESTQ, left, room)),
         }
     }
 }
@@ -122,7 +122,7 @@ impl Flight {
         room.count(written);
         let wanted = queue.close(mem);
         let fault = None;
-        let _ = show(window, Left::Closed { fault, wanted }, room);
+        let _ = show(window, REQUESTQ, Left::Closed { fault, wanted }, room);
     }
 
     /// Writes the status of the chain in flight, and gives it back. Answers how many bytes its used entry says.

@@ -113,7 +113,7 @@ impl BlockDevice {
             unreachable!();
         };
         Piece {
-            progress: show(window, left, room),
+            progress: show(window, REQUESTQ, left, room),
             failed: device.failed,
         }
     }

@@ -8,6 +8,7 @@ use Rattle.chain.proofs.Simulating.{DoesAs}
 use Rattle.chain.specs.Service.{Refused, IsExactUnless}
 use Rattle.mmio_window.specs.declared.queue.Queue.{Queue}
 use Rattle.mmio_window.specs.declared.stage.Stage.{Stage}
+use Rattle.mmio_window.specs.FaultNote.{fault_in}
 use Rattle.mmio_window.specs.Leaving.{LeavesQueue, site_at}
 use Rattle.mmio_window.specs.Pieces.{BeginsTo}
 use Rattle.mmio_window.specs.Serving.{Notified, ending_of}
@@ -40,9 +41,10 @@ pub transmits : (limit : Option ℕ) (stage : Stage) (budget : Budget) (queue la
 transmits limit stage budget queue last m m' s s' Open h =
     pauses_exactly (transmit_within limit) (transmit_fitting limit) (λ out. 0) (exact_fitting limit) budget
     (site_at m queue s) (site_at m' last s') refl stage h
-transmits limit stage budget queue last m m' s s' (Closed fault wanted) h =
+transmits limit stage budget queue last m m' s s' (Closed met wanted) h =
     ends_exactly (transmit_within limit) (transmit_fitting limit) (λ out. 0) (exact_fitting limit) budget
-    (site_at m queue s) (site_at m' last s') refl stage (ending_of fault) wanted (no_refusal fault) h
+    (site_at m queue s) (site_at m' last s') refl stage (ending_of (fault_in met)) wanted
+    (no_refusal (fault_in met)) h
 
 -- ---- without limits
 

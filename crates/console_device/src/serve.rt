@@ -61,7 +61,7 @@ impl<A: Allocator> ConsoleDevice<A> {
         let Ok(left) = serve_queue(&mut device, pending, mem, queue, stage, budget, room) else {
             unreachable!();
         };
-        show(window, left, room)
+        show(window, RECEIVEQ, left, room)
     }
 
     /// Puts out the chains on offer (5.3.6), in the window of this device, behind what stands in `out`. A chain
@@ -121,11 +121,11 @@ impl<A: Allocator> ConsoleDevice<A> {
         };
         let mut device = Transmit;
         match serve_queue(&mut device, out, mem, queue, stage, budget, room) {
-            Ok(left) => Ok(show(window, left, room)),
+            Ok(left) => Ok(show(window, TRANSMITQ, left, room)),
             Err(refused) => {
                 let fault = None;
                 let wanted = queue.close(mem);
-                let _ = show(window, Left::Closed { fault, wanted }, room);
+                let _ = show(window, TRANSMITQ, Left::Closed { fault, wanted }, room);
                 Err(refused.why)
             }
         }

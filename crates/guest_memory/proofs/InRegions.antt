@@ -7,10 +7,10 @@ use Rattle.std.proofs.lemmas.Bool.Decides.{nat_tests, same_from_decides}
 use Rattle.std.proofs.lemmas.List.{places, same_lists, length-replicate, length-set}
 use Rattle.std.specs.List.{position, position_or_len}
 use Rattle.std.proofs.lemmas.List.Quantifiers.{position-Some}
-use Rattle.guest_memory.specs.Memory.{Gap, Memory, Inside, MissesAll, IsRest, is_inside, part_of, put_at, up_to_gap, put, zeroed}
+use Rattle.guest_memory.specs.Memory.{Gap, Memory, Inside, MissesAll, IsRest, is_inside, part_of, put_at, stored, up_to_gap, zeroed}
 use Rattle.guest_memory.specs.Regions.{Region, end_of, in_front, memory_of, AreApart, AreRegions, IsIn, touches}
 use Rattle.guest_memory.proofs.Gaps.{misses-none, misses-more, misses-first, misses-rest, up_to_gap-none, up_to_gap-behind, up_to_gap-before}
-use Rattle.guest_memory.proofs.Ranges.{is_inside-tells, length-put_at, put_range}
+use Rattle.guest_memory.proofs.Ranges.{is_inside-tells, length-put_at}
 
 -- a region's bytes are others of the same number
 abbrev pub with_bytes : Region → List ℕ → Region
@@ -89,7 +89,7 @@ put_at_behind xs ys i j bs e =
 
 -- a write behind the region is one to the memory that follows it
 put_later : (r : Region) (m : Memory) (a : ℕ) (bs : List ℕ) → end_of r ≤ m.base → m.base ≤ a
-    → put (in_front r m) a bs ≡ in_front r (put m a bs)
+    → stored (in_front r m) a bs ≡ in_front r (stored m a bs)
 unfolding in_front
 put_later r m a bs apart above =
     let ws = up_to_gap m.gaps a bs in
@@ -125,7 +125,7 @@ put_at_front xs ys i bs within =
 
 -- a write in the region stays in it
 put_first : (r : Region) (m : Memory) (a : ℕ) (bs : List ℕ) → end_of r < m.base → r.base ≤ a → a ≤ end_of r
-    → put (in_front r m) a bs ≡ in_front (with_put r a bs) m
+    → stored (in_front r m) a bs ≡ in_front (with_put r a bs) m
 unfolding in_front
 put_first r m a bs apart above below =
     let same : length (put_at r.bytes (a - r.base) bs) ≡ length r.bytes =
@@ -139,10 +139,11 @@ put_first r m a bs apart above below =
       base = r.base;
       bytes = put_at r.bytes (a - r.base) bs ++ (replicate (m.base - (r.base + k)) 0 ++ m.bytes);
       gaps = record { start = r.base + k; end = m.base } ∷ m.gaps;
+      pages = m.pages;
     }) (sym same)
 
 -- what the words compute to
-one_region_is : (r : Region) → memory_of (r ∷ []) ≡ record { base = r.base; bytes = r.bytes; gaps = [] }
+one_region_is : (r : Region) → memory_of (r ∷ []) ≡ record { base = r.base; bytes = r.bytes; gaps = []; pages = [] }
 unfolding memory_of
 one_region_is r = refl
 
@@ -238,7 +239,7 @@ pub inside_region : (rs : List Region) (i : ℕ) (d : Region) (a n : ℕ) → Ar
     → IsIn (get_or rs i d) a n
 inside_region [] i d a n h within above below inside = absurd (omega arith)
 inside_region (r ∷ []) zero d a n h within above below inside =
-    let one : Inside (record { base = r.base; bytes = r.bytes; gaps = [] }) a n =
+    let one : Inside (record { base = r.base; bytes = r.bytes; gaps = []; pages = [] }) a n =
     subst (λ (m : Memory). Inside m a n) (one_region_is r) inside in
     record { above = above; below = omega (arith, one.below) }
 inside_region (r ∷ []) (suc i) d a n h within above below inside = absurd (omega arith)
@@ -317,20 +318,20 @@ more_in_front r (s ∷ rs) some = more_regions_are r s rs
 -- a write that begins in a region, or at its end, is one to that region, however many bytes it has
 pub put_region : (rs : List Region) (i : ℕ) (d : Region) (a : ℕ) (bs : List ℕ) → AreApart rs → i < length rs
     → (get_or rs i d).base ≤ a → a ≤ end_of (get_or rs i d)
-    → memory_of (set rs i (with_put (get_or rs i d) a bs)) ≡ put (memory_of rs) a bs
+    → memory_of (set rs i (with_put (get_or rs i d) a bs)) ≡ stored (memory_of rs) a bs
 put_region [] i d a bs h within above below = absurd (omega arith)
 put_region (r ∷ []) zero d a bs h within above below =
     one_region_is (with_put r a bs)
-    ∙ ap (λ (ws : List ℕ). record { base = r.base; bytes = put_at r.bytes (a - r.base) ws; gaps = [] })
+    ∙ ap (λ (ws : List ℕ). record { base = r.base; bytes = put_at r.bytes (a - r.base) ws; gaps = []; pages = [] })
     (sym (up_to_gap-none a bs))
-    ∙ ap (λ (m : Memory). put m a bs) (sym (one_region_is r))
+    ∙ ap (λ (m : Memory). stored m a bs) (sym (one_region_is r))
 put_region (r ∷ []) (suc i) d a bs h within above below = absurd (omega arith)
 put_region (r ∷ (s ∷ rs)) zero d a bs h within above below =
     let apart = apart_more r s rs h in
     let base = first_base s rs in
     more_regions_are (with_put r a bs) s rs
     ∙ sym (put_first r (memory_of (s ∷ rs)) a bs (omega (arith, apart.0, base)) above below)
-    ∙ ap (λ (m : Memory). put m a bs) (sym (more_regions_are r s rs))
+    ∙ ap (λ (m : Memory). stored m a bs) (sym (more_regions_are r s rs))
 put_region (r ∷ (s ∷ rs)) (suc i) d a bs h within above below =
     let apart = apart_more r s rs h in
     let base = first_base s rs in
@@ -340,7 +341,7 @@ put_region (r ∷ (s ∷ rs)) (suc i) d a bs h within above below =
     ∙ ap (in_front r) (put_region (s ∷ rs) i d a bs apart.1 (omega arith) above below)
     ∙ sym (put_later r (memory_of (s ∷ rs)) a bs (omega (arith, apart.0, base))
     (omega (arith, base, begins, above)))
-    ∙ ap (λ (m : Memory). put m a bs) (sym (more_regions_are r s rs))
+    ∙ ap (λ (m : Memory). stored m a bs) (sym (more_regions_are r s rs))
 
 -- regions stay apart where one has other bytes, and as many
 pub apart-with_bytes : (rs : List Region) (i : ℕ) (d : Region) (bytes : List ℕ) → AreApart rs → i < length rs
@@ -380,7 +381,7 @@ pub inside_some : (rs : List Region) (a n : ℕ) → AreApart rs → Inside (mem
     → position_or_len (touches a) rs < length rs
 inside_some [] a n h inside = absurd (omega (arith, some_region [] h))
 inside_some (r ∷ []) a n h inside =
-    let one : Inside (record { base = r.base; bytes = r.bytes; gaps = [] }) a n =
+    let one : Inside (record { base = r.base; bytes = r.bytes; gaps = []; pages = [] }) a n =
     subst (λ (m : Memory). Inside m a n) (one_region_is r) inside in
     found_here a r [] (omega (arith, one.above)) (omega (arith, one.below))
 inside_some (r ∷ (s ∷ rs)) a n h inside =
@@ -512,11 +513,11 @@ part_in rs i a n x m same h within isin is =
 -- a write to the region x
 pub put_in : (rs : List Region) (i a n : ℕ) (x : Region) (m : Memory) (bs : List ℕ) → memory_of rs ≡ m
     → AreApart rs → i < length rs
-    → IsIn (get_or rs i x) a n → x ≡ get_or rs i x → memory_of (set rs i (with_put x a bs)) ≡ put m a bs
+    → IsIn (get_or rs i x) a n → x ≡ get_or rs i x → memory_of (set rs i (with_put x a bs)) ≡ stored m a bs
 put_in rs i a n x m bs same h within isin is =
     ap (λ (r : Region). memory_of (set rs i (with_put r a bs))) is
     ∙ put_region rs i x a bs h within isin.above (omega (arith, isin.below))
-    ∙ ap (λ (m : Memory). put m a bs) same
+    ∙ ap (λ (m : Memory). stored m a bs) same
 
 -- and the regions then
 pub apart-put_in : (rs : List Region) (i a : ℕ) (x : Region) (bs : List ℕ) → AreApart rs → i < length rs
@@ -531,7 +532,7 @@ pub regions-put_in : (rs : List Region) (i a n : ℕ) (x : Region) (bs : List �
     → x ≡ get_or rs i x → AreRegions (set rs i (with_put x a bs))
 regions-put_in rs i a n x bs h within isin is =
     let same = put_in rs i a n x (memory_of rs) bs refl h.apart within isin is in
-    let size = (put_range (memory_of rs) a bs).size in
+    let size = length-put_at (memory_of rs).bytes (a - (memory_of rs).base) (up_to_gap (memory_of rs).gaps a bs) in
     record {
       apart = apart-put_in rs i a x bs h.apart within is;
       spans =

@@ -1,6 +1,9 @@
 pub mod Faults
 pub mod Gaps
+pub mod Marking
+pub mod PageBits
 pub mod Ranges
+pub mod Marks
 pub mod InRegions
 pub mod Placing
 pub mod Stocked

@@ -5,7 +5,9 @@ use Rattle.std.proofs.lemmas.Bool.Decides.{nat_tests}
 use Rattle.std.proofs.lemmas.List.{places, same_lists}
 use Rattle.byteorder.specs.Endian.{little_number}
 use Rattle.byteorder.specs.Numbers.{little_from-take}
-use Rattle.guest_memory.specs.Memory.{Gap, Memory, Inside, MissesAll, is_inside, misses_all, SameRange, num, part_of, put_at, up_to_gap, put}
+use Rattle.guest_memory.specs.Memory.{Gap, Memory, Inside, MissesAll, is_inside, misses_all, SameRange, num, part_of, put_at, up_to_gap, put, stored, with_marks}
+use Rattle.guest_memory.specs.Pages.{marked}
+use Rattle.guest_memory.proofs.Marking.{marked-marked, marked-none}
 use Rattle.guest_memory.proofs.Gaps.{misses-none, misses_part, misses_all-true, true-misses_all, up_to_gap-all, up_to_gap-nil}
 
 -- a list keeps its length, whatever is written where
@@ -17,10 +19,20 @@ pub written : (m : Memory) (a : ℕ) (bs : List ℕ) → Inside m a (length bs) 
 written m a bs inside = up_to_gap-all m.gaps a bs inside.clear
 
 -- so the memory then has its bytes from there on
-pub put_bytes : (m : Memory) (a : ℕ) (bs : List ℕ) → Inside m a (length bs)
-    → put m a bs ≡ record m { bytes = put_at m.bytes (a - m.base) bs }
-put_bytes m a bs inside =
+pub stored_bytes : (m : Memory) (a : ℕ) (bs : List ℕ) → Inside m a (length bs)
+    → stored m a bs ≡ record m { bytes = put_at m.bytes (a - m.base) bs }
+stored_bytes m a bs inside =
     ap (λ (ws : List ℕ). record m { bytes = put_at m.bytes (a - m.base) ws }) (written m a bs inside)
+
+pub put_bytes : (m : Memory) (a : ℕ) (bs : List ℕ) → Inside m a (length bs)
+    → put m a bs ≡ record (with_marks m a (length bs)) { bytes = put_at m.bytes (a - m.base) bs }
+put_bytes m a bs inside =
+    ap (λ (ws : List ℕ). record (with_marks m a (length bs)) { bytes = put_at m.bytes (a - m.base) ws })
+    (written m a bs inside)
+
+-- what is put into a part that was lent is a write
+pub lent_put : (m : Memory) (a n : ℕ) (bs : List ℕ) → n ≡ length bs → stored (with_marks m a n) a bs ≡ put m a bs
+lent_put m a n bs same = ap (λ (k : ℕ). stored (with_marks m a k) a bs) same
 
 -- a memory without gaps lies in itself
 pub whole_inside : (m : Memory) (n : ℕ) → m.gaps ≡ [] → n ≡ length m.bytes → Inside m m.base n
@@ -47,12 +59,24 @@ put_range m a bs = record {
   gaps = refl;
 }
 
+pub stored_range : (m : Memory) (a : ℕ) (bs : List ℕ) → SameRange m (stored m a bs)
+stored_range m a bs = record {
+  base = refl;
+  size = length-put_at m.bytes (a - m.base) (up_to_gap m.gaps a bs);
+  gaps = refl;
+}
+
+pub pages_range : (m : Memory) (bits : List Bool) → SameRange m (record m { pages = bits })
+pages_range m bits = record { base = refl; size = refl; gaps = refl }
+
 -- a write of nothing changes nothing
 pub put-none : (m : Memory) (a : ℕ) → put m a [] ≡ m
 put-none m a =
-    ap (λ (ws : List ℕ). record m { bytes = put_at m.bytes (a - m.base) ws }) (up_to_gap-nil m.gaps a)
-    ∙ ap (λ (xs : List ℕ). record m { bytes = xs })
+    ap (λ (ws : List ℕ). record (with_marks m a 0) { bytes = put_at m.bytes (a - m.base) ws })
+    (up_to_gap-nil m.gaps a)
+    ∙ ap (λ (xs : List ℕ). record (with_marks m a 0) { bytes = xs })
     (same_lists _ _ (length-put_at m.bytes (a - m.base) []) (λ k d h. grind (arith, places)))
+    ∙ ap (λ (bits : List Bool). record m { pages = bits }) (marked-none 0 (a - m.base) m.pages)
 
 -- two writes in a list, the second right behind the first, are one
 pub put_at-put_at : (xs : List ℕ) (i : ℕ) (bs cs : List ℕ) → i + length bs + length cs ≤ length xs
@@ -62,15 +86,15 @@ put_at-put_at xs i bs cs fits =
     (λ k d h. grind (arith, places))
 
 -- two writes, the second right behind the first, are one
-pub put-put : (m : Memory) (a : ℕ) (xs ys : List ℕ) → Inside m a (length xs + length ys)
-    → put (put m a xs) (a + length xs) ys ≡ put m a (xs ++ ys)
-put-put m a xs ys inside =
+stored-stored : (m : Memory) (a : ℕ) (xs ys : List ℕ) → Inside m a (length xs + length ys)
+    → stored (stored m a xs) (a + length xs) ys ≡ stored m a (xs ++ ys)
+stored-stored m a xs ys inside =
     let place : a + length xs - m.base ≡ (a - m.base) + length xs = omega (arith, inside.above) in
     let first : Inside m a (length xs) = inside_part inside (omega arith) (omega arith) in
     let second : Inside m (a + length xs) (length ys) = inside_part inside (omega arith) (omega arith) in
     let both : Inside m a (length (xs ++ ys)) =
     inside_part inside (omega arith) (omega (arith, length-append xs ys)) in
-    ap (λ (x : Memory). put x (a + length xs) ys) (put_bytes m a xs first)
+    ap (λ (x : Memory). stored x (a + length xs) ys) (stored_bytes m a xs first)
     ∙ ap (λ (ws : List ℕ). record m {
       bytes = put_at (put_at m.bytes (a - m.base) xs) (a + length xs - m.base)
           ws;
@@ -78,7 +102,20 @@ put-put m a xs ys inside =
     ∙ ap (λ (i : ℕ). record m { bytes = put_at (put_at m.bytes (a - m.base) xs) i ys }) place
     ∙ ap (λ (bs : List ℕ). record m { bytes = bs })
     (put_at-put_at m.bytes (a - m.base) xs ys (omega (arith, inside.above, inside.below)))
-    ∙ sym (put_bytes m a (xs ++ ys) both)
+    ∙ sym (stored_bytes m a (xs ++ ys) both)
+
+pub put-put : (m : Memory) (a : ℕ) (xs ys : List ℕ) → Inside m a (length xs + length ys)
+    → put (put m a xs) (a + length xs) ys ≡ put m a (xs ++ ys)
+put-put m a xs ys inside =
+    let i = a - m.base in
+    let place : a + length xs - m.base ≡ i + length xs = omega (arith, inside.above) in
+    let first : List Bool = marked 0 i (length xs) m.pages in
+    ap (λ (x : Memory). record x { pages = marked 0 (a + length xs - m.base) (length ys) first })
+    (stored-stored m a xs ys inside)
+    ∙ ap (λ (bits : List Bool). record (stored m a (xs ++ ys)) { pages = bits })
+    (ap (λ (k : ℕ). marked 0 k (length ys) first) place
+    ∙ marked-marked 0 i (length xs) (length ys) m.pages
+    ∙ ap (λ (n : ℕ). marked 0 i n m.pages) (sym (length-append xs ys)))
 
 -- the first bytes of a list, and those that follow
 pub take-plus : (n k : ℕ) (xs : List ℕ) → take (n + k) xs ≡ take n xs ++ take k (drop n xs)

@@ -4,9 +4,11 @@ use Rattle.std.proofs.Common.{◌≡◌, ◌↔◌, ◌==◌, ◌<◌, ◌≤◌
 use Rattle.std.specs.Prelude.{nat_le, IsTrue}
 use Rattle.std.proofs.lemmas.Bool.Decides.{nat_tests}
 use Rattle.std.proofs.lemmas.List.{length-set}
-use Rattle.guest_memory.specs.Memory.{Memory, Inside, part_of, put}
-use Rattle.guest_memory.specs.Regions.{Region, AreRegions, IsIn, end_of, memory_of, touches}
-use Rattle.guest_memory.specs.Stock.{regions_of}
+use Rattle.guest_memory.specs.Memory.{Memory, Inside, part_of, stored, with_marks}
+use Rattle.guest_memory.specs.Pages.{bits_of, marked}
+use Rattle.guest_memory.specs.Regions.{Region, AreRegions, IsIn, end_of, in_front, memory_of, touches}
+use Rattle.guest_memory.specs.Stock.{regions_of, with_pages}
+use Rattle.guest_memory.proofs.Marking.{marked-nil}
 use Rattle.guest_memory.proofs.InRegions.{one_holds, one_misses, only_inside, part_in, place_in, put_in, region_fits, regions-put_in, with_put}
 
 -- none are its own: the lent ones
@@ -26,46 +28,69 @@ regions_own [] lent some = absurd (omega (arith, some))
 regions_own (r ∷ rs) lent some = refl
 
 -- the list xs that is searched has the memory's regions: the lent ones, or its own
-pub lent_view : (own lent : List Region) {xs : List Region} {count : ℕ} {test : Bool} {m : Memory}
+pub lent_view : (own lent : List Region) {xs : List Region} {count : ℕ} {test : Bool} {bits : List Bool} {m : Memory}
     → length own ≡ count
     → test ≡ (count == 0) → test ≡ true
-    → memory_of (regions_of own lent) ≡ m → xs ≡ lent → memory_of xs ≡ m
-lent_view own lent {count = count} {test = test} size is empty view same =
-    ap memory_of (same ∙ sym (lent_regions own lent count test size is empty)) ∙ view
+    → with_pages bits (memory_of (regions_of own lent)) ≡ m → xs ≡ lent → with_pages bits (memory_of xs) ≡ m
+lent_view own lent {count = count} {test = test} {bits = bits} size is empty view same =
+    ap (λ (rs : List Region). with_pages bits (memory_of rs))
+    (same ∙ sym (lent_regions own lent count test size is empty)) ∙ view
 
-pub own_view : (own lent : List Region) {xs : List Region} {count : ℕ} {test : Bool} {m : Memory}
+pub own_view : (own lent : List Region) {xs : List Region} {count : ℕ} {test : Bool} {bits : List Bool} {m : Memory}
     → length own ≡ count
     → test ≡ (count == 0) → test ≡ false
-    → memory_of (regions_of own lent) ≡ m → xs ≡ own → memory_of xs ≡ m
-own_view own lent {count = count} {test = test} size is some view same =
-    ap memory_of (same ∙ sym (regions_own own lent (some_own own size is some))) ∙ view
+    → with_pages bits (memory_of (regions_of own lent)) ≡ m → xs ≡ own → with_pages bits (memory_of xs) ≡ m
+own_view own lent {count = count} {test = test} {bits = bits} size is some view same =
+    ap (λ (rs : List Region). with_pages bits (memory_of rs))
+    (same ∙ sym (regions_own own lent (some_own own size is some))) ∙ view
+
+-- the bits of pages have no part in where a range lies
+pub inside_with : {m : Memory} {a n : ℕ} (bits : List Bool) → Inside m a n → Inside (with_pages bits m) a n
+inside_with bits h = record { above = h.above; below = h.below; clear = h.clear }
+
+pub inside_without : {m : Memory} {a n : ℕ} (bits : List Bool) → Inside (with_pages bits m) a n → Inside m a n
+inside_without bits h = record { above = h.above; below = h.below; clear = h.clear }
+
+pub tells_with : {P : Type 0} {m with_bits : Memory} {a n : ℕ} {bits : List Bool} → with_pages bits m ≡ with_bits
+    → P ↔ Inside m a n
+    → P ↔ Inside with_bits a n
+tells_with {P} {m} {with_bits} {a} {n} {bits} is h = (
+  λ p. subst (λ (k : Memory). Inside k a n) is (inside_with bits (h.0 p)),
+  λ inside. h.1 (inside_without bits (subst (λ (k : Memory). Inside k a n) (sym is) inside)),
+)
 
 -- the memory m has the regions rs, and where other regions ys stand in their list, it has those: all = λ ys.
 -- what is then its list
 pub record IsStock (all : List Region → List Region) (rs : List Region) (m : Memory) : Type 0 where
   pub others : (ys : List Region) → length ys ≡ length rs → all ys ≡ ys
   pub regions : AreRegions rs
-  pub view : memory_of rs ≡ m
+  pub bits : List Bool
+  pub view : with_pages bits (memory_of rs) ≡ m
 
 -- its own ones, where it has some
-pub own_stock : (own lent : List Region) {m : Memory} → 0 < length own → AreRegions (regions_of own lent)
-    → memory_of (regions_of own lent) ≡ m
+pub own_stock : (own lent : List Region) {bits : List Bool} {m : Memory} → 0 < length own
+    → AreRegions (regions_of own lent)
+    → with_pages bits (memory_of (regions_of own lent)) ≡ m
     → IsStock (λ ys. regions_of ys lent) own m
-own_stock own lent some regions view = record {
+own_stock own lent {bits = bits} some regions view = record {
   others = λ ys size. regions_own ys lent (omega (arith, some, size));
   regions = subst AreRegions (regions_own own lent some) regions;
-  view = ap memory_of (sym (regions_own own lent some)) ∙ view;
+  bits = bits;
+  view = ap (λ (rs : List Region). with_pages bits (memory_of rs)) (sym (regions_own own lent some)) ∙ view;
 }
 
 -- the lent ones, where it has none
-pub lent_stock : (own lent : List Region) {count : ℕ} {test : Bool} {m : Memory} → length own ≡ count
+pub lent_stock : (own lent : List Region) {count : ℕ} {test : Bool} {bits : List Bool} {m : Memory}
+    → length own ≡ count
     → test ≡ (count == 0) → test ≡ true
-    → AreRegions (regions_of own lent) → memory_of (regions_of own lent) ≡ m
+    → AreRegions (regions_of own lent) → with_pages bits (memory_of (regions_of own lent)) ≡ m
     → IsStock (λ ys. regions_of own ys) lent m
-lent_stock own lent {count = count} {test = test} size is empty regions view = record {
+lent_stock own lent {count = count} {test = test} {bits = bits} size is empty regions view = record {
   others = λ ys _. lent_regions own ys count test size is empty;
   regions = subst AreRegions (lent_regions own lent count test size is empty) regions;
-  view = ap memory_of (sym (lent_regions own lent count test size is empty)) ∙ view;
+  bits = bits;
+  view = ap (λ (rs : List Region). with_pages bits (memory_of rs))
+      (sym (lent_regions own lent count test size is empty)) ∙ view;
 }
 
 -- the n bytes from address a on lie in the region x, which is the i-th of them
@@ -77,8 +102,8 @@ pub record IsFound (all : List Region → List Region) (rs : List Region) (m : M
   pub is : x ≡ get_or rs i x
 
 -- of one region of its own it is that one
-pub only_found : (own lent : List Region) {m : Memory} {a n : ℕ} {x : Region} → length own ≡ 1
-    → AreRegions (regions_of own lent) → memory_of (regions_of own lent) ≡ m
+pub only_found : (own lent : List Region) {bits : List Bool} {m : Memory} {a n : ℕ} {x : Region} → length own ≡ 1
+    → AreRegions (regions_of own lent) → with_pages bits (memory_of (regions_of own lent)) ≡ m
     → Inside m a n → x ≡ get_or own 0 x → IsFound (λ ys. regions_of ys lent) own m 0 a n x
 only_found own lent {a = a} {n = n} {x = x} one regions view inside is =
     let stock = own_stock own lent (omega (arith, one)) regions view in
@@ -86,7 +111,7 @@ only_found own lent {a = a} {n = n} {x = x} one regions view inside is =
       stock = stock;
       place = omega (arith, one);
       lies = only_inside own a n x stock.regions.apart
-          (subst (λ (m : Memory). Inside m a n) (sym stock.view) inside) one;
+          (inside_without stock.bits (subst (λ (m : Memory). Inside m a n) (sym stock.view) inside)) one;
       is = is;
     }
 
@@ -99,21 +124,23 @@ search_found {xs = xs} {rs = rs} {i = i} {a = a} {n = n} {x = x} stock same with
     record { stock = stock; place = at.0; lies = at.1; is = is }
 
 -- the test of a range in the only region of its own, where the address lies in it or is its end
-pub own_holds : (own lent : List Region) (n room : ℕ) {m : Memory} {a : ℕ} {x : Region} → length own ≡ 1
-    → AreRegions (regions_of own lent) → memory_of (regions_of own lent) ≡ m
+pub own_holds : (own lent : List Region) (n room : ℕ) {bits : List Bool} {m : Memory} {a : ℕ} {x : Region}
+    → length own ≡ 1
+    → AreRegions (regions_of own lent) → with_pages bits (memory_of (regions_of own lent)) ≡ m
     → x ≡ get_or own 0 x → touches a x ≡ true → a + room ≡ end_of x
     → IsTrue (nat_le n room) ↔ Inside m a n
 own_holds own lent n room {m = m} {a = a} {x = x} one regions view is test rest =
     let stock = own_stock own lent (omega (arith, one)) regions view in
-    one_holds own a n room x m stock.view stock.regions.apart one is test rest
+    tells_with stock.view
+    (one_holds own a n room x (memory_of own) refl stock.regions.apart one is test rest)
 
 -- and where it doesn't
-pub own_misses : (own lent : List Region) (n : ℕ) {m : Memory} {a : ℕ} {x : Region} {t : Bool}
-    → length own ≡ 1 → AreRegions (regions_of own lent) → memory_of (regions_of own lent) ≡ m
+pub own_misses : (own lent : List Region) (n : ℕ) {bits : List Bool} {m : Memory} {a : ℕ} {x : Region} {t : Bool}
+    → length own ≡ 1 → AreRegions (regions_of own lent) → with_pages bits (memory_of (regions_of own lent)) ≡ m
     → x ≡ get_or own 0 x → t ≡ touches a x → t ≡ false → IsTrue t ↔ Inside m a n
 own_misses own lent n {m = m} {a = a} {x = x} {t = t} one regions view is tells test =
     let stock = own_stock own lent (omega (arith, one)) regions view in
-    one_misses own a n x t m stock.view stock.regions.apart one is tells test
+    tells_with stock.view (one_misses own a n x t (memory_of own) refl stock.regions.apart one is tells test)
 
 -- the range lies in that region, and ends by 2^64
 pub found_lies : {all : List Region → List Region} {rs : List Region} {m : Memory} {i a n : ℕ} {x : Region}
@@ -132,15 +159,20 @@ pub found_part : {all : List Region → List Region} {rs : List Region} {m : Mem
     → IsFound all rs m i a n x
     → take n (drop (a - x.base) x.bytes) ≡ part_of m a n
 found_part {rs = rs} {m = m} {i = i} {a = a} {n = n} {x = x} at =
-    part_in rs i a n x m at.stock.view at.stock.regions.apart at.place at.lies at.is
+    part_in rs i a n x (memory_of rs) refl at.stock.regions.apart at.place at.lies at.is
+    ∙ ap (λ (m : Memory). part_of m a n) at.stock.view
 
 -- a write there is one to the region, and leaves regions
 pub found_put : {all : List Region → List Region} {rs : List Region} {m : Memory} {i a n : ℕ}
-    {x : Region} (bs : List ℕ)
-    → IsFound all rs m i a n x → memory_of (all (set rs i (with_put x a bs))) ≡ put m a bs
-found_put {rs = rs} {m = m} {i = i} {a = a} {n = n} {x = x} bs at =
-    ap memory_of (at.stock.others _ (length-set rs i (with_put x a bs)))
-    ∙ put_in rs i a n x m bs at.stock.view at.stock.regions.apart at.place at.lies at.is
+    {x : Region} (bits : List Bool) (k : Memory) (bs : List ℕ) → with_pages bits k ≡ m → IsFound all rs m i a n x
+    → with_pages bits (memory_of (all (set rs i (with_put x a bs)))) ≡ stored m a bs
+found_put {all = all} {rs = rs} {m = m} {i = i} {a = a} {n = n} {x = x} bits k bs view at =
+    let same : bits ≡ at.stock.bits =
+    ap (λ (y : Memory). y.pages) view ∙ sym (ap (λ (y : Memory). y.pages) at.stock.view) in
+    ap (λ (kept : List Bool). with_pages kept (memory_of (all (set rs i (with_put x a bs))))) same
+    ∙ ap (with_pages at.stock.bits) (ap memory_of (at.stock.others _ (length-set rs i (with_put x a bs)))
+    ∙ put_in rs i a n x (memory_of rs) bs refl at.stock.regions.apart at.place at.lies at.is)
+    ∙ ap (λ (y : Memory). stored y a bs) at.stock.view
 
 pub found_regions : {all : List Region → List Region} {rs : List Region} {m : Memory} {i a n : ℕ}
     {x : Region} (bs : List ℕ)
@@ -148,3 +180,50 @@ pub found_regions : {all : List Region → List Region} {rs : List Region} {m : 
 found_regions {rs = rs} {i = i} {a = a} {n = n} {x = x} bs at =
     subst AreRegions (sym (at.stock.others _ (length-set rs i (with_put x a bs))))
     (regions-put_in rs i a n x bs at.stock.regions at.place at.lies at.is)
+
+-- marks have no part in where a range lies, nor in its bytes
+pub inside_marked : {m marked_one : Memory} {a n : ℕ} → marked_one ≡ with_marks m a n → Inside m a n
+    → Inside marked_one a n
+inside_marked {m} {marked_one} {a} {n} is h =
+    subst (λ (k : Memory). Inside k a n) (sym is) (inside_with (with_marks m a n).pages h)
+
+pub same_part : (m : Memory) (a n : ℕ) {marked_one : Memory} → marked_one ≡ with_marks m a n
+    → part_of marked_one a n ≡ part_of m a n
+same_part m a n is = ap (λ (k : Memory). part_of k a n) is
+
+-- and a part that was lent has as many bytes as are marked
+pub marked_part : (m : Memory) (a : ℕ) {marked_one : Memory} {n len : ℕ} → marked_one ≡ with_marks m a n → len ≡ n
+    → (bs : List ℕ)
+    → stored marked_one a bs ≡ stored (with_marks m a len) a bs
+marked_part m a {marked_one} {n} {len} is same bs =
+    ap (λ (k : Memory). stored k a bs) is ∙ ap (λ (k : ℕ). stored (with_marks m a k) a bs) (sym same)
+
+no_bits : (bytes : List ℕ) → bytes ≡ [] → bits_of bytes ≡ []
+unfolding bits_of
+no_bits bytes none = ap bits_of none
+
+-- of a memory of which no bits are kept none are marked
+pub none_marked : (bytes : List ℕ) (a n : ℕ) (k : Memory) {count : ℕ} {test : Bool} {m : Memory}
+    → count ≡ length bytes → test ≡ (count == 0) → test ≡ true → with_pages (bits_of bytes) k ≡ m → m ≡ with_marks m a n
+none_marked [] a n k {m = m} size is empty view =
+    let none : m.pages ≡ [] = sym (ap (λ (x : Memory). x.pages) view) ∙ no_bits [] refl in
+    sym (ap (λ (bits : List Bool). record m { pages = marked 0 (a - m.base) n bits }) none
+    ∙ ap (λ (bits : List Bool). record m { pages = bits }) (marked-nil 0 (a - m.base) n)
+    ∙ ap (λ (bits : List Bool). record m { pages = bits }) (sym none))
+none_marked (byte ∷ bytes) a n k size is empty view = absurd (grind (arith, nat_tests, size, is, empty))
+
+-- where no bits are kept, the memory is that of its regions
+unmarked_front : (r : Region) (m : Memory) → with_pages [] m ≡ m → with_pages [] (in_front r m) ≡ in_front r m
+unfolding in_front
+unmarked_front r m is = ap (in_front r) is
+
+unmarked : (rs : List Region) → with_pages [] (memory_of rs) ≡ memory_of rs
+unfolding memory_of
+unmarked [] = refl
+unmarked (r ∷ []) = refl
+unmarked (r ∷ (s ∷ rs)) = unmarked_front r (memory_of (s ∷ rs)) (unmarked (s ∷ rs))
+
+pub none_kept : (bytes : List ℕ) (rs : List Region) {m : Memory} → bytes ≡ [] → memory_of rs ≡ m
+    → with_pages (bits_of bytes) (memory_of rs) ≡ m
+none_kept bytes rs {m} none is =
+    ap (λ (bits : List Bool). with_pages bits (memory_of rs)) (no_bits bytes none) ∙ unmarked rs ∙ is

@@ -1,5 +1,7 @@
 pub mod Limits
+pub mod Pages
 pub mod Memory
+pub mod Marks
 pub mod Regions
 pub mod Stock
 pub mod Places

@@ -3,6 +3,7 @@
 use Rattle.std.specs.Prelude.{◌≡◌, ℕ, ◌+◌, ◌-◌, ◌≤◌, ◌⊎◌, nat_le, Bool, true, ◌&&◌, ◌||◌, List, [], ◌∷◌, ◌++◌, length, take, drop, replicate, if◌then◌else◌}
 use Rattle.std.specs.List.{All}
 use Rattle.byteorder.specs.Endian.{little_number, little_bytes}
+use Rattle.guest_memory.specs.Pages.{marked}
 
 -- the addresses between two regions: from start on, and before end, there is no byte
 pub record Gap : Type 0 where
@@ -10,11 +11,13 @@ pub record Gap : Type 0 where
   pub end : ℕ
 
 -- the first address, the byte at each address from there on, and the gaps in order. In a gap a byte stands as
--- 0, and nobody reads it. A memory of one region has no gaps
+-- 0, and nobody reads it. A memory of one region has no gaps. Where the host has them kept, there is a bit for each
+-- page from the base on that says whether it was written
 pub record Memory : Type 0 where
   pub base : ℕ
   pub bytes : List ℕ
   pub gaps : List Gap
+  pub pages : List Bool
 
 -- the n bytes from address a on end before a gap, or begin behind it
 pub record Misses (g : Gap) (a n : ℕ) : Type 0 where
@@ -53,9 +56,17 @@ unfoldable pub up_to_gap : List Gap → ℕ → List ℕ → List ℕ
 up_to_gap [] a bs = bs
 up_to_gap (g ∷ gs) a bs = if nat_le g.end a then up_to_gap gs a bs else take (g.start - a) bs
 
+-- the memory with the bytes bs from address a on, whose pages aren't marked
+abbrev pub stored : Memory → ℕ → List ℕ → Memory
+stored m a bs = record m { bytes = put_at m.bytes (a - m.base) (up_to_gap m.gaps a bs) }
+
+-- the pages of the n bytes from address a on are marked
+abbrev pub with_marks : Memory → ℕ → ℕ → Memory
+with_marks m a n = record m { pages = marked 0 (a - m.base) n m.pages }
+
 -- the memory with the bytes bs from address a on
 abbrev pub put : Memory → ℕ → List ℕ → Memory
-put m a bs = record m { bytes = put_at m.bytes (a - m.base) (up_to_gap m.gaps a bs) }
+put m a bs = stored (with_marks m a (length bs)) a bs
 
 -- these are the bytes from address a to the end of its region: no longer range from there on lies in the
 -- memory
@@ -80,4 +91,4 @@ pub record SameRange (old new : Memory) : Type 0 where
 
 -- a memory of len zeros, in one region
 abbrev pub zeroed : ℕ → ℕ → Memory
-zeroed base len = record { base = base; bytes = replicate len 0; gaps = [] }
+zeroed base len = record { base = base; bytes = replicate len 0; gaps = []; pages = [] }

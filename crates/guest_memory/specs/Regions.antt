@@ -17,12 +17,13 @@ in_front r m = record {
   base = r.base;
   bytes = r.bytes ++ (replicate (m.base - end_of r) 0 ++ m.bytes);
   gaps = record { start = end_of r; end = m.base } ∷ m.gaps;
+  pages = m.pages;
 }
 
--- the memory of these regions
+-- the memory of these regions, whose pages nobody has marked
 unfoldable pub memory_of : List Region → Memory
-memory_of [] = record { base = 0; bytes = []; gaps = [] }
-memory_of (r ∷ []) = record { base = r.base; bytes = r.bytes; gaps = [] }
+memory_of [] = record { base = 0; bytes = []; gaps = []; pages = [] }
+memory_of (r ∷ []) = record { base = r.base; bytes = r.bytes; gaps = []; pages = [] }
 memory_of (r ∷ (s ∷ rs)) = in_front r (memory_of (s ∷ rs))
 
 -- there is a region, each begins above the end of the one before it, and the last ends by 2^64

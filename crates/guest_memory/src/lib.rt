@@ -10,11 +10,12 @@ mod laws;
 mod lookup;
 mod memory;
 mod numbers;
+mod pages;
 mod region;
 mod spec;
 
 pub use fault::{MemoryFault, RegionFault, fault_of, fault_of_regions};
-pub use laws::a_range_is_tested;
+pub use laws::{a_range_is_tested, a_write_marks_its_pages};
 pub use memory::GuestMemory;
 pub use region::Region;
 pub use spec::{MOST_REGIONS, RegionSpec, Regions};

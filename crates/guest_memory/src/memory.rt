@@ -3,15 +3,18 @@
 ghost use Rattle.std.specs.Prelude.{◌≡◌, ◌+◌, ◌^◌, ◌≤◌, ◌<◌, ◌↔◌, ◌⊎◌, ℕ, All, length, map, IsTrue, IsSome, IfOk, IfErr, OnOk, IfSome, slice_index_or};
 ghost use Rattle.std.specs.List.{position};
 ghost use Rattle.guest_memory.specs.Limits.{IsSize, IsBase};
-ghost use Rattle.guest_memory.specs.Memory.{Inside, IsRest, SameRange, is_inside, part_of, zeroed};
+ghost use Rattle.guest_memory.specs.Memory.{Inside, IsRest, SameRange, is_inside, part_of, with_marks, zeroed};
+ghost use Rattle.guest_memory.specs.Pages.{bits_of};
+ghost use Rattle.guest_memory.specs.Stock.{with_pages};
 ghost use Rattle.guest_memory.specs.Regions.{touches, IsIn, AreApart, memory_of};
 ghost use Rattle.guest_memory.specs.Faults.{AreGood, IsRefused, Refuses, spec_of, zeroed_region, zeroed_regions};
-ghost use Rattle.guest_memory.specs.Lending.{LendsPart};
+ghost use Rattle.guest_memory.specs.Lending.{LendsPart, LendsToHost};
 ghost use Rattle.guest_memory.specs.declared.fault.MemoryFault.{MemoryFault};
 ghost use Rattle.std.specs.Borrow.{sem};
 
 use crate::fault::{MemoryFault, RegionFault, fault_of, fault_of_regions};
 use crate::lookup;
+use crate::pages::mark;
 use crate::region::Region;
 use crate::spec::RegionSpec;
 use std::alloc::{AllocError, Allocator, Global};
@@ -24,16 +27,19 @@ pub struct GuestMemory<A: Allocator = Global> {
     // Of the two one is empty: regions of the library's own bytes, or of a host's.
     own: Vec<Region<A>, A>,
     lent: Vec<Region<Lodged>, A>,
+    // A bit for each page, where a host wants them.
+    pages: Vec<u8, Lodged>,
 }
 
 impl<A: Allocator> Model for GuestMemory<A> {
     ghost use Rattle.guest_memory.specs.Memory.{Memory};
     ghost use Rattle.guest_memory.specs.Regions.{memory_of, AreRegions};
-    ghost use Rattle.guest_memory.specs.Stock.{regions_of};
+    ghost use Rattle.guest_memory.specs.Pages.{bits_of};
+    ghost use Rattle.guest_memory.specs.Stock.{regions_of, with_pages};
 
     ghost Value = { Memory };
 
-    ghost view = { λ m. memory_of (regions_of m.own.items m.lent.items) };
+    ghost view = { λ m. with_pages (bits_of m.pages.items) (memory_of (regions_of m.own.items m.lent.items)) };
 
     ghost invariant = { λ m. AreRegions (regions_of m.own.items m.lent.items) };
 }
@@ -92,6 +98,7 @@ impl<A: Allocator + Copy> GuestMemory<A> {
             Ok(own) => Ok(GuestMemory {
                 own,
                 lent: Vec::new(alloc),
+                pages: Vec::new(Lodged),
             }),
             Err(_) => Err(MemoryFault::NoMemory),
         }
@@ -113,6 +120,7 @@ impl<A: Allocator + Copy> GuestMemory<A> {
             Ok(own) => Ok(GuestMemory {
                 own,
                 lent: Vec::new(alloc),
+                pages: Vec::new(Lodged),
             }),
             Err(_) => Err(MemoryFault::NoMemory),
         }
@@ -132,6 +140,7 @@ impl<A: Allocator + Copy> GuestMemory<A> {
             None => Ok(GuestMemory {
                 own: Vec::new(alloc),
                 lent: regions,
+                pages: Vec::new(Lodged),
             }),
             Some(RegionFault { region: _, fault }) => Err(fault),
         }
@@ -180,14 +189,14 @@ impl<A: Allocator> GuestMemory<A> {
         Some(self.slice(addr, room))
     }
 
-    /// The same bytes, to be written. A region holds the address; `holds` is the test.
+    /// The same bytes, to be written by the host: no page is marked. A region holds the address; `holds` is the test.
     pub fn region_mut(&mut self, addr: u64) -> &mut [u8]
         requires { Inside self.old addr 1 }
-        ensures* writes_back { sem 𝓛 (LendsPart A.row A.Allocator self.entry addr result) }
+        ensures* writes_back { sem 𝓛 (LendsToHost A.row A.Allocator self.entry addr result) }
         ensures rest { IsRest self.old addr result.now }
     {
         let room = self.room_at(addr).unwrap_or(1);
-        self.part_mut(addr, room)
+        self.lend(addr, room)
     }
 
     /// Whether the `n` bytes from `addr` on all lie in the memory, in one region. An empty range does where its address
@@ -262,10 +271,21 @@ impl<A: Allocator> GuestMemory<A> {
         lookup::slice(&self.own, addr, n)
     }
 
-    /// The `n` bytes from `addr` on, to be written. `holds` is the test.
+    /// The `n` bytes from `addr` on, to be written by a device: their pages are marked. `holds` is the test.
     pub fn part_mut(&mut self, addr: u64, n: u64) -> &mut [u8]
         requires { Inside self.old addr n }
         ensures* writes_back { sem 𝓛 (LendsPart A.row A.Allocator self.entry addr result) }
+        ensures value { result.now ≡ part_of self.old addr n }
+        ensures len { length result.now ≡ n }
+    {
+        self.mark(addr, n);
+        self.lend(addr, n)
+    }
+
+    /// The same, to be written by the host: no page is marked.
+    pub fn lend(&mut self, addr: u64, n: u64) -> &mut [u8]
+        requires { Inside self.old addr n }
+        ensures* writes_back { sem 𝓛 (LendsToHost A.row A.Allocator self.entry addr result) }
         ensures value { result.now ≡ part_of self.old addr n }
         ensures len { length result.now ≡ n }
     {
@@ -281,5 +301,27 @@ impl<A: Allocator> GuestMemory<A> {
         let place = lookup::place_inside(&self.own, addr, n);
         let region = &mut self.own[place];
         region.part_mut(addr, n)
+    }
+
+    /// Has the bits of the pages kept from now on in these bytes, of which a host lends one for eight pages, the lowest bit
+    /// for the first; of none they aren't kept. A write sets the bits of its pages, and none is cleared. A page whose bit
+    /// there isn't is not marked.
+    pub fn keep_pages(&mut self, bits: Vec<u8, Lodged>)
+        ensures { self.new ≡ with_pages (bits_of bits.items) self.old }
+    {
+        self.pages = bits;
+    }
+
+    // Marks the pages of the `n` bytes from `addr` on.
+    #[inline(always)]
+    fn mark(&mut self, addr: u64, n: u64)
+        requires { Inside self.old addr n }
+        ensures { self.new ≡ with_marks self.old addr n }
+    {
+        if !self.pages.is_empty() {
+            self.fits(addr, n);
+            let from = addr - self.base();
+            mark(self.pages.as_mut_slice(), from, n);
+        }
     }
 }

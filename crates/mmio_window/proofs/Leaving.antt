@@ -14,6 +14,7 @@ use Rattle.mmio_window.specs.declared.service.Left.TheVariants.{Open, Closed}
 use Rattle.mmio_window.specs.declared.service.Refused as left
 use Rattle.mmio_window.specs.declared.queue.Queue.{Queue}
 use Rattle.mmio_window.specs.declared.stage.Stage.{Stage}
+use Rattle.mmio_window.specs.FaultNote.{fault_in}
 use Rattle.mmio_window.specs.Leaving.{LeavesQueue, RefusesAt, progress_of, shown, site_at}
 use Rattle.mmio_window.specs.Pieces.{BeginsTo, EndsAt, IsRefusedAt, ServesTo, opened_at}
 use Rattle.mmio_window.specs.Queue.{entry_of, queue_kind}
@@ -28,8 +29,8 @@ module _ {State : Type 0} (device : Device State) (stage : Stage) (budget : Budg
       → ServesTo stage device budget q (Some queue) (progress_of left) m m' w
       (shown left (with_ring q w last)) s s'
   serves_at queue last Open m m' w s s' h = pauses_to device budget q queue last m m' w s s' stage h
-  serves_at queue last (Closed fault wanted) m m' w s s' h =
-      ends_to device budget q queue last m m' w s s' stage (ending_of fault) wanted h
+  serves_at queue last (Closed met wanted) m m' w s s' h =
+      ends_to device budget q queue last m m' w s s' stage (ending_of (fault_in met)) wanted h
 
   -- the queue that the window lends, and what it then shows
   pub serves_to : (found : Option Queue) (queue last : Queue) (left : Left) (progress : Progress)

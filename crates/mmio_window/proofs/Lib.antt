@@ -9,6 +9,7 @@ pub mod Pieces
 pub mod PiecesExact
 pub mod Stages
 pub mod Courses
+pub mod Noting
 pub mod Leaving
 pub mod Seeing
 pub mod Keeping

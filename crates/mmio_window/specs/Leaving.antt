@@ -1,6 +1,6 @@
 -- How a piece of a service leaves its queue, for any device: closed, open in a pause, or open at a chain that
 -- the device leaves on offer.
-use Rattle.std.specs.Prelude.{◌≡◌, None, List, [], ◌∷◌}
+use Rattle.std.specs.Prelude.{◌≡◌, ⊤, None, List, [], ◌∷◌}
 use Rattle.guest_memory.specs.Memory.{Memory, SameRange}
 use Rattle.chain.specs.declared.budget.Budget.{Budget}
 use Rattle.chain.specs.declared.budget.Progress.{Progress}
@@ -17,6 +17,7 @@ use Rattle.mmio_window.specs.declared.service.Stop.{Stop}
 use Rattle.mmio_window.specs.declared.service.Stop.TheVariants.{Pause, End}
 use Rattle.mmio_window.specs.declared.queue.Queue.{Queue}
 use Rattle.mmio_window.specs.declared.stage.Stage.{Stage}
+use Rattle.mmio_window.specs.FaultNote.{IfMetIn, fault_in}
 use Rattle.mmio_window.specs.Pieces.{EndsAt, PausesAt, fault_at, opened_at}
 use Rattle.mmio_window.specs.Queue.{IsTaken, LiesIn, entry_of, made_as, queue_kind}
 use Rattle.mmio_window.specs.Serving.{after_service, ending_of}
@@ -39,8 +40,14 @@ Stops device budget start now (End fault) = RunsWithin queue_kind device budget 
 abbrev pub LeavesQueue : {State : Type 0} → Device State → Stage → Budget → Site Queue State
     → Site Queue State → Left → Type 0
 LeavesQueue device stage budget old new Open = PausesAt stage device budget old new
-LeavesQueue device stage budget old new (Closed fault wanted) =
-    EndsAt stage device budget old new (ending_of fault) wanted
+LeavesQueue device stage budget old new (Closed met wanted) =
+    EndsAt stage device budget old new (ending_of (fault_in met)) wanted
+
+-- where the fault was met that ended its service, if one did
+abbrev pub TellsWhere : {State : Type 0} → Device State → Stage → Site Queue State → Site Queue State → Left
+    → Type 0
+TellsWhere device stage old new Open = ⊤
+TellsWhere device stage old new (Closed met wanted) = IfMetIn device stage old new met
 
 -- Chains were served within the budget, and the one on offer has these buffers; the device leaves it, for a
 -- reason that it has then.
@@ -68,11 +75,11 @@ pub record RefusesAt {State E : Type 0} (device : Device State)
 -- what a window shows of a queue that is left so
 abbrev pub shown : Left → WindowState → WindowState
 shown Open w = w
-shown (Closed fault wanted) w = after_service (ending_of fault) wanted w
+shown (Closed met wanted) w = after_service (ending_of (fault_in met)) wanted w
 
 abbrev pub progress_of : Left → Progress
 progress_of Open = More
-progress_of (Closed fault wanted) = Done
+progress_of (Closed met wanted) = Done
 
 -- ---- what chains keep
 

@@ -15,6 +15,7 @@ pub mod Reading
 pub mod Writing
 pub mod Notifying
 pub mod Pieces
+pub mod FaultNote
 pub mod Leaving
 pub mod Serving
 pub mod Soundness

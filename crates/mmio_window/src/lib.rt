@@ -10,6 +10,7 @@ mod action;
 mod configuration;
 mod device;
 mod device_kind;
+mod fault_note;
 mod interrupts;
 mod laws;
 mod queue;
@@ -25,6 +26,7 @@ pub use chain::Used;
 pub use configuration::{CONFIGURATION_LEN, CONFIGURATION_OFFSET};
 pub use device::Device;
 pub use device_kind::DeviceKind;
+pub use fault_note::{FaultNote, QueueFault};
 pub use interrupts::Interrupts;
 pub use laws::{
     generation_stays, next_place_is_ignored, one_chain_or_fault_at_a_place,

@@ -4,11 +4,13 @@
 ghost use Rattle.std.specs.Prelude.{◌≡◌, ◌↔◌, ◌||◌, IfOk, IfErr, IsTrue, is_some};
 ghost use Rattle.chain.specs.Budget.{IsSpent, less_chain};
 ghost use Rattle.guest_memory.specs.Memory.{Memory, SameRange};
-ghost use Rattle.mmio_window.specs.Leaving.{IsKept, IsLeftAt, LeavesQueue, QueueStays, RefusesAt, Stops, progress_of, shown, site_at};
+ghost use Rattle.mmio_window.specs.FaultNote.{met_with};
+ghost use Rattle.mmio_window.specs.Leaving.{IsKept, IsLeftAt, LeavesQueue, QueueStays, RefusesAt, Stops, TellsWhere, progress_of, shown, site_at};
 ghost use Rattle.mmio_window.specs.Queue.{LiesIn, made_as};
 ghost use Rattle.mmio_window.specs.Soundness.{IsSound};
 
 use crate::device::Device;
+use crate::fault_note::{FaultNote, QueueFault};
 use crate::queue::{Queue, Token};
 use crate::stage::Stage;
 use crate::window::Window;
@@ -32,8 +34,8 @@ pub enum Left {
     Open,
     /// Its service has ended.
     Closed {
-        /// The fault that ended it, if one did.
-        fault: Option<Fault>,
+        /// The fault that ended it, if one did, and where it was met.
+        fault: Option<QueueFault>,
         /// Whether the driver wants a notification.
         wanted: bool,
     },
@@ -66,6 +68,8 @@ pub fn serve_queue<B, D: Device<B>, M: Allocator>(
         (D.Refuses (D.setup device.old backend.old) backend.new) stage budget
         (site_at mem.old queue.old (D.state device.old backend.old))
         (site_at mem.new queue.new (D.state device.new backend.new)) chain.new) }
+    ensures tells { IfOk result (TellsWhere (D.device (D.setup device.old backend.old)) stage
+        (site_at mem.old queue.old (D.state device.old backend.old)) (site_at mem.new queue.new (D.state device.new backend.new))) }
     ensures setup { D.setup device.new backend.new ≡ D.setup device.old backend.old }
     ensures keeps { IsKept D.Keeps device.old backend.old device.new backend.new }
     ensures ready { D.IsReady device.new backend.new }
@@ -75,16 +79,32 @@ pub fn serve_queue<B, D: Device<B>, M: Allocator>(
 {
     if let Err(fault) = stage.open(queue, mem) {
         return Ok(Left::Closed {
-            fault: Some(fault),
+            fault: Some(queue.met(mem, fault)),
             wanted: queue.close(mem),
         });
     }
     match serve_chains(device, backend, mem, queue, budget, chain)? {
         Stop::Pause => Ok(Left::Open),
         Stop::End(fault) => Ok(Left::Closed {
-            fault,
+            fault: met_with(mem, queue, fault),
             wanted: queue.close(mem),
         }),
+    }
+}
+
+/// The fault of a service, if it has one, and where in its queue that is.
+#[inline(always)]
+fn met_with<M: Allocator>(
+    mem: &GuestMemory<M>,
+    queue: &Queue,
+    fault: Option<Fault>,
+) -> Option<QueueFault>
+    requires { LiesIn mem.now queue.now }
+    ensures { result ≡ met_with mem.now queue.now fault }
+{
+    match fault {
+        Some(fault) => Some(queue.met(mem, fault)),
+        None => None,
     }
 }
 
@@ -159,9 +179,10 @@ fn has_limit(budget: &Budget) -> bool
     budget.chains.is_some() | budget.bytes.is_some()
 }
 
-/// What the window shows of a queue that is left so: nothing of one that stands open; else a used buffer where the
-/// driver wants to be told of one, and after a fault that a reset is needed. Pauses and faults are counted in `room`.
-pub fn show(window: &mut Window, left: Left, room: &mut Chain) -> Progress
+/// What the window shows of the queue of this number that is left so: nothing of one that stands open; else a used buffer
+/// where the driver wants to be told of one, and after a fault that a reset is needed. The window notes the fault. Pauses
+/// and faults are counted in `room`.
+pub fn show(window: &mut Window, queue: u16, left: Left, room: &mut Chain) -> Progress
     ensures progress { result ≡ progress_of left }
     ensures after { window.new ≡ shown left window.old }
     ensures room { room.new ≡ room.old }
@@ -174,8 +195,9 @@ pub fn show(window: &mut Window, left: Left, room: &mut Chain) -> Progress
     if wanted {
         window.used_interrupt();
     }
-    if fault.is_some() {
+    if let Some(met) = fault {
         window.needs_reset();
+        window.note(FaultNote::of(queue, met));
         room.count_fault();
     }
     Progress::Done

@@ -19,6 +19,7 @@ mod view;
 mod write;
 
 use crate::device_kind::{DeviceKind, QueueIndex};
+use crate::fault_note::FaultNote;
 use crate::interrupts::Interrupts;
 use crate::queue::Queue;
 use crate::queue_registers::QueueRegisters;
@@ -38,6 +39,8 @@ pub struct Window {
     interrupts: Interrupts,
     shm_sel: u32,
     config_generation: u32,
+    // The last fault of its queues, beside the proof: no register shows it, and neither a reset nor a restore takes it away.
+    last_fault: Option<FaultNote>,
 }
 
 impl Model for Window {
@@ -76,6 +79,7 @@ impl Window {
             interrupts: Interrupts::NONE,
             shm_sel: 0,
             config_generation: 0,
+            last_fault: None,
         }
     }
 
@@ -129,6 +133,13 @@ impl Window {
     {
         self.negotiation.set_needs_reset();
         self.config_interrupt();
+    }
+
+    /// Notes the fault of a queue in the place of the one before.
+    pub(crate) fn note(&mut self, fault: FaultNote)
+        ensures { self.new ≡ self.old }
+    {
+        self.last_fault = Some(fault);
     }
 
     /// The configuration changed. Of a block device it never does, so nothing happens there.

@@ -68,6 +68,17 @@ impl Window {
             interrupts: from.interrupts,
             shm_sel: from.selectors.shm,
             config_generation: from.config_generation,
+            last_fault: None,
         })
+    }
+
+    /// The window in the place of another one, whose last fault it goes on telling.
+    pub fn in_place_of(self, other: &Window) -> Window
+        ensures { result ≡ self }
+    {
+        Window {
+            last_fault: other.last_fault,
+            ..self
+        }
     }
 }

@@ -4,6 +4,7 @@ ghost use Rattle.std.specs.Prelude.{◌≡◌, Some, None, IfSome, IfNone};
 ghost use Rattle.mmio_window.specs.Window.{registers_of};
 
 use crate::device_kind::QueueIndex;
+use crate::fault_note::FaultNote;
 use crate::queue_registers::QueueRegisters;
 use crate::window::Window;
 use negotiation::Negotiation;
@@ -33,6 +34,12 @@ impl Window {
         ensures { result ≡ self.now.queue_sel }
     {
         self.queue_sel
+    }
+
+    /// The last fault of its queues, and where it was met: none until one came. A reset and a restore keep it. No clause
+    /// speaks of it.
+    pub fn last_fault(&self) -> Option<FaultNote> {
+        self.last_fault
     }
 
     /// How often the configuration changed, modulo 2^32.

@@ -1,5 +1,5 @@
 use Rattle.std.proofs.Common.{◌≡◌, ◌<◌, ◌≤◌, ℕ, List, true, length, min, refl, arith, sym, ap, ◌∙◌}
-use Rattle.guest_memory.specs.Memory.{put, part_of}
+use Rattle.guest_memory.specs.Memory.{part_of, stored, with_marks}
 use Rattle.chain.specs.declared.segment.Segment.{Segment}
 use Rattle.chain.specs.Bytes.{len_of, segments_of, writable_rest}
 use Rattle.chain.proofs.Contents.{lent_writes, part_inside}
@@ -30,7 +30,7 @@ returns g c =
     let size : length c.part_mut.result.now ≡ min c.args.most rest.len =
     omega (arith, c.part_mut.ensures.len, c.min.ensures, len) in
     let less : length c.part_mut.result.now ≤ rest.len = omega (arith, size) in (
-      (refl, λ (w : List ℕ). ap (λ a. put c.args.mem.now a w) addr),
+      (refl, λ (w : List ℕ). ap (λ a. stored (with_marks c.args.mem.now a (length c.part_mut.result.now)) a w) addr),
       record {
         writes_back = tt;
         value = c.part_mut.ensures.value ∙ ap (λ a. part_of c.args.mem.now a c.min.result) addr

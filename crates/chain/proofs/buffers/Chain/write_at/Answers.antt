@@ -1,6 +1,7 @@
 use Rattle.std.proofs.Common.{◌+◌, ◌<◌, ◌≤◌, ℕ, List, true, length, refl, arith, sym, ap, ◌∙◌}
 use Rattle.std.proofs.lemmas.Bool.Decides.{nat_tests}
 use Rattle.guest_memory.specs.Memory.{put}
+use Rattle.guest_memory.proofs.Ranges.{lent_put}
 use Rattle.chain.specs.declared.segment.Buffer.{Buffer}
 use Rattle.chain.specs.declared.segment.Segment.{Segment}
 use Rattle.chain.specs.Bytes.{len_of, writable_of}
@@ -36,7 +37,9 @@ returns-then-bytes-from-clause-written g c =
     let bytes = c.args.bytes.now in
     let h = in_list xs c.args.from _ c.requires.range (grind (arith, nat_tests)) in
     let is = c.segment_at-rest.ensures in
-    ap (put m c.segment_at-rest.result.addr) c.copy_from_slice.ensures.after
+    lent_put m c.segment_at-rest.result.addr (length c.part_mut-part.result.now) c.copy_from_slice.new.self
+    (c.part_mut-part.ensures.len ∙ sym (ap (λ (xs : List ℕ). length xs) c.copy_from_slice.ensures.after))
+    ∙ ap (put m c.segment_at-rest.result.addr) c.copy_from_slice.ensures.after
     ∙ ap (λ (s : Segment). put m s.addr bytes) is
     ∙ lent_writes m xs c.args.from (length bytes) bytes c.requires.inside h
     (omega (arith, ap (λ (s : Segment). s.len) is)) refl

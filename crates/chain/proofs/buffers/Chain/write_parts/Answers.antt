@@ -1,7 +1,7 @@
-use Rattle.std.proofs.Common.{◌≡◌, ◌+◌, ◌-◌, ◌<◌, ◌≤◌, true, length, take, drop, arith, sym, ap, ◌∙◌}
+use Rattle.std.proofs.Common.{◌≡◌, ◌+◌, ◌-◌, ◌<◌, ◌≤◌, ℕ, List, true, length, take, drop, arith, sym, ap, ◌∙◌, subst, length-take, length-drop}
 use Rattle.std.proofs.lemmas.List.{take-take}
-use Rattle.guest_memory.specs.Memory.{put}
-use Rattle.guest_memory.proofs.Ranges.{put_range, same_trans}
+use Rattle.guest_memory.specs.Memory.{Memory, SameRange, put, stored, with_marks}
+use Rattle.guest_memory.proofs.Ranges.{lent_put, put_range, same_trans}
 use Rattle.chain.specs.declared.segment.Segment.{Segment}
 use Rattle.chain.specs.Bytes.{len_of, segments_of, writable_of}
 use Rattle.chain.proofs.Contents.{part_inside, write_run}
@@ -54,16 +54,27 @@ loop-done-preserved g c =
     ∙ take-take n (length bytes - done) (drop done bytes)
     (omega (arith, c.part_mut-part.ensures.len, c.min.ensures)) in
     let less : n ≤ rest.len = omega (arith, c.part_mut-part.ensures.len, c.min.ensures) in
+    let size : n ≡ length new =
+    omega (
+      arith,
+      ap (λ (xs : List ℕ). length xs) run,
+      length-take n (drop done bytes),
+      length-drop done bytes,
+      c.part_mut-part.ensures.len,
+      c.min.ensures,
+    ) in
+    let lent : Memory = stored (with_marks m rest.addr n) rest.addr new in
+    let is : lent ≡ put m rest.addr new = lent_put m rest.addr n new size in
     let within = within_same c.args.mem.now m xs c.loop-done.invariant.same c.requires.inside in
     record {
       within = omega (arith, c.part_mut-part.ensures.len, c.min.ensures);
       before = omega (arith, c.buffer_behind-index.ensures.from);
-      same = same_trans c.args.mem.now m (put m rest.addr new) c.loop-done.invariant.same
-          (put_range m rest.addr new);
-      left = write_run m (put m rest.addr new) xs bytes c.args.from done n within h rest
+      same = subst (SameRange c.args.mem.now) (sym is) (same_trans c.args.mem.now m (put m rest.addr new)
+          c.loop-done.invariant.same (put_range m rest.addr new));
+      left = write_run m lent xs bytes c.args.from done n within h rest
           c.rest_in-rest.ensures less
           (omega (arith, c.part_mut-part.ensures.len, c.min.ensures))
-          (ap (put m rest.addr) run) ∙ c.loop-done.invariant.left;
+          (is ∙ ap (put m rest.addr) run) ∙ c.loop-done.invariant.left;
     }
 
 pub returns-clause-written : goal.returns-clause-written

@@ -2,6 +2,7 @@ use Rattle.std.proofs.Common.{arith, rules, ◌≡◌, None, List, [], ◌∷◌
 use Rattle.guest_memory.specs.Regions.{Region, AreRegions, memory_of}
 use Rattle.guest_memory.specs.Stock.{regions_of}
 use Rattle.guest_memory.proofs.InRegions.{zeroed_region, zeroed_regions}
+use Rattle.guest_memory.proofs.Stocked.{none_kept}
 use Rattle.guest_memory.proofs.memory.GuestMemory.new.Goals as goal
 
 pub invariant_of-result : goal.invariant_of-result
@@ -15,5 +16,6 @@ invariant_of-result g c =
 pub returns-in-Ok-clause-made : goal.returns-in-Ok-clause-made
 returns-in-Ok-clause-made g c =
     let zeros : List Region = record { base = c.args.base; bytes = replicate c.args.len 0 } ∷ [] in
+    none_kept c.new-in-Ok.result.items (regions_of c.in-Ok.own.items c.new.result.items) c.new-in-Ok.ensures.items (
     ap (λ (own : List Region). memory_of (regions_of own c.new.result.items)) c.in-Ok.ensures
-    ∙ zeroed_region zeros c.args.base c.args.len refl
+    ∙ zeroed_region zeros c.args.base c.args.len refl)

@@ -1,9 +1,10 @@
 use Rattle.std.proofs.Common.{◌≡◌, inr, List, map, ◌∙◌, ap, subst, sym}
 use Rattle.guest_memory.specs.declared.spec.RegionSpec.{RegionSpec}
 use Rattle.guest_memory.specs.Faults.{AreGood, IsRefused, spec_of}
-use Rattle.guest_memory.specs.Regions.{Region, AreRegions}
+use Rattle.guest_memory.specs.Regions.{Region, AreRegions, memory_of}
 use Rattle.guest_memory.specs.Stock.{regions_of}
 use Rattle.guest_memory.proofs.Faults.{good_regions}
+use Rattle.guest_memory.proofs.Stocked.{none_kept}
 use Rattle.guest_memory.proofs.memory.GuestMemory.of_lent.Goals as goal
 
 pub invariant_of-result : goal.invariant_of-result
@@ -19,3 +20,8 @@ returns-in-Some-clause-fault g c =
     ∙ c.in-Ok.ensures ∙ ap (map spec_of) c.deref.ensures.value in
     inr (subst (λ (rs : List RegionSpec). IsRefused rs c.in-Some.field-0.fault) same
     (record { place = c.in-Some.field-0.region; by_it = c.in-Some.ensures.fault }))
+
+pub returns-in-None-clause-made : goal.returns-in-None-clause-made
+returns-in-None-clause-made g c =
+    none_kept c.new-in-None.result.items (regions_of c.new.result.items c.args.regions.items) c.new-in-None.ensures.items
+    (ap (λ (own : List Region). memory_of (regions_of own c.args.regions.items)) c.new.ensures.items)

@@ -12,8 +12,8 @@ some_room : (m : Memory) (a : ℕ) (o : Option ℕ) → (IsSome o ↔ Inside m a
 some_room m a None there room inside = absurd (cc (there.1 inside))
 some_room m a (Some k) there room inside = room
 
-pub part_mut-requires : goal.part_mut-requires
-part_mut-requires g c =
+pub lend-requires : goal.lend-requires
+lend-requires g c =
     let room = some_room c.args.self.now c.args.addr c.room_at.result c.room_at.ensures.there
     c.room_at.ensures.room c.requires in
     subst (Inside c.args.self.now c.args.addr) (sym c.unwrap_or-room.ensures)
@@ -27,9 +27,9 @@ returns g c =
       record {
         writes_back = tt;
         rest =
-            rest_is c.args.self.now c.args.addr c.unwrap_or-room.result c.part_mut.result.now
+            rest_is c.args.self.now c.args.addr c.unwrap_or-room.result c.lend.result.now
             (subst (λ (k : ℕ). (n : ℕ) → (n ≤ k) ↔ Inside c.args.self.now c.args.addr n)
             (sym c.unwrap_or-room.ensures) room)
-            c.part_mut.ensures.len c.part_mut.ensures.value;
+            c.lend.ensures.len c.lend.ensures.value;
       },
     )
