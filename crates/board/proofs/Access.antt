@@ -6,7 +6,7 @@ use Rattle.std.specs.List.{slice_get}
 use Rattle.std.proofs.Math.Seq.{map-set_same}
 use Rattle.std.proofs.lemmas.Bool.Decides.{nat_tests}
 use Rattle.std.proofs.lemmas.Option.{get_or_from_slice_get, slice_get-map}
-use Rattle.guest_memory.specs.Memory.{is_inside, put}
+use Rattle.guest_memory.specs.Memory.{is_inside, stored}
 use Rattle.mmio_window.specs.declared.device_kind.DeviceKind.{DeviceKind}
 use Rattle.sector_cache.specs.Disk.{Disk, IsWhole}
 use Rattle.board.specs.declared.event.EventKind.{EventKind}
@@ -58,7 +58,7 @@ pub bytes_put : (A : Type 0) (slots : List BoardSlot) (disk : Disk) (h : ℕ) (s
     (bytes : List ℕ) (done : Bool) →
     AllPairs IsApart (extents_of slots) → slice_get slots h ≡ Some slot
     → done ≡ is_inside slot.memory addr (length bytes) →
-    OnTrue done (new ≡ record slot { memory = put slot.memory addr bytes }) →
+    OnTrue done (new ≡ record slot { memory = stored slot.memory addr bytes }) →
     OnTrue done
     (Answers {A = A} (seen slots disk) (record { slot = h; what = MemWrite addr bytes }) Done [] []
     (seen (slice_set slots h new) disk))
@@ -87,9 +87,9 @@ bytes_put A slots disk h slot new addr bytes true apart here test is =
 -- and they stand in that slot's memory, and every other slot stays
 pub bytes_stand : (slots : List BoardSlot) (h : ℕ) (slot new : BoardSlot) (addr : ℕ)
     (bytes : List ℕ) (done : Bool) →
-    slice_get slots h ≡ Some slot → OnTrue done (new ≡ record slot { memory = put slot.memory addr bytes }) →
+    slice_get slots h ≡ Some slot → OnTrue done (new ≡ record slot { memory = stored slot.memory addr bytes }) →
     OnTrue done (IsSomeAnd (slice_get slots h) (λ found. slice_set slots h new
-    ≡ slice_set slots h (record found { memory = put found.memory addr bytes })))
+    ≡ slice_set slots h (record found { memory = stored found.memory addr bytes })))
 bytes_stand slots h slot new addr bytes false here is = _
 bytes_stand slots h slot new addr bytes true here is =
     rw here (ap (λ (s : BoardSlot). slice_set slots h s) is)

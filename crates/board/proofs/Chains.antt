@@ -22,7 +22,7 @@ module _ {State : Type 0} (device : Device State) (Keeps : Memory → State → 
   abbrev At : Site Queue State → Type 0
   At site = Keeps site.memory site.state
 
-  kept_by_all : KeptByEach → (start at : Site Queue State) (chains : List (Served State))
+  pub kept_by_all : KeptByEach → (start at : Site Queue State) (chains : List (Served State))
       → ServesAll queue_kind device start chains at → At start → At at
   kept_by_all each start at [] p keeps = subst At p keeps
   kept_by_all each start at (s ∷ chains) p keeps =

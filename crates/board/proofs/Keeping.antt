@@ -49,37 +49,7 @@ use Rattle.board.proofs.Beside.{same_range}
 use Rattle.board.proofs.Chains.{kept}
 use Rattle.board.proofs.Lists.{get_set, set_same}
 use Rattle.board.proofs.Refusals.{Failed, Unput, Unread, Unsent, was_refused}
-
--- ---- the memory keeps its range
-
-scattered_range : (m : Memory) (addrs : List ℕ) (written : List (Option ℕ))
-    → SameRange m (scattered m addrs written)
-scattered_range m [] written = same_range m
-scattered_range m (a ∷ addrs) [] = same_range m
-scattered_range m (a ∷ addrs) (None ∷ written) = scattered_range m addrs written
-scattered_range m (a ∷ addrs) (Some x ∷ written) =
-    same_trans m (put m a (x ∷ [])) (scattered (put m a (x ∷ [])) addrs written) (put_range m a (x ∷ []))
-    (scattered_range (put m a (x ∷ [])) addrs written)
-
-num_range : (m : Memory) (a k v : ℕ) → SameRange m (put_num m a k v)
-num_range m a k v = put_range m a (little_bytes k v)
-
-used_range : (m : Memory) (queue : Queue) (entry : Entry) (len : ℕ) (any : Bool)
-    → SameRange m (queue_kind.used m queue entry len any)
-used_range m (Split ring) entry len any =
-    same_trans m _ _ (same_trans m _ _ (num_range m _ 4 entry.id) (num_range _ _ 4 len)) (num_range _ _ 2 _)
-used_range m (Packed ring) entry len any =
-    same_trans m _ _ (same_trans m _ _ (num_range m _ 4 len) (num_range _ _ 2 entry.id)) (num_range _ _ 2 _)
-
-flags_range : (m : Memory) (flags : Memory) (idx : Bool) (a v : ℕ) → SameRange m flags
-    → SameRange m (if idx then put_num flags a 2 v else flags)
-flags_range m flags true a v same = same_trans m flags _ same (num_range flags a 2 v)
-flags_range m flags false a v same = same
-
-closed_range : (m : Memory) (queue : Queue) → SameRange m (queue_kind.closed m queue)
-closed_range m (Split ring) =
-    flags_range m _ ring.setup.event_idx _ ring.place (num_range m ring.setup.device 2 0)
-closed_range m (Packed ring) = num_range m ring.setup.device 4 0
+use Rattle.board.proofs.Writes.{notified_left}
 
 -- ---- a request keeps how many bytes the disk tells
 
@@ -207,19 +177,9 @@ gives_many n device disk readable (suc room) given small many h =
 notified_range : {State : Type 0} (device : Device State) (q : ℕ) (queue : Option Queue) (ending : Ending)
     (old new : Memory) (before after : WindowState) (s t : State)
     → Notified device q queue ending old new before after s t → SameRange old new
-notified_range {State} device q queue ending old new before after s t h =
-    kept device (λ (m : Memory) (d : State). SameRange old m)
-    (record {
-      chain = λ start served serves same.
-          let written = scattered start.memory (writable_of served.buffers) served.given.written in
-          same_trans old start.memory _ same
-          (same_trans start.memory written _
-          (scattered_range start.memory (writable_of served.buffers) served.given.written)
-          (used_range written start.ring served.entry (used_len served.given.written)
-          (wrote served.given.written)));
-      closed = λ memory ring d same. same_trans old memory _ same (closed_range memory ring);
-    })
-    q queue ending old new before after s t h (same_range old)
+notified_range device q queue ending old new before after s t h =
+    notified_left SameRange (record { none = same_range; both = same_trans; put = put_range }) device q queue ending
+    old new before after s t h
 
 -- and along the requests of the block device the disk tells as many bytes as before
 notified_many : (n : ℕ) (device : BlockDevice) (queue : Option Queue) (old new : Memory)

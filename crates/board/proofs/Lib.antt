@@ -10,6 +10,7 @@ pub mod Steps
 pub mod Alone
 pub mod Refusals
 pub mod Chains
+pub mod Writes
 pub mod Replies
 pub mod Failures
 pub mod Durable
@@ -40,3 +41,6 @@ pub mod Waiting
 pub mod HostedWindows
 pub mod Honest
 pub mod Reading
+pub mod SameRange
+pub mod Untouched
+pub mod UntouchedSteps

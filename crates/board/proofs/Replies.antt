@@ -1,7 +1,7 @@
 -- Which replies an event of a slot may get.
 use Rattle.std.proofs.Common.{◌≡◌, inl, inr, ℕ, Bool, true, false, Option, Some, None, List, length, sym, ap, subst}
 use Rattle.std.specs.Prelude.{if◌then◌else◌}
-use Rattle.guest_memory.specs.Memory.{is_inside, part_of, put}
+use Rattle.guest_memory.specs.Memory.{is_inside, part_of, stored}
 use Rattle.mmio_window.specs.declared.device_kind.DeviceKind.{DeviceKind}
 use Rattle.board.specs.declared.event.EventKind.{EventKind}
 use Rattle.board.specs.declared.event.EventKind.TheVariants.{Read, Write, MemRead, MemWrite, Input, Resize, Restore, Complete}
@@ -51,10 +51,10 @@ of_read P state addr len outcome =
 
 pub of_write : {A : Type 0} (P : Outcome A → Type 0) (state : SlotState) (addr : ℕ) (bytes : List ℕ)
     (outcome : Outcome A) → outcome ≡ memory_written state addr bytes
-    → P (does (record state { memory = put state.memory addr bytes }))
+    → P (does (record state { memory = stored state.memory addr bytes }))
     → P (replies state BadRange) → P outcome
 of_write P state addr bytes outcome =
-    of_access P state (does (record state { memory = put state.memory addr bytes }))
+    of_access P state (does (record state { memory = stored state.memory addr bytes }))
     (is_inside state.memory addr (length bytes)) outcome
 
 restore_replies : {A : Type 0} (state : SlotState) (bytes : List ℕ) (outcome : Outcome A)
@@ -131,10 +131,10 @@ never_missing (Resize cols rows) may = may
 never_missing (Restore bytes) may = may
 never_missing (Complete verdict) may = may
 
--- a completion alone finds nothing in flight
+-- a completion alone finds nothing in flight, and the image has no part in it
 pub idle_completes : {A : Type 0} (state : SlotState) (what : EventKind A) (old new : Health)
     (outcome : Outcome A) → MayReplyOverImage what Idle → MayGiveOverImage state what old new outcome
-    → outcome ≡ replies state Idle
+    → (outcome ≡ replies state Idle) × (new ≡ old)
 idle_completes state (Read window offset width) old new outcome may h = absurd may
 idle_completes state (Write window offset width value) old new outcome may h = absurd may
 idle_completes state (MemRead addr len) old new outcome may h = absurd may
@@ -142,7 +142,8 @@ idle_completes state (MemWrite addr bytes) old new outcome may h = absurd may
 idle_completes state (Input bytes) old new outcome may h = absurd may
 idle_completes state (Resize cols rows) old new outcome may h = absurd may
 idle_completes state (Restore bytes) old new outcome may h = absurd may
-idle_completes state (Complete verdict) old new outcome may (inl served) = served.alike.alike
+idle_completes state (Complete verdict) old new outcome may (inl served) =
+    (served.alike.alike, served.alike.image)
 idle_completes state (Complete verdict) old new outcome may (inr never) = absurd never
 
 -- ---- whoever has the disk

@@ -113,7 +113,7 @@ suits_it slot other bytes is like offers = record {
 }
 
 -- a slot that has taken it up is as the one that was saved
-as_saved : (slot old new : BoardSlot) (bytes : List ℕ) (saved : SavedSlot × List ℕ)
+pub as_saved : (slot old new : BoardSlot) (bytes : List ℕ) (saved : SavedSlot × List ℕ)
     → IsSnapshotOf bytes slot → IsLike slot old
     → saved ≡ (saved_slot slot, slot.pending) → TakesUp old saved.0 saved.1 new → IsAs slot old new
 as_saved slot old new bytes saved is like e takes =

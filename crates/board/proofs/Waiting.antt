@@ -51,74 +51,88 @@ outlasts old here what before after outcome own flies h =
 
 -- ---- what a busy answer says, and an idle one
 
-busy_by : {A : Type 0} (old : SlotState) (flight : Option InFlight) (what : EventKind A) (before : Health)
+-- the event waits for what is in flight, and nothing changes
+pub record Waited {A : Type 0} (flight : Option InFlight) (old : SlotState) (what : EventKind A)
+    (outcome : Outcome A) : Type 0 where
+  pub here : InFlight
+  pub flies : flight ≡ Some here
+  pub waits : must_wait what ≡ true
+  pub is : outcome ≡ replies old Busy
+
+waited_by : {A : Type 0} (old : SlotState) (flight : Option InFlight) (what : EventKind A) (before : Health)
     (outcome : Outcome A)
     → Way (λ (o : Outcome A). MayGiveOverImage old what before before o) flight old what outcome
-    → outcome.reply ≡ Busy → (outcome.state ≡ old) × (must_wait what ≡ true)
-busy_by old flight what before outcome (Waits here flies waits h) is = (ap (λ o. o.state) h, waits)
-busy_by {A} old flight what before outcome (Passes own free quiet h) is =
+    → outcome.reply ≡ Busy → Waited flight old what outcome
+waited_by old flight what before outcome (Waits here flies waits h) is =
+    record { here = here; flies = flies; waits = waits; is = h }
+waited_by {A} old flight what before outcome (Passes own free quiet h) is =
     absurd (never_busy what (subst (λ (r : Reply A). MayReplyOverImage what r) is
     (given_over_image old what before before outcome h)))
-busy_by old flight what before outcome (Looks none rings looks h) is =
+waited_by old flight what before outcome (Looks none rings looks h) is =
     let done = ap (λ o. o.reply) h in absurd (cc)
-busy_by old flight what before outcome (Stands here flies free rings h) is =
+waited_by old flight what before outcome (Stands here flies free rings h) is =
     let done = ap (λ o. o.reply) h in absurd (cc)
-busy_by old flight what before outcome (Rests verdict completes none h) is =
+waited_by old flight what before outcome (Rests verdict completes none h) is =
     let idle = ap (λ o. o.reply) h in absurd (cc)
-busy_by old flight what before outcome (Lands verdict completes here flies lands h) is =
+waited_by old flight what before outcome (Lands verdict completes here flies lands h) is =
     let done = ap (λ o. o.reply) h in absurd (cc)
 
-busy_at : {A : Type 0} (host : Option HostDisk) (old : SlotState) (what : EventKind A) (before after : Health)
+-- and the image has no part in it
+pub waited : {A : Type 0} (host : Option HostDisk) (old : SlotState) (what : EventKind A) (before after : Health)
     (outcome : Outcome A) → MayGiveBy host old what before after outcome → outcome.reply ≡ Busy
-    → (outcome.state ≡ old) × (must_wait what ≡ true)
-busy_at {A} None old what before after outcome h is =
+    → Waited (flight_in host) old what outcome × (after ≡ before)
+waited {A} None old what before after outcome h is =
     absurd (never_busy what (subst (λ (r : Reply A). MayReplyOverImage what r) is
     (given_over_image old what before after outcome h)))
-busy_at {A} (Some disk) old what before after outcome h is =
-    busy_by old disk.flight what before outcome
-    (way (λ (o : Outcome A). MayGiveOverImage old what before before o) disk.flight old what outcome h.gives)
-    is
+waited {A} (Some disk) old what before after outcome h is = (
+  waited_by old disk.flight what before outcome
+      (way (λ (o : Outcome A). MayGiveOverImage old what before before o) disk.flight old what outcome h.gives) is,
+  h.image,
+)
 
 pub busy_stays : {A : Type 0} (old : SlotState) (what : EventKind A) (before after : Health)
     (outcome : Outcome A) → MayGive old what before after outcome → outcome.reply ≡ Busy
     → (outcome.state ≡ old) × (must_wait what ≡ true)
-busy_stays old what before after outcome h is = busy_at old.host old what before after outcome h is
+busy_stays old what before after outcome h is =
+    let found = (waited old.host old what before after outcome h is).0 in
+    (ap (λ o. o.state) found.is, found.waits)
 
 rests_over_image : {A : Type 0} (old : SlotState) (what : EventKind A) (before after : Health)
     (outcome : Outcome A) → MayGiveOverImage old what before after outcome → outcome.reply ≡ Idle
-    → outcome ≡ replies old Idle
+    → (outcome ≡ replies old Idle) × (after ≡ before)
 rests_over_image {A} old what before after outcome h is =
     idle_completes old what before after outcome
     (subst (λ (r : Reply A). MayReplyOverImage what r) is
     (given_over_image old what before after outcome h)) h
 
-idle_by : {A : Type 0} (old : SlotState) (flight : Option InFlight) (what : EventKind A) (before : Health)
+rested_by : {A : Type 0} (old : SlotState) (flight : Option InFlight) (what : EventKind A) (before : Health)
     (outcome : Outcome A)
     → Way (λ (o : Outcome A). MayGiveOverImage old what before before o) flight old what outcome
     → outcome.reply ≡ Idle → outcome ≡ replies old Idle
-idle_by old flight what before outcome (Waits here flies waits h) is =
+rested_by old flight what before outcome (Waits here flies waits h) is =
     let busy = ap (λ o. o.reply) h in absurd (cc)
-idle_by old flight what before outcome (Passes own free quiet h) is =
-    rests_over_image old what before before outcome h is
-idle_by old flight what before outcome (Looks none rings looks h) is =
+rested_by old flight what before outcome (Passes own free quiet h) is =
+    (rests_over_image old what before before outcome h is).0
+rested_by old flight what before outcome (Looks none rings looks h) is =
     let done = ap (λ o. o.reply) h in absurd (cc)
-idle_by old flight what before outcome (Stands here flies free rings h) is =
+rested_by old flight what before outcome (Stands here flies free rings h) is =
     let done = ap (λ o. o.reply) h in absurd (cc)
-idle_by old flight what before outcome (Rests verdict completes none h) is = h
-idle_by old flight what before outcome (Lands verdict completes here flies lands h) is =
+rested_by old flight what before outcome (Rests verdict completes none h) is = h
+rested_by old flight what before outcome (Lands verdict completes here flies lands h) is =
     let done = ap (λ o. o.reply) h in absurd (cc)
 
-idle_at : {A : Type 0} (host : Option HostDisk) (old : SlotState) (what : EventKind A) (before after : Health)
+pub rested : {A : Type 0} (host : Option HostDisk) (old : SlotState) (what : EventKind A) (before after : Health)
     (outcome : Outcome A) → MayGiveBy host old what before after outcome → outcome.reply ≡ Idle
-    → outcome ≡ replies old Idle
-idle_at None old what before after outcome h is = rests_over_image old what before after outcome h is
-idle_at {A} (Some disk) old what before after outcome h is =
-    idle_by old disk.flight what before outcome
-    (way (λ (o : Outcome A). MayGiveOverImage old what before before o) disk.flight old what outcome h.gives)
-    is
+    → (outcome ≡ replies old Idle) × (after ≡ before)
+rested None old what before after outcome h is = rests_over_image old what before after outcome h is
+rested {A} (Some disk) old what before after outcome h is = (
+  rested_by old disk.flight what before outcome
+      (way (λ (o : Outcome A). MayGiveOverImage old what before before o) disk.flight old what outcome h.gives) is,
+  h.image,
+)
 
 pub idle_stays : {A : Type 0} (old : SlotState) (what : EventKind A) (before after : Health)
     (outcome : Outcome A) → MayGive old what before after outcome → outcome.reply ≡ Idle
     → outcome.state ≡ old
 idle_stays old what before after outcome h is =
-    ap (λ o. o.state) (idle_at old.host old what before after outcome h is)
+    ap (λ o. o.state) (rested old.host old what before after outcome h is).0

@@ -16,8 +16,11 @@ pub mod Task
 pub mod OverImage
 pub mod Machine
 pub mod World
+pub mod Untouched
 pub mod Quiet
 pub mod Line
+pub mod Moving
+pub mod Marking
 pub mod Steps
 pub mod Fault
 pub mod Pausing

@@ -91,16 +91,6 @@ pub record SeesTheSame {A : Type 0} (g : ℕ) (moves : List (Move A)) (new : Wor
   pub records : own_records g (records_of moves) ≡ own_records g (records_of moves')
   pub state_after : slice_get new.slots g ≡ slice_get new'.slots g
 
--- Guest g was on one board through these moves, and then on another through those: together that is one run
--- of it on its own, from the state that it was first in.
-pub record RanOnBoth {A : Type 0} (g : ℕ) (state : SlotState) (moves moves' : List (Move A))
-    (new' : World) : Type 0 where
-  pub last : SlotState
-  pub own :
-      RunsOnItsOwn g state (own_events g (events_of moves) ++ own_events g (events_of moves'))
-      (own_records g (records_of moves) ++ own_records g (records_of moves')) last
-  pub state_after : slice_get new'.slots g ≡ Some last
-
 -- what is noted of guest g says whether an event of it has met a refusal: before the line, or in it
 abbrev pub IsNoted : {A : Type 0} → ℕ → World → List (Move A) → World → Type 0
 IsNoted g old moves new =

@@ -1,6 +1,6 @@
 -- What comes of an event of a guest whose disk is of the image.
 use Rattle.std.specs.Prelude.{ℕ, if◌then◌else◌, List, ◌++◌, length, take}
-use Rattle.guest_memory.specs.Memory.{is_inside, part_of, put}
+use Rattle.guest_memory.specs.Memory.{is_inside, part_of, stored}
 use Rattle.mmio_window.specs.declared.action.Action.{Action}
 use Rattle.mmio_window.specs.declared.device_kind.DeviceKind.{DeviceKind}
 use Rattle.mmio_window.specs.declared.device_kind.DeviceKind.TheVariants.{Block, Console}
@@ -28,7 +28,7 @@ memory_read state addr len =
 abbrev pub memory_written : {A : Type 0} → SlotState → ℕ → List ℕ → Outcome A
 memory_written state addr bytes =
     if is_inside state.memory addr (length bytes)
-    then does (record state { memory = put state.memory addr bytes })
+    then does (record state { memory = stored state.memory addr bytes })
     else replies state BadRange
 
 -- ---- registers

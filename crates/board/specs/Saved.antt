@@ -140,11 +140,3 @@ abbrev pub IsAs : BoardSlot → BoardSlot → BoardSlot → Type 0
 IsAs slot old new =
     new
     ≡ record slot { memory = old.memory; extent = old.extent; host = old.host; disturbed = old.disturbed }
-
--- The host has put back the bytes of a slot's memory and of its disk: this slot has them, in an image of
--- these bytes, or on a disk that the host serves as it served that one.
-pub record HasBytesOf (slot : BoardSlot) (bytes : List ℕ) (old : BoardSlot) (other : List ℕ) : Type 0 where
-  pub memory : old.memory ≡ slot.memory
-  pub host : old.host ≡ slot.host
-  pub disk : extent_of other old.extent.start old.extent.count
-      ≡ extent_of bytes slot.extent.start slot.extent.count

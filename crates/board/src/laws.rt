@@ -1,14 +1,18 @@
 //! What holds of every line of events, by itself: no board is made or run here.
 
-ghost use Rattle.std.specs.Prelude.{◌≡◌, ℕ, ◌+◌, ◌<◌, ◌≤◌, List, [], ◌∷◌, ◌++◌, Some, true, false, length};
+ghost use Rattle.std.specs.Prelude.{◌≡◌, ◌≢◌, ℕ, ◌+◌, ◌<◌, ◌≤◌, List, [], ◌∷◌, ◌++◌, Some, true, false, length};
 ghost use Rattle.std.specs.List.{slice_get};
+ghost use Rattle.guest_memory.specs.Memory.{Memory, SameRange};
 ghost use Rattle.chain.specs.Service.{Served, ServesAll, Site};
+ghost use Rattle.guest_memory.specs.Marks.{MarksWrites};
 ghost use Rattle.sector_cache.specs.Disk.{Disk};
 ghost use Rattle.sector_cache.specs.Sector.{extent_of};
 ghost use Rattle.sector_cache.specs.Stop.{BeginsAt, Only};
 ghost use Rattle.mmio_window.specs.declared.device_kind.DeviceKind.{DeviceKind};
 ghost use Rattle.mmio_window.specs.declared.queue.Queue.{Queue};
+ghost use Rattle.mmio_window.specs.declared.register.Register.{Register};
 ghost use Rattle.mmio_window.specs.Queue.{queue_kind};
+ghost use Rattle.mmio_window.specs.Registers.{register_at};
 ghost use Rattle.block_device.specs.declared.device.BlockDevice.{BlockDevice};
 ghost use Rattle.block_device.specs.declared.operation.Verdict.{Verdict};
 ghost use Rattle.block_device.specs.Device.{block_device};
@@ -22,13 +26,16 @@ ghost use Rattle.board.specs.Backing.{InFlight, flight_in};
 ghost use Rattle.board.specs.Honest.{IsFlown, IsHonestlyServed};
 ghost use Rattle.board.specs.Hosting.{IsOwn, must_wait};
 ghost use Rattle.board.specs.Image.{Health, Tells, bytes_of};
-ghost use Rattle.board.specs.Line.{Move, IsLine, IsNoted, IsQuiet, IsAlone, IsRun, RanOnBoth, RunsAsItMay, SeesTheSame, events_of, own_events};
-ghost use Rattle.board.specs.Machine.{IsNext, RunsOnItsOwn};
+ghost use Rattle.board.specs.Line.{Move, IsLine, IsNoted, IsQuiet, IsAlone, IsRun, RunsAsItMay, SeesTheSame, events_of, own_events};
+ghost use Rattle.board.specs.Machine.{Gives, IsNext, RunsOnItsOwn};
+ghost use Rattle.board.specs.Marking.{IsForDevices};
 ghost use Rattle.board.specs.Outcome.{Outcome};
 ghost use Rattle.board.specs.declared.saved.RestoreFault.{RestoreFault};
-ghost use Rattle.board.specs.Saved.{HasBytesOf, IsAs, IsCauseOf};
+ghost use Rattle.board.specs.Moving.{MovesTo, RanOnBoth};
+ghost use Rattle.board.specs.Saved.{IsCauseOf, snapshot_of};
 ghost use Rattle.board.specs.Slot.{BoardSlot, SlotState, KeepsBesideDisk, KeepsBesideTransmit, state_of};
 ghost use Rattle.board.specs.Task.{emergency_write};
+ghost use Rattle.board.specs.Untouched.{NeedsNoMemory, touches_memory, world_over};
 ghost use Rattle.board.specs.World.{BoardState, World, KeepsBoard, MayGive, Step, identities_of, world_of};
 ghost use Rattle.board.specs.Within.{Seat, IsNextWithin};
 
@@ -142,16 +149,18 @@ pub fn a_restore_is_refused_for_one_cause()
         IsCauseOf slot bytes one → IsCauseOf slot bytes other → one ≡ other }
 {}
 
-/// A slot that is as a saved one, with the bytes of its memory and disk put back, is in that one's state (`state`). A guest
-/// that begins in a slot of one board in the state in which it left the slot of that number on another has on both what is
-/// one run of it on its own (`run`). Both speak of disks of an image; neither names the save or the restore.
+/// A guest that moves to another board, whoever serves its disk, goes on as it would have. Where the host has put back the
+/// bytes of its memory and its disk, the restore of what was saved brings the slot into the state in which it was saved
+/// (`state`). What the guest, quiet on both boards, has on the first in one slot, and behind the restore on the second in
+/// another, is one run of it on its own, but for the slot's number in its records (`run`).
 pub fn a_restored_guest_goes_on<A: Allocator>()
-    ensures state { (bytes other : List ℕ) (slot old new : BoardSlot) → IsAs slot old new →
-        HasBytesOf slot bytes old other → state_of other new ≡ state_of bytes slot }
-    ensures run { (g : ℕ) (old new old' new' : World) (moves moves' : List (Move A)) (state : SlotState) →
-        IsLine old moves new → IsQuiet g old moves → IsLine old' moves' new' → IsQuiet g old' moves' →
-        slice_get old.slots g ≡ Some state → slice_get old'.slots g ≡ slice_get new.slots g →
-        RanOnBoth g state moves moves' new' }
+    ensures state { (h : ℕ) (saved : BoardSlot) (bytes : List ℕ) (old : World) (restore : Move A) →
+        MovesTo h saved bytes old restore → slice_get restore.after.slots h ≡ Some (state_of bytes saved) }
+    ensures run { (g h : ℕ) (state : SlotState) (saved : BoardSlot) (bytes : List ℕ) (old new old' new' : World)
+        (restore : Move A) (moves moves' : List (Move A)) →
+        IsLine old moves new → IsQuiet g old moves → slice_get old.slots g ≡ Some state →
+        slice_get new.slots g ≡ Some (state_of bytes saved) → MovesTo h saved bytes old' restore →
+        IsLine restore.after moves' new' → IsQuiet h restore.after moves' → RanOnBoth g state moves h moves' new' }
 {}
 
 /// A stop between two events, as a loss of power, loses nothing, from a moment on at which the image was clean and
@@ -212,4 +221,33 @@ pub fn an_honest_host_serves<A: Allocator>()
     ensures { (old : SlotState) (here : InFlight) (now : SlotState) (verdict : Verdict) (new : SlotState)
         (flown : IsFlown A old here now verdict new) (disk : Disk) →
         IsHonestlyServed old here now verdict new flown disk }
+{}
+
+/// An event that touches no memory needs none. Whatever bytes memory has, they stay, and exactly the same comes of the
+/// event (`gives`), also where it is refused (`may`), and so of a board's step (`step`). Of the writes to a window only
+/// those to QueueNotify touch memory (`notify`), and no snapshot has a byte of it (`saved`). A write to QueueReady and a
+/// restore see where memory lies, and no more. No clause can say that no byte is read whose value decides nothing.
+pub fn what_touches_no_memory_needs_none<A: Allocator>()
+    ensures gives { (old : SlotState) (what : EventKind A) (before after : Health) → touches_memory what old ≡ false →
+        NeedsNoMemory (λ (state : SlotState) (outcome : Outcome A). Gives state what before after outcome) old }
+    ensures may { (old : SlotState) (what : EventKind A) (before after : Health) → touches_memory what old ≡ false →
+        NeedsNoMemory (λ (state : SlotState) (outcome : Outcome A). MayGive state what before after outcome) old }
+    ensures step { (old new : World) (event : Event A) (written : Record A) (found after : SlotState)
+        (memory : Memory) →
+        slice_get old.slots event.slot ≡ Some found → slice_get new.slots event.slot ≡ Some after →
+        touches_memory event.what found ≡ false → SameRange found.memory memory → Step old event written new →
+        (after.memory ≡ found.memory) × Step (world_over event.slot found memory old) event written
+        (world_over event.slot after memory new) }
+    ensures notify { (state : SlotState) (window : DeviceKind) (offset width value : ℕ) →
+        register_at offset ≢ Some Register.QueueNotify →
+        touches_memory {A = A} (EventKind.Write window offset width value) state ≡ false }
+    ensures saved { (slot : BoardSlot) (memory : Memory) → SameRange slot.memory memory →
+        snapshot_of (record slot { memory = memory }) ≡ snapshot_of slot }
+{}
+
+/// Each event but the host's own write marks the pages of its guest's memory that it writes to, and clears no mark: a page
+/// whose bit stays clear is as it was.
+pub fn an_event_marks_its_pages<A: Allocator>()
+    ensures { (old : SlotState) (what : EventKind A) (before after : Health) (outcome : Outcome A) → IsForDevices what →
+        MayGive old what before after outcome → MarksWrites old.memory outcome.state.memory }
 {}

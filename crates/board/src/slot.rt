@@ -8,9 +8,10 @@
 ghost use Rattle.std.specs.Prelude.{◌≡◌, ◌≢◌, ◌||◌, ℕ, List, IfOk};
 ghost use Rattle.std.specs.Option.{option_map};
 ghost use Rattle.guest_memory.specs.Faults.{AreGood as AreGoodRegions};
+ghost use Rattle.guest_memory.specs.Pages.{bits_of};
 ghost use Rattle.guest_memory.specs.Memory.{Inside, IsRest};
 ghost use Rattle.block_device.specs.Extent.{IsWithin, TouchesExtent};
-ghost use Rattle.board.specs.Lending.{LendsBytes};
+ghost use Rattle.board.specs.Lending.{LendsBytes, with_page_bits};
 ghost use Rattle.board.specs.Pausing.{BeginsOverImage, PausesByLimit, ServesOver, lacks_memory_in};
 ghost use Rattle.board.specs.Slot.{AreInterruptWords, IsUnnoted, host_by, interrupt_words, opened, state_of};
 ghost use Rattle.board.specs.World.{MayLackMemory};
@@ -47,6 +48,7 @@ use mmio_window::{DeviceKind, Stage, Window};
 use sector_cache::{Image, SectorCache};
 use std::alloc::{AllocError, Allocator, Global};
 use std::marker::Model;
+use std_alloc::vec::Lodged;
 
 /// One guest's part of a board.
 #[derive(Drop)]
@@ -244,6 +246,13 @@ impl<A: Allocator> Slot<A> {
         ensures rest { IsRest self.old.memory addr result.now }
     {
         self.memory.region_mut(addr)
+    }
+
+    /// Has the bits of the memory's pages kept in these bytes from now on.
+    pub(crate) fn keep_pages(&mut self, bits: Vec<u8, Lodged>)
+        ensures { self.new ≡ with_page_bits self.old (bits_of bits.items) }
+    {
+        self.memory.keep_pages(bits);
     }
 
     /// InterruptStatus of the block window and of the console window.

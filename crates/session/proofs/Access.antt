@@ -5,7 +5,7 @@ use Rattle.std.specs.Bool.{OnTrue, OnFalse}
 use Rattle.std.specs.List.{slice_get}
 use Rattle.std.specs.Option.{option_map}
 use Rattle.std.proofs.lemmas.Option.{slice_get-map}
-use Rattle.guest_memory.specs.Memory.{Inside, is_inside, put}
+use Rattle.guest_memory.specs.Memory.{Inside, is_inside, stored}
 use Rattle.guest_memory.proofs.Ranges.{is_inside-tells}
 use Rattle.chain.specs.declared.budget.Budget.{Budget}
 use Rattle.sector_cache.specs.Disk.{Disk}
@@ -164,7 +164,7 @@ module _ (A : Type 0) {I : Type 0} (disk : I → Disk) (old : PacedState I) (boa
 written_extents : (slots slots' : List BoardSlot) (h addr : ℕ) (bytes : List ℕ) (o : Option BoardSlot)
     → slice_get slots h ≡ o
     → IsSomeAnd o (λ found. slots'
-    ≡ slice_set slots h (record found { memory = put found.memory addr bytes }))
+    ≡ slice_set slots h (record found { memory = stored found.memory addr bytes }))
     → (extents_of slots' ≡ extents_of slots) × KeepsOthers h slots slots'
 written_extents slots slots' h addr bytes None here is = absurd is
 written_extents slots slots' h addr bytes (Some found) here is =
@@ -172,7 +172,7 @@ written_extents slots slots' h addr bytes (Some found) here is =
 
 pub keeps : {I : Type 0} (old new : BoardState I) (h addr : ℕ) (bytes : List ℕ) (done : Bool)
     → OnTrue done (IsSomeAnd (slice_get old.slots h) (λ found. new.slots
-    ≡ slice_set old.slots h (record found { memory = put found.memory addr bytes })))
+    ≡ slice_set old.slots h (record found { memory = stored found.memory addr bytes })))
     → OnFalse done (new ≡ old) → (extents_of new.slots ≡ extents_of old.slots)
     × KeepsOthers h old.slots new.slots
 keeps old new h addr bytes true is kept =

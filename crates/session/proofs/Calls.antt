@@ -4,7 +4,7 @@ use Rattle.std.specs.Prelude.{if◌then◌else◌}
 use Rattle.std.specs.List.{slice_get}
 use Rattle.std.specs.Option.{option_and_then}
 use Rattle.std.proofs.lemmas.List.{length-set}
-use Rattle.std.proofs.lemmas.Option.{slice_get_within, slice_get_past, slice_get_cases}
+use Rattle.std.proofs.lemmas.Option.{same_Some, slice_get_within, slice_get_past, slice_get_cases}
 use Rattle.chain.specs.declared.budget.Budget.{Budget}
 use Rattle.board.specs.declared.event.Event.{Event}
 use Rattle.board.specs.declared.pause.Pause.{Pause}
@@ -53,14 +53,12 @@ state_there s h fits = found_state s.slots h fits
     found_state (one ∷ slots) (suc k) few = found_state slots k (omega (arith, few))
 
 -- where nothing of its slot is paused
-pub idle_step_call : {A : Type 0} (s new : SessionState) (event : Event A) (reply : Reply A)
-    → slice_get s.paused event.slot ≡ Some None → event.slot < length s.slots
-    → ((state : SlotState) → asked event.what state ≡ None) → IsStep s event reply new
+pub idle_step_there : {A : Type 0} (s new : SessionState) (event : Event A) (reply : Reply A) (state : SlotState)
+    → slice_get s.paused event.slot ≡ Some None → slice_get (world_of s).slots event.slot ≡ Some state
+    → asked event.what state ≡ None → IsStep s event reply new
     → ComesTo (Handle event) (Some None) s (Answered reply) new
-idle_step_call {A} s new event reply is fits asks step =
-    let found = state_there s event.slot fits in
-    let t = answered_turn (world_of s) (world_of new) event s.budget reply found.0 _ _ found.1
-    (asks found.0) step.answers in
+idle_step_there {A} s new event reply state is there asks step =
+    let t = answered_turn (world_of s) (world_of new) event s.budget reply state _ _ there asks step.answers in
     record {
       turn = record {
         turn = turn.Answered reply;
@@ -71,7 +69,10 @@ idle_step_call {A} s new event reply is fits asks step =
         told = refl;
         behind = t.appended;
         paused = step.paused ∙ sym (set_same s.paused event.slot None None is refl);
-        within = λ was now there later_there. rw (asks was) (step.within was now there later_there);
+        within = λ was now was_there later_there.
+            let same : state ≡ was = same_Some state was (sym there ∙ was_there) in
+            let none : asked event.what was ≡ None = rw (← same) asks in
+            rw none (step.within was now was_there later_there);
         others = step.others;
         outputs = step.outputs;
         extents = step.extents;
@@ -81,6 +82,14 @@ idle_step_call {A} s new event reply is fits asks step =
       };
       limited = λ is. absurd (cc (is));
     }
+
+pub idle_step_call : {A : Type 0} (s new : SessionState) (event : Event A) (reply : Reply A)
+    → slice_get s.paused event.slot ≡ Some None → event.slot < length s.slots
+    → ((state : SlotState) → asked event.what state ≡ None) → IsStep s event reply new
+    → ComesTo (Handle event) (Some None) s (Answered reply) new
+idle_step_call s new event reply is fits asks step =
+    let found = state_there s event.slot fits in
+    idle_step_there s new event reply found.0 is found.1 (asks found.0) step
 
 step_call_at : {A : Type 0} (s new : SessionState) (event : Event A) (reply : Reply A)
     (o : Option (Option Pause)) → slice_get s.paused event.slot ≡ o

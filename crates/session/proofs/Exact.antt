@@ -21,13 +21,11 @@ use Rattle.board.specs.Hosting.{has_part, must_wait, verdict_in}
 use Rattle.board.specs.Image.{Health}
 use Rattle.board.specs.Outcome.{Outcome}
 use Rattle.board.specs.Pausing.{Begins, asked}
-use Rattle.board.specs.Replies.{MayReplyOverImage}
 use Rattle.board.specs.Slot.{BoardSlot, SlotState, state_of}
 use Rattle.board.specs.Within.{MayPutOut}
 use Rattle.board.specs.World.{MayGive, MayGiveBy, MayGiveOverImage, MayLackMemory}
 use Rattle.board.proofs.Alone.{slot_step}
-use Rattle.board.proofs.Replies.{given_over_image}
-use Rattle.board.proofs.Replies as board
+use Rattle.board.proofs.Waiting.{waited}
 use Rattle.board.proofs.Ways.{Lands, Looks, Passes, Rests, Stands, Waits, Way, way}
 use Rattle.session.specs.declared.progress.Progress.{Progress}
 use Rattle.session.specs.declared.progress.Progress.TheVariants as progress
@@ -49,32 +47,11 @@ use Rattle.session.proofs.Unchanged.{shown_at}
 
 -- ---- what waits for what is in flight, and what finds nothing in flight
 
-busy_way : {A : Type 0} (flight : Option InFlight) (state : SlotState) (what : EventKind A) (health : Health)
-    (outcome : Outcome A)
-    → Way (λ (o : Outcome A). MayGiveOverImage state what health health o) flight state what outcome
-    → outcome.reply ≡ reply.Busy → (is_some flight && must_wait what) ≡ true
-busy_way flight state what health outcome (Waits here flies waits h) is = rw (flies, waits) refl
-busy_way {A} flight state what health outcome (Passes own free quiet h) is =
-    absurd (board.never_busy what (subst (λ (r : Reply A). MayReplyOverImage what r) is
-    (given_over_image state what health health outcome h)))
-busy_way flight state what health outcome (Looks none rings looks h) is =
-    let done = ap (λ o. o.reply) h in absurd (cc)
-busy_way flight state what health outcome (Stands here flies free rings h) is =
-    let done = ap (λ o. o.reply) h in absurd (cc)
-busy_way flight state what health outcome (Rests verdict completes none h) is =
-    let idle = ap (λ o. o.reply) h in absurd (cc)
-busy_way flight state what health outcome (Lands verdict completes here flies lands h) is =
-    let done = ap (λ o. o.reply) h in absurd (cc)
-
 busy_by : {A : Type 0} (host : Option HostDisk) (state : SlotState) (what : EventKind A) (old new : Health)
     (outcome : Outcome A) → MayGiveBy host state what old new outcome → outcome.reply ≡ reply.Busy
     → (is_some (flight_in host) && must_wait what) ≡ true
-busy_by {A} None state what old new outcome h is =
-    absurd (board.never_busy what (subst (λ (r : Reply A). MayReplyOverImage what r) is
-    (given_over_image state what old new outcome h)))
-busy_by {A} (Some disk) state what old new outcome h is =
-    busy_way disk.flight state what old outcome
-    (way (λ (o : Outcome A). MayGiveOverImage state what old old o) disk.flight state what outcome h.gives) is
+busy_by host state what old new outcome h is =
+    let found = (waited host state what old new outcome h is).0 in rw (found.flies, found.waits) refl
 
 -- a completion waits for nothing
 completion_free : {A : Type 0} (v : Verdict) (what : EventKind A) → verdict_in what ≡ Some v

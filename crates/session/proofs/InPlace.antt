@@ -5,8 +5,8 @@ use Rattle.std.specs.List.{slice_get}
 use Rattle.std.proofs.lemmas.Bool.Decides.{nat_tests}
 use Rattle.std.proofs.lemmas.List.{map-set, take_all, drop_all}
 use Rattle.std.proofs.lemmas.Option.{slice_get-map, slice_get_within}
-use Rattle.guest_memory.specs.Memory.{Inside, Memory, is_inside, put, put_at}
-use Rattle.guest_memory.proofs.Ranges.{is_inside-tells, put_bytes, whole_inside}
+use Rattle.guest_memory.specs.Memory.{Inside, Memory, is_inside, stored, put_at}
+use Rattle.guest_memory.proofs.Ranges.{is_inside-tells, stored_bytes, whole_inside}
 use Rattle.sector_cache.specs.Disk.{Disk}
 use Rattle.board.specs.declared.event.EventKind.TheVariants.{MemWrite}
 use Rattle.board.specs.declared.reply.Reply.TheVariants.{Done}
@@ -35,9 +35,9 @@ answers : (A : Type 0) (slots : List BoardSlot) (disk : Disk) (h : ℕ) (found :
     (addr : ℕ) (bytes : List ℕ) →
     slice_get slots h ≡ Some found → Inside found.memory addr (length bytes) →
     Answers {A = A} (seen slots disk) (record { slot = h; what = MemWrite addr bytes }) Done [] []
-    (seen (slice_set slots h (record found { memory = put found.memory addr bytes })) disk)
+    (seen (slice_set slots h (record found { memory = stored found.memory addr bytes })) disk)
 answers A slots disk h found addr bytes here inside =
-    let new : BoardSlot = record found { memory = put found.memory addr bytes } in
+    let new : BoardSlot = record found { memory = stored found.memory addr bytes } in
     let test : is_inside found.memory addr (length bytes) ≡ true =
     (is_inside-tells found.memory addr (length bytes)).1 inside in
     record {
@@ -68,11 +68,10 @@ answers A slots disk h found addr bytes here inside =
 pub in_place : (A : Type 0) (old : SessionState) (slot addr : ℕ) (found : BoardSlot) (bytes : List ℕ) →
     slice_get old.slots slot ≡ Some found → Inside found.memory addr (length bytes) →
     IsStep {A = A} old (record { slot = slot; what = MemWrite addr bytes }) Done
-    (with_memory slot found (put found.memory addr bytes) old)
+    (with_memory slot found (stored found.memory addr bytes) old)
 in_place A old slot addr found bytes here inside =
-    was_written A old.slots (slice_set old.slots slot (record found { memory = put found.memory addr bytes }))
-    old.image old.image old.dirty old.dirty old.outputs old.paused old.budget slot addr bytes
-    (answers A old.slots (disk_of old) slot found addr bytes here inside) (rw here refl) refl
+    was_written A old slot addr found bytes here
+    (answers A old.slots (disk_of old) slot found addr bytes here inside)
 
 -- as many bytes as there are, put from the first place on, are all that there is
 put_all : (old new : List ℕ) → length new ≡ length old → put_at old 0 new ≡ new
@@ -83,10 +82,10 @@ put_all old new same =
     ∙ take_all (length old) new (omega (arith, same)))
 
 put_whole : (memory : Memory) (bytes : List ℕ) → memory.gaps ≡ [] → length bytes ≡ length memory.bytes
-    → put memory memory.base bytes ≡ record memory { bytes = bytes }
+    → stored memory memory.base bytes ≡ record memory { bytes = bytes }
 put_whole memory bytes one same =
     let front : memory.base - memory.base ≡ 0 = omega arith in
-    put_bytes memory memory.base bytes (whole_inside memory (length bytes) one same)
+    stored_bytes memory memory.base bytes (whole_inside memory (length bytes) one same)
     ∙ ap (λ (bs : List ℕ). record memory { bytes = bs }) (rw front (put_all memory.bytes bytes same))
 
 -- what is left of bytes that were lent

@@ -5,25 +5,19 @@ use Rattle.std.specs.List.{slice_get}
 use Rattle.std.specs.Option.{option_and_then}
 use Rattle.std.proofs.lemmas.Bool.{cases_eq}
 use Rattle.board.specs.declared.event.Event.{Event}
-use Rattle.board.specs.declared.event.EventKind.{EventKind}
-use Rattle.board.specs.declared.event.EventKind.TheVariants.{Read, Write, MemRead, MemWrite, Input, Resize, Restore, Complete}
 use Rattle.board.specs.declared.pause.Pause.{Pause}
 use Rattle.board.specs.declared.reply.Reply.{Reply}
 use Rattle.board.specs.declared.reply.Reply.TheVariants as reply
 use Rattle.board.specs.declared.reply.Record.{Record}
-use Rattle.board.specs.Backing.{HostDisk, InFlight, flight_in}
+use Rattle.board.specs.Backing.{InFlight, flight_in}
 use Rattle.board.specs.Hosting.{IsOwn, must_wait}
 use Rattle.board.specs.Image.{Health}
 use Rattle.board.specs.Outcome.{Outcome, replies}
-use Rattle.board.specs.Replies.{MayReplyOverImage}
 use Rattle.board.specs.Slot.{BoardSlot, SlotState}
-use Rattle.board.specs.World.{KeepsOthers, MayGive, MayGiveBy, MayGiveOverImage, MissingStep, SlotStep, World, met_refusal, noted}
+use Rattle.board.specs.World.{KeepsOthers, MayGive, MissingStep, SlotStep, World, met_refusal, noted}
 use Rattle.board.proofs.Alone.{get_set}
-use Rattle.board.proofs.Replies.{given_over_image, idle_completes}
-use Rattle.board.proofs.Replies as board
 use Rattle.board.proofs.Seats.{noted_none}
-use Rattle.board.proofs.Waiting.{busy_stays, outlasts}
-use Rattle.board.proofs.Ways.{Lands, Looks, Passes, Rests, Stands, Waits, Way, way}
+use Rattle.board.proofs.Waiting.{busy_stays, outlasts, rested, waited}
 use Rattle.session.specs.declared.response.Response.{Response}
 use Rattle.session.specs.declared.response.Response.TheVariants.{Answered, More, Busy, Idle}
 use Rattle.session.specs.Course.{IsCalled}
@@ -52,85 +46,6 @@ stays {A} state before after outcome told is image = record {
   silent = ap (λ (o : Outcome A). o.output) is;
   health = image;
 }
-
-busy_way : {A : Type 0} (flight : Option InFlight) (state : SlotState) (what : EventKind A) (health : Health)
-    (outcome : Outcome A)
-    → Way (λ (o : Outcome A). MayGiveOverImage state what health health o) flight state what outcome
-    → outcome.reply ≡ reply.Busy → outcome ≡ replies state reply.Busy
-busy_way flight state what health outcome (Waits here flies waits h) is = h
-busy_way {A} flight state what health outcome (Passes own free quiet h) is =
-    absurd (board.never_busy what (subst (λ (r : Reply A). MayReplyOverImage what r) is
-    (given_over_image state what health health outcome h)))
-busy_way flight state what health outcome (Looks none rings looks h) is =
-    let done = ap (λ o. o.reply) h in absurd (cc)
-busy_way flight state what health outcome (Stands here flies free rings h) is =
-    let done = ap (λ o. o.reply) h in absurd (cc)
-busy_way flight state what health outcome (Rests verdict completes none h) is =
-    let idle = ap (λ o. o.reply) h in absurd (cc)
-busy_way flight state what health outcome (Lands verdict completes here flies lands h) is =
-    let done = ap (λ o. o.reply) h in absurd (cc)
-
-busy_by : {A : Type 0} (host : Option HostDisk) (state : SlotState) (what : EventKind A) (old new : Health)
-    (outcome : Outcome A) → MayGiveBy host state what old new outcome → outcome.reply ≡ reply.Busy
-    → Stays state old new outcome
-busy_by {A} None state what old new outcome h is =
-    absurd (board.never_busy what (subst (λ (r : Reply A). MayReplyOverImage what r) is
-    (given_over_image state what old new outcome h)))
-busy_by {A} (Some disk) state what old new outcome h is =
-    stays state old new outcome reply.Busy
-    (busy_way disk.flight state what old outcome
-    (way (λ (o : Outcome A). MayGiveOverImage state what old old o) disk.flight state what outcome h.gives) is)
-    h.image
-
-over_image_idle : {A : Type 0} (state : SlotState) (what : EventKind A) (old new : Health) (outcome : Outcome A)
-    → MayGiveOverImage state what old new outcome → outcome.reply ≡ reply.Idle
-    → outcome ≡ replies state reply.Idle
-over_image_idle {A} state what old new outcome h is =
-    idle_completes state what old new outcome
-    (subst (λ (r : Reply A). MayReplyOverImage what r) is (given_over_image state what old new outcome h)) h
-
-idle_way : {A : Type 0} (flight : Option InFlight) (state : SlotState) (what : EventKind A) (health : Health)
-    (outcome : Outcome A)
-    → Way (λ (o : Outcome A). MayGiveOverImage state what health health o) flight state what outcome
-    → outcome.reply ≡ reply.Idle → outcome ≡ replies state reply.Idle
-idle_way flight state what health outcome (Waits here flies waits h) is =
-    let busy = ap (λ o. o.reply) h in absurd (cc)
-idle_way flight state what health outcome (Passes own free quiet h) is =
-    over_image_idle state what health health outcome h is
-idle_way flight state what health outcome (Looks none rings looks h) is =
-    let done = ap (λ o. o.reply) h in absurd (cc)
-idle_way flight state what health outcome (Stands here flies free rings h) is =
-    let done = ap (λ o. o.reply) h in absurd (cc)
-idle_way flight state what health outcome (Rests verdict completes none h) is = h
-idle_way flight state what health outcome (Lands verdict completes here flies lands h) is =
-    let done = ap (λ o. o.reply) h in absurd (cc)
-
--- over an image a completion alone is answered so, and it has no part in it
-completion_image : {A : Type 0} (state : SlotState) (what : EventKind A) (old new : Health)
-    (outcome : Outcome A) → MayReplyOverImage what reply.Idle → MayGiveOverImage state what old new outcome
-    → new ≡ old
-completion_image state (Read window offset width) old new outcome may h = absurd may
-completion_image state (Write window offset width value) old new outcome may h = absurd may
-completion_image state (MemRead addr len) old new outcome may h = absurd may
-completion_image state (MemWrite addr bytes) old new outcome may h = absurd may
-completion_image state (Input bytes) old new outcome may h = absurd may
-completion_image state (Resize cols rows) old new outcome may h = absurd may
-completion_image state (Restore bytes) old new outcome may h = absurd may
-completion_image state (Complete verdict) old new outcome may (inl served) = served.alike.image
-completion_image state (Complete verdict) old new outcome may (inr never) = absurd never
-
-idle_by : {A : Type 0} (host : Option HostDisk) (state : SlotState) (what : EventKind A) (old new : Health)
-    (outcome : Outcome A) → MayGiveBy host state what old new outcome → outcome.reply ≡ reply.Idle
-    → Stays state old new outcome
-idle_by {A} None state what old new outcome h is =
-    stays state old new outcome reply.Idle (over_image_idle state what old new outcome h is)
-    (completion_image state what old new outcome
-    (subst (λ (r : Reply A). MayReplyOverImage what r) is (given_over_image state what old new outcome h)) h)
-idle_by {A} (Some disk) state what old new outcome h is =
-    stays state old new outcome reply.Idle
-    (idle_way disk.flight state what old outcome
-    (way (λ (o : Outcome A). MayGiveOverImage state what old old o) disk.flight state what outcome h.gives) is)
-    h.image
 
 -- ---- so the session stays
 
@@ -195,7 +110,8 @@ pub busy_keeps : {A : Type 0} (old new : SessionState) (event : Event A) → IsS
 busy_keeps {A} old new event h = (
   kept_at old new event reply.Busy (slice_get (world_of old).slots event.slot) h refl (λ is. cc (is))
       (λ failures. refl) (λ state before after outcome given is.
-      busy_by state.host state event.what before after outcome given is) h.answers.step,
+      let found = waited state.host state event.what before after outcome given is in
+      stays state before after outcome reply.Busy found.0.is found.1) h.answers.step,
   waits (slice_get (world_of old).slots event.slot) h.answers.step,
 )
   where
@@ -215,7 +131,8 @@ pub idle_keeps : {A : Type 0} (old new : SessionState) (event : Event A) → IsS
 idle_keeps {A} old new event h =
     kept_at old new event reply.Idle (slice_get (world_of old).slots event.slot) h refl (λ is. cc (is))
     (λ failures. refl) (λ state before after outcome given is.
-    idle_by state.host state event.what before after outcome given is) h.answers.step
+    let found = rested state.host state event.what before after outcome given is in
+    stays state before after outcome reply.Idle found.0 found.1) h.answers.step
 
 -- ---- what is in flight
 

@@ -27,3 +27,4 @@ pub mod Exact
 pub mod Asking
 pub mod Kept
 pub mod Refusals
+pub mod Untouched

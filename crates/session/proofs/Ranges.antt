@@ -1,16 +1,14 @@
 -- What becomes of a range of a guest's memory, as a step of the session.
-use Rattle.std.proofs.Common.{◌≡◌, inl, ℕ, ◌<◌, Bool, true, false, List, [], length, Option, Some, None, refl, sym, ap, append-nil, arith}
-use Rattle.std.specs.Prelude.{nat_lt, if◌then◌else◌, slice_set, IsSomeAnd}
+use Rattle.std.proofs.Common.{◌≡◌, inl, ℕ, ◌<◌, true, false, List, [], length, Option, Some, None, refl, sym, ap, append-nil, arith}
+use Rattle.std.specs.Prelude.{nat_lt, if◌then◌else◌, IsSomeAnd}
 use Rattle.std.specs.List.{slice_get}
 use Rattle.std.specs.Option.{option_map}
 use Rattle.std.proofs.lemmas.Option.{slice_get_within, slice_get-map, same_Some}
 use Rattle.mmio_window.specs.declared.device_kind.DeviceKind.{DeviceKind}
-use Rattle.guest_memory.specs.Memory.{Inside, is_inside, part_of, put}
+use Rattle.guest_memory.specs.Memory.{Inside, is_inside, part_of, stored}
 use Rattle.guest_memory.proofs.Ranges.{is_inside-tells}
-use Rattle.chain.specs.declared.budget.Budget.{Budget}
 use Rattle.board.specs.declared.event.Event.{Event}
 use Rattle.board.specs.declared.event.EventKind.TheVariants.{MemRead, MemWrite, Read}
-use Rattle.board.specs.declared.pause.Pause.{Pause}
 use Rattle.board.specs.declared.reply.Reply.{Reply}
 use Rattle.board.specs.declared.reply.Reply.TheVariants.{Done, Bytes, BadSlot, BadRange, Value}
 use Rattle.board.specs.Machine.{register}
@@ -19,11 +17,10 @@ use Rattle.board.specs.Slot.{BoardSlot, state_of}
 use Rattle.board.specs.World.{World, Answers}
 use Rattle.board.proofs.Blocks.{read_given}
 use Rattle.board.proofs.Seats.{extents_of-set, others_kept}
-use Rattle.session.specs.Session.{IsStep, SessionState, Waiting, world_of}
+use Rattle.session.specs.Session.{IsStep, SessionState, with_memory, world_of}
 use Rattle.session.proofs.Parts.{given}
 use Rattle.session.proofs.Places.{not_true}
 use Rattle.session.proofs.Unchanged.{refused_at, unchanged}
-use Rattle.session.proofs.Steps.{session}
 
 held : (found : BoardSlot) (addr n : ℕ) → Inside found.memory addr n → is_inside found.memory addr n ≡ true
 held found addr n inside = (is_inside-tells found.memory addr n).1 inside
@@ -116,29 +113,21 @@ behind {A} {old} {event} {reply} {new} output answers = record {
   appended = rw (← answers.appended) (sym (append-nil output));
 }
 
-wrote_at : (A : Type 0) (slots slots' : List BoardSlot) (image image' : List ℕ) (dirty dirty' : Bool)
-    (outputs : List Waiting) (paused : List (Option Pause)) (budget : Budget) (slot addr : ℕ) (bytes : List ℕ)
-    (o : Option BoardSlot) → slice_get slots slot ≡ o →
-    Answers {A = A} (world_of (session slots image dirty outputs paused budget))
-    (record { slot = slot; what = MemWrite addr bytes }) Done [] []
-    (world_of (session slots' image' dirty' outputs paused budget)) →
-    IsSomeAnd o (λ found. slots'
-    ≡ slice_set slots slot (record found { memory = put found.memory addr bytes })) →
-    image' ≡ image →
-    IsStep {A = A} (session slots image dirty outputs paused budget)
-    (record { slot = slot; what = MemWrite addr bytes }) Done
-    (session slots' image' dirty' outputs paused budget)
-wrote_at A slots slots' image image' dirty dirty' outputs paused budget slot addr bytes None here answers
-    stands same = absurd stands
-wrote_at A slots slots' image image' dirty dirty' outputs paused budget slot addr bytes (Some found) here
-    answers stands same =
-    let fits : slot < length slots = slice_get_within slots slot found here in
+-- what was written to it is the step of that write
+pub was_written : (A : Type 0) (old : SessionState) (slot addr : ℕ) (found : BoardSlot) (bytes : List ℕ)
+    → slice_get old.slots slot ≡ Some found
+    → Answers {A = A} (world_of old) (record { slot = slot; what = MemWrite addr bytes }) Done [] []
+    (world_of (with_memory slot found (stored found.memory addr bytes) old))
+    → IsStep {A = A} old (record { slot = slot; what = MemWrite addr bytes }) Done
+    (with_memory slot found (stored found.memory addr bytes) old)
+was_written A old slot addr found bytes here answers =
+    let fits : slot < length old.slots = slice_get_within old.slots slot found here in
     record {
       answers = behind _ answers;
-      others = λ other differ. rw stands (others_kept slots slot _ other differ);
+      others = λ other differ. others_kept old.slots slot _ other differ;
       outputs = λ other differ. refl;
-      extents = rw stands (extents_of-set slots slot found _ here refl);
-      size = ap length same;
+      extents = extents_of-set old.slots slot found _ here refl;
+      size = refl;
       limits = λ slot. refl;
       paused = refl;
       budget = refl;
@@ -149,21 +138,3 @@ wrote_at A slots slots' image image' dirty dirty' outputs paused budget slot add
       bad_range_keeps = λ is. absurd (cc);
       no_memory = λ is. absurd (cc);
     }
-
--- what was written to it is the step of that write
-pub was_written : (A : Type 0) (slots slots' : List BoardSlot) (image image' : List ℕ) (dirty dirty' : Bool)
-    (outputs : List Waiting) (paused : List (Option Pause)) (budget : Budget) (slot addr : ℕ) (bytes : List ℕ)
-    →
-    Answers {A = A} (world_of (session slots image dirty outputs paused budget))
-    (record { slot = slot; what = MemWrite addr bytes }) Done [] []
-    (world_of (session slots' image' dirty' outputs paused budget)) →
-    IsSomeAnd (slice_get slots slot) (λ found. slots'
-    ≡ slice_set slots slot (record found { memory = put found.memory addr bytes })) →
-    image' ≡ image →
-    IsStep {A = A} (session slots image dirty outputs paused budget)
-    (record { slot = slot; what = MemWrite addr bytes }) Done
-    (session slots' image' dirty' outputs paused budget)
-was_written A slots slots' image image' dirty dirty' outputs paused budget slot addr bytes
-    answers stands same =
-    wrote_at A slots slots' image image' dirty dirty' outputs paused budget slot addr bytes
-    (slice_get slots slot) refl answers stands same

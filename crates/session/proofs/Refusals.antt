@@ -51,6 +51,11 @@ pub never_spent : {T : Type 0} (r : Result T SessionFault) → IfErr r (λ why. 
 never_spent (Ok x) want is = cc
 never_spent (Err e) want is = cc
 
+pub never_outlet : {T : Type 0} (r : Result T SessionFault) → IfErr r (λ why. why ≡ NoMemory)
+    → IsErrOf r BadOutlet → ⊥
+never_outlet (Ok x) want is = cc
+never_outlet (Err e) want is = cc
+
 -- as many slots are made as there are described
 length-made_over : {X : Type 0} (made : SlotSpec → Memory → X) (slots : List SlotSpec)
     (bytes : List (List ℕ)) → length (made_over made slots bytes) ≡ length slots

@@ -1,9 +1,9 @@
 //! What holds of every session, by itself. The bodies are empty: each contract is a theorem.
 
-ghost use Rattle.std.specs.Prelude.{◌≡◌, ◌/◌, ℕ, List, [], ◌∷◌, length, Some, true};
+ghost use Rattle.std.specs.Prelude.{◌≡◌, ◌/◌, ℕ, List, [], ◌∷◌, length, Some, true, false};
 ghost use Rattle.std.specs.List.{slice_get};
 ghost use Rattle.chain.specs.declared.budget.Budget.{Budget};
-ghost use Rattle.guest_memory.specs.Memory.{Inside, put};
+ghost use Rattle.guest_memory.specs.Memory.{Inside, Memory, SameRange, stored};
 ghost use Rattle.board.specs.declared.event.Event.{Event};
 ghost use Rattle.board.specs.declared.event.EventKind.{EventKind};
 ghost use Rattle.board.specs.declared.reply.Reply.{Reply};
@@ -11,7 +11,8 @@ ghost use Rattle.board.specs.Backing.{InFlight};
 ghost use Rattle.board.specs.Fault.{IsAccepted};
 ghost use Rattle.board.specs.Hosting.{IsOwn, must_wait};
 ghost use Rattle.board.specs.Pausing.{HasLimit};
-ghost use Rattle.board.specs.Slot.{BoardSlot, SlotState};
+ghost use Rattle.board.specs.Slot.{BoardSlot, SlotState, state_of};
+ghost use Rattle.board.specs.Untouched.{touches_memory};
 ghost use Rattle.board.specs.Within.{Seat};
 ghost use Rattle.session.specs.Line.{IsIdle};
 ghost use Rattle.session.specs.Pacing.{Call, Handle, IfEvent};
@@ -20,7 +21,7 @@ ghost use Rattle.session.specs.declared.guest.GuestSpec.{GuestSpec};
 ghost use Rattle.session.specs.Alone.{IsSeatCourse, IsSeatedAlone, OwnCall, SeeAlike, at_front, new_session_alone, own_askings, part_of_image};
 ghost use Rattle.session.specs.Operations.{flight_at};
 ghost use Rattle.session.specs.Course.{SessionStep, HadRoom, IsCalled, IsCourse, NeverPauses, RunsAlone, paced_world_of};
-ghost use Rattle.session.specs.Pausing.{IsCall};
+ghost use Rattle.session.specs.Pausing.{IsCall, IsEventCall};
 ghost use Rattle.session.specs.Refusing.{AreOutlets};
 ghost use Rattle.session.specs.Steps.{Answer, Asking};
 ghost use Rattle.session.specs.Session.{IsKept, IsStep, SessionState, limit_of, new_session, output_of, slots_of, with_memory, with_slot_bytes, world_of};
@@ -104,7 +105,7 @@ pub fn a_write_in_place_is_an_event<A: Allocator>()
     ensures range { (old : SessionState) (slot addr : ℕ) (found : BoardSlot) (bytes : List ℕ) →
         slice_get old.slots slot ≡ Some found → Inside found.memory addr (length bytes) →
         IsStep {A = A} old (record { slot = slot; what = EventKind.MemWrite addr bytes }) Reply.Done
-        (with_memory slot found (put found.memory addr bytes) old) }
+        (with_memory slot found (stored found.memory addr bytes) old) }
 
     // and whatever became of those that were lent from an address on is one write
     ensures lent { (old : SessionState) (slot addr : ℕ) (found : BoardSlot) (bytes : List ℕ) →
@@ -140,4 +141,22 @@ pub fn what_waits_changes_nothing<A: Allocator>()
         IsStep old event Reply.Busy new → IsKept old new × (must_wait event.what ≡ true) }
     ensures idle { (old new : SessionState) (event : Event A) →
         IsStep old event Reply.Idle new → IsKept old new }
+{}
+
+/// A call whose event touches no memory needs none: whatever bytes its guest's memory has, they stay, and the same comes
+/// of the call (`same`). So a store of the guest's CPUs before the call and one behind it come to the same (`store`). No
+/// clause can say that no byte is read whose value decides nothing.
+pub fn what_touches_no_memory_needs_none<A: Allocator>()
+    ensures same { (old new : SessionState) (slot : ℕ) (what : EventKind A) (response : Response A)
+        (found after : BoardSlot) (memory : Memory) →
+        slice_get old.slots slot ≡ Some found → slice_get new.slots slot ≡ Some after →
+        touches_memory what (state_of old.image found) ≡ false → SameRange found.memory memory →
+        IsEventCall old slot what response new →
+        (after.memory ≡ found.memory) × IsEventCall (with_memory slot found memory old) slot what response
+        (with_memory slot after memory new) }
+    ensures store { (old new : SessionState) (slot addr : ℕ) (bytes : List ℕ) (what : EventKind A)
+        (response : Response A) (found after : BoardSlot) →
+        slice_get old.slots slot ≡ Some found → slice_get new.slots slot ≡ Some after →
+        touches_memory what (state_of old.image found) ≡ false → IsEventCall old slot what response new →
+        IsEventCall (with_slot_bytes slot addr old bytes) slot what response (with_slot_bytes slot addr new bytes) }
 {}

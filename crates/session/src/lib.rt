@@ -27,15 +27,16 @@ mod typed;
 pub use block_device::{Operation, OperationKind, Verdict};
 pub use board::{
     Backing, Board, BoardFault, Budget, CacheFault, Counters, DeviceKind, Event, EventKind, Extent,
-    GuestMemory, MemoryFault, Outlet, Pause, RegionSpec, Regions, Reply, RestoreFault,
-    RestoreRefusal, SaveRefusal, Service, SlotFault, SlotSpec,
+    Fault, FaultNote, GuestMemory, MemoryFault, Outlet, Pause, RegionSpec, Regions, Reply,
+    RestoreFault, RestoreRefusal, SaveRefusal, Service, SlotFault, SlotSpec,
 };
 pub use chain::Segment;
 pub use fault::SessionFault;
 pub use guest::GuestSpec;
 pub use laws::{
     a_flight_outlasts_own_events, a_guest_with_room_runs_alone, a_write_in_place_is_an_event,
-    each_guest_is_alone, the_outlet_decides, what_waits_changes_nothing,
+    each_guest_is_alone, the_outlet_decides, what_touches_no_memory_needs_none,
+    what_waits_changes_nothing,
 };
 pub use paced::{Paced, PacedFault, each_paced_guest_is_alone, refusals_are_noted};
 pub use progress::Progress;

@@ -7,11 +7,12 @@ ghost use Rattle.std.specs.Bool.{OnTrue, OnFalse};
 ghost use Rattle.std.specs.Borrow.{sem, u8, Array, Lends};
 ghost use Rattle.std.specs.List.{slice_get};
 ghost use Rattle.std.specs.Option.{option_map};
-ghost use Rattle.guest_memory.specs.Memory.{Inside, IsRest, part_of, put};
+ghost use Rattle.guest_memory.specs.Memory.{Inside, IsRest, part_of, stored};
+ghost use Rattle.guest_memory.specs.Pages.{bits_of};
 ghost use Rattle.board.specs.declared.event.EventKind.{EventKind};
 ghost use Rattle.board.specs.declared.reply.Reply.{Reply};
 ghost use Rattle.board.specs.Image.{Tells};
-ghost use Rattle.board.specs.Lending.{with_slot_bytes};
+ghost use Rattle.board.specs.Lending.{with_slot_bits, with_slot_bytes};
 ghost use Rattle.board.specs.Machine.{register};
 ghost use Rattle.board.specs.contracts.board.Board.{the_row};
 ghost use Rattle.board.specs.Slot.{interrupt_words};
@@ -26,6 +27,7 @@ use guest_memory::GuestMemory;
 use mmio_window::DeviceKind;
 use sector_cache::Image;
 use std::alloc::Allocator;
+use std_alloc::vec::Lodged;
 
 impl<I: Image, A: Allocator> Board<I, A> {
     /// How many slots the board has, from 1 to 64. They are numbered from 0.
@@ -75,6 +77,20 @@ impl<I: Image, A: Allocator> Board<I, A> {
         found.memory_mut(addr)
     }
 
+    /// Has the bits of the slot's pages kept in these bytes from now on: one for each page of 4096 bytes of its memory, from
+    /// the first region's base on, the lowest of a byte first. What its devices write sets them, and nothing clears one. Of
+    /// no bytes none are kept, and a page behind them isn't marked. False where there is no such slot.
+    pub fn keep_pages(&mut self, slot: u8, bits: Vec<u8, Lodged>) -> bool
+        ensures there { IsTrue result ↔ (slot < length self.old.slots) }
+        ensures kept { self.new ≡ with_slot_bits slot self.old (bits_of bits.items) }
+    {
+        let Some(found) = self.slots.get_mut(slot as usize) else {
+            return false;
+        };
+        found.keep_pages(bits);
+        true
+    }
+
     /// Copies bytes out of the slot's memory, from address `addr` on. False where there is no such slot,
     /// or not all of the range lies in its memory: `into` is then left as it was.
     pub fn read_memory(&self, slot: u8, addr: u64, into: &mut [u8]) -> bool
@@ -102,7 +118,7 @@ impl<I: Image, A: Allocator> Board<I, A> {
             (λ found. Inside found.memory addr (length from.now)) }
         ensures put { OnTrue result (IsSomeAnd (slice_get self.old.slots slot)
             (λ found. self.new.slots ≡ slice_set self.old.slots slot
-            (record found { memory = put found.memory addr from.now }))) }
+            (record found { memory = stored found.memory addr from.now }))) }
         ensures kept { OnFalse result (self.new ≡ self.old) }
         ensures image { self.new.image ≡ self.old.image }
         ensures disturbed { disturbed_of self.new.slots ≡ disturbed_of self.old.slots }

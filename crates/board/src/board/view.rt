@@ -9,7 +9,7 @@ use crate::board::Board;
 use crate::counters::Counters;
 use block_device::BlockDevice;
 use console_device::ConsoleDevice;
-use mmio_window::Window;
+use mmio_window::{DeviceKind, FaultNote, Window};
 use sector_cache::Image;
 use std::alloc::Allocator;
 
@@ -20,6 +20,18 @@ impl<I: Image, A: Allocator> Board<I, A> {
     {
         let slot = self.slot(slot)?;
         Some(slot.slot().counters())
+    }
+
+    /// The last fault of a window of the slot, and where it was met: none until one came. A reset of the window and a restore
+    /// keep it. No clause speaks of what is told.
+    pub fn last_fault(&self, slot: u8, window: DeviceKind) -> Option<FaultNote>
+        ensures { IsSome result → slot < length self.now.slots }
+    {
+        let window = match window {
+            DeviceKind::Block => self.block_window(slot)?,
+            DeviceKind::Console => self.console_window(slot)?,
+        };
+        window.last_fault()
     }
 
     /// The window of the slot's block device. Its ConfigGeneration is always 0.

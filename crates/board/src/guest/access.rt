@@ -3,13 +3,14 @@
 ghost use Rattle.std.specs.Prelude.{◌≡◌, ◌⊎◌, ℕ, List, [], IfNone, IfSome, length};
 ghost use Rattle.std.specs.Bool.{OnTrue, OnFalse};
 ghost use Rattle.std.specs.Borrow.{sem};
-ghost use Rattle.guest_memory.specs.Memory.{Inside, IsRest, SameRange, is_inside, put};
+ghost use Rattle.guest_memory.specs.Memory.{Inside, IsRest, SameRange, is_inside, stored};
+ghost use Rattle.guest_memory.specs.Pages.{bits_of};
 ghost use Rattle.block_device.specs.Operation.{LiesInside};
 ghost use Rattle.board.specs.declared.event.EventKind.{EventKind};
 ghost use Rattle.board.specs.declared.pause.Turn.{Turn};
 ghost use Rattle.board.specs.Backing.{flight_in, operation_in};
 ghost use Rattle.board.specs.Image.{Health};
-ghost use Rattle.board.specs.Lending.{LendsBytes};
+ghost use Rattle.board.specs.Lending.{LendsBytes, with_page_bits};
 ghost use Rattle.board.specs.Pausing.{Begins, PausesByLimit, input_service, reply_of};
 ghost use Rattle.board.specs.Slot.{AreInterruptWords, interrupt_words, sectors_in, state_of};
 
@@ -19,6 +20,7 @@ use crate::slot::Slot;
 use block_device::Operation;
 use chain::{Budget, Segment};
 use std::alloc::Allocator;
+use std_alloc::vec::Lodged;
 
 impl<A: Allocator> Guest<A> {
     /// The slot, to be looked at.
@@ -47,11 +49,18 @@ impl<A: Allocator> Guest<A> {
         self.slot.memory_mut(addr)
     }
 
+    /// Has the bits of the memory's pages kept in these bytes from now on.
+    pub(crate) fn keep_pages(&mut self, bits: Vec<u8, Lodged>)
+        ensures { self.new ≡ with_page_bits self.old (bits_of bits.items) }
+    {
+        self.slot.keep_pages(bits);
+    }
+
     /// Puts bytes into the memory, where all of the range lies in it.
     pub(crate) fn put_bytes(&mut self, addr: u64, new: &[u8]) -> bool
         ensures test { result ≡ is_inside self.old.memory addr (length new.now) }
         ensures done { OnTrue result
-            (self.new ≡ record self.old { memory = put self.old.memory addr new.now }) }
+            (self.new ≡ record self.old { memory = stored self.old.memory addr new.now }) }
         ensures kept { OnFalse result (self.new ≡ self.old) }
         ensures extent { self.new.extent ≡ self.old.extent }
         ensures disturbed { self.new.disturbed ≡ self.old.disturbed }

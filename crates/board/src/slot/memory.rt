@@ -2,7 +2,7 @@
 
 ghost use Rattle.std.specs.Prelude.{◌≡◌, ◌≢◌, ◌<◌, ◌↔◌, IsTrue, length};
 ghost use Rattle.std.specs.Bool.{OnTrue, OnFalse};
-ghost use Rattle.guest_memory.specs.Memory.{Inside, SameRange, is_inside, part_of, put};
+ghost use Rattle.guest_memory.specs.Memory.{Inside, SameRange, is_inside, part_of, stored};
 ghost use Rattle.board.specs.declared.event.EventKind.{EventKind};
 ghost use Rattle.board.specs.Quiet.{GivesQuietly};
 
@@ -53,7 +53,7 @@ impl<A: Allocator> Slot<A> {
     pub(crate) fn put_bytes(&mut self, addr: u64, new: &[u8]) -> bool
         ensures test { result ≡ is_inside self.old.memory addr (length new.now) }
         ensures done { OnTrue result
-            (self.new ≡ record self.old { memory = put self.old.memory addr new.now }) }
+            (self.new ≡ record self.old { memory = stored self.old.memory addr new.now }) }
         ensures kept { OnFalse result (self.new ≡ self.old) }
         ensures rest { self.new ≡ record self.old { memory = self.new.memory } }
         ensures range { SameRange self.old.memory self.new.memory }
@@ -64,7 +64,7 @@ impl<A: Allocator> Slot<A> {
             return false;
         }
         self.memory
-            .part_mut(addr, new.len() as u64)
+            .lend(addr, new.len() as u64)
             .copy_from_slice(new);
         true
     }

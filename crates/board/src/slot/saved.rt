@@ -134,8 +134,8 @@ impl<A: Allocator> Slot<A> {
         else {
             return Err(RestoreFault::BadConsole);
         };
-        self.block = block;
-        self.console = console;
+        self.block = block.in_place_of(&self.block);
+        self.console = console.in_place_of(&self.console);
         self.console_device.restore(pending, saved.cols, saved.rows);
         Ok(())
     }

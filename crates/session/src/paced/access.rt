@@ -2,7 +2,9 @@
 //! it is.
 
 ghost use Rattle.guest_memory.specs.Memory.{Inside, IsRest};
-ghost use Rattle.std.specs.Prelude.{◌≡◌, ◌≢◌, ◌⊎◌, ◌↔◌, ◌<◌, ◌≤◌, length, [], None, Some, IfOk, IsErrOf, IsOk, IsSomeAnd, OnErr};
+ghost use Rattle.guest_memory.specs.Pages.{bits_of};
+ghost use Rattle.board.specs.Lending.{with_slot_bits};
+ghost use Rattle.std.specs.Prelude.{◌≡◌, ◌≢◌, ◌⊎◌, ◌↔◌, ◌<◌, ◌≤◌, length, [], None, Some, IfOk, IsErrOf, IsOk, IsSomeAnd, IsTrue, OnErr};
 ghost use Rattle.std.specs.Borrow.{sem, u8, Array, Lends};
 ghost use Rattle.std.specs.List.{slice_get};
 ghost use Rattle.board.specs.declared.event.EventKind.{EventKind};
@@ -26,6 +28,7 @@ use crate::paced::Paced;
 use crate::response::{Response, Shown};
 use board::{Image, Reply, RestoreRefusal, SaveRefusal};
 use std::alloc::Allocator;
+use std_alloc::vec::Lodged;
 
 impl<I: Image, A: Allocator + Copy> Paced<I, A> {
     /// Types bytes to the slot's console: `step` for that input. No memory is taken.
@@ -185,6 +188,14 @@ impl<I: Image, A: Allocator> Paced<I, A> {
             Some(Some(_)) => Err(RestoreRefusal::Busy),
             Some(None) => self.board.restore(slot, from),
         }
+    }
+
+    /// Has the bits of the slot's pages kept in these bytes from now on, as the board does. False where there is no such slot.
+    pub fn keep_pages(&mut self, slot: u8, bits: Vec<u8, Lodged>) -> bool
+        ensures there { IsTrue result ↔ (slot < length self.old.board.slots) }
+        ensures kept { self.new ≡ record self.old { board = with_slot_bits slot self.old.board (bits_of bits.items) } }
+    {
+        self.board.keep_pages(slot, bits)
     }
 
     /// The bytes of the slot's memory from `addr` to the end of the region that holds it, to be read and written while no

@@ -1,9 +1,11 @@
 //! A guest's memory between its accesses. Nothing here takes memory.
 
-ghost use Rattle.std.specs.Prelude.{◌≡◌, ◌⊎◌, ◌<◌, ◌↔◌, ◌≤◌, length, OnErr, IfOk, IfErr, IsErrOf, IsSomeAnd};
+ghost use Rattle.std.specs.Prelude.{◌≡◌, ◌⊎◌, ◌<◌, ◌↔◌, ◌≤◌, length, OnErr, IfOk, IfErr, IsErrOf, IsSomeAnd, IsTrue};
 ghost use Rattle.std.specs.Borrow.{sem, u8, Array, Lends};
 ghost use Rattle.std.specs.List.{slice_get};
 ghost use Rattle.guest_memory.specs.Memory.{Inside, IsRest};
+ghost use Rattle.guest_memory.specs.Pages.{bits_of};
+ghost use Rattle.board.specs.Lending.{bits_in};
 ghost use Rattle.board.specs.declared.event.EventKind.{EventKind};
 ghost use Rattle.session.specs.declared.refusal.Refusal.{Refusal};
 ghost use Rattle.session.specs.Answering.{Means, bytes_response, done_response};
@@ -16,6 +18,7 @@ use crate::session::Session;
 use crate::told::done;
 use board::GuestMemory;
 use std::alloc::Allocator;
+use std_alloc::vec::Lodged;
 
 impl<A: Allocator> Session<A> {
     /// Copies bytes out of the slot's memory, from address `addr` on: the step of that read. After a
@@ -67,6 +70,16 @@ impl<A: Allocator> Session<A> {
             return Err(Refusal::Busy);
         }
         Ok(memory)
+    }
+
+    /// Has the bits of the slot's pages kept in these bytes from now on: one for each page of 4096 bytes of its memory, from
+    /// the first region's base on, the lowest of a byte first. What its devices write sets them, and nothing clears one. Of
+    /// no bytes none are kept, and a page behind them isn't marked. False where there is no such slot.
+    pub fn keep_pages(&mut self, slot: u8, bits: Vec<u8, Lodged>) -> bool
+        ensures there { IsTrue result ↔ (slot < length self.old.slots) }
+        ensures kept { self.new ≡ record self.old { slots = bits_in slot (slice_get self.old.slots slot) (bits_of bits.items) self.old.slots } }
+    {
+        self.paced.keep_pages(slot, bits)
     }
 
     /// The bytes of the slot's memory from `addr` to the end of the region that holds it, to be read and written in place:

@@ -19,7 +19,7 @@ use crate::refusal::Refusal;
 use crate::response::{Response, Turned};
 use crate::session::Session;
 use crate::told::Told;
-use board::{Counters, DeviceKind, EventKind, Reply};
+use board::{Counters, DeviceKind, EventKind, FaultNote, Reply};
 use std::alloc::Allocator;
 
 impl<A: Allocator + Copy> Session<A> {
@@ -138,6 +138,14 @@ impl<A: Allocator> Session<A> {
         ensures { IsSome result ↔ (slot < length self.now.slots) }
     {
         self.paced.board().counters(slot)
+    }
+
+    /// The last fault of a window of the slot, by which the window asked for a reset, and where it was met: none until one
+    /// came. It is told in a pause and in flight too. A reset of the window and a restore keep it.
+    pub fn last_fault(&self, slot: u8, window: DeviceKind) -> Option<FaultNote>
+        ensures { IsSome result → slot < length self.now.slots }
+    {
+        self.paced.board().last_fault(slot, window)
     }
 
     /// How many slots there are, from 1 to 64. They are numbered from 0.

@@ -5,5 +5,5 @@ pub returns-clause-state : goal.returns-clause-state
 returns-clause-state g c = going_on.state_again
 
 pub returns-clause-run : goal.returns-clause-run
-returns-clause-run g c = λ guest old new old' new' moves moves' state.
-    going_on.ran_on_both guest old new old' new' moves moves' state
+returns-clause-run g c = λ guest h state saved bytes old new old' new' restore moves moves'.
+    going_on.ran_on_both guest h state saved bytes old new old' new' restore moves moves'

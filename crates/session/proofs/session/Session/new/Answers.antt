@@ -1,5 +1,5 @@
 -- A session is refused by the first fault, and one that isn't there lacked memory where there is none.
-use Rattle.session.proofs.Refusals.{handed_on, if_err, never_spent, on_ok, told_image, told_outlet, told_spent}
+use Rattle.session.proofs.Refusals.{handed_on, if_err, never_outlet, never_spent, on_ok, told_image, told_outlet, told_spent}
 use Rattle.session.proofs.session.Session.new.Goals as goal
 
 pub returns-in_err-judge-clause-fault : goal.returns-in_err-judge-clause-fault
@@ -28,6 +28,12 @@ returns-in_err-judge-clause-spent g c =
 
 pub returns-clause-lasts : goal.returns-clause-lasts
 returns-clause-lasts g c = on_ok c.of_board.result _ c.in_ok-judge.ensures.good.2
+
+pub returns-clause-bad_outlet : goal.returns-clause-bad_outlet
+returns-clause-bad_outlet g c = (
+  λ is. absurd (never_outlet c.of_board.result c.of_board.ensures.fault is),
+  λ bad. absurd (bad.1 c.in_ok-judge.ensures.good.1),
+)
 
 pub returns-clause-spent : goal.returns-clause-spent
 returns-clause-spent g c = (

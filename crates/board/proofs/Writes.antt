@@ -1,0 +1,312 @@
+-- What writes leave of a slot's memory, a service leaves too, and so does each event.
+use Rattle.std.proofs.Common.{◌≡◌, ◌⊎◌, inl, inr, ℕ, Bool, true, false, Option, Some, None, List, [], ◌∷◌, refl, sym, ◌∙◌, ap, subst}
+use Rattle.std.specs.Prelude.{if◌then◌else◌, ◌-◌, drop, length}
+use Rattle.byteorder.specs.Endian.{little_bytes}
+use Rattle.guest_memory.specs.Memory.{Memory, put, put_num}
+use Rattle.chain.specs.Bytes.{scatter, writable_of}
+use Rattle.chain.specs.Service.{Device, Ending, Entry, Course, Served, ServesChain, Site, after, scattered, used_len, wrote}
+use Rattle.sector_cache.specs.Disk.{Disk}
+use Rattle.mmio_window.specs.declared.device_kind.DeviceKind.{DeviceKind}
+use Rattle.mmio_window.specs.declared.device_kind.DeviceKind.TheVariants.{Block, Console}
+use Rattle.mmio_window.specs.declared.queue.Queue.{Queue}
+use Rattle.mmio_window.specs.declared.queue.Queue.TheVariants.{Split, Packed}
+use Rattle.mmio_window.specs.declared.stage.Stage.TheVariants.{First}
+use Rattle.mmio_window.specs.Pieces.{NotifiedWithin}
+use Rattle.mmio_window.specs.Queue.{queue_kind}
+use Rattle.mmio_window.specs.Serving.{IsNotified, Notified}
+use Rattle.mmio_window.specs.Window.{WindowState, queue_at}
+use Rattle.block_device.specs.declared.device.BlockDevice.{BlockDevice}
+use Rattle.block_device.specs.declared.hosting.Hosted.{Hosted}
+use Rattle.block_device.specs.declared.hosting.Hosted.TheVariants as hosted
+use Rattle.block_device.specs.declared.operation.Verdict.{Verdict}
+use Rattle.chain.specs.declared.segment.Buffer.{Buffer}
+use Rattle.block_device.specs.declared.request.RequestStatus.{RequestStatus}
+use Rattle.block_device.specs.Asking.{status_by, unasked_device, with_status}
+use Rattle.block_device.specs.Request.{code_of}
+use Rattle.block_device.specs.Hosting.{CompletesIn, HostsTo}
+use Rattle.board.specs.declared.event.EventKind.{EventKind}
+use Rattle.board.specs.declared.event.EventKind.TheVariants.{Read, Write, MemRead, MemWrite, Input, Resize, Restore, Complete}
+use Rattle.board.specs.declared.pause.Service.TheVariants as service
+use Rattle.board.specs.declared.reply.Reply.{Reply}
+use Rattle.board.specs.Backing.{HostDisk, InFlight}
+use Rattle.board.specs.Hosting.{CompletesOrGives, GivesAtRest, GivesInFlight, Lands, Looks, LooksAtQueue, OwnGives, WaitsOrGives, must_wait, notifies_block, unlimited, verdict_in}
+use Rattle.board.specs.Image.{Health, disk_with}
+use Rattle.board.specs.Marking.{IsForDevices}
+use Rattle.board.specs.Machine.{GivesOverImage, action_at, at_rest, readied, task_at, with_write}
+use Rattle.board.specs.Outcome.{Outcome, does, replies}
+use Rattle.board.specs.Restoring.{IsRestoring}
+use Rattle.board.specs.Slot.{BoardSlot, SlotState}
+use Rattle.board.specs.Task.{Finishes, Nothing, PutOut, Serve, Task}
+use Rattle.board.specs.World.{IsCutShort, IsRefused, MayGive, MayGiveBy, MayGiveOverImage}
+use Rattle.board.proofs.Chains.{KeptByEach, kept, kept_by_all}
+
+-- it holds of what is left as it was, of two steps if of each, and of a write
+pub record IsLeftByWrites (K : Memory → Memory → Type 0) : Type 0 where
+  pub none : (m : Memory) → K m m
+  pub both : (a b c : Memory) → K a b → K b c → K a c
+  pub put : (m : Memory) (a : ℕ) (bs : List ℕ) → K m (put m a bs)
+
+module _ (K : Memory → Memory → Type 0) (left : IsLeftByWrites K) where
+  same_left : (m n : Memory) → n ≡ m → K m n
+  same_left m n is = subst (K m) (sym is) (left.none m)
+
+  scattered_left : (m : Memory) (addrs : List ℕ) (written : List (Option ℕ)) → K m (scattered m addrs written)
+  scattered_left m [] written = left.none m
+  scattered_left m (a ∷ addrs) [] = left.none m
+  scattered_left m (a ∷ addrs) (None ∷ written) = scattered_left m addrs written
+  scattered_left m (a ∷ addrs) (Some x ∷ written) =
+      left.both m (put m a (x ∷ [])) (scattered (put m a (x ∷ [])) addrs written) (left.put m a (x ∷ []))
+      (scattered_left (put m a (x ∷ [])) addrs written)
+
+  scatter_left : (m : Memory) (addrs bytes : List ℕ) → K m (scatter m addrs bytes)
+  scatter_left m [] bytes = left.none m
+  scatter_left m (a ∷ addrs) [] = left.none m
+  scatter_left m (a ∷ addrs) (x ∷ bytes) =
+      left.both m (put m a (x ∷ [])) (scatter (put m a (x ∷ [])) addrs bytes) (left.put m a (x ∷ []))
+      (scatter_left (put m a (x ∷ [])) addrs bytes)
+
+  num_left : (m : Memory) (a k v : ℕ) → K m (put_num m a k v)
+  num_left m a k v = left.put m a (little_bytes k v)
+
+  used_left : (m : Memory) (queue : Queue) (entry : Entry) (len : ℕ) (any : Bool)
+      → K m (queue_kind.used m queue entry len any)
+  used_left m (Split ring) entry len any =
+      left.both m _ _ (left.both m _ _ (num_left m _ 4 entry.id) (num_left _ _ 4 len)) (num_left _ _ 2 _)
+  used_left m (Packed ring) entry len any =
+      left.both m _ _ (left.both m _ _ (num_left m _ 4 len) (num_left _ _ 2 entry.id)) (num_left _ _ 2 _)
+
+  flags_left : (m : Memory) (flags : Memory) (idx : Bool) (a v : ℕ) → K m flags
+      → K m (if idx then put_num flags a 2 v else flags)
+  flags_left m flags true a v same = left.both m flags _ same (num_left flags a 2 v)
+  flags_left m flags false a v same = same
+
+  closed_left : (m : Memory) (queue : Queue) → K m (queue_kind.closed m queue)
+  closed_left m (Split ring) =
+      flags_left m _ ring.setup.event_idx _ ring.place (num_left m ring.setup.device 2 0)
+  closed_left m (Packed ring) = num_left m ring.setup.device 4 0
+
+  -- ---- a service of a queue
+
+  left_by_each : {State : Type 0} (device : Device State) (old : Memory)
+      → KeptByEach device (λ (m : Memory) (d : State). K old m)
+  left_by_each device old = record {
+    chain = λ start served serves so.
+        let written = scattered start.memory (writable_of served.buffers) served.given.written in
+        left.both old start.memory _ so
+        (left.both start.memory written _
+        (scattered_left start.memory (writable_of served.buffers) served.given.written)
+        (used_left written start.ring served.entry (used_len served.given.written)
+        (wrote served.given.written)));
+    closed = λ memory ring d so. left.both old memory _ so (closed_left memory ring);
+  }
+
+  pub notified_left : {State : Type 0} (device : Device State) (q : ℕ) (queue : Option Queue) (ending : Ending)
+      (old new : Memory) (before after : WindowState) (s t : State)
+      → Notified device q queue ending old new before after s t → K old new
+  notified_left {State} device q queue ending old new before after s t h =
+      kept device (λ (m : Memory) (d : State). K old m) (left_by_each device old) q queue ending old new before
+      after s t h (left.none old)
+
+  within_left : {State : Type 0} (device : Device State) (q : ℕ) (queue : Option Queue) (ending : Ending)
+      (old new : Memory) (before after : WindowState) (s t : State)
+      → NotifiedWithin device unlimited q queue ending old new before after s t → K old new
+  within_left device q None ending old new before after s t h = same_left old new h.1.memory
+  within_left device q (Some queue) ending old new before after s t h =
+      notified_left device q (Some queue) ending old new before after s t
+      (record { last = h.last; wanted = h.wanted; service = h.service.service; window = h.window })
+
+  course_left : {State : Type 0} (device : Device State) (start now : Site Queue State)
+      → Course queue_kind device start now → K start.memory now.memory
+  course_left {State} device start now h =
+      kept_by_all device (λ (m : Memory) (d : State). K start.memory m) (left_by_each device start.memory) start
+      now h.chains h.serves (left.none start.memory)
+
+  -- ---- a disk that the host serves
+
+  hosts_left : (device : BlockDevice) (found : Option Queue) (came : Hosted) (old new : Memory)
+      (before after : WindowState) (disk : Disk) → (buffers : List _) (runs : List _)
+      → HostsTo device First unlimited found came old new before after buffers runs disk → K old new
+  hosts_left device found (hosted.Asks flight) old new before after disk buffers runs h =
+      course_left (unasked_device device) _ _ h.asks.stops.course
+  hosts_left device None hosted.More old new before after disk buffers runs h = absurd h
+  hosts_left device (Some queue) hosted.More old new before after disk buffers runs h =
+      course_left (unasked_device device) _ _ h.begins.pauses.course
+  hosts_left device found hosted.Done old new before after disk buffers runs h =
+      within_left (unasked_device device) 0 found h.ending old new before after _ _ h.notified
+
+  looks_left : (old new : SlotState) → LooksAtQueue old new → K old.memory new.memory
+  looks_left old new h =
+      hosts_left _ (queue_at 0 old.block) h.looks.hosted old.memory new.memory old.block new.block
+      (disk_with [] at_rest) h.looks.buffers h.looks.runs (h.looks.hosts (disk_with [] at_rest))
+
+  status_left : (m : Memory) (buffers : List Buffer) (status : RequestStatus) → K m (with_status m buffers status)
+  status_left m buffers status =
+      scatter_left m (drop (length (writable_of buffers) - 1) (writable_of buffers)) (code_of status ∷ [])
+
+  lands_left : (old : SlotState) (here : InFlight) (verdict : Verdict) (new : SlotState)
+      → Lands old here verdict new → K old.memory new.memory
+  lands_left old here verdict new h =
+      let back = h.completes.gives in
+      let done : K old.memory back.done =
+      subst (K old.memory) (sym back.completed.memory)
+      (status_left old.memory here.buffers (status_by verdict)) in
+      let given : K old.memory h.completes.given =
+      left.both old.memory back.done _ done (subst (K back.done) (sym back.used) (used_left back.done _ _ _ _)) in
+      let closed : K old.memory h.memory =
+      left.both old.memory h.completes.given _ given
+      (subst (K h.completes.given) (sym h.completes.closed) (closed_left h.completes.given h.completes.behind)) in
+      left.both old.memory h.memory new.memory closed (looks_left _ new h.looks)
+
+  -- ---- an event
+
+  -- the slot's memory after what an event comes to
+  state_left : {A : Type 0} (state : SlotState) (outcome wanted : Outcome A) → outcome ≡ wanted
+      → wanted.state.memory ≡ state.memory → K state.memory outcome.state.memory
+  state_left {A} state outcome wanted is same =
+      same_left state.memory outcome.state.memory (ap (λ (o : Outcome A). o.state.memory) is ∙ same)
+
+  wrote_memory : (window : DeviceKind) (offset width value : ℕ) (state : SlotState)
+      → (with_write window offset width value state).memory ≡ state.memory
+  wrote_memory Block offset width value state = refl
+  wrote_memory Console offset width value state = refl
+
+  readied_memory : {A : Type 0} (what : EventKind A) (state : SlotState)
+      → (readied what state).memory ≡ state.memory
+  readied_memory (Read window offset width) state = refl
+  readied_memory (Write window offset width value) state = wrote_memory window offset width value state
+  readied_memory (MemRead addr len) state = refl
+  readied_memory (MemWrite addr bytes) state = refl
+  readied_memory (Input bytes) state = refl
+  readied_memory (Resize cols rows) state = refl
+  readied_memory (Restore bytes) state = refl
+  readied_memory (Complete verdict) state = refl
+
+  by_inside : {A : Type 0} (inside : Bool) (state : SlotState) (hit : Outcome A) (miss : Reply A)
+      → K state.memory hit.state.memory → K state.memory (if inside then hit else replies state miss).state.memory
+  by_inside true state hit miss so = so
+  by_inside false state hit miss so = left.none state.memory
+
+  finishes_left : {A : Type 0} (task : Task) (state : SlotState) (before after : Health) (outcome : Outcome A)
+      → Finishes task state before after outcome → K state.memory outcome.state.memory
+  finishes_left Nothing state before after outcome h = state_left state outcome _ h.alike refl
+  finishes_left (Serve service.Block) state before after outcome h =
+      notified_left _ 0 (queue_at 0 state.block) h.notified.ending state.memory outcome.state.memory state.block
+      outcome.state.block _ _ h.notified.notified
+  finishes_left (Serve service.Receive) state before after outcome h =
+      notified_left _ 0 (queue_at 0 state.console) h.notified.ending state.memory outcome.state.memory
+      state.console outcome.state.console _ _ h.notified.notified
+  finishes_left (Serve service.Transmit) state before after outcome h =
+      notified_left _ 1 (queue_at 1 state.console) h.notified.ending state.memory outcome.state.memory
+      state.console outcome.state.console _ _ h.notified.notified
+  finishes_left (PutOut byte) state before after outcome h = state_left state outcome _ h.alike refl
+
+  restoring_left : {A : Type 0} (state : SlotState) (bytes : List ℕ) (outcome : Outcome A)
+      → IsRestoring state bytes outcome → K state.memory outcome.state.memory
+  restoring_left state bytes outcome (inl taken) =
+      same_left state.memory outcome.state.memory
+      (ap (λ (slot : BoardSlot). slot.memory) taken.0.restored.takes_up.is)
+  restoring_left state bytes outcome (inr refused) = state_left state outcome _ refused.1 refl
+
+  gives_left : {A : Type 0} (state : SlotState) (what : EventKind A) (before after : Health) (outcome : Outcome A)
+      → IsForDevices what → GivesOverImage state what before after outcome → K state.memory outcome.state.memory
+  gives_left state (Read window offset width) before after outcome own h = state_left state outcome _ h.alike refl
+  gives_left state (Write window offset width value) before after outcome own h =
+      subst (λ (m : Memory). K m outcome.state.memory) (wrote_memory window offset width value state)
+      (finishes_left (task_at window offset width value state) (with_write window offset width value state)
+      before after outcome h)
+  gives_left {A} state (MemRead addr len) before after outcome own h =
+      subst (λ (o : Outcome A). K state.memory o.state.memory) (sym h.alike)
+      (by_inside _ state _ _ (left.none state.memory))
+  gives_left state (MemWrite addr bytes) before after outcome own h = absurd own
+  gives_left state (Input bytes) before after outcome own h =
+      notified_left _ 0 (queue_at 0 state.console) h.notified.ending state.memory outcome.state.memory
+      state.console outcome.state.console _ _ h.notified.notified
+  gives_left state (Resize cols rows) before after outcome own h = state_left state outcome _ h.alike refl
+  gives_left state (Restore bytes) before after outcome own h = restoring_left state bytes outcome h.alike
+  gives_left state (Complete verdict) before after outcome own h = state_left state outcome _ h.alike refl
+
+  cut_left : {A : Type 0} (task : Task) (state : SlotState) (before after : Health) (outcome : Outcome A)
+      → IsCutShort task state before after outcome → K state.memory outcome.state.memory
+  cut_left Nothing state before after outcome h = absurd h
+  cut_left (Serve service.Block) state before after outcome h =
+      notified_left _ 0 (queue_at 0 state.block) h.service.notified.ending state.memory outcome.state.memory
+      state.block outcome.state.block _ _ h.service.notified.notified
+  cut_left (Serve service.Receive) state before after outcome h = absurd h
+  cut_left (Serve service.Transmit) state before after outcome h =
+      notified_left _ 1 (queue_at 1 state.console) _ state.memory outcome.state.memory state.console
+      outcome.state.console _ _ h.notified
+  cut_left (PutOut byte) state before after outcome h = state_left state outcome _ h.alike refl
+
+  refused_left : {A : Type 0} (state : SlotState) (what : EventKind A) (before after : Health)
+      (outcome : Outcome A) → IsRefused state what before after outcome → K state.memory outcome.state.memory
+  refused_left state (Read window offset width) before after outcome h = absurd h
+  refused_left state (Write window offset width value) before after outcome h =
+      subst (λ (m : Memory). K m outcome.state.memory) (wrote_memory window offset width value state)
+      (cut_left (task_at window offset width value state) (with_write window offset width value state)
+      before after outcome h)
+  refused_left state (MemRead addr len) before after outcome h = state_left state outcome _ h.unchanged refl
+  refused_left state (MemWrite addr bytes) before after outcome h = absurd h
+  refused_left state (Input bytes) before after outcome h = absurd h
+  refused_left state (Resize cols rows) before after outcome h = absurd h
+  refused_left state (Restore bytes) before after outcome h = absurd h
+  refused_left state (Complete verdict) before after outcome h = absurd h
+
+  over_image_left : {A : Type 0} (state : SlotState) (what : EventKind A) (before after : Health)
+      (outcome : Outcome A) → IsForDevices what → MayGiveOverImage state what before after outcome
+      → K state.memory outcome.state.memory
+  over_image_left state what before after outcome own (inl served) =
+      gives_left state what before after outcome own served.alike
+  over_image_left state what before after outcome own (inr refused) =
+      refused_left state what before after outcome refused
+
+  -- whoever has the guest's disk
+  module _ {A : Type 0} (state : SlotState) (what : EventKind A) (health : Health) (outcome : Outcome A)
+      (own : IsForDevices what) where
+    readied_left : outcome ≡ does (readied what state) → K state.memory outcome.state.memory
+    readied_left is = state_left state outcome _ is (readied_memory what state)
+
+    at_rest_left : (rings : Bool)
+        → GivesAtRest (λ o. MayGiveOverImage state what health health o) rings state what outcome
+        → K state.memory outcome.state.memory
+    at_rest_left true h =
+        subst (λ (m : Memory). K m outcome.state.memory) (readied_memory what state)
+        (looks_left (readied what state) outcome.state h.0)
+    at_rest_left false h = over_image_left state what health health outcome own h
+
+    flying_left : (rings : Bool)
+        → GivesInFlight (λ o. MayGiveOverImage state what health health o) rings state what outcome
+        → K state.memory outcome.state.memory
+    flying_left true h = readied_left h
+    flying_left false h = over_image_left state what health health outcome own h
+
+    waiting_left : (waits : Bool)
+        → WaitsOrGives (λ o. MayGiveOverImage state what health health o) waits state what outcome
+        → K state.memory outcome.state.memory
+    waiting_left true h = state_left state outcome _ h refl
+    waiting_left false h = flying_left (notifies_block what state) h
+
+    own_left : (flight : Option InFlight)
+        → OwnGives (λ o. MayGiveOverImage state what health health o) flight state what outcome
+        → K state.memory outcome.state.memory
+    own_left None h = at_rest_left (notifies_block what state) h
+    own_left (Some here) h = waiting_left (must_wait what) h
+
+    on_host_left : (v : Option Verdict) (flight : Option InFlight)
+        → CompletesOrGives (λ o. MayGiveOverImage state what health health o) v flight state what outcome
+        → K state.memory outcome.state.memory
+    on_host_left None flight h = own_left flight h
+    on_host_left (Some verdict) None h = state_left state outcome _ h refl
+    on_host_left (Some verdict) (Some here) h = lands_left state here verdict outcome.state h.0
+
+  by_host_left : {A : Type 0} (host : Option HostDisk) (state : SlotState) (what : EventKind A)
+      (before after : Health) (outcome : Outcome A) → IsForDevices what
+      → MayGiveBy host state what before after outcome → K state.memory outcome.state.memory
+  by_host_left None state what before after outcome own h = over_image_left state what before after outcome own h
+  by_host_left (Some disk) state what before after outcome own h =
+      on_host_left state what before outcome own (verdict_in what) disk.flight h.gives
+
+  -- the law
+  pub event_left : {A : Type 0} (state : SlotState) (what : EventKind A) (before after : Health)
+      (outcome : Outcome A) → IsForDevices what → MayGive state what before after outcome
+      → K state.memory outcome.state.memory
+  event_left state what before after outcome own h = by_host_left state.host state what before after outcome own h
