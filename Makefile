@@ -83,7 +83,8 @@ library:
 install: packaging/out/libkalyubos.a
 	@DESTDIR="$(DESTDIR)" LIBDIR="$(LIBDIR)" INCLUDEDIR="$(INCLUDEDIR)" packaging/install "$(PREFIX)"
 
-packaging/out/libkalyubos.a: crates.txt examples/embed/heap.c $(shell find crates -name out -prune -o -name '*.rt' -print -o -name '*.h' -print)
+packaging/out/libkalyubos.a: crates.txt crates/board_ffi/c_text/answer.c crates/board_ffi/c_text/fault_text.c examples/embed/heap.c packaging/archive \
+		$(shell find crates -name out -prune -o -name '*.rt' -print -o -name '*.h' -print)
 	@packaging/build
 
 # Removes what make install installed.

@@ -3,7 +3,7 @@
  * your own. docs/model.md says what the devices do, and docs/EMBEDDING.md how an exit of a guest becomes a call.
  *
  * `make install` installs it, and `pkg-config --cflags --libs kalyubos` says how to link it. Its heap is malloc's,
- * unless the host defines the functions at the end of this file. The bare libboard_ffi.a has no heap.
+ * unless the host defines the functions at the end of this file.
  *
  * What each call promises is proved, for a caller that keeps these duties:
  *  - A handle is zeroed before its first call, and is then changed by calls alone. It is never copied: a copy
@@ -12,8 +12,8 @@
  *    `const`: that says that the call changes nothing. What orders the calls of several threads is the host's: a lock
  *    round them, or a thread's start and end. Calls on other handles may run at the same time, if the heap may; what it
  *    gave on one thread it takes back on any.
- *  - No pointer is null, also where its length is 0. A buffer is as long as its length says, and none of a
- *    call's buffers and out parameters overlaps another, or the handle.
+ *  - No pointer is null, also where its length is 0, and none in a config. A buffer is as long as its length says, and
+ *    none of a call's buffers, structs and out parameters overlaps another, or the handle.
  *  - A `bool` is 0 or 1. 64 KiB of stack are free, which is more than any call was seen to take; a guard page behind
  *    them turns a smaller stack into a fault.
  *  - No call is made in the forked child of a process that had threads. The heap functions return: they neither jump
@@ -23,14 +23,16 @@
  *    KALYUBOS_MORE until its service is done, no CPU of that guest runs, and nobody else reads or writes its memory in
  *    place (kalyubos_memory), also by DMA. Other guests' CPUs may run: a call touches its own guest's memory alone.
  *    During every other call but kalyubos_destroy the guest's CPUs and DMA may run. Each kalyubos_read is such a call,
- *    and so is each kalyubos_write at another offset; Linux's interrupt handler makes one of either. That they touch no
- *    guest memory is tested (examples/embed/untouched.c), and not proved.
- *  - Where the host serves the disks (kalyubos_create_hosted), it says of an operation that it is done only once it is,
- *    as kalyubos_operation has it, and ends each transfer before kalyubos_destroy.
+ *    and so is each kalyubos_write at another offset; Linux's interrupt handler makes one of either. It is proved that
+ *    such a call on a board changes no byte of guest memory, and that none decides what it does or tells, but for the
+ *    numbers of kalyubos_counters. That it doesn't read one all the same is tested (examples/embed/untouched.c).
+ *  - Where the host serves a disk, it says of an operation that it is done only once it is, as kalyubos_operation has
+ *    it, and ends each transfer before kalyubos_destroy.
  *
  * The library is built for x86-64-v2 (SSE4.2 and POPCNT) and Linux's calling convention.
  *
- * The library keeps no pointer of the caller but those of loans (kalyubos_create_lent): a call copies what it needs.
+ * The library keeps no pointer of the caller but those of loans (kalyubos_create, kalyubos_keep_pages): a call copies
+ * what it needs.
  *
  * Each call answers a number. After any but KALYUBOS_DONE its out parameters are unchanged, with three exceptions:
  * `pending` is told after every answer where the slot exists but KALYUBOS_BAD_WINDOW, `took` after KALYUBOS_MORE too,
@@ -40,17 +42,17 @@
  * version takes its own size alone, and answers KALYUBOS_BAD_SIZE for any other before it looks at another field. A
  * later version that this header fits (kalyubos_version) also takes this version's size, and then does what this
  * version does. It adds fields behind all others. The structs of an array lie `size` bytes apart, so all have one size.
- * The handle, struct kalyubos_region, struct kalyubos_loan, struct kalyubos_pending, struct kalyubos_counters and
- * struct kalyubos_block have no size and never change: a later version tells more by further calls.
+ * The handle, struct kalyubos_region, struct kalyubos_loan, struct kalyubos_pending, struct kalyubos_counters,
+ * struct kalyubos_fault and struct kalyubos_block have no size and never change: a later version tells more by further
+ * calls.
  *
- * There are two kinds of board. kalyubos_create makes one whose disks are parts of an image in the library's memory.
- * kalyubos_create_hosted makes one whose disks the host serves: the board says what it wants of a disk, the host does
- * it as it likes, and says that it is done; meanwhile the guest runs on. All calls are there for both.
+ * Slot by slot a disk is of one of two kinds. It is an extent of an image in the library's memory, or the host serves
+ * it. Then the board says what it wants of the disk, the host does it as it likes, and says that it is done; meanwhile
+ * the guest runs on. A board may have disks of both.
  *
- * The four calls that make a board take all memory that it needs, and kalyubos_destroy gives it back. The two that
- * judge slots take some, and give it back before they answer. No other call takes or gives any, so no guest can be
- * refused memory for what another did: what a guest sees is decided by its own slot's calls alone, the completions of
- * its disk among them.
+ * kalyubos_create takes all memory that a board needs, and kalyubos_destroy gives it back. kalyubos_judge takes some,
+ * and gives it back before it answers. No other call takes or gives any, so no guest can be refused memory for what
+ * another did: what a guest sees is decided by its own slot's calls alone, the completions of its disk among them.
  */
 #ifndef KALYUBOS_H
 #define KALYUBOS_H
@@ -86,7 +88,7 @@ enum {
     KALYUBOS_HAS_BOARD = 2,         /* the handle holds a board already, and goes on holding it */
     KALYUBOS_BAD_SLOT = 3,          /* the board has no such slot; nothing changed */
     KALYUBOS_BAD_RANGE = 4,         /* no region, nor the image, holds all of the range; nothing changed */
-    KALYUBOS_NO_MEMORY = 5,         /* the heap refused; only the calls that make or judge a board answer this */
+    KALYUBOS_NO_MEMORY = 5,         /* the heap refused; only kalyubos_create and kalyubos_judge answer this */
     KALYUBOS_BAD_WINDOW = 6,        /* no window has this number; nothing changed */
     KALYUBOS_BAD_IMAGE = 7,         /* the image isn't whole sectors of 512 bytes */
     KALYUBOS_NO_SLOTS = 8,          /* a board needs a slot */
@@ -98,12 +100,12 @@ enum {
     KALYUBOS_BAD_CACHE = 14,        /* a cache keeps 1 to 65536 sectors */
     KALYUBOS_NO_ROOM = 15,          /* the console's next output doesn't fit behind what waits; see kalyubos_write */
     KALYUBOS_BAD_OUTLET = 16,       /* an outlet keeps 2^24 bytes at most */
-    KALYUBOS_BAD_SIZE = 17,         /* a struct has another size than this version's */
+    KALYUBOS_BAD_SIZE = 17,         /* a struct says another size than this version's */
     KALYUBOS_MORE = 18,             /* the slot's service pauses; see kalyubos_go_on */
     KALYUBOS_BUSY = 19,             /* the slot's service is paused, or this call waits for its disk; nothing changed */
     KALYUBOS_IO = 20,               /* done, and the slot's disk waits for the host; see kalyubos_operation */
     KALYUBOS_IDLE = 21,             /* nothing of the slot is in flight; nothing changed */
-    KALYUBOS_NO_IMAGE = 22,         /* the image has no bytes, as where the host serves the disks; nothing changed */
+    KALYUBOS_NO_IMAGE = 22,         /* the image has no bytes; nothing changed */
     KALYUBOS_BAD_SNAPSHOT = 23,     /* the bytes are no snapshot; nothing changed */
     KALYUBOS_OTHER_SLOT = 24,       /* the snapshot is of a slot of another description; nothing changed */
     KALYUBOS_BAD_STATE = 25,        /* the snapshot has a state that no driver can bring about; nothing changed */
@@ -114,73 +116,7 @@ enum {
 };
 
 /* What an answer says, as a sentence for a person. It is never null: a number of a later version has a sentence too. */
-static inline const char *kalyubos_answer(uint32_t number)
-{
-    switch (number) {
-    case KALYUBOS_DONE:
-        return "done";
-    case KALYUBOS_NO_BOARD:
-        return "the handle holds no board";
-    case KALYUBOS_HAS_BOARD:
-        return "the handle holds a board already";
-    case KALYUBOS_BAD_SLOT:
-        return "the board has no such slot";
-    case KALYUBOS_BAD_RANGE:
-        return "the range isn't all inside one region of the memory, or inside the image";
-    case KALYUBOS_NO_MEMORY:
-        return "out of memory";
-    case KALYUBOS_BAD_WINDOW:
-        return "a window is KALYUBOS_BLOCK or KALYUBOS_CONSOLE";
-    case KALYUBOS_BAD_IMAGE:
-        return "the image isn't whole sectors of 512 bytes";
-    case KALYUBOS_NO_SLOTS:
-        return "a board needs a slot";
-    case KALYUBOS_TOO_MANY_SLOTS:
-        return "a board has sixty-four slots at most";
-    case KALYUBOS_BAD_MEMORY_SIZE:
-        return "a region's size is a multiple of 4096, and a guest has 2^46 bytes at most";
-    case KALYUBOS_BAD_MEMORY_BASE:
-        return "a region begins at a multiple of 4096, and ends at 2^64 or before";
-    case KALYUBOS_EXTENT_OUTSIDE:
-        return "a slot's sectors pass the image's end, or its disk 2^64 bytes";
-    case KALYUBOS_EXTENTS_OVERLAP:
-        return "two slots share a sector";
-    case KALYUBOS_BAD_CACHE:
-        return "a cache keeps 1 to 65536 sectors";
-    case KALYUBOS_NO_ROOM:
-        return "the console's next output doesn't fit behind what waits: take the output, and make the call again";
-    case KALYUBOS_BAD_OUTLET:
-        return "an outlet keeps 2^24 bytes at most";
-    case KALYUBOS_BAD_SIZE:
-        return "a struct's size isn't that of this version: set it to its sizeof";
-    case KALYUBOS_MORE:
-        return "the service pauses: kalyubos_go_on goes on with it";
-    case KALYUBOS_BUSY:
-        return "a service of the slot is paused, or its disk is at work: make the call again later";
-    case KALYUBOS_IO:
-        return "done, and the slot's disk waits for the host: kalyubos_operation says for what";
-    case KALYUBOS_IDLE:
-        return "nothing of the slot is in flight";
-    case KALYUBOS_NO_IMAGE:
-        return "the board has no image, or one of no bytes";
-    case KALYUBOS_BAD_SNAPSHOT:
-        return "the bytes are no snapshot";
-    case KALYUBOS_OTHER_SLOT:
-        return "the snapshot is of a slot with another memory, another disk or other devices";
-    case KALYUBOS_BAD_STATE:
-        return "the snapshot has a state that no driver can bring a window into";
-    case KALYUBOS_SHORT_BUFFER:
-        return "the buffer is shorter than the snapshot: kalyubos_saved_len tells its length";
-    case KALYUBOS_NO_REGIONS:
-        return "a slot needs a region of memory";
-    case KALYUBOS_REGIONS_NOT_APART:
-        return "regions stand in ascending order, with a gap between each two";
-    case KALYUBOS_BAD_LOAN:
-        return "each region of each slot needs a loan of its length";
-    default:
-        return "a number that this version of kalyubos.h doesn't know";
-    }
-}
+const char *kalyubos_answer(uint32_t number);
 
 /* A slot's windows, each of 4096 bytes. */
 enum {
@@ -230,12 +166,13 @@ struct kalyubos_region {
 struct kalyubos_slot {
     size_t size;          /* sizeof(struct kalyubos_slot) */
     struct kalyubos_region regions[KALYUBOS_REGIONS]; /* of its memory: those before the first one of `len` 0 */
-    uint64_t start;       /* the first sector of the image that its disk shows */
-    uint64_t count;       /* how many sectors it shows */
+    uint64_t start;       /* the first sector of the image that its disk shows; not read where the host serves it */
+    uint64_t count;       /* how many sectors its disk has */
     uint16_t cols;        /* the columns of its console */
     uint16_t rows;        /* and its rows */
     uint32_t outlet;      /* how many bytes of what it puts out may wait to be taken */
     bool read_only;       /* whether its disk refuses writes */
+    bool hosted;          /* whether the host serves its disk; else it shows an extent of the image */
     uint8_t identity[20]; /* what its disk answers to GET_ID, a shorter text with NULs behind it; Linux's `serial` */
 };
 
@@ -265,104 +202,76 @@ struct kalyubos_operation {
     bool stable;    /* what it writes is to be on the medium before it is completed: the driver can't flush (5.2.6.2) */
 };
 
-/*
- * Makes a board of `slots_len` slots over a copy of the image, with a cache of at most `cache` sectors before it,
- * and puts it into an empty handle. A refusal leaves the handle as it was and keeps no memory. The first of these that
- * holds is answered:
- *  - HAS_BOARD; BAD_SIZE, where a slot's `size` isn't sizeof(struct kalyubos_slot), and nothing behind it is read;
- *    BAD_IMAGE; BAD_OUTLET; NO_SLOTS; TOO_MANY_SLOTS;
- *  - slot by slot NO_REGIONS, then region by region BAD_MEMORY_SIZE, BAD_MEMORY_BASE and REGIONS_NOT_APART, then
- *    EXTENT_OUTSIDE and EXTENTS_OVERLAP;
- *  - BAD_CACHE.
- * NO_MEMORY may come in the place of one of the numbers from NO_SLOTS on.
- *
- * A sector is read where it lies in the image, so `cache` is judged and changes nothing else.
- *
- * `chains` and `bytes` are the budget of one call, and 0 is no limit: a call serves no more than so many chains, and
- * begins no further chain once those before it had so many bytes in their buffers. So one call moves `bytes` and one
- * chain at most. Without a limit nothing ever pauses.
- *
- * Choose each outlet for the longest chain that the guest's driver sends: one that is longer than `outlet` is never
- * let through, however often it is tried. Linux's console sends up to 32 KiB at once.
- */
-KALYUBOS_LOOK_AT_IT
-uint32_t kalyubos_create(struct kalyubos *board, const struct kalyubos_slot *slots, size_t slots_len,
-                         const uint8_t *image, size_t image_len, uint32_t cache, uint32_t chains, uint64_t bytes);
-
-/*
- * Judge slots as kalyubos_create does over an image of `sectors` sectors, and as kalyubos_create_hosted does, and make
- * no board. They answer what that call would answer for the slots, up to EXTENTS_OVERLAP. `slot` is told where the
- * answer is about one: its place in the array, of BAD_SIZE and BAD_OUTLET too. So is `region`: its place in the slot's
- * `regions`. NO_MEMORY may come in the place of a number from NO_SLOTS on.
- */
-uint32_t kalyubos_judge(const struct kalyubos_slot *slots, size_t slots_len, uint64_t sectors, size_t *slot,
-                        size_t *region);
-uint32_t kalyubos_judge_hosted(const struct kalyubos_slot *slots, size_t slots_len, size_t *slot, size_t *region);
-
-/*
- * Which slot kalyubos_create gave this answer for, as kalyubos_judge tells it: its place in the array; or `slots_len`
- * where the answer is about no slot, or the heap has no room to judge.
- */
-static inline size_t kalyubos_slot_at_fault(uint32_t answer, const struct kalyubos_slot *slots, size_t slots_len,
-                                            const uint8_t *image, size_t image_len)
-{
-    size_t slot = slots_len, region = KALYUBOS_REGIONS;
-    (void)image;
-    return kalyubos_judge(slots, slots_len, image_len / 512, &slot, &region) == answer ? slot : slots_len;
-}
-
-/*
- * Which region of the slot at fault the answer is about: its place in `regions`; or KALYUBOS_REGIONS where it is about
- * no region, or the heap has no room to judge.
- */
-static inline size_t kalyubos_region_at_fault(uint32_t answer, const struct kalyubos_slot *slot)
-{
-    struct kalyubos_slot asked = *slot;
-    size_t place = 0, region = KALYUBOS_REGIONS;
-    asked.outlet = 0;
-    return kalyubos_judge_hosted(&asked, 1, &place, &region) == answer ? region : (size_t)KALYUBOS_REGIONS;
-}
-
-/*
- * Makes a board of `slots_len` slots whose disks the host serves, and puts it into an empty handle. Each guest has a
- * disk of its own, of `count` sectors; `start` is not read. There is no image, no cache and no budget: no call moves a
- * disk's bytes, and none pauses. Refusals are as kalyubos_create's, in the same order; BAD_IMAGE, EXTENTS_OVERLAP and
- * BAD_CACHE never come.
- *
- * Guests of a hosted board share nothing. With a handle for each guest, a board of one slot, guests need no lock
- * between them: what orders the calls of a guest's CPUs and of its disk is that guest's own.
- */
-KALYUBOS_LOOK_AT_IT
-uint32_t kalyubos_create_hosted(struct kalyubos *board, const struct kalyubos_slot *slots, size_t slots_len);
-
 /* `len` bytes of the host's, from `bytes` on. Where there are none, `bytes` may be null. It never changes. */
 struct kalyubos_loan {
     uint8_t *bytes;
     size_t len;
 };
 
+/* A board, as the host describes it: fill one in by kalyubos_config, then change what is to be otherwise. */
+struct kalyubos_config {
+    size_t size;                       /* sizeof(struct kalyubos_config) */
+    const struct kalyubos_slot *slots; /* its guests */
+    size_t slots_len;
+    struct kalyubos_loan *loans;       /* a loan for each region of all slots, slot by slot, of the region's length; */
+    size_t loans_len;                  /* or none: then the library makes the memory, of zeros */
+    const uint8_t *image;              /* the image, which is copied; of no bytes where the host serves every disk */
+    size_t image_len;
+    uint32_t cache;                    /* how many sectors a cache before the image keeps at most */
+    uint32_t chains;                   /* the budget of one call, in chains */
+    uint64_t bytes;                    /* and in bytes; 0 is no limit */
+};
+
+/* A config of these slots: no loans, no image, a cache of one sector, no limit. */
+static inline struct kalyubos_config kalyubos_config(const struct kalyubos_slot *slots, size_t slots_len)
+{
+    static const uint8_t no_image[1] = { 0 };
+    static struct kalyubos_loan no_loans[1];
+    struct kalyubos_config config = { sizeof config, slots, slots_len, no_loans, 0, no_image, 0, 1, 0, 0 };
+    return config;
+}
+
 /*
- * Make a board as kalyubos_create and kalyubos_create_hosted do, over memory that the host lends for the board's life:
- * a loan for each region of all slots, slot by slot, of the region's length. No lent byte is copied, cleared or touched
- * by these calls or by kalyubos_destroy, which frees none: a guest of 64 GiB is made at once. Its memory begins as the
- * bytes stand, and kalyubos_memory lends them back.
+ * Makes a board and puts it into an empty handle. A refusal leaves the handle as it was and keeps no memory. The first
+ * of these that holds is answered:
+ *  - HAS_BOARD; BAD_SIZE, where the config's `size` or a slot's is another than its sizeof, and nothing behind it is
+ *    read; BAD_LOAN, where there are loans; BAD_IMAGE; BAD_OUTLET; NO_SLOTS; TOO_MANY_SLOTS;
+ *  - slot by slot NO_REGIONS, then region by region BAD_MEMORY_SIZE, BAD_MEMORY_BASE and REGIONS_NOT_APART, then
+ *    EXTENT_OUTSIDE and EXTENTS_OVERLAP;
+ *  - BAD_CACHE.
+ * NO_MEMORY may come in the place of one of the numbers from NO_SLOTS on, and over loans in the place of all but
+ * HAS_BOARD and BAD_SIZE.
  *
- * BAD_LOAN comes after BAD_SIZE and before all other numbers. NO_MEMORY may come in the place of all but BAD_SIZE.
+ * A sector is read where it lies in the image, so `cache` is judged and changes nothing else.
  *
- * Each loan is taken: null and 0 are left in its place. After HAS_BOARD and BAD_SIZE all loans are as they were; after
- * another refusal the first of them are taken, which may be none or all, and the others are as they were. The bytes of
- * a refused call are the host's again; it fills the array before it tries again.
+ * A call serves no more than `chains` chains, and begins no further chain once those before it had `bytes` bytes in
+ * their buffers. So one call moves `bytes` and one chain at most. Without a limit nothing ever pauses; no service of a
+ * disk that the host serves does.
  *
+ * Choose each outlet for the longest chain that the guest's driver sends: one that is longer than `outlet` is never
+ * let through, however often it is tried. Linux's console sends up to 32 KiB at once.
+ *
+ * With loans the memories are the lent bytes, for the board's life. None is copied, cleared or touched by this call or
+ * by kalyubos_destroy, which frees none: a guest of 64 GiB is made at once. Its memory begins as the bytes stand, and
+ * kalyubos_memory lends them back. Each loan is taken: null and 0 are left in its place. After HAS_BOARD and BAD_SIZE
+ * all loans are as they were; after another refusal the first of them are taken, which may be none or all, and the
+ * others are as they were. The bytes of a refused call are the host's again; it fills the array before it tries again.
  * Until kalyubos_destroy the bytes stay mapped where they are, and no two loans of any boards share a byte. The duty
  * above on a guest's memory in place holds of them.
+ *
+ * Guests whose disks the host serves share nothing. With a handle for each guest, a board of one slot, they need no
+ * lock between them: what orders the calls of a guest's CPUs and of its disk is that guest's own.
  */
 KALYUBOS_LOOK_AT_IT
-uint32_t kalyubos_create_lent(struct kalyubos *board, const struct kalyubos_slot *slots, size_t slots_len,
-                              struct kalyubos_loan *loans, size_t loans_len, const uint8_t *image, size_t image_len,
-                              uint32_t cache, uint32_t chains, uint64_t bytes);
-KALYUBOS_LOOK_AT_IT
-uint32_t kalyubos_create_hosted_lent(struct kalyubos *board, const struct kalyubos_slot *slots, size_t slots_len,
-                                     struct kalyubos_loan *loans, size_t loans_len);
+uint32_t kalyubos_create(struct kalyubos *board, struct kalyubos_config *config);
+
+/*
+ * Judges a config as kalyubos_create does for an empty handle, and makes no board: it answers what that call would
+ * answer, want of memory aside, and takes no loan. `slot` is told where the answer is about one: its place in the
+ * array, of its BAD_SIZE and BAD_OUTLET too. So is `region`: its place in the slot's `regions`. NO_MEMORY may come in
+ * the place of a number from NO_SLOTS on.
+ */
+uint32_t kalyubos_judge(const struct kalyubos_config *config, size_t *slot, size_t *region);
 
 /*
  * Ends the board, frees its memory and leaves the handle empty. Take the image's bytes out before, let go of
@@ -401,9 +310,9 @@ uint32_t kalyubos_write(struct kalyubos *board, uint8_t slot, uint8_t window, ui
  * then waits.
  *
  * From MORE until the end of the service the guest waits as in a long call. Every call for its slot but this one is
- * answered BUSY then and changes nothing, except kalyubos_interrupts, kalyubos_disturbed, kalyubos_counters and
- * kalyubos_take_output; kalyubos_operation and kalyubos_completed answer IDLE. Calls for other slots may stand in
- * between, and no guest sees that one paused.
+ * answered BUSY then and changes nothing, except kalyubos_interrupts, kalyubos_disturbed, kalyubos_counters,
+ * kalyubos_last_fault, kalyubos_operation, kalyubos_keep_pages and kalyubos_take_output; kalyubos_completed answers
+ * IDLE where nothing is in flight. Calls for other slots may stand in between, and no guest sees that one paused.
  */
 KALYUBOS_LOOK_AT_IT
 uint32_t kalyubos_go_on(struct kalyubos *board, uint8_t slot, struct kalyubos_pending *pending);
@@ -453,6 +362,20 @@ uint32_t kalyubos_write_memory(struct kalyubos *board, uint8_t slot, uint64_t ad
                                size_t from_len);
 
 /*
+ * Has the pages of the slot's memory marked in `bits` that its devices write to, for a host that moves the guest: KVM's
+ * dirty log doesn't see what the library writes. Bit k % 8 of byte k / 8 stands for the page of 4096 bytes that begins
+ * 4096 k bytes behind the base of the first region. The six calls that touch guest memory set bits, but for
+ * kalyubos_write_memory, and no call clears one: between two of them the host reads the bits, and clears what it has
+ * seen. A page whose bit stays clear is as it was, but for what the host wrote itself: by kalyubos_write_memory, in
+ * place, by an operation of a disk that it serves, or by DMA.
+ *
+ * `bits` is lent until kalyubos_destroy or the next such call; of no bytes none are kept, and pages behind them aren't
+ * marked. It takes no memory, and is answered in a pause too, and while something is in flight. After BAD_SLOT `bits`
+ * is the host's again.
+ */
+uint32_t kalyubos_keep_pages(struct kalyubos *board, uint8_t slot, struct kalyubos_loan bits);
+
+/*
  * Types bytes to the slot's console; `took` is how many it took, the first ones: it keeps 4096 until its guest reads
  * them. `pending` is what then waits. Type the others again until none is taken, then after the guest's next calls:
  * what was taken may have gone to the guest's buffers at once, and a driver that finds buffers enough doesn't notify
@@ -481,6 +404,45 @@ uint32_t kalyubos_disturbed(const struct kalyubos *board, uint8_t slot, bool *di
 /* What the slot's devices did since the board was made; told in a pause too, and while something is in flight. */
 uint32_t kalyubos_counters(const struct kalyubos *board, uint8_t slot, struct kalyubos_counters *counters);
 
+/* Why a window asks for a reset (DEVICE_NEEDS_RESET): what is wrong with what its driver wrote. */
+enum {
+    KALYUBOS_NO_FAULT = 0,           /* no fault came yet */
+    KALYUBOS_FAULT_JUMP = 1,         /* more chains on offer than the queue has descriptors (2.7.13.3) */
+    KALYUBOS_FAULT_INDEX = 2,        /* an index of a descriptor outside its table (2.7.5) */
+    KALYUBOS_FAULT_LOOP = 3,         /* a list of descriptors that goes on after as many as its table has (2.7.5.2) */
+    KALYUBOS_FAULT_TOO_MANY = 4,     /* a chain of more than 256 buffers */
+    KALYUBOS_FAULT_TABLE = 5,        /* an indirect table of length 0, no multiple of 16 or above 4096 (2.7.5.3) */
+    KALYUBOS_FAULT_NESTED = 6,       /* an indirect table inside an indirect table (2.7.5.3.1) */
+    KALYUBOS_FAULT_JOINED = 7,       /* an indirect table that is joined to other descriptors (2.7.5.3.1) */
+    KALYUBOS_FAULT_NO_INDIRECT = 8,  /* an indirect table without VIRTIO_F_INDIRECT_DESC (2.7.5.3.1) */
+    KALYUBOS_FAULT_RANGE = 9,        /* a buffer or a table that isn't inside one region of the guest's memory */
+    KALYUBOS_FAULT_TOO_LONG = 10     /* a chain of more than 2^32 - 1 bytes (2.7.5.2) */
+};
+
+/* What `head` is where no head was read. */
+#define KALYUBOS_NO_HEAD UINT32_MAX
+
+/* The last fault of a window, and the chain on offer at which it was met. */
+struct kalyubos_fault {
+    uint32_t kind;  /* KALYUBOS_NO_FAULT, and then the rest says nothing; else the fault */
+    uint32_t queue; /* the number of the queue, as a notification names it */
+    uint32_t head;  /* The index of the chain's first descriptor. In a split queue: the head in the available ring. In a
+                       packed one: the position where the list begins. KALYUBOS_NO_HEAD of a JUMP. */
+    uint32_t place; /* How far the device had come. In a split queue: the idx of that chain, from 0 to 65535; its entry
+                       is `place` modulo the queue's size. In a packed one: the position, and the queue's size more
+                       where the wrap counter is 0. */
+};
+
+/*
+ * The last fault of a slot's window; told in a pause too, and while something is in flight. It stays until the
+ * window's next fault: neither a reset nor kalyubos_restore takes it away. So a host may ask once it sees the
+ * window's InterruptStatus bit 1 or the next reset, and log what kalyubos_fault_text says of `kind`.
+ */
+uint32_t kalyubos_last_fault(const struct kalyubos *board, uint8_t slot, uint8_t window, struct kalyubos_fault *fault);
+
+/* What a fault is, as a sentence for a person. It is never null: a number of a later version has a sentence too. */
+const char *kalyubos_fault_text(uint32_t kind);
+
 /*
  * How many bytes the slot's snapshot has: some 300, and its pending input. It stays so until the next call for the
  * slot. BUSY while a service of the slot is paused, or something of it is in flight.
@@ -503,9 +465,9 @@ uint32_t kalyubos_save(const struct kalyubos *board, uint8_t slot, uint8_t *into
 
 /*
  * Puts the slot's devices into the state of a snapshot, and the guest goes on where it was saved. Memory and disk stay.
- * The slot may be of any board of either kind. Where its memory begins and ends, `count`, `read_only` and `identity`
- * are as of the slot that was saved, or the answer is OTHER_SLOT. That its regions are the same is the host's to see.
- * The console's size is the snapshot's. `pending` is what then waits.
+ * The slot may be of any board, whoever has its disk. Where its memory begins and ends, `count`, `read_only` and
+ * `identity` are as of the slot that was saved, or the answer is OTHER_SLOT. That its regions are the same is the
+ * host's to see. The console's size is the snapshot's. `pending` is what then waits.
  *
  * Each snapshot that kalyubos_save wrote of such a slot is taken. Of other bytes the first of BAD_SNAPSHOT, OTHER_SLOT
  * and BAD_STATE that holds is answered, or they are taken as they spell: there is no checksum. A snapshot that was
@@ -520,7 +482,7 @@ uint32_t kalyubos_restore(struct kalyubos *board, uint8_t slot, const uint8_t *f
 
 /*
  * Lends the image in place, to read between calls: `bytes` is where its first byte lies, and `len` how many there are.
- * Both stay until kalyubos_destroy. NO_IMAGE where the image has no bytes, as of a board whose disks the host serves.
+ * Both stay until kalyubos_destroy. NO_IMAGE where the image has no bytes, as it may where the host serves every disk.
  */
 uint32_t kalyubos_image(const struct kalyubos *board, const uint8_t **bytes, size_t *len);
 
@@ -533,8 +495,8 @@ uint32_t kalyubos_read_image(const struct kalyubos *board, size_t start, uint8_t
 
 /*
  * The heap. The installed library has it over malloc, as examples/embed/heap.c does; a host that defines one of these
- * defines all of them. They are of one heap, and are called within the calls that make or judge a board and
- * kalyubos_destroy alone. A block is aligned to `align`, a power of two up to 16. `found` is false where there is no
+ * defines all of them. They are of one heap, and are called within kalyubos_create, kalyubos_judge and kalyubos_destroy
+ * alone. A block is aligned to `align`, a power of two up to 16. `found` is false where there is no
  * memory, and `at` is then any address; a block that couldn't be resized stands as it was. Of a block that is resized
  * the first `kept` bytes stay. A block of size 0 is a block as any other.
  */
@@ -542,9 +504,9 @@ struct kalyubos_block {
     bool found;
     void *at;
 };
-struct kalyubos_block rattle_alloc(size_t size, size_t align);
-struct kalyubos_block rattle_realloc(void *at, size_t kept, size_t size, size_t align);
-void rattle_dealloc(void *at);
+struct kalyubos_block kalyubos_alloc(size_t size, size_t align);
+struct kalyubos_block kalyubos_realloc(void *at, size_t kept, size_t size, size_t align);
+void kalyubos_dealloc(void *at);
 
 #ifdef __cplusplus
 }

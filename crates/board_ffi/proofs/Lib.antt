@@ -1,7 +1,8 @@
 pub mod AsBox
+pub mod Configs
 pub mod HandleSteps
-pub mod Judging
+pub mod Lengths
+pub mod OneByOne
 pub mod Outlets
 pub mod Runs
-pub mod OneByOne
 pub mod Telling

@@ -4,7 +4,7 @@ use Rattle.std.proofs.lemmas.List.{drop-drop, drop-set-lt, get_or-drop, map-appe
 use Rattle.std.proofs.lemmas.List.Elements.{All-append, All-cons, All-nil}
 use Rattle.std.proofs.Math.Seq.{take-suc, take-suc-set}
 use Rattle.guest_bytes.specs.declared.loan.Loan.{Loan}
-use Rattle.board_ffi.specs.Lent.{TakesFront}
+use Rattle.board_ffi.specs.Create.{TakesFront}
 
 -- what holds of those that are written holds of one more
 pub one_more : {X : Type 0} (P : X → Type 0) (xs : List X) (i : ℕ) (x : X) → i < length xs → All P (take i xs)

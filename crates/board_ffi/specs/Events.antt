@@ -3,6 +3,7 @@ use Rattle.std.specs.Prelude.{◌≡◌, ◌⊎◌, ℕ, ◌==◌, ◌||◌, ◌
 use Rattle.std.specs.List.{slice_get}
 use Rattle.std.specs.Global.{Global}
 use Rattle.guest_memory.specs.Memory.{Inside, Memory}
+use Rattle.guest_memory.specs.Pages.{bits_of}
 use Rattle.block_device.specs.declared.operation.Verdict.{Verdict}
 use Rattle.block_device.specs.declared.operation.Verdict.TheVariants as verdict
 use Rattle.board.specs.declared.event.EventKind.{EventKind}
@@ -12,6 +13,7 @@ use Rattle.board.specs.declared.saved.RestoreFault.{RestoreFault}
 use Rattle.board.specs.declared.saved.RestoreRefusal.{RestoreRefusal}
 use Rattle.board.specs.declared.saved.RestoreRefusal.TheVariants.{Fault}
 use Rattle.board.specs.Backing.{flight_in}
+use Rattle.board.specs.Lending.{bits_in}
 use Rattle.board.specs.Saved.{IsAs, IsCauseOf, IsLike, IsSnapshotOf}
 use Rattle.board.specs.Slot.{BoardSlot}
 use Rattle.session.specs.Course.{IsTaken}
@@ -104,6 +106,11 @@ pub record HasNoRegion (slot addr code : ℕ) (old new : SessionState) : Type 0 
   pub there : IsSomeAnd (slice_get old.slots slot) (λ found. ¬ Inside found.memory addr 1)
   pub bad_range : code ≡ 4
   pub kept : new ≡ old
+
+-- The bits of the pages of a slot's memory are kept in these bytes from now on.
+pub record KeepsPages (slot : ℕ) (bytes : List ℕ) (old new : SessionState) : Type 0 where
+  pub there : slot < length old.slots
+  pub kept : new ≡ record old { slots = bits_in slot (slice_get old.slots slot) (bits_of bytes) old.slots }
 
 -- a service of the slot is paused, and nothing changes
 pub record IsBusy (slot code : ℕ) (old new : SessionState) : Type 0 where

@@ -1,13 +1,14 @@
--- Which slot of a description can't be had, and which region of its memory.
-use Rattle.std.specs.Prelude.{◌≡◌, ℕ, ◌==◌, ◌^◌, nat_le, List}
+-- What a judging tells: which slot of a description can't be had, and which region of its memory.
+use Rattle.std.specs.Prelude.{◌≡◌, ℕ, ◌==◌, ◌^◌, nat_le, if◌then◌else◌, List}
 use Rattle.std.specs.List.{prefix_len}
 use Rattle.guest_memory.specs.declared.fault.MemoryFault.TheVariants.{NoRegions}
-use Rattle.board.specs.declared.fault.BoardFault.{BoardFault}
 use Rattle.board.specs.declared.fault.BoardFault.TheVariants.{Slot as AtSlot}
 use Rattle.board.specs.declared.fault.SlotFault.TheVariants.{Memory}
+use Rattle.session.specs.declared.fault.SessionFault.TheVariants.{BadOutlet, Board}
+use Rattle.board_ffi.specs.declared.config.Config.{Config}
+use Rattle.board_ffi.specs.declared.config.ToldConfig.{ToldConfig}
 use Rattle.board_ffi.specs.declared.slot.Slot.{Slot}
-use Rattle.board_ffi.specs.Codes.{board_code}
-use Rattle.board_ffi.specs.Create.{slot_size}
+use Rattle.board_ffi.specs.Config.{Describes, IsVerdict, Verdict, Bad, config_size, OtherSize, slot_size, verdict_code}
 
 -- how many bytes of a console's output may wait at most
 abbrev pub most_waiting : ℕ
@@ -20,23 +21,24 @@ first_of_other_size = prefix_len (λ slot. slot.size == slot_size)
 abbrev pub first_of_large_outlet : List Slot → ℕ
 first_of_large_outlet = prefix_len (λ slot. nat_le slot.outlet most_waiting)
 
--- the slot that a fault is about, where it is about one, and else what stood there
-abbrev pub slot_told : BoardFault → ℕ → ℕ
-slot_told (AtSlot number fault) before = number
-slot_told _ before = before
+-- the slot that a verdict is about, where it is about one, and else what stood there
+abbrev pub slot_told : ToldConfig → Verdict → ℕ → ℕ
+slot_told config OtherSize before =
+    if config.size == config_size then first_of_other_size config.slots.now else before
+slot_told config (Bad BadOutlet) before = first_of_large_outlet config.slots.now
+slot_told config (Bad (Board (AtSlot number fault))) before = number
+slot_told config _ before = before
 
 -- and the region of its memory
-abbrev pub region_told : BoardFault → ℕ → ℕ
-region_told (AtSlot number (Memory region NoRegions)) before = before
-region_told (AtSlot number (Memory region fault)) before = region
+abbrev pub region_told : Verdict → ℕ → ℕ
+region_told (Bad (Board (AtSlot number (Memory region NoRegions)))) before = before
+region_told (Bad (Board (AtSlot number (Memory region fault)))) before = region
 region_told _ before = before
 
--- The number is that of a fault by which the slots are refused, and the slot and the region are told that it
--- is about.
-pub record IsJudged (Refused : BoardFault → Type 0)
-    (code slot_old slot_new region_old region_new : ℕ) : Type 0 where
-  pub fault : BoardFault
-  pub refused : Refused fault
-  pub code_is : code ≡ board_code fault
-  pub slot : slot_new ≡ slot_told fault slot_old
-  pub region : region_new ≡ region_told fault region_old
+-- The number is that of a verdict on what is described, and the slot and the region are told that it is about.
+pub record Judges (told : ToldConfig) (code slot_old slot_new region_old region_new : ℕ) : Type 0 where
+  pub verdict : Verdict
+  pub holds : (config : Config) → Describes told config → IsVerdict config verdict
+  pub code_is : code ≡ verdict_code verdict
+  pub slot : slot_new ≡ slot_told told verdict slot_old
+  pub region : region_new ≡ region_told verdict region_old

@@ -37,8 +37,8 @@ pub record IsUndisturbed (slot : ℕ) (disturbed : Bool) (old new : SessionState
   pub noted : disturbed ≡ false
   pub kept : new ≡ old
 
--- there is such a slot, whose counters are told
-pub record HasCounters (slot : ℕ) (old new : SessionState) : Type 0 where
+-- there is such a slot, of which something is told that no clause speaks of
+pub record IsThere (slot : ℕ) (old new : SessionState) : Type 0 where
   pub there : slot < slot_count old
   pub kept : new ≡ old
 

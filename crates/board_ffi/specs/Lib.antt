@@ -3,9 +3,10 @@ pub mod Lending
 pub mod Codes
 pub mod Events
 pub mod Disk
+pub mod Faults
 pub mod Kept
 pub mod Calls
+pub mod Config
 pub mod Create
 pub mod Judging
-pub mod Lent
 pub mod Version

@@ -1,7 +1,7 @@
 //! What a guest's devices did since its board was made, for C.
 
 ghost use Rattle.std.specs.Prelude.{◌≡◌, ◌≢◌};
-ghost use Rattle.board_ffi.specs.Calls.{Calls, HasCounters, IsMissing};
+ghost use Rattle.board_ffi.specs.Calls.{Calls, IsMissing, IsThere};
 
 use crate::answers::registers;
 use crate::handle::{Handle, session_of};
@@ -11,7 +11,7 @@ use session::Counters;
 #[unsafe(no_mangle)]
 pub extern "C" fn kalyubos_counters(board: &mut Handle, slot: u8, counters: &mut Counters) -> u32
     ensures told { result ≡ 0 → Calls board.old.session board.new.session result
-        (HasCounters slot) }
+        (IsThere slot) }
     ensures missing { result ≢ 0 → Calls board.old.session board.new.session result
         (IsMissing slot result) }
     ensures kept { result ≢ 0 → counters.new ≡ counters.old }

@@ -1,63 +1,58 @@
-//! A board over an image is made of what C describes, and any board is destroyed.
+//! A board is made of what C describes, and destroyed.
 
-ghost use Rattle.std.specs.Prelude.{◌≡◌, ◌≢◌, ◌⊎◌, ◌/◌, ◌%◌, Some, None, MatchOption, IfOk, IfErr, OnOk, IsErrAnd, IsErrOf, length, map};
-ghost use Rattle.chain.specs.Budget.{IsSpent};
-ghost use Rattle.board.specs.declared.fault.BoardFault.{BoardFault};
-ghost use Rattle.board.specs.declared.spec.Backing.{Backing};
-ghost use Rattle.board.specs.Fault.{IsAccepted};
-ghost use Rattle.session.specs.declared.fault.SessionFault.{SessionFault};
-ghost use Rattle.session.specs.Refusing.{AreOutlets, IsBoardFault, IsRefusedFor};
-ghost use Rattle.session.specs.Session.{new_session, slots_of};
-ghost use Rattle.board_ffi.specs.Codes.{board_code};
-ghost use Rattle.board_ffi.specs.Create.{AreSized, Creates, IsMade, IsNotMade, budget_of, guest_of};
+ghost use Rattle.std.specs.Prelude.{◌≡◌, ◌≢◌, ◌⊎◌, ◌↔◌, [], All, Some, None, MatchOption, IfSome, IfOk, IfErr, OnOk, true, false};
+ghost use Rattle.board_ffi.specs.Config.{IsGood, IsRefused, IsSized, IsVerdict, Verdict, session_of, verdict_code};
+ghost use Rattle.board_ffi.specs.Create.{IsMade, IsRefusal, Refuses, TakesFront, TakesLoans};
 
-use crate::codes::{DONE, NO_BOARD};
+use crate::codes::{BAD_SIZE, DONE, HAS_BOARD, NO_BOARD, of_fault};
+use crate::config::{Config, is_sized};
 use crate::handle::Handle;
-use crate::making::{boxed, budget, hold, judged_first};
-use crate::slot::{Slot, are_outlets, guests};
+use crate::loans::taken;
+use crate::slot::{are_outlets, guests};
 use sector_cache::are_whole_sectors;
-use session::{Backing, Budget, Session, SessionFault};
+use session::{Session, SessionFault};
 use std::alloc::Global;
 
-/// Makes a board of these slots over a copy of the image, with a cache of at most `cache` sectors, and puts
-/// it into an empty handle. One call serves so many chains, and chains of so many bytes and one more; 0 is no limit.
+/// Makes a board of a config, and puts it into an empty handle. Each loan is taken, and an empty one left.
+#[tactic(auto, using(crate::proofs::OneByOne::none_taken))]
 #[unsafe(no_mangle)]
-pub extern "C" fn kalyubos_create(
-    alloc: Global,
-    board: &mut Handle,
-    slots: &[Slot],
-    image: &[u8],
-    cache: u32,
-    chains: u32,
-    bytes: u64,
-) -> u32
-    ensures creates { Creates (IsMade (map (guest_of Backing.Image) slots.now) image.now cache (budget_of chains bytes))
-        (IsNotMade (map (guest_of Backing.Image) slots.now) image.now cache (budget_of chains bytes))
-        slots.now board.old.session board.new.session result }
+pub extern "C" fn kalyubos_create(alloc: Global, board: &mut Handle, config: &mut Config<'_>) -> u32
+    ensures full { IfSome board.old.session (λ old. (result ≡ 2) × (board.new.session ≡ Some old)) }
+    ensures bad_size { board.old.session ≡ None → ((result ≡ 17) ↔ ¬ IsSized config.old) }
+    ensures made { board.old.session ≡ None → result ≡ 0 → IsMade config.old board.new.session }
+    ensures none { board.old.session ≡ None → result ≢ 0 → board.new.session ≡ None }
+    ensures why { board.old.session ≡ None → result ≢ 0 → result ≢ 17 → Refuses config.old result }
 
-    // exactly that number, but that want of memory may come before a board's
-    ensures bad_image { board.old.session ≡ None → AreSized slots.now →
-        length image.now % 512 ≢ 0 → result ≡ 7 }
-    ensures bad_outlet { board.old.session ≡ None → AreSized slots.now →
-        length image.now % 512 ≡ 0 → ¬ AreOutlets (map (guest_of Backing.Image) slots.now) → result ≡ 16 }
-    ensures bad_board { board.old.session ≡ None → AreSized slots.now → (fault : BoardFault) →
-        IsBoardFault (map (guest_of Backing.Image) slots.now) image.now cache (budget_of chains bytes) fault →
-        (result ≡ board_code fault) ⊎ (result ≡ 5) }
+    // the number of the verdict, but that want of memory may come in its place
+    ensures verdict { board.old.session ≡ None → (verdict : Verdict) → IsVerdict config.old verdict →
+        (result ≡ verdict_code verdict) ⊎ (result ≡ 5) }
+    ensures loans { TakesLoans config.old.loans.now config.new.loans.now board.old.session result }
+    ensures kept { config.new ≡ record config.old { loans = config.new.loans } }
 {
-    if let Some(number) = judged_first(board, slots) {
-        return number;
+    if is_full(board) {
+        return HAS_BOARD;
     }
-    hold(
-        board,
-        session(
-            alloc,
-            slots,
-            Backing::Image,
-            image,
-            cache,
-            budget(chains, bytes),
-        ),
-    )
+    if !is_sized(config.size, config.slots) {
+        return BAD_SIZE;
+    }
+    match boxed(alloc, config) {
+        Ok(session) => {
+            board.put(session);
+            DONE
+        }
+        Err(why) => of_fault(why),
+    }
+}
+
+// Whether a handle holds a board.
+fn is_full(board: &mut Handle) -> bool
+    ensures value { MatchOption board.old.session (result ≡ false) (λ _. result ≡ true) }
+    ensures kept { board.new.session ≡ board.old.session }
+{
+    match board.session() {
+        Some(_) => true,
+        None => false,
+    }
 }
 
 /// Ends the board, gives its memory back, and leaves the handle empty.
@@ -73,36 +68,80 @@ pub extern "C" fn kalyubos_destroy(alloc: Global, board: &mut Handle) -> u32
     DONE
 }
 
-/// A session of these slots, whose disks are of the image or the host's.
-pub(crate) fn session(
-    alloc: Global,
-    slots: &[Slot],
-    backing: Backing,
-    image: &[u8],
-    cache: u32,
-    budget: Budget,
-) -> Result<Box<Session>, SessionFault>
-    requires { ¬ IsSpent budget }
-    ensures made { IfOk result (λ session.
-        session.value ≡ new_session (map (guest_of backing) slots.now) image.now budget) }
-    ensures accepted { OnOk result (IsAccepted (length image.now / 512) (slots_of (map (guest_of backing) slots.now)) cache) }
-    ensures outlets { OnOk result (AreOutlets (map (guest_of backing) slots.now)) }
-    ensures fault { IfErr result (IsRefusedFor (map (guest_of backing) slots.now) image.now cache budget) }
-    ensures bad_image { length image.now % 512 ≢ 0 → IsErrOf result SessionFault.BadImage }
-    ensures bad_outlet { length image.now % 512 ≡ 0 → ¬ AreOutlets (map (guest_of backing) slots.now) →
-        IsErrOf result SessionFault.BadOutlet }
-    ensures bad_board { (fault : BoardFault) → IsBoardFault (map (guest_of backing) slots.now) image.now cache budget fault →
-        IsErrAnd result (λ why. (why ≡ SessionFault.Board fault) ⊎ (why ≡ SessionFault.NoMemory)) }
+// The session that a config describes, in a box.
+#[tactic(auto, using(crate::proofs::Configs::good_wants))]
+fn boxed(alloc: Global, config: &mut Config<'_>) -> Result<Box<Session>, SessionFault>
+    ensures made { IfOk result (λ session. session.value ≡ session_of config.old) }
+    ensures good { OnOk result (IsGood config.old) }
+    ensures fault { IfErr result (IsRefusal config.old) }
+    ensures left { OnOk result (All (λ loan. loan.items ≡ []) config.new.loans.now) }
+    ensures front { TakesFront config.old.loans.now config.new.loans.now }
+    ensures kept { config.new ≡ record config.old { loans = config.new.loans } }
 {
-    if !are_whole_sectors(image.len() as u64) {
+    let session = session(alloc, config)?;
+    match Box::new(alloc, session) {
+        Ok(session) => Ok(session),
+        Err(_) => Err(SessionFault::NoMemory),
+    }
+}
+
+// The session that a config describes.
+#[tactic(auto, using(crate::proofs::OneByOne::none_taken))]
+fn session(alloc: Global, config: &mut Config<'_>) -> Result<Session, SessionFault>
+    ensures made { IfOk result (λ session. session ≡ session_of config.old) }
+    ensures good { OnOk result (IsGood config.old) }
+    ensures fault { IfErr result (IsRefusal config.old) }
+    ensures left { OnOk result (All (λ loan. loan.items ≡ []) config.new.loans.now) }
+    ensures front { TakesFront config.old.loans.now config.new.loans.now }
+    ensures kept { config.new ≡ record config.old { loans = config.new.loans } }
+{
+    if config.is_lent() {
+        return over_lent(alloc, config);
+    }
+    over_own(alloc, config)
+}
+
+// A session over memory of its own.
+fn over_own(alloc: Global, config: &Config<'_>) -> Result<Session, SessionFault>
+    requires { config.now.loans.now ≡ [] }
+    ensures made { IfOk result (λ session. session ≡ session_of config.now) }
+    ensures good { OnOk result (IsGood config.now) }
+    ensures fault { IfErr result (IsRefused config.now) }
+{
+    if !are_whole_sectors(config.image.len() as u64) {
         return Err(SessionFault::BadImage);
     }
-    if !are_outlets(slots) {
+    if !are_outlets(config.slots) {
         return Err(SessionFault::BadOutlet);
     }
-    let Ok(guests) = guests(alloc, slots, backing) else {
+    let Ok(guests) = guests(alloc, config.slots) else {
         return Err(SessionFault::NoMemory);
     };
-    let session = Session::new(alloc, &guests, image, cache, budget)?;
-    boxed(alloc, session)
+    Session::new(alloc, &guests, config.image, config.cache, config.budget())
+}
+
+// A session over the lent bytes.
+fn over_lent(alloc: Global, config: &mut Config<'_>) -> Result<Session, SessionFault>
+    requires { config.now.loans.now ≢ [] }
+    ensures made { IfOk result (λ session. session ≡ session_of config.old) }
+    ensures good { OnOk result (IsGood config.old) }
+    ensures fault { IfErr result (IsRefusal config.old) }
+    ensures left { OnOk result (All (λ loan. loan.items ≡ []) config.new.loans.now) }
+    ensures front { TakesFront config.old.loans.now config.new.loans.now }
+    ensures kept { config.new ≡ record config.old { loans = config.new.loans } }
+{
+    let Ok(guests) = guests(alloc, config.slots) else {
+        return Err(SessionFault::NoMemory);
+    };
+    let Ok(bytes) = taken(alloc, config.loans) else {
+        return Err(SessionFault::NoMemory);
+    };
+    Session::over_lent(
+        alloc,
+        &guests,
+        bytes,
+        config.image,
+        config.cache,
+        config.budget(),
+    )
 }

@@ -1,165 +1,127 @@
-//! Which slot of a description can't be had, and which region of its memory. No board is made.
+//! What is wrong with a description, which slot of it can't be had, and which region of its memory. No board is made.
 
-ghost use Rattle.std.specs.Prelude.{◌≡◌, ◌≢◌, ◌↔◌, ◌⊎◌, ℕ, IfErr, IfOk, IsErrOf, OnOk, map};
+ghost use Rattle.std.specs.Prelude.{◌≡◌, ◌≢◌, ◌↔◌, ℕ, IfErr, IfOk, IsTrue, OnOk};
+ghost use Rattle.sector_cache.specs.Fault.{IsCapacity};
 ghost use Rattle.board.specs.declared.fault.BoardFault.{BoardFault};
-ghost use Rattle.board.specs.declared.spec.Backing.{Backing};
-ghost use Rattle.board.specs.Fault.{AreGood, Refuses};
-ghost use Rattle.session.specs.Refusing.{AreOutlets};
+ghost use Rattle.session.specs.declared.fault.SessionFault.{SessionFault};
 ghost use Rattle.session.specs.Session.{slots_of};
-ghost use Rattle.board_ffi.specs.Codes.{board_code};
-ghost use Rattle.board_ffi.specs.Create.{AreSized, guest_of};
-ghost use Rattle.board_ffi.specs.Judging.{IsJudged, first_of_large_outlet, first_of_other_size, region_told, slot_told};
+ghost use Rattle.board_ffi.specs.Codes.{fault_code};
+ghost use Rattle.board_ffi.specs.declared.config.Config.{Config};
+ghost use Rattle.board_ffi.specs.declared.config.ToldConfig.{ToldConfig};
+ghost use Rattle.board_ffi.specs.Config.{Describes, IsGood, IsRefused, IsSized, Bad, guests_of};
+ghost use Rattle.board_ffi.specs.Judging.{Judges, region_told, slot_told};
 
-use crate::codes::{BAD_OUTLET, BAD_SIZE, DONE, NO_MEMORY, of_board_fault};
+use crate::codes::{BAD_SIZE, DONE, of_fault};
+use crate::config::{ToldConfig, has_own_size};
+use crate::loans::are_lent;
 use crate::slot::{Slot, are_outlets, are_sized, guests, sized, with_outlets};
-use board::{Backing, BoardFault, SlotFault, SlotSpec, check_slots};
+use board::{BoardFault, CacheFault, SlotFault, SlotSpec, check_slots};
 use guest_memory::MemoryFault;
+use sector_cache::are_whole_sectors;
+use session::SessionFault;
 use std::alloc::{AllocError, Global};
 
-/// Judges slots as `kalyubos_create` does over an image of so many sectors: the number that it would answer for them, and
-/// the slot and the region that this is about.
+/// How many sectors a cache keeps at most.
+const MOST_CACHED: u32 = 0x1_0000;
+
+/// Judges a config as `kalyubos_create` does: the number that it would answer for an empty handle, and the slot and the
+/// region that this is about.
 #[unsafe(no_mangle)]
 pub extern "C" fn kalyubos_judge(
     alloc: Global,
-    slots: &[Slot],
-    sectors: u64,
+    config: &ToldConfig<'_>,
     slot: &mut usize,
     region: &mut usize,
 ) -> u32
-    ensures good { result ≡ 0 → AreSized slots.now × AreOutlets (map (guest_of Backing.Image) slots.now)
-        × AreGood sectors (slots_of (map (guest_of Backing.Image) slots.now)) }
-    ensures size { (result ≡ 17) ↔ ¬ AreSized slots.now }
-    ensures place_of_size { result ≡ 17 → (slot.new ≡ first_of_other_size slots.now) × (region.new ≡ region.old) }
-    ensures outlet { AreSized slots.now → ((result ≡ 16) ↔ ¬ AreOutlets (map (guest_of Backing.Image) slots.now)) }
-    ensures place_of_outlet { result ≡ 16 → (slot.new ≡ first_of_large_outlet slots.now) × (region.new ≡ region.old) }
-    ensures fault { AreSized slots.now → AreOutlets (map (guest_of Backing.Image) slots.now) → result ≢ 0 → result ≢ 5 →
-        IsJudged (λ fault. (cache : ℕ) → Refuses sectors (slots_of (map (guest_of Backing.Image) slots.now)) cache fault)
-        result slot.old slot.new region.old region.new }
-    ensures memory { result ≡ 5 → AreSized slots.now × AreOutlets (map (guest_of Backing.Image) slots.now)
-        × (slot.new ≡ slot.old) × (region.new ≡ region.old) }
-    ensures kept { result ≡ 0 → (slot.new ≡ slot.old) × (region.new ≡ region.old) }
+    ensures judges { result ≢ 5 → Judges config.now result slot.old slot.new region.old region.new }
+    ensures memory { result ≡ 5 → (described : Config) → Describes config.now described →
+        IsSized described × IsRefused described SessionFault.NoMemory }
+    ensures memory_of_none { result ≡ 5 → (slot.new ≡ slot.old) × (region.new ≡ region.old) }
 {
-    judged(alloc, slots, Backing::Image, sectors, slot, region)
-}
-
-/// Judges slots as `kalyubos_create_hosted` does.
-#[unsafe(no_mangle)]
-pub extern "C" fn kalyubos_judge_hosted(
-    alloc: Global,
-    slots: &[Slot],
-    slot: &mut usize,
-    region: &mut usize,
-) -> u32
-    ensures good { result ≡ 0 → AreSized slots.now × AreOutlets (map (guest_of Backing.Host) slots.now)
-        × AreGood 0 (slots_of (map (guest_of Backing.Host) slots.now)) }
-    ensures size { (result ≡ 17) ↔ ¬ AreSized slots.now }
-    ensures place_of_size { result ≡ 17 → (slot.new ≡ first_of_other_size slots.now) × (region.new ≡ region.old) }
-    ensures outlet { AreSized slots.now → ((result ≡ 16) ↔ ¬ AreOutlets (map (guest_of Backing.Host) slots.now)) }
-    ensures place_of_outlet { result ≡ 16 → (slot.new ≡ first_of_large_outlet slots.now) × (region.new ≡ region.old) }
-    ensures fault { AreSized slots.now → AreOutlets (map (guest_of Backing.Host) slots.now) → result ≢ 0 → result ≢ 5 →
-        IsJudged (λ fault. (cache : ℕ) → Refuses 0 (slots_of (map (guest_of Backing.Host) slots.now)) cache fault)
-        result slot.old slot.new region.old region.new }
-    ensures memory { result ≡ 5 → AreSized slots.now × AreOutlets (map (guest_of Backing.Host) slots.now)
-        × (slot.new ≡ slot.old) × (region.new ≡ region.old) }
-    ensures kept { result ≡ 0 → (slot.new ≡ slot.old) × (region.new ≡ region.old) }
-{
-    judged(alloc, slots, Backing::Host, 0, slot, region)
-}
-
-// Judges slots whose disks are of the image, of so many sectors, or the host's.
-fn judged(
-    alloc: Global,
-    slots: &[Slot],
-    backing: Backing,
-    sectors: u64,
-    slot: &mut usize,
-    region: &mut usize,
-) -> u32
-    ensures good { result ≡ 0 → AreSized slots.now × AreOutlets (map (guest_of backing) slots.now)
-        × AreGood sectors (slots_of (map (guest_of backing) slots.now)) }
-    ensures size { (result ≡ 17) ↔ ¬ AreSized slots.now }
-    ensures place_of_size { result ≡ 17 → (slot.new ≡ first_of_other_size slots.now) × (region.new ≡ region.old) }
-    ensures outlet { AreSized slots.now → ((result ≡ 16) ↔ ¬ AreOutlets (map (guest_of backing) slots.now)) }
-    ensures place_of_outlet { result ≡ 16 → (slot.new ≡ first_of_large_outlet slots.now) × (region.new ≡ region.old) }
-    ensures fault { AreSized slots.now → AreOutlets (map (guest_of backing) slots.now) → result ≢ 0 → result ≢ 5 →
-        IsJudged (λ fault. (cache : ℕ) → Refuses sectors (slots_of (map (guest_of backing) slots.now)) cache fault)
-        result slot.old slot.new region.old region.new }
-    ensures memory { result ≡ 5 → AreSized slots.now × AreOutlets (map (guest_of backing) slots.now)
-        × (slot.new ≡ slot.old) × (region.new ≡ region.old) }
-    ensures kept { result ≡ 0 → (slot.new ≡ slot.old) × (region.new ≡ region.old) }
-{
-    let specs = match described(alloc, slots, backing, slot) {
-        Ok(specs) => specs,
-        Err(number) => return number,
-    };
-    match check_slots(&specs, sectors) {
+    if !has_own_size(config.size) {
+        return BAD_SIZE;
+    }
+    if !are_sized(config.slots) {
+        *slot = sized(config.slots);
+        return BAD_SIZE;
+    }
+    match judged(alloc, config) {
         Ok(()) => DONE,
-        Err(fault) => told(fault, slot, region),
+        Err(why) => {
+            tell(config, why, slot, region);
+            of_fault(why)
+        }
     }
 }
 
-// The slots of the board that C describes, or the number of what is judged before them, and the slot that it is about.
-fn described(
-    alloc: Global,
-    slots: &[Slot],
-    backing: Backing,
-    slot: &mut usize,
-) -> Result<Vec<SlotSpec>, u32>
-    ensures specs { IfOk result (λ specs. specs.items ≡ slots_of (map (guest_of backing) slots.now)) }
-    ensures sized { OnOk result (AreSized slots.now) }
-    ensures outlets { OnOk result (AreOutlets (map (guest_of backing) slots.now)) }
-    ensures number { IfErr result (λ number. (number ≡ 5) ⊎ (number ≡ 16) ⊎ (number ≡ 17)) }
-    ensures bad_size { IsErrOf result 17 ↔ ¬ AreSized slots.now }
-    ensures bad_outlet { AreSized slots.now → (IsErrOf result 16 ↔ ¬ AreOutlets (map (guest_of backing) slots.now)) }
-    ensures place_of_size { IsErrOf result 17 → slot.new ≡ first_of_other_size slots.now }
-    ensures place_of_outlet { IsErrOf result 16 → slot.new ≡ first_of_large_outlet slots.now }
-    ensures memory { IsErrOf result 5 → AreSized slots.now × AreOutlets (map (guest_of backing) slots.now) × (slot.new ≡ slot.old) }
-    ensures kept { OnOk result (slot.new ≡ slot.old) }
+// Why what a config of this version describes can't be had, if it can't.
+fn judged(alloc: Global, config: &ToldConfig<'_>) -> Result<(), SessionFault>
+    ensures good { OnOk result ((described : Config) → Describes config.now described → IsGood described) }
+    ensures fault { IfErr result (λ why.
+        (described : Config) → Describes config.now described → IsRefused described why) }
+    ensures want { IfErr result (λ why. fault_code why ≡ 5 → why ≡ SessionFault.NoMemory) }
 {
-    if !are_sized(slots) {
-        *slot = sized(slots);
-        return Err(BAD_SIZE);
+    if !are_lent(config.slots, config.loans) {
+        return Err(SessionFault::BadLoan);
     }
-    if !are_outlets(slots) {
-        *slot = with_outlets(slots);
-        return Err(BAD_OUTLET);
+    if !are_whole_sectors(config.image.len() as u64) {
+        return Err(SessionFault::BadImage);
     }
-    match specs(alloc, slots, backing) {
-        Ok(specs) => Ok(specs),
-        Err(AllocError) => Err(NO_MEMORY),
+    if !are_outlets(config.slots) {
+        return Err(SessionFault::BadOutlet);
     }
+    let Ok(specs) = specs(alloc, config.slots) else {
+        return Err(SessionFault::NoMemory);
+    };
+    match check_slots(&specs, config.image.len() as u64 / 512) {
+        Ok(()) if is_capacity(config.cache) => Ok(()),
+        Ok(()) => Err(SessionFault::Board(BoardFault::Cache(CacheFault::BadCapacity))),
+        Err(fault) => Err(SessionFault::Board(fault)),
+    }
+}
+
+// Whether a cache may keep so many sectors.
+fn is_capacity(cache: u32) -> bool
+    ensures { IsTrue result ↔ IsCapacity cache }
+{
+    1 <= cache && cache <= MOST_CACHED
 }
 
 // The slots of the board that C describes.
-fn specs(alloc: Global, slots: &[Slot], backing: Backing) -> Result<Vec<SlotSpec>, AllocError>
-    ensures { IfOk result (λ specs. specs.items ≡ slots_of (map (guest_of backing) slots.now)) }
+fn specs(alloc: Global, slots: &[Slot]) -> Result<Vec<SlotSpec>, AllocError>
+    ensures { IfOk result (λ specs. specs.items ≡ slots_of (guests_of slots.now)) }
 {
-    let guests = guests(alloc, slots, backing)?;
+    let guests = guests(alloc, slots)?;
     guests.iter().map(|guest| guest.slot).collect(alloc)
 }
 
-// The number of a board's fault, and the slot and the region that it is about.
-fn told(fault: BoardFault, slot: &mut usize, region: &mut usize) -> u32
-    ensures number { result ≡ board_code fault }
-    ensures of_board { (result ≢ 0) × (result ≢ 16) × (result ≢ 17) }
-    ensures slot { slot.new ≡ slot_told fault slot.old }
-    ensures region { region.new ≡ region_told fault region.old }
+// Tells the slot and the region that a config can't be had for, where it is for one.
+fn tell(config: &ToldConfig<'_>, why: SessionFault, slot: &mut usize, region: &mut usize)
+    ensures slot { slot.new ≡ slot_told config.now (Bad why) slot.old }
+    ensures region { region.new ≡ region_told (Bad why) region.old }
 {
-    if let BoardFault::Slot {
-        slot: at,
-        fault: why,
-    } = fault
-    {
-        *slot = usize::from(at);
-        tell_region(why, region);
-        return of_board_fault(fault);
+    match why {
+        SessionFault::BadOutlet => *slot = with_outlets(config.slots),
+        SessionFault::Board(fault) => tell_fault(fault, slot, region),
+        _ => {}
     }
-    of_board_fault(fault)
+}
+
+// Tells the slot and the region that a board's fault is about, where it is about one.
+fn tell_fault(fault: BoardFault, slot: &mut usize, region: &mut usize)
+    ensures slot { (config : ToldConfig) → slot.new ≡ slot_told config (Bad (SessionFault.Board fault)) slot.old }
+    ensures region { region.new ≡ region_told (Bad (SessionFault.Board fault)) region.old }
+{
+    if let BoardFault::Slot { slot: at, fault } = fault {
+        *slot = usize::from(at);
+        tell_region(fault, region);
+    }
 }
 
 // Tells the region that a slot's fault is about, where it is about one.
 fn tell_region(fault: SlotFault, region: &mut usize)
-    ensures { (number : ℕ) → region.new ≡ region_told (BoardFault.Slot number fault) region.old }
+    ensures { (number : ℕ) →
+        region.new ≡ region_told (Bad (SessionFault.Board (BoardFault.Slot number fault))) region.old }
 {
     match fault {
         SlotFault::Memory {

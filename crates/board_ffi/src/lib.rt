@@ -2,29 +2,27 @@
 //!
 //! Each export takes a handle, does what the session behind it does, and answers a number. `handle` is what
 //! C holds, `answers` what each call of a session is answered, `codes` the numbers, `pending` what waits once a call is
-//! answered, `operation` what a disk is asked for. `slot` and `region` describe a guest. `create` makes a board over an image and
-//! destroys any, `create_hosted` makes one whose disks the host serves, `create_lent` and `create_hosted_lent` make them
-//! over memory that the host lends (`loans`); `making` is what they share, and `judge` says which slot can't be had.
-//! `registers`, `disk`, `memory`, `console`, `saved`, `image` and `counters` have the calls on one. `version` is the
-//! header's number.
+//! answered, `operation` what a disk is asked for. `slot` and `region` describe a guest, `config` a board. `create`
+//! makes a board and destroys it, `loans` has the memory that the host lends it, and `judge` says what is wrong with a
+//! description. `registers`, `disk`, `memory`, `pages`, `console`, `saved`, `image`, `counters` and `fault` have the
+//! calls on one. `version` is the header's number.
 #![tactic(auto)]
 
 mod answers;
 mod codes;
+mod config;
 mod console;
 mod counters;
 mod create;
-mod create_hosted;
-mod create_hosted_lent;
-mod create_lent;
 mod disk;
+mod fault;
 mod handle;
 mod image;
 mod judge;
 mod loans;
-mod making;
 mod memory;
 mod operation;
+mod pages;
 mod pending;
 mod region;
 mod registers;

@@ -2,7 +2,7 @@
 
 ghost use Rattle.std.specs.Prelude.{◌≡◌, ◌≤◌, nat_lt};
 ghost use Rattle.std.specs.List.{prefix_len};
-ghost use Rattle.board_ffi.specs.Create.{regions_of};
+ghost use Rattle.board_ffi.specs.Config.{regions_of};
 
 use guest_memory::{MOST_REGIONS, RegionSpec, Regions};
 

@@ -68,8 +68,8 @@ pub extern "C" fn kalyubos_go_on(board: &mut Handle, slot: u8, pending: &mut Pen
     registers::go_on(session_of!(board), slot, pending)
 }
 
-// The window of a number.
-fn window_numbered(number: u8) -> Option<DeviceKind>
+/// The window of a number.
+pub(crate) fn window_numbered(number: u8) -> Option<DeviceKind>
     ensures { result ≡ window_of number }
 {
     match number {

@@ -1,10 +1,9 @@
 //! A slot of a board, as C describes it.
 
-ghost use Rattle.std.specs.Prelude.{◌≡◌, ◌↔◌, ◌≤◌, All, IsTrue, IfOk, map};
-ghost use Rattle.board.specs.declared.spec.Backing.{Backing};
+ghost use Rattle.std.specs.Prelude.{◌≡◌, ◌↔◌, ◌≤◌, All, IsTrue, IfOk};
 ghost use Rattle.session.specs.Refusing.{AreOutlets};
 ghost use Rattle.board_ffi.specs.Judging.{first_of_large_outlet, first_of_other_size};
-ghost use Rattle.board_ffi.specs.Create.{AreSized, guest_of};
+ghost use Rattle.board_ffi.specs.Config.{AreSized, guest_of, guests_of};
 
 use crate::region::regions;
 use guest_memory::{MOST_REGIONS, RegionSpec};
@@ -31,13 +30,15 @@ pub struct Slot {
     pub rows: u16,
     pub outlet: u32,
     pub read_only: bool,
+    /// Whether the host serves its disk; else it is of the image.
+    pub hosted: bool,
     pub identity: [u8; 20],
 }
 
 impl Slot {
-    // Its guest, whose disk is of the image or the host's.
-    fn guest(&self, backing: Backing) -> GuestSpec
-        ensures { result ≡ guest_of backing self.now }
+    // Its guest.
+    fn guest(&self) -> GuestSpec
+        ensures { result ≡ guest_of self.now }
     {
         let slot = SlotSpec {
             regions: regions(&self.regions),
@@ -45,7 +46,11 @@ impl Slot {
                 start: self.start,
                 count: self.count,
             },
-            backing,
+            backing: if self.hosted {
+                Backing::Host
+            } else {
+                Backing::Image
+            },
             read_only: self.read_only,
             cols: self.cols,
             rows: self.rows,
@@ -67,7 +72,7 @@ pub(crate) fn are_sized(slots: &[Slot]) -> bool
 
 /// Whether no slot's outlet is larger than it may be.
 pub(crate) fn are_outlets(slots: &[Slot]) -> bool
-    ensures { (backing : Backing) → IsTrue result ↔ AreOutlets (map (guest_of backing) slots.now) }
+    ensures { IsTrue result ↔ AreOutlets (guests_of slots.now) }
 {
     no_slot_passes(slots, MOST_WAITING)
 }
@@ -99,13 +104,9 @@ pub(crate) fn with_outlets(slots: &[Slot]) -> usize
         .count()
 }
 
-/// The guests of these slots, whose disks are of the image or the host's.
-pub(crate) fn guests(
-    alloc: Global,
-    slots: &[Slot],
-    backing: Backing,
-) -> Result<Vec<GuestSpec>, AllocError>
-    ensures { IfOk result (λ guests. guests.items ≡ map (guest_of backing) slots.now) }
+/// The guests of these slots.
+pub(crate) fn guests(alloc: Global, slots: &[Slot]) -> Result<Vec<GuestSpec>, AllocError>
+    ensures { IfOk result (λ guests. guests.items ≡ guests_of slots.now) }
 {
-    slots.iter().map(|slot| slot.guest(backing)).collect(alloc)
+    slots.iter().map(|slot| slot.guest()).collect(alloc)
 }

@@ -3,11 +3,12 @@
 ghost use Rattle.std.specs.Prelude.{◌≡◌, ◌≢◌, length};
 ghost use Rattle.guest_memory.specs.Memory.{Inside};
 ghost use Rattle.board_ffi.specs.Events.{HasRoom};
-ghost use Rattle.board_ffi.specs.Calls.{EventKind, HasMemory, HasNoRegion, IsBusy, IsMissing, Reply, Takes};
+ghost use Rattle.board_ffi.specs.Calls.{EventKind, HasMemory, HasNoRegion, IsBusy, IsMissing, KeepsPages, Reply, Takes};
 
-use crate::codes::{BAD_RANGE, DONE, of_done, of_refusal};
+use crate::codes::{BAD_RANGE, BAD_SLOT, DONE, of_done, of_refusal};
 use session::{GuestMemory, Session};
 use std::ptr::NonNull;
+use std_alloc::vec::Lodged;
 
 /// Copies bytes out of a guest's memory, from address `addr` on.
 pub(crate) fn read_memory(session: &Session, slot: u8, addr: u64, into: &mut [u8]) -> u32
@@ -41,6 +42,18 @@ pub(crate) fn lend(
     match session.memory(slot) {
         Ok(memory) => place(memory, addr, bytes, len),
         Err(why) => of_refusal(why),
+    }
+}
+
+/// Has the bits of a guest's pages kept in bytes that the host lends.
+pub(crate) fn keep_pages(session: &mut Session, slot: u8, bits: Vec<u8, Lodged>) -> u32
+    ensures kept { result ≡ 0 → KeepsPages slot bits.items session.old session.new }
+    ensures missing { result ≢ 0 → IsMissing slot result session.old session.new }
+{
+    if session.keep_pages(slot, bits) {
+        DONE
+    } else {
+        BAD_SLOT
     }
 }
 

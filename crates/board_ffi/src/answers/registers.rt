@@ -3,9 +3,11 @@
 ghost use Rattle.std.specs.Prelude.{◌≡◌, ◌≢◌, ◌<◌, ◌≤◌, IsSome, None, Some, false};
 ghost use Rattle.board.specs.declared.event.EventKind.{EventKind};
 ghost use Rattle.board.specs.declared.reply.Reply.{Reply};
-ghost use Rattle.board_ffi.specs.Calls.{GoesOn, HasCounters, HasWords, IsMissing, IsUndisturbed, Takes, TellsOf, Writes};
+ghost use Rattle.board_ffi.specs.Calls.{GoesOn, HasWords, IsMissing, IsThere, IsUndisturbed, Takes, TellsOf, Writes};
+ghost use Rattle.board_ffi.specs.Faults.{IsTold};
 
 use crate::codes::{BAD_SLOT, DONE, of_served, told};
+use crate::fault::Fault;
 use crate::pending::Pending;
 use session::{Counters, DeviceKind, Session, Told};
 
@@ -74,11 +76,25 @@ pub(crate) fn disturbed(session: &Session, slot: u8, disturbed: &mut bool) -> u3
 
 /// Tells what a guest's devices did.
 pub(crate) fn counters(session: &Session, slot: u8, counters: &mut Counters) -> u32
-    ensures told { result ≡ 0 → HasCounters slot session.now session.now }
+    ensures told { result ≡ 0 → IsThere slot session.now session.now }
     ensures missing { result ≢ 0 → IsMissing slot result session.now session.now }
     ensures kept { result ≢ 0 → counters.new ≡ counters.old }
 {
     tell_counters(session.counters(slot), counters)
+}
+
+/// Tells the last fault of a guest's window.
+pub(crate) fn last_fault(session: &Session, slot: u8, window: DeviceKind, fault: &mut Fault) -> u32
+    ensures there { result ≡ 0 → IsThere slot session.now session.now }
+    ensures told { result ≡ 0 → IsTold fault.new }
+    ensures missing { result ≢ 0 → IsMissing slot result session.now session.now }
+    ensures kept { result ≢ 0 → fault.new ≡ fault.old }
+{
+    if usize::from(slot) >= session.slots() {
+        return BAD_SLOT;
+    }
+    *fault = Fault::of(session.last_fault(slot, window));
+    DONE
 }
 
 // Tells both words of a slot, where it is there.

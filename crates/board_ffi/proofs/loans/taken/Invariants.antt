@@ -1,7 +1,7 @@
 use Rattle.std.proofs.Common.{◌≡◌, [], length, map, take, drop}
 use Rattle.std.specs.Prelude.{All}
 use Rattle.std.specs.Vec.{vec_items}
-use Rattle.board_ffi.specs.Lent.{lent_bytes}
+use Rattle.board_ffi.specs.Config.{lent_bytes}
 use Rattle.board_ffi.proofs.loans.taken.Given as goal
 
 -- the loans before this place are taken, and those from it on are as they were

@@ -1,0 +1,143 @@
+-- What a config describes, and what is wrong with it.
+use Rattle.std.specs.Prelude.{◌≡◌, ◌≢◌, ◌⊎◌, ℕ, ◌/◌, ◌%◌, ◌==◌, nat_lt, if◌then◌else◌, List, [], ◌∷◌, Option, Some, None, All, length, map}
+use Rattle.std.specs.List.{take_while}
+use Rattle.chain.specs.declared.budget.Budget.{Budget}
+use Rattle.guest_bytes.specs.declared.loan.Loan.{Loan}
+use Rattle.guest_memory.specs.declared.spec.RegionSpec.{RegionSpec}
+use Rattle.board.specs.declared.spec.Backing.{Backing}
+use Rattle.board.specs.Fault.{IsAccepted}
+use Rattle.board.specs.Lent.{all_regions}
+use Rattle.session.specs.declared.fault.SessionFault.{SessionFault}
+use Rattle.session.specs.declared.guest.GuestSpec.{GuestSpec}
+use Rattle.session.specs.Session.{SessionState, new_session, new_session_over, slots_of}
+use Rattle.session.specs.Refusing.{AreOutlets, IsLentRefusedFor, IsRefusedFor}
+use Rattle.board_ffi.specs.declared.config.Config.{Config}
+use Rattle.board_ffi.specs.declared.config.ToldConfig.{ToldConfig}
+use Rattle.board_ffi.specs.declared.config.ToldLoan.{ToldLoan}
+use Rattle.board_ffi.specs.declared.slot.Slot.{Slot}
+use Rattle.board_ffi.specs.Codes.{fault_code}
+
+-- the regions that C describes: those before the first that has no bytes
+abbrev pub regions_of : List RegionSpec → List RegionSpec
+regions_of = take_while (λ region. nat_lt 0 region.len)
+
+-- the guest of a slot that C describes
+abbrev pub guest_of : Slot → GuestSpec
+guest_of slot = record {
+  slot = record {
+    regions = regions_of slot.regions;
+    extent = record { start = slot.start; count = slot.count };
+    backing = if slot.hosted then Backing.Host else Backing.Image;
+    read_only = slot.read_only;
+    cols = slot.cols;
+    rows = slot.rows;
+    identity = slot.identity;
+  };
+  outlet = slot.outlet;
+}
+
+-- how many bytes a slot and a config have that this version describes
+abbrev pub slot_size : ℕ
+slot_size = 184
+
+abbrev pub config_size : ℕ
+config_size = 72
+
+-- each slot says that it has so many
+abbrev pub AreSized : List Slot → Type 0
+AreSized slots = All (λ slot. slot.size ≡ slot_size) slots
+
+-- and the config too
+abbrev pub IsSized : Config → Type 0
+IsSized config = (config.size ≡ config_size) × AreSized config.slots.now
+
+abbrev pub guests_of : List Slot → List GuestSpec
+guests_of slots = map guest_of slots
+
+-- the limit that a number says: 0 is none
+abbrev pub limit_of : ℕ → Option ℕ
+limit_of limit = if limit == 0 then None else Some limit
+
+-- how much one call may serve
+abbrev pub budget_of : Config → Budget
+budget_of config = record { chains = limit_of config.chains; bytes = limit_of config.bytes }
+
+-- the bytes of each loan
+abbrev pub lent_bytes : List Loan → List (List ℕ)
+lent_bytes loans = map (λ loan. loan.items) loans
+
+-- how many bytes each has
+abbrev pub lens_of : List Loan → List ℕ
+lens_of loans = map (λ run. length run) (lent_bytes loans)
+
+-- and each region of the guests
+abbrev pub region_lens : List GuestSpec → List ℕ
+region_lens guests = map (λ region. region.len) (all_regions (slots_of guests))
+
+-- there are no loans, or those of the regions
+abbrev pub AreLent : List GuestSpec → List ℕ → Type 0
+AreLent guests lens = (lens ≡ []) ⊎ (lens ≡ region_lens guests)
+
+-- ---- by the guests, and the bytes that are lent: of none the library makes their memories
+
+abbrev pub new_by : List GuestSpec → List (List ℕ) → List ℕ → Budget → SessionState
+new_by guests [] = new_session guests
+new_by guests (run ∷ bytes) = new_session_over guests (run ∷ bytes)
+
+abbrev pub RefusedBy : List GuestSpec → List (List ℕ) → List ℕ → ℕ → Budget → SessionFault → Type 0
+RefusedBy guests [] = IsRefusedFor guests
+RefusedBy guests (run ∷ bytes) = IsLentRefusedFor guests (run ∷ bytes)
+
+-- ---- of a config
+
+-- the session that it describes
+abbrev pub session_of : Config → SessionState
+session_of config =
+    new_by (guests_of config.slots.now) (lent_bytes config.loans.now) config.image.now (budget_of config)
+
+-- such a session can be had
+pub record IsGood (config : Config) : Type 0 where
+  pub loans : AreLent (guests_of config.slots.now) (lens_of config.loans.now)
+  pub whole : length config.image.now % 512 ≡ 0
+  pub outlets : AreOutlets (guests_of config.slots.now)
+  pub accepted :
+      IsAccepted (length config.image.now / 512) (slots_of (guests_of config.slots.now)) config.cache
+
+-- it can't be had for this, of which the first counts
+abbrev pub IsRefused : Config → SessionFault → Type 0
+IsRefused config =
+    RefusedBy (guests_of config.slots.now) (lent_bytes config.loans.now) config.image.now config.cache
+    (budget_of config)
+
+-- ---- a config that is told: its loans aren't owned
+
+abbrev pub told_lens : List ToldLoan → List ℕ
+told_lens loans = map (λ loan. loan.len) loans
+
+-- it describes each config of the same whose loans are as long
+pub record Describes (told : ToldConfig) (config : Config) : Type 0 where
+  pub size : config.size ≡ told.size
+  pub slots : config.slots.now ≡ told.slots.now
+  pub loans : lens_of config.loans.now ≡ told_lens told.loans.now
+  pub image : config.image.now ≡ told.image.now
+  pub cache : config.cache ≡ told.cache
+  pub chains : config.chains ≡ told.chains
+  pub bytes : config.bytes ≡ told.bytes
+
+-- ---- the verdict
+
+-- What is to be said of a config: a size is another version's, it is good, or it can't be had for this.
+pub data Verdict : Type 0 where
+  OtherSize : Verdict
+  Good : Verdict
+  Bad : SessionFault → Verdict
+
+abbrev pub IsVerdict : Config → Verdict → Type 0
+IsVerdict config OtherSize = ¬ IsSized config
+IsVerdict config Good = IsSized config × IsGood config
+IsVerdict config (Bad why) = IsSized config × (why ≢ SessionFault.NoMemory) × IsRefused config why
+
+abbrev pub verdict_code : Verdict → ℕ
+verdict_code OtherSize = 17
+verdict_code Good = 0
+verdict_code (Bad why) = fault_code why

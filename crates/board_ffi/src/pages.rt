@@ -1,0 +1,19 @@
+//! Which pages of a guest's memory its devices write to, for a host that moves the guest.
+
+ghost use Rattle.std.specs.Prelude.{◌≡◌, ◌≢◌};
+ghost use Rattle.board_ffi.specs.Calls.{Calls, IsMissing, KeepsPages};
+
+use crate::answers::memory;
+use crate::handle::{Handle, session_of};
+use guest_bytes::Loan;
+
+/// Has the bits of a guest's pages kept in bytes that the host lends, from now on until the next such call. Of no bytes
+/// none are kept. The loan is given up, also where it is refused.
+#[unsafe(no_mangle)]
+pub extern "C" fn kalyubos_keep_pages(board: &mut Handle, slot: u8, bits: Loan) -> u32
+    ensures kept { result ≡ 0 → Calls board.old.session board.new.session result (KeepsPages slot bits.items) }
+    ensures missing { result ≢ 0 → Calls board.old.session board.new.session result (IsMissing slot result) }
+{
+    let bits = bits.into_bytes();
+    memory::keep_pages(session_of!(board), slot, bits)
+}
