@@ -260,8 +260,7 @@ fn write_line<W: fmt::Write>(
 // With which words a line of this number begins.
 fn words_for(format: Format, number: u64) -> &'static str {
     match (format, number) {
-        (Format::Plain(_), 2) => "the second line is the cache's, as \"cache 8\"",
-        (Format::Extended, 2) => "the second line is the cache's, as \"cache 8\", or \"hosted\"",
+        (_, 2) => "the second line is the cache's, as \"cache 8\"",
         (Format::Plain(_), _) => "a line begins with slot, r, w, mr, mw, in or sz",
         (Format::Extended, _) => "a line begins with slot, r, w, mr, mw, in, sz, st or io",
     }
@@ -275,9 +274,6 @@ fn write_fields<W: fmt::Write>(f: &mut Formatter<W>, line: &[u8], format: Format
     };
     let count = fields_after(format, word).len();
     let (word, example) = example_of(format, word);
-    if count == 0 {
-        return write!(f, "{word} has no field after it; found {shown}");
-    }
     write!(
         f,
         "{word} has {count} fields after it, each after one space, as \"{word} {example}\"; found {shown}"

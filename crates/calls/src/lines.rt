@@ -11,7 +11,6 @@ pub fn example_of(format: Format, word: Word) -> (&'static str, &'static str)
 {
     match word {
         Word::Cache => ("cache", "8"),
-        Word::Hosted => ("hosted", ""),
         Word::Slot => ("slot", example_of_slot(format)),
         Word::Read => ("r", "0 b 070 4"),
         Word::Write => ("w", "0 b 070 4 0000000f"),
@@ -32,7 +31,7 @@ fn example_of_slot(format: Format) -> &'static str {
             "80000000 1000 0 8 rw 50 19 6469736b2d300000000000000000000000000000"
         }
         Format::Extended => {
-            "80000000+1000,100000000+1000 0 8 rw 50 19 6469736b2d300000000000000000000000000000"
+            "80000000+1000,100000000+1000 image 0 8 rw 50 19 6469736b2d300000000000000000000000000000"
         }
     }
 }
@@ -67,6 +66,7 @@ pub fn spelling_of(field: Field) -> Spelling {
         Field::Value => Other(
             "a value is two lower case hexadecimal digits for each byte of its width, as 0000000f of width 4",
         ),
+        Field::Disk => Other("a slot's disk is image or host"),
         Field::Window => Other("a window is b or c"),
         Field::Width => Other("a width is 1, 2 or 4"),
         Field::Mode => Other("a slot is rw or ro"),

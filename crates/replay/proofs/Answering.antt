@@ -6,7 +6,7 @@ use Rattle.std.proofs.lemmas.Option.{slice_get_cases, slice_get-map}
 use Rattle.std.specs.List.{slice_get}
 use Rattle.std.specs.Option.{option_and_then, option_map}
 use Rattle.std.specs.Prelude.{IsSomeAnd, MatchOption, if◌then◌else◌, is_none, is_some, slice_set}
-use Rattle.guest_memory.specs.Memory.{Inside, Memory, is_inside, put}
+use Rattle.guest_memory.specs.Memory.{Inside, Memory, is_inside, stored}
 use Rattle.guest_memory.proofs.Ranges.{is_inside-tells}
 use Rattle.mmio_window.specs.declared.device_kind.DeviceKind.{DeviceKind}
 use Rattle.sector_cache.specs.Disk.{Disk}
@@ -33,10 +33,8 @@ use Rattle.board.proofs.Alone.{get_set}
 use Rattle.board.proofs.Seats.{extents_of-set, handles_missing, noted_none, set_same, step_there}
 use Rattle.trace.specs.Asked.{asked_field, asked_line}
 use Rattle.trace.specs.Records.{entry_of, read_line, record_fields, record_line}
-use Rattle.trace.specs.declared.disks.Disks.{Disks}
-use Rattle.trace.specs.declared.disks.Disks.TheVariants.{Cached, Hosted}
 use Rattle.replay.specs.Running.{AnswersEvent, AnswersParsed, IsPart, RunsParsed, flight_of, words_of}
-use Rattle.replay.specs.Telling.{LineTelling, SendsRun, Told, asked_between, asked_by, begins, flight_at, told_line, told_of_flight, told_text}
+use Rattle.replay.specs.Telling.{LineTelling, SendsRun, Told, asked_between, asked_by, begins, flight_at, told_line, told_of, told_of_flight, told_text}
 use Rattle.trace.specs.declared.read.parsed_event.ParsedEvent.{ParsedEvent}
 use Rattle.trace.specs.ParsedEvent.{IsFineParsed}
 use Rattle.trace.specs.Sends.{Sends}
@@ -227,13 +225,13 @@ pub bytes_written : (A : Type 0) {I : Type 0} (disk : I → Disk) (old new : Boa
     → Answers {A = A} (world_of disk old) (record { slot = slot; what = MemWrite addr bytes }) Done [] []
     (world_of disk new))
     → IsSomeAnd (slice_get old.slots slot) (λ found. new.slots
-    ≡ slice_set old.slots slot (record found { memory = put found.memory addr bytes }))
+    ≡ slice_set old.slots slot (record found { memory = stored found.memory addr bytes }))
     → AnswersEvent {A = A} disk old (record { slot = slot; what = MemWrite addr bytes }) Done [] new
 bytes_written A disk old new slot addr bytes image answers is = record {
   answers = answers;
   keeps = record {
     tells = λ tells. rw image tells;
-    extents = extents_put old.slots new.slots slot (λ found. put found.memory addr bytes)
+    extents = extents_put old.slots new.slots slot (λ found. stored found.memory addr bytes)
         (slice_get old.slots slot) refl is;
   };
 }
@@ -355,36 +353,30 @@ asked_on event old new =
 
 -- ---- one event
 
-one_line : {A : Type 0} (disks : Disks) (told : Told A)
-    → ended (told_line disks told) ≡ told_text disks (told ∷ [])
+one_line : {A : Type 0} (hosted : Bool) (told : Told A)
+    → ended (told_line hosted told) ≡ told_text hosted (told ∷ [])
 unfolding joined
-one_line disks told = sym (append-nil (ended (told_line disks told)))
+one_line hosted told = sym (append-nil (ended (told_line hosted told)))
 
 -- an event was answered, and the text of what it came to sent
-event_run : {A I : Type 0} (disks : Disks) (disk : I → Disk) (old new : BoardState I) (event : Event A)
+event_run : {A I : Type 0} (hosted : Bool) (disk : I → Disk) (old new : BoardState I) (event : Event A)
     (reply : Reply A) (out : List ℕ) (words : ℕ × ℕ) (a b s t : Option (List ℕ))
     → AnswersEvent disk old event reply out new
     → (Tells (disk old.image) → words ≡ words_of (slice_get new.slots event.slot))
-    → Sends a b s (ended (told_line disks (record {
-      written = entry_of event.slot reply out words;
-      asked = asked_on event old new;
-    }))) t
-    → SendsRun disks disk old new (event ∷ []) a b s t
-event_run {A} {I} disks disk old new event reply out words a b s t it is sent =
-    let told : Told A = record {
-      written = entry_of event.slot reply out words;
-      asked = asked_on event old new;
-    } in
+    → Sends a b s (ended (told_line hosted (told_of event.slot reply out words (asked_on event old new)))) t
+    → SendsRun hosted disk old new (event ∷ []) a b s t
+event_run {A} {I} hosted disk old new event reply out words a b s t it is sent =
+    let told : Told A = told_of event.slot reply out words (asked_on event old new) in
     record {
       told = told ∷ [];
       run = line;
       tells = it.keeps.tells;
       extents = it.keeps.extents;
-      sent = sends_same a b s t _ _ (one_line disks told) sent;
+      sent = sends_same a b s t _ _ (one_line hosted told) sent;
     }
   where
     line : Tells (disk old.image) → LineTelling (world_of disk old) (world_of disk new) (event ∷ [])
-        (record { written = entry_of event.slot reply out words; asked = asked_on event old new } ∷ [])
+        (told_of event.slot reply out words (asked_on event old new) ∷ [])
     line tells =
         let answers = it.answers tells in
         let move : Move A = record { event = event; written = answers.written; after = world_of disk new } in
@@ -404,42 +396,6 @@ event_run {A} {I} disks disk old new event reply out words a b s t it is sent =
           told_are = rw (same, began) refl;
         }
 
--- the event that was said was answered
-pub parsed_run : {A I : Type 0} (capacity : ℕ) (disk : I → Disk) (parsed : ParsedEvent A)
-    (old new : BoardState I) (reply : Reply A) (out : List ℕ) (words : ℕ × ℕ) (a b s t : Option (List ℕ))
-    → AnswersParsed disk parsed old reply out new
-    → (Tells (disk old.image) → words ≡ words_of (slice_get new.slots parsed.event.slot))
-    → Sends a b s (ended (record_line (entry_of parsed.event.slot reply out words))) t
-    → RunsParsed parsed (λ event. SendsRun (Cached capacity) disk old new (event ∷ []) a b s t)
-parsed_run capacity disk parsed old new reply out words a b s t it is sent = record {
-  event = it.event;
-  fields = it.fields;
-  fine = it.fine;
-  run = event_run (Cached capacity) disk old new it.event reply out words a b s t it.answered (rw it.slot is)
-      (rw it.slot sent);
-}
-
--- the same of a read of memory, whose bytes were put where they lie
-pub read_run : {A I : Type 0} (capacity : ℕ) (disk : I → Disk) (parsed : ParsedEvent A) (board : BoardState I)
-    (addr len : ℕ) (part : List ℕ) (words : ℕ × ℕ) (a b s t : Option (List ℕ)) → IsFineParsed parsed
-    → parsed.event.what ≡ MemRead addr len → IsPart board parsed.event.slot addr len part
-    → words ≡ words_of (slice_get board.slots parsed.event.slot)
-    → Sends a b s (ended (read_line parsed.event.slot part words)) t
-    → RunsParsed parsed (λ event. SendsRun (Cached capacity) disk board board (event ∷ []) a b s t)
-unfolding read_line record_line
-read_run {A} capacity disk parsed board addr len part words a b s t fine is it same sent =
-    let event : Event A = record { slot = parsed.event.slot; what = MemRead addr len } in
-    let plain = rw is at fine.what in
-    record {
-      event = event;
-      fields = rw is refl;
-      fine = record { fits = record { slot = fine.slot; what = plain.range }; printable = tt };
-      run = event_run (Cached capacity) disk board board event (Bytes part) [] words a b s t
-          (part_read A disk board parsed.event.slot addr len part it) (λ tells. same) sent;
-    }
-
--- ---- and one of a trace whose disks the host serves
-
 -- its record and what began go out one after the other
 asking_sent : {A : Type 0} (entry : Record A) (asked : Option (Operation × List Segment))
     (a b c s t u : Option (List ℕ)) → Sends a b s (line (record_fields entry) ++ 32 ∷ []) t
@@ -447,6 +403,22 @@ asking_sent : {A : Type 0} (entry : Record A) (asked : Option (Operation × List
 asking_sent entry asked a b c s t u front last =
     sends_same a c s u _ _ (asked_is entry asked) (sends_more a b c s t u _ _ front last)
 
+-- the event that was said was answered; in a trace that isn't hosted nothing is told of what began
+pub parsed_run : {A I : Type 0} (disk : I → Disk) (parsed : ParsedEvent A) (old new : BoardState I)
+    (reply : Reply A) (out : List ℕ) (words : ℕ × ℕ) (a b s t : Option (List ℕ))
+    → AnswersParsed disk parsed old reply out new
+    → (Tells (disk old.image) → words ≡ words_of (slice_get new.slots parsed.event.slot))
+    → Sends a b s (ended (record_line (entry_of parsed.event.slot reply out words))) t
+    → RunsParsed parsed (λ event. SendsRun false disk old new (event ∷ []) a b s t)
+parsed_run disk parsed old new reply out words a b s t it is sent = record {
+  event = it.event;
+  fields = it.fields;
+  fine = it.fine;
+  run = event_run false disk old new it.event reply out words a b s t it.answered (rw it.slot is)
+      (rw it.slot sent);
+}
+
+-- in a hosted one its record and what began go out one after the other
 pub parsed_asking : {A I : Type 0} (disk : I → Disk) (parsed : ParsedEvent A) (old new : BoardState I)
     (reply : Reply A) (out : List ℕ) (words : ℕ × ℕ) (next : Bool) (asked : Option (Operation × List Segment))
     (a b c s t u : Option (List ℕ)) → AnswersParsed disk parsed old reply out new
@@ -455,7 +427,7 @@ pub parsed_asking : {A I : Type 0} (disk : I → Disk) (parsed : ParsedEvent A) 
     → asked ≡ told_of_flight (if next then flight_of (slice_get new.slots parsed.event.slot) else None)
     → Sends a b s (line (record_fields (entry_of parsed.event.slot reply out words)) ++ 32 ∷ []) t
     → Sends b c t (asked_field asked ++ 10 ∷ []) u
-    → RunsParsed parsed (λ event. SendsRun Hosted disk old new (event ∷ []) a c s u)
+    → RunsParsed parsed (λ event. SendsRun true disk old new (event ∷ []) a c s u)
 parsed_asking disk parsed old new reply out words next asked a b c s t u it is test begun front last =
     let event = it.event in
     let asks : asked ≡ asked_on event old new = begun ∙ rw (it.slot, it.verdict, test) refl in
@@ -464,32 +436,44 @@ parsed_asking disk parsed old new reply out words next asked a b c s t u it is t
       event = event;
       fields = it.fields;
       fine = it.fine;
-      run = event_run Hosted disk old new event reply out words a c s u it.answered (rw it.slot is)
+      run = event_run true disk old new event reply out words a c s u it.answered (rw it.slot is)
           (subst (λ (n : ℕ). Sends a c s (ended (asked_line (entry_of n reply out words)
           (asked_on event old new))) u) (sym it.slot)
           (subst (λ (o : Option (Operation × List Segment)). Sends a c s
           (ended (asked_line (entry_of parsed.event.slot reply out words) o)) u) asks whole));
     }
 
-pub read_asking : {A I : Type 0} (disk : I → Disk) (parsed : ParsedEvent A) (board : BoardState I)
-    (addr len : ℕ) (part : List ℕ) (words : ℕ × ℕ) (a b c s t u : Option (List ℕ)) → IsFineParsed parsed
+-- a read of memory, with which nothing begins
+pub read_run : {A I : Type 0} (hosted : Bool) (disk : I → Disk) (parsed : ParsedEvent A) (board : BoardState I)
+    (addr len : ℕ) (part : List ℕ) (words : ℕ × ℕ) (a b s t : Option (List ℕ)) → IsFineParsed parsed
     → parsed.event.what ≡ MemRead addr len → IsPart board parsed.event.slot addr len part
     → words ≡ words_of (slice_get board.slots parsed.event.slot)
-    → Sends a b s (read_line parsed.event.slot part words ++ 32 ∷ []) t
-    → Sends b c t (asked_field None ++ 10 ∷ []) u
-    → RunsParsed parsed (λ event. SendsRun Hosted disk board board (event ∷ []) a c s u)
-unfolding read_line
-read_asking {A} disk parsed board addr len part words a b c s t u fine is it same front last =
+    → Sends a b s (ended (told_line {A = A} hosted (told_of parsed.event.slot (Bytes part) [] words None))) t
+    → RunsParsed parsed (λ event. SendsRun hosted disk board board (event ∷ []) a b s t)
+read_run {A} hosted disk parsed board addr len part words a b s t fine is it same sent =
     let event : Event A = record { slot = parsed.event.slot; what = MemRead addr len } in
     let plain = rw is at fine.what in
     let none : asked_on event board board ≡ None =
     nothing_begins (flight_of (slice_get board.slots parsed.event.slot)) in
-    let entry : Record A = entry_of parsed.event.slot (Bytes part) [] words in
     record {
       event = event;
       fields = rw is refl;
       fine = record { fits = record { slot = fine.slot; what = plain.range }; printable = tt };
-      run = event_run Hosted disk board board event (Bytes part) [] words a c s u
-          (part_read A disk board parsed.event.slot addr len part it) (λ tells. same)
-          (rw none (asking_sent entry None a b c s t u front last));
+      run = event_run hosted disk board board event (Bytes part) [] words a b s t
+          (part_read A disk board parsed.event.slot addr len part it) (λ tells. same) (rw none sent);
     }
+
+-- its line is put as a line of bytes
+pub part_sent : (A : Type 0) (slot : ℕ) (part : List ℕ) (words : ℕ × ℕ) (a b s t : Option (List ℕ))
+    → Sends a b s (ended (read_line slot part words)) t
+    → Sends a b s (ended (told_line {A = A} false (told_of slot (Bytes part) [] words None))) t
+unfolding read_line record_line
+part_sent A slot part words a b s t sent = sent
+
+pub part_asking : (A : Type 0) (slot : ℕ) (part : List ℕ) (words : ℕ × ℕ) (a b c s t u : Option (List ℕ))
+    → Sends a b s (read_line slot part words ++ 32 ∷ []) t → Sends b c t (asked_field None ++ 10 ∷ []) u
+    → Sends a c s (ended (told_line {A = A} true (told_of slot (Bytes part) [] words None))) u
+unfolding read_line
+part_asking A slot part words a b c s t u front last =
+    let entry : Record A = entry_of slot (Bytes part) [] words in
+    asking_sent entry None a b c s t u front last

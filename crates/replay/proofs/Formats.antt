@@ -5,12 +5,12 @@ use Rattle.sector_cache.specs.Disk.{Disk}
 use Rattle.board.specs.declared.event.Event.{Event}
 use Rattle.board.specs.declared.fault.BoardFault.{BoardFault}
 use Rattle.board.specs.declared.spec.SlotSpec.{SlotSpec}
-use Rattle.trace.specs.declared.disks.Disks.{Disks}
+use Rattle.board.specs.Fault.{IsAccepted, Refuses}
 use Rattle.trace.specs.declared.fault.TraceFault.{TraceFault}
 use Rattle.replay.specs.declared.fault.ReplayFault.{ReplayFault}
 use Rattle.replay.specs.declared.fault.ReplayFault.TheVariants.{Read, Trace, Board, Run, Write, NoMemory}
 use Rattle.replay.specs.Limits.{IsSmallMemory, asked_of_board}
-use Rattle.replay.specs.Replay.{AcceptsBy, AfterRun, HasTooMany, Plays, RefusesBoard, RefusesBoardOf, RefusesBy, RefusesTrace, Replays}
+use Rattle.replay.specs.Replay.{AfterRun, HasTooMany, Plays, RefusesBoard, RefusesBoardOf, RefusesTrace, Replays}
 use Rattle.trace.specs.Reading.{IsTraceOf}
 use Rattle.trace.specs.declared.format.Format.{Format}
 use Rattle.trace.specs.declared.format.Format.TheVariants.{Plain, Extended}
@@ -32,7 +32,7 @@ pub as_format_may : {A : Type 0} (format : Format) (t : Content A) → GoesInto 
     → MayReplay (as_format format t)
 as_format_may format t goes h = record {
   fits = record {
-    range = record { disks = h.fits.range.disks; slots = h.fits.range.slots; events = h.fits.range.events };
+    range = record { cache = h.fits.range.cache; slots = h.fits.range.slots; events = h.fits.range.events };
     printable = fits_format format t goes h.fits.printable;
   };
   few = λ many. h.few (record {
@@ -89,14 +89,14 @@ is_trace t h = record {
 read_is : {A : Type 0} (t read : Content A) → Fits t → IsTraceOf (text t) read → read ≡ t
 read_is t read h is = sym (is.only t h.range h.printable refl)
 
--- two traces with the same disks, slots and events
+-- two traces with the same cache, slots and events
 module _ {A I : Type 0} (disk : I → Disk) (old new : Option (List ℕ)) (before after : I) (v w : Format)
-    (disks : Disks) (slots : List SlotSpec) (events : List (Event A)) where
+    (cache : ℕ) (slots : List SlotSpec) (events : List (Event A)) where
   abbrev one : Content A
-  one = record { format = v; disks = disks; slots = slots; events = events }
+  one = record { format = v; cache = cache; slots = slots; events = events }
 
   abbrev other : Content A
-  other = record { format = w; disks = disks; slots = slots; events = events }
+  other = record { format = w; cache = cache; slots = slots; events = events }
 
   plays : MayReplay one → MayReplay other → AsksAlike v w slots → (outcome : Result (Unit {0}) ReplayFault)
       → Plays A disk (Some (text one)) old new before after outcome
@@ -108,9 +108,9 @@ module _ {A I : Type 0} (disk : I → Disk) (old new : Option (List ℕ)) (befor
         read = is_trace other second.fits;
         few = second.few;
         small = same.small (subst (λ (t : Content A). All (IsSmallMemory t.format) t.slots) is p.small);
-        accepted = subst (λ (t : Content A). AcceptsBy t.disks (disk before).sector_count
-            t.slots) is p.accepted;
-        ended = subst (λ (t : Content A). AfterRun t.disks disk t.slots t.events before after old new
+        accepted = subst (λ (t : Content A). IsAccepted (disk before).sector_count t.slots
+            t.cache) is p.accepted;
+        ended = subst (λ (t : Content A). AfterRun disk t.slots t.events before after old new
             outcome) is p.ended;
       }
 
@@ -128,7 +128,7 @@ module _ {A I : Type 0} (disk : I → Disk) (old new : Option (List ℕ)) (befor
               | inl many ↦ absurd (first.few many.0)
               | inr own ↦ inr (
                 second.few,
-                subst (λ (asked : List SlotSpec). RefusesBy disks (disk before).sector_count asked
+                subst (λ (asked : List SlotSpec). Refuses (disk before).sector_count asked cache
                     fault) same.asked own.1,
               )
             ];

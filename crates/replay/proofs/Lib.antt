@@ -4,6 +4,7 @@ pub mod Formats
 pub mod LastLines
 pub mod Gathering
 pub mod OneSlotLemmas
+pub mod Untouched
 pub mod RunLemmas
 pub mod Telling
 pub mod Answering

@@ -2,7 +2,6 @@
 use Rattle.std.proofs.Common.{◌≡◌, ◌≢◌, ℕ, suc, ◌≤◌, List, [], ◌∷◌, ◌++◌, length, get_or, drop, map, sym, ap, subst, ◌∙◌, append_assoc, append-nil, arith}
 use Rattle.std.proofs.lemmas.List.{append_cancel_left, length-append}
 use Rattle.board.specs.declared.event.Event.{Event}
-use Rattle.trace.specs.declared.disks.Disks.TheVariants.{Cached}
 use Rattle.trace.specs.declared.format.Format.TheVariants.{Extended}
 use Rattle.trace.specs.declared.read.parsed_event.ParsedEvent.{ParsedEvent}
 use Rattle.trace.specs.Cuts.{fields_of, lines_of}
@@ -24,7 +23,7 @@ use Rattle.trace.proofs.Unique.{one_trace, same_event_fields}
 pub one_text : {A : Type 0} (ds es : List (Event A)) (lines : List ℕ) → AreLinesOf ds lines
     → AreLinesOf es lines → ds ≡ es
 one_text ds es lines hd he =
-    let same = ap (λ (x : List ℕ). (front_text Extended (Cached 0) ++ joined [])
+    let same = ap (λ (x : List ℕ). (front_text Extended 0 ++ joined [])
     ++ x) (sym hd.spelled ∙ he.spelled) in
     ap (λ c. c.events) (one_trace (alone ds) (alone es) (alone_fits ds hd.fine) (alone_fits es he.fine)
     (sym (text_is (alone ds)) ∙ same ∙ text_is (alone es)))

@@ -1,26 +1,21 @@
 -- What comes of a text that is a trace's, once there is a board for it.
-use Rattle.std.proofs.Common.{◌≡◌, ◌∙◌, ℕ, ◌<◌, List, [], Option, Some, Result, Ok, Err, length, map, ap, subst, sym, inl, inr}
+use Rattle.std.proofs.Common.{◌≡◌, ◌∙◌, ℕ, ◌<◌, Bool, List, Option, Some, Result, Ok, Err, length, map, ap, subst, sym, inl, inr}
 use Rattle.std.proofs.KnownBytes.{Keeps-refl}
 use Rattle.std.specs.Prelude.{All}
-use Rattle.sector_cache.specs.Disk.{Disk, new_disk}
+use Rattle.sector_cache.specs.Disk.{Disk}
 use Rattle.board.specs.declared.event.Event.{Event}
 use Rattle.board.specs.declared.fault.BoardFault.{BoardFault}
 use Rattle.board.specs.declared.spec.SlotSpec.{SlotSpec}
-use Rattle.trace.specs.declared.disks.Disks.{Disks}
-use Rattle.trace.specs.declared.disks.Disks.TheVariants.{Cached, Hosted}
 use Rattle.board.specs.Fault.{IsAccepted, Refuses}
 use Rattle.board.specs.Slot.{opened}
 use Rattle.board.specs.World.{BoardState}
+use Rattle.trace.specs.Asked.{is_hosted}
 use Rattle.trace.specs.Validating.{AreLinesOf, IsValidated, Validation}
 use Rattle.replay.specs.declared.fault.ReplayFault.{ReplayFault}
 use Rattle.replay.specs.declared.fault.ReplayFault.TheVariants.{Read, Trace, Board, Run, Write, NoMemory}
 use Rattle.replay.specs.Limits.{IsSmallMemory, asked_of_board}
 use Rattle.trace.specs.declared.format.Format.{Format}
-use Rattle.trace.specs.declared.format.Format.TheVariants.{Plain, Extended}
-use Rattle.trace.specs.declared.format.Version.TheVariants.{One}
-use Rattle.trace.specs.Text.{disks_word}
-use Rattle.trace.specs.Words.{IsWordOf}
-use Rattle.replay.specs.Replay.{AcceptsBy, AfterRun, HasTooMany, Plays, RefusesBoard, RefusesBoardOf, RefusesBy, Replays, front}
+use Rattle.replay.specs.Replay.{AfterRun, HasTooMany, Plays, RefusesBoard, RefusesBoardOf, Replays, front}
 
 replays : {A I : Type 0} (disk : I → Disk) (input old new : Option (List ℕ)) (before after : I)
     (outcome : Result (Unit {0}) ReplayFault) → Plays A disk input old new before after outcome
@@ -35,17 +30,22 @@ replays disk input old new before after (Err NoMemory) plays = plays
 
 -- The board of the slots that were validated, and what came of the lines of their events.
 pub played : {A I : Type 0} (disk : I → Disk) (text : List ℕ) (old new : Option (List ℕ)) (before after : I)
-    (outcome : Result (Unit {0}) ReplayFault) (j : Validation) (disks : Disks) (slots : List SlotSpec)
-    → IsValidated A text j → j.disks ≡ disks → slots ≡ j.slots
-    → (¬ HasTooMany (front A j.format disks slots)) → All (IsSmallMemory j.format) slots
-    → AcceptsBy disks (disk before).sector_count slots
-    → ((events : List (Event A)) → AreLinesOf events j.events
-    → AfterRun disks disk slots events before after old new outcome)
+    (outcome : Result (Unit {0}) ReplayFault) (j : Validation) (slots : List SlotSpec)
+    (board : BoardState I) (hosted : Bool)
+    → IsValidated A text j → slots ≡ j.slots → board ≡ record { slots = map opened slots; image = before }
+    → hosted ≡ is_hosted slots
+    → (¬ HasTooMany (front A j.format j.cache slots)) → All (IsSmallMemory j.format) slots
+    → IsAccepted (disk before).sector_count slots j.cache
+    → ((specs : List SlotSpec) (events : List (Event A)) → board.slots ≡ map opened specs
+    → hosted ≡ is_hosted specs → AreLinesOf events j.events
+    → AfterRun disk specs events board.image after old new outcome)
     → Replays A disk (Some text) old new before after outcome
-played {A} {I} disk text old new before after outcome j disks slots is kind same few small accepted ended =
+played {A} {I} disk text old new before after outcome j slots board hosted is same made by few small accepted
+    ended =
     let described : slots ≡ is.trace.slots = same ∙ sym is.slots in
-    let placed : disks ≡ is.trace.disks = sym kind ∙ sym is.disks in
-    let run = ended is.trace.events is.lines_of in
+    let run = subst (λ (b : BoardState I). AfterRun disk slots is.trace.events b.image after old new
+    outcome) made
+    (ended slots is.trace.events (ap (λ (b : BoardState I). b.slots) made) by is.lines_of) in
     replays disk (Some text) old new before after outcome (record {
       trace = is.trace;
       read = is.read;
@@ -55,84 +55,20 @@ played {A} {I} disk text old new before after outcome j disks slots is kind same
       });
       small = subst (λ (v : Format). All (IsSmallMemory v) is.trace.slots) (sym is.format)
           (subst (λ (s : List SlotSpec). All (IsSmallMemory j.format) s) described small);
-      accepted = subst (λ (s : List SlotSpec). AcceptsBy is.trace.disks
-          (disk before).sector_count s) described
-          (subst (λ (d : Disks). AcceptsBy d (disk before).sector_count slots) placed accepted);
-      ended = subst (λ (s : List SlotSpec). AfterRun is.trace.disks disk s is.trace.events before after old
-          new outcome) described
-          (subst (λ (d : Disks). AfterRun d disk slots is.trace.events before after old new
-          outcome) placed run);
+      accepted = subst (λ (s : List SlotSpec). IsAccepted (disk before).sector_count s is.trace.cache) described
+          (subst (λ (n : ℕ). IsAccepted (disk before).sector_count slots n) (sym is.cache) accepted);
+      ended = subst (λ (s : List SlotSpec). AfterRun disk s is.trace.events before after old new
+          outcome) described run;
     })
-
--- a trace whose disks the host serves is an extended one
-pub few_hosted : {A : Type 0} (text : List ℕ) (j : Validation) (slots : List SlotSpec) → IsValidated A text j
-    → j.disks ≡ Hosted → ¬ HasTooMany (front A j.format Hosted slots)
-few_hosted text j slots is kind many =
-    let extended : is.trace.format ≡ Extended =
-    subst (λ (d : Disks). IsWordOf is.trace.format (disks_word d)) (is.disks
-    ∙ kind) is.read.printable.disks in
-    let one : is.trace.format ≡ Plain One = is.format ∙ many.version in
-    absurd cc
-
--- the same over an image
-pub played_over : {A I : Type 0} (disk : I → Disk) (text : List ℕ) (old new : Option (List ℕ))
-    (before after : I) (outcome : Result (Unit {0}) ReplayFault) (j : Validation) (capacity : ℕ)
-    (slots : List SlotSpec) (board : BoardState I)
-    → IsValidated A text j → j.disks ≡ Cached capacity → slots ≡ j.slots
-    → board ≡ record { slots = map opened slots; image = before }
-    → (¬ HasTooMany (front A j.format (Cached capacity) slots)) → All (IsSmallMemory j.format) slots
-    → IsAccepted (disk before).sector_count slots capacity
-    → ((specs : List SlotSpec) (events : List (Event A)) → board.slots ≡ map opened specs
-    → AreLinesOf events j.events
-    → AfterRun (Cached capacity) disk specs events board.image after old new outcome)
-    → Replays A disk (Some text) old new before after outcome
-played_over {A} {I} disk text old new before after outcome j capacity slots board is kind same made few
-    small accepted ended =
-    played disk text old new before after outcome j (Cached capacity) slots is kind same few small accepted
-    (λ events are. subst (λ (b : BoardState I). AfterRun (Cached capacity) disk slots events b.image after
-    old new outcome) made
-    (ended slots events (ap (λ (b : BoardState I). b.slots) made) are))
-
--- and where the host serves the disks, on a board over an image without a sector
-pub played_hosted : {A I J : Type 0} (disk : I → Disk) (text : List ℕ) (old new : Option (List ℕ))
-    (before after : I) (outcome : Result (Unit {0}) ReplayFault) (j : Validation) (slots : List SlotSpec)
-    (over : J → Disk) (none : J) (board : BoardState J)
-    → IsValidated A text j → j.disks ≡ Hosted → slots ≡ j.slots
-    → board ≡ record { slots = map opened slots; image = none } → over none ≡ new_disk []
-    → All (IsSmallMemory j.format) slots → IsAccepted (over none).sector_count slots 1
-    → ((specs : List SlotSpec) (events : List (Event A)) → board.slots ≡ map opened specs
-    → over board.image ≡ new_disk [] → AreLinesOf events j.events
-    → AfterRun Hosted disk specs events before after old new outcome)
-    → Replays A disk (Some text) old new before after outcome
-played_hosted {J = J} disk text old new before after outcome j slots over none board is kind same made empty small
-    accepted ended =
-    played disk text old new before after outcome j Hosted slots is kind same
-    (few_hosted text j slots is kind) small
-    (subst (λ (d : Disk). IsAccepted d.sector_count slots 1) empty accepted)
-    (λ events are. ended slots events (ap (λ (b : BoardState J). b.slots) made)
-    (ap (λ (b : BoardState J). over b.image) made ∙ empty) are)
-
--- why there is no such board
-pub refuses_hosted : {A : Type 0} (text : List ℕ) (j : Validation) (slots : List SlotSpec) (sectors : ℕ)
-    (none : Disk) (fault : BoardFault) → IsValidated A text j → j.disks ≡ Hosted → none ≡ new_disk []
-    → RefusesBoardOf none.sector_count (front A j.format (Cached 1) slots) fault
-    → RefusesBoardOf sectors (front A j.format Hosted slots) fault
-refuses_hosted text j slots sectors none fault is kind empty (inl many) =
-    absurd (few_hosted text j slots is kind (record { version = many.0.version; many = many.0.many }))
-refuses_hosted text j slots sectors none fault is kind empty (inr own) = inr (
-  few_hosted text j slots is kind,
-  subst (λ (d : Disk). Refuses d.sector_count (map (asked_of_board j.format) slots) 1 fault) empty own.1,
-)
 
 -- there is no board for the slots that were validated
 pub refused_board : {A I : Type 0} (disk : I → Disk) (text : List ℕ) (old : Option (List ℕ))
-    (before after : I) (fault : BoardFault) (j : Validation) (disks : Disks) (slots : List SlotSpec)
-    → IsValidated A text j → j.disks ≡ disks → slots ≡ j.slots → after ≡ before
-    → RefusesBoardOf (disk before).sector_count (front A j.format disks slots) fault
+    (before after : I) (fault : BoardFault) (j : Validation) (slots : List SlotSpec)
+    → IsValidated A text j → slots ≡ j.slots → after ≡ before
+    → RefusesBoardOf (disk before).sector_count (front A j.format j.cache slots) fault
     → RefusesBoard A disk (Some text) old old before after fault
-refused_board disk text old before after fault j disks slots is kind same image refused =
+refused_board disk text old before after fault j slots is same image refused =
     let described : slots ≡ is.trace.slots = same ∙ sym is.slots in
-    let placed : disks ≡ is.trace.disks = sym kind ∙ sym is.disks in
     let sectors = (disk before).sector_count in
     record {
       untouched = record { output = Keeps-refl old; image = image };
@@ -151,11 +87,11 @@ refused_board disk text old before after fault j disks slots is kind same image 
             version = sym is.format ∙ many.version;
             many = subst (λ (s : List SlotSpec). 16 < length s) (sym described) many.many;
           }),
-          subst (λ (s : List SlotSpec). RefusesBy is.trace.disks sectors
-              (map (asked_of_board is.trace.format) s) fault) described
-              (subst (λ (d : Disks). RefusesBy d sectors (map (asked_of_board is.trace.format) slots) fault)
-              placed
-              (subst (λ (v : Format). RefusesBy disks sectors (map (asked_of_board v) slots) fault)
+          subst (λ (s : List SlotSpec). Refuses sectors (map (asked_of_board is.trace.format) s) is.trace.cache
+              fault) described
+              (subst (λ (n : ℕ). Refuses sectors (map (asked_of_board is.trace.format) slots) n fault)
+              (sym is.cache)
+              (subst (λ (v : Format). Refuses sectors (map (asked_of_board v) slots) j.cache fault)
               (sym is.format) own.1)),
         )
       ];

@@ -8,10 +8,12 @@ use Rattle.board.specs.Image.{Tells, bytes_of}
 use Rattle.board.specs.Line.{HadMemory, IsRun}
 use Rattle.board.specs.Slot.{BoardSlot, opened}
 use Rattle.board.specs.World.{BoardState, extents_of, seen, world_of}
+use Rattle.board.proofs.Runs.{line_outside}
 use Rattle.replay.specs.OneSlot.{IsMachine}
 use Rattle.replay.specs.Replay.{RunsOn}
 use Rattle.replay.specs.Telling.{LineTelling, Told, records_in}
 use Rattle.replay.proofs.OneSlotLemmas.{one_slot}
+use Rattle.replay.proofs.Untouched.{untouched}
 
 one_of : {A : Type 0} (slots : List SlotSpec) (old new : Disk) (last : List BoardSlot)
     (events : List (Event A)) (records : List (Record A))
@@ -35,6 +37,8 @@ runs slots old new last events told run telling extents tells = record {
   telling = telling;
   extents = extents;
   tells = tells;
+  kept = untouched slots last (bytes_of old) (bytes_of new) extents
+      (line_outside (seen (map opened slots) old) run.moves (seen last new) run.line);
   one = one_of slots old new last events (records_in told) run extents;
 }
 

@@ -2,7 +2,7 @@
 use Rattle.std.proofs.Common.{◌≡◌, ℕ, List, [], ◌∷◌, ◌++◌, Option, None, Some, length, map, take, Result, Ok, Err, refl, sym, ap, subst, ◌∙◌, append-nil, arith, Bool, false, ◌⊎◌, inl, inr, ◌↔◌, IsTrue}
 use Rattle.std.proofs.lemmas.List.{map-append, take_all}
 use Rattle.std.specs.Io.KnownBytes.{Appends, Keeps}
-use Rattle.sector_cache.specs.Disk.{Disk, new_disk}
+use Rattle.sector_cache.specs.Disk.{Disk}
 use Rattle.board.specs.declared.event.Event.{Event}
 use Rattle.board.specs.declared.reply.Record.{Record}
 use Rattle.board.specs.declared.spec.SlotSpec.{SlotSpec}
@@ -12,15 +12,14 @@ use Rattle.board.specs.Slot.{opened}
 use Rattle.board.specs.World.{BoardState, Step, World, world_of}
 use Rattle.board.proofs.Runs.{run_of}
 use Rattle.board.proofs.Steps.{lines_join}
+use Rattle.trace.specs.Asked.{is_hosted}
 use Rattle.trace.specs.Sends.{AppendsFront, Sends}
 use Rattle.trace.specs.Text.{joined}
-use Rattle.trace.specs.declared.disks.Disks.{Disks}
-use Rattle.trace.specs.declared.disks.Disks.TheVariants.{Cached, Hosted}
 use Rattle.trace.proofs.Passing.{sends_more, sends_none, sends_same, sent_all, sent_front}
 use Rattle.trace.proofs.Printed.{joined_append, joined_none}
 use Rattle.replay.specs.declared.fault.ReplayFault.{ReplayFault}
 use Rattle.replay.specs.declared.fault.ReplayFault.TheVariants.{Write, NoMemory}
-use Rattle.replay.specs.Replay.{AfterRun, Recorded, RecordedHosted, RunsOn}
+use Rattle.replay.specs.Replay.{AfterRun, Recorded, RunsOn}
 use Rattle.replay.specs.Running.{AfterLines}
 use Rattle.replay.specs.Telling.{LineTelling, SendsRun, Told, records_in, told_along, told_by, told_line, told_text}
 use Rattle.replay.proofs.RunLemmas.{runs_on}
@@ -65,17 +64,17 @@ telling_join {A} old mid new events more told others p q = record {
       rw (p.told_are, q.told_are) (sym (told_joined old mid p.moves q.moves p.line));
 }
 
-text_append : {A : Type 0} (disks : Disks) (xs ys : List (Told A))
-    → told_text disks xs ++ told_text disks ys ≡ told_text disks (xs ++ ys)
-text_append disks xs ys =
-    sym (joined_append (map (told_line disks) xs) (map (told_line disks) ys))
-    ∙ ap joined (sym (map-append (told_line disks) xs ys))
+text_append : {A : Type 0} (hosted : Bool) (xs ys : List (Told A))
+    → told_text hosted xs ++ told_text hosted ys ≡ told_text hosted (xs ++ ys)
+text_append hosted xs ys =
+    sym (joined_append (map (told_line hosted) xs) (map (told_line hosted) ys))
+    ∙ ap joined (sym (map-append (told_line hosted) xs ys))
 
 -- ---- one run after another
 
-pub sends_no_run : {A I : Type 0} (disks : Disks) (disk : I → Disk) (board : BoardState I)
-    (a s : Option (List ℕ)) → SendsRun {A = A} disks disk board board [] a a s s
-sends_no_run disks disk board a s = record {
+pub sends_no_run : {A I : Type 0} (hosted : Bool) (disk : I → Disk) (board : BoardState I)
+    (a s : Option (List ℕ)) → SendsRun {A = A} hosted disk board board [] a a s s
+sends_no_run hosted disk board a s = record {
   told = [];
   run = λ tells. telling_none (world_of disk board);
   tells = λ tells. tells;
@@ -84,134 +83,93 @@ sends_no_run disks disk board a s = record {
 }
 
 -- two runs, one after the other
-pub sends_runs : {A I : Type 0} (disks : Disks) (disk : I → Disk) (old mid new : BoardState I)
+pub sends_runs : {A I : Type 0} (hosted : Bool) (disk : I → Disk) (old mid new : BoardState I)
     (events more : List (Event A)) (a b c s t u : Option (List ℕ))
-    → SendsRun disks disk old mid events a b s t → SendsRun disks disk mid new more b c t u
-    → SendsRun disks disk old new (events ++ more) a c s u
-sends_runs disks disk old mid new events more a b c s t u p q = record {
+    → SendsRun hosted disk old mid events a b s t → SendsRun hosted disk mid new more b c t u
+    → SendsRun hosted disk old new (events ++ more) a c s u
+sends_runs hosted disk old mid new events more a b c s t u p q = record {
   told = p.told ++ q.told;
   run = λ tells. telling_join (world_of disk old) (world_of disk mid) (world_of disk new) events more p.told
       q.told (p.run tells) (q.run (p.tells tells));
   tells = λ tells. q.tells (p.tells tells);
   extents = q.extents ∙ p.extents;
   sent =
-      sends_same a c s u _ _ (text_append disks p.told q.told) (sends_more a b c s t u _ _ p.sent q.sent);
+      sends_same a c s u _ _ (text_append hosted p.told q.told) (sends_more a b c s t u _ _ p.sent q.sent);
 }
 
 -- the same events by another name
-pub sends_run_of : {A I : Type 0} (disks : Disks) (disk : I → Disk) (old new : BoardState I)
+pub sends_run_of : {A I : Type 0} (hosted : Bool) (disk : I → Disk) (old new : BoardState I)
     (events others : List (Event A)) (a b s t : Option (List ℕ)) → events ≡ others
-    → SendsRun disks disk old new events a b s t → SendsRun disks disk old new others a b s t
-sends_run_of disks disk old new events others a b s t same p =
-    subst (λ (es : List (Event _)). SendsRun disks disk old new es a b s t) same p
+    → SendsRun hosted disk old new events a b s t → SendsRun hosted disk old new others a b s t
+sends_run_of hosted disk old new events others a b s t same p =
+    subst (λ (es : List (Event _)). SendsRun hosted disk old new es a b s t) same p
 
 -- what waited was written
-pub sends_flushed : {A I : Type 0} (disks : Disks) (disk : I → Disk) (old new : BoardState I)
-    (events : List (Event A)) (a b c s t u : Option (List ℕ)) → SendsRun disks disk old new events a b s t
-    → Sends b c t [] u → SendsRun disks disk old new events a c s u
-sends_flushed disks disk old new events a b c s t u p q = record {
+pub sends_flushed : {A I : Type 0} (hosted : Bool) (disk : I → Disk) (old new : BoardState I)
+    (events : List (Event A)) (a b c s t u : Option (List ℕ)) → SendsRun hosted disk old new events a b s t
+    → Sends b c t [] u → SendsRun hosted disk old new events a c s u
+sends_flushed hosted disk old new events a b c s t u p q = record {
   told = p.told;
   run = p.run;
   tells = p.tells;
   extents = p.extents;
   sent =
-      sends_same a c s u (told_text disks p.told ++ []) (told_text disks p.told)
-      (append-nil (told_text disks p.told))
-      (sends_more a b c s t u (told_text disks p.told) [] p.sent q);
+      sends_same a c s u (told_text hosted p.told ++ []) (told_text hosted p.told)
+      (append-nil (told_text hosted p.told))
+      (sends_more a b c s t u (told_text hosted p.told) [] p.sent q);
 }
 
 -- ---- a new board
 
 -- its run over the whole of an image
-runs_of : {A I : Type 0} (disks : Disks) (disk : I → Disk) (slots : List SlotSpec)
+runs_of : {A I : Type 0} (hosted : Bool) (disk : I → Disk) (slots : List SlotSpec)
     (board after : BoardState I) (image : I) (events : List (Event A)) (a b s t : Option (List ℕ))
-    → board.slots ≡ map opened slots → image ≡ after.image → (run : SendsRun disks disk board after events a b s t)
+    → board.slots ≡ map opened slots → image ≡ after.image → (run : SendsRun hosted disk board after events a b s t)
     → Tells (disk board.image) → RunsOn slots (disk board.image) (disk image) events run.told
-runs_of disks disk slots board after image events a b s t new kept run tells =
+runs_of hosted disk slots board after image events a b s t new kept run tells =
     let telling = run.run tells in
     runs_on disk slots board after image events run.told new kept run.extents (run.tells tells)
     (telling_run (world_of disk board) (world_of disk after) events run.told telling) telling
 
 -- the run of a new board, with what became of its text
-recorded : {A I : Type 0} (capacity : ℕ) (disk : I → Disk) (slots : List SlotSpec)
-    (board after : BoardState I) (image : I) (events : List (Event A)) (a b s : Option (List ℕ))
-    (Output : List ℕ → Type 0)
-    → board.slots ≡ map opened slots → image ≡ after.image
-    → SendsRun (Cached capacity) disk board after events a b (Some []) s
+recorded : {A I : Type 0} (disk : I → Disk) (slots : List SlotSpec) (board after : BoardState I) (image : I)
+    (hosted : Bool) (events : List (Event A)) (a b s : Option (List ℕ)) (Output : List ℕ → Type 0)
+    → board.slots ≡ map opened slots → hosted ≡ is_hosted slots → image ≡ after.image
+    → SendsRun hosted disk board after events a b (Some []) s
     → ((text : List ℕ) → Sends a b (Some []) text s → Output text)
-    → Recorded (Cached capacity) disk slots events board.image image Output
-recorded capacity disk slots board after image events a b s Output new kept run out = record {
+    → Recorded disk slots events board.image image Output
+recorded disk slots board after image hosted events a b s Output new by kept run out = record {
   told = run.told;
-  ran = runs_of (Cached capacity) disk slots board after image events a b (Some []) s new kept run;
-  output = out (told_text (Cached capacity) run.told) run.sent;
+  ran = runs_of hosted disk slots board after image events a b (Some []) s new kept run;
+  output = subst (λ (h : Bool). Output (told_text h run.told)) by
+      (out (told_text hosted run.told) run.sent);
 }
 
 -- what comes of the lines is what comes of the events
-pub after_cached : {A I : Type 0} (capacity : ℕ) (disk : I → Disk) (slots : List SlotSpec)
-    (board after : BoardState I) (image : I) (events : List (Event A)) (a b : Option (List ℕ))
-    (outcome : Result (Unit {0}) ReplayFault) → board.slots ≡ map opened slots → image ≡ after.image
-    → AfterLines (Cached capacity) disk events board after a b outcome
-    → AfterRun (Cached capacity) disk slots events board.image image a b outcome
-after_cached capacity disk slots board after image events a b (Ok _) new kept run =
-    recorded capacity disk slots board after image events a b (Some []) (Appends a b) new kept run
+pub after_run : {A I : Type 0} (disk : I → Disk) (slots : List SlotSpec) (board after : BoardState I)
+    (image : I) (hosted : Bool) (events : List (Event A)) (a b : Option (List ℕ))
+    (outcome : Result (Unit {0}) ReplayFault) → board.slots ≡ map opened slots → hosted ≡ is_hosted slots
+    → image ≡ after.image → AfterLines hosted disk events board after a b outcome
+    → AfterRun disk slots events board.image image a b outcome
+after_run disk slots board after image hosted events a b (Ok _) new by kept run =
+    recorded disk slots board after image hosted events a b (Some []) (Appends a b) new by kept run
     (sent_all a b)
-after_cached capacity disk slots board after image events a b (Err Write) new kept run = record {
+after_run disk slots board after image hosted events a b (Err Write) new by kept run = record {
   done = length events;
   recorded =
-      recorded capacity disk slots board after image (take (length events) events) a b None
-      (AppendsFront a b) new kept
-      (sends_run_of (Cached capacity) disk board after events (take (length events) events) a b (Some []) None
+      recorded disk slots board after image hosted (take (length events) events) a b None (AppendsFront a b)
+      new by kept
+      (sends_run_of hosted disk board after events (take (length events) events) a b (Some []) None
       (sym (take_all (length events) events (omega arith))) run) (sent_front a b);
 }
-after_cached capacity disk slots board after image events a b (Err NoMemory) new kept run = record {
+after_run disk slots board after image hosted events a b (Err NoMemory) new by kept run = record {
   done = 0;
-  recorded = recorded capacity disk slots board board image [] a a (Some []) (λ _. Keeps a b) new
+  recorded = recorded disk slots board board image hosted [] a a (Some []) (λ _. Keeps a b) new by
       (kept ∙ ap (λ (state : BoardState _). state.image) run.0)
-      (sends_no_run (Cached capacity) disk board a (Some []))
+      (sends_no_run hosted disk board a (Some []))
       (λ _ _. run.1);
 }
-after_cached capacity disk slots board after image events a b (Err fault) new kept run = absurd run
-
--- the same where the host serves the disks, over an image without a sector
-recorded_hosted : {A I J : Type 0} (disk : J → Disk) (slots : List SlotSpec) (board after : BoardState J)
-    (image : I) (events : List (Event A)) (a b s : Option (List ℕ)) (Output : List ℕ → Type 0)
-    → board.slots ≡ map opened slots → disk board.image ≡ new_disk []
-    → SendsRun Hosted disk board after events a b (Some []) s
-    → ((text : List ℕ) → Sends a b (Some []) text s → Output text)
-    → RecordedHosted slots events image image Output
-recorded_hosted disk slots board after image events a b s Output new none run out = record {
-  told = run.told;
-  left = disk after.image;
-  ran = subst (λ (d : Disk). RunsOn slots d (disk after.image) events run.told) none
-      (runs_of Hosted disk slots board after after.image events a b (Some []) s new refl run
-      (subst (λ (d : Disk). Tells d) (sym none) refl));
-  image = refl;
-  output = out (told_text Hosted run.told) run.sent;
-}
-
-pub after_hosted : {A I J : Type 0} (disk : J → Disk) (own : I → Disk) (slots : List SlotSpec)
-    (board after : BoardState J) (image : I) (events : List (Event A)) (a b : Option (List ℕ))
-    (outcome : Result (Unit {0}) ReplayFault)
-    → board.slots ≡ map opened slots → disk board.image ≡ new_disk []
-    → AfterLines Hosted disk events board after a b outcome
-    → AfterRun Hosted own slots events image image a b outcome
-after_hosted disk own slots board after image events a b (Ok _) new none run =
-    recorded_hosted disk slots board after image events a b (Some []) (Appends a b) new none run
-    (sent_all a b)
-after_hosted disk own slots board after image events a b (Err Write) new none run = record {
-  done = length events;
-  recorded =
-      recorded_hosted disk slots board after image (take (length events) events) a b None
-      (AppendsFront a b) new none
-      (sends_run_of Hosted disk board after events (take (length events) events) a b (Some []) None
-      (sym (take_all (length events) events (omega arith))) run) (sent_front a b);
-}
-after_hosted disk own slots board after image events a b (Err NoMemory) new none run = record {
-  done = 0;
-  recorded = recorded_hosted disk slots board board image [] a a (Some []) (λ _. Keeps a b) new none
-      (sends_no_run Hosted disk board a (Some [])) (λ _ _. run.1);
-}
-after_hosted disk own slots board after image events a b (Err fault) new none run = absurd run
+after_run disk slots board after image hosted events a b (Err fault) new by kept run = absurd run
 
 -- a flushed buffer whose writer has not failed is empty
 pub flushed_whole : (u : Option (List ℕ)) (broken : Bool) → (u ≡ Some []) ⊎ (u ≡ None) → IsTrue broken

@@ -1,18 +1,17 @@
 -- What a replay comes to: the trace that it read, the run on that trace's board, and what it wrote.
 use Rattle.std.specs.Prelude.{◌≡◌, ◌≢◌, ◌⊎◌, ℕ, ◌<◌, ⊤, All, List, [], ◌∷◌, length, map, take, Option, IfSome, Result, Ok, Err}
 use Rattle.std.specs.Io.KnownBytes.{Appends, IsAtEnd, Keeps}
-use Rattle.sector_cache.specs.Disk.{Disk, new_disk}
+use Rattle.sector_cache.specs.Disk.{Disk}
 use Rattle.board.specs.declared.event.Event.{Event}
 use Rattle.board.specs.declared.fault.BoardFault.{BoardFault}
 use Rattle.board.specs.declared.fault.BoardFault.TheVariants.{TooManySlots}
+use Rattle.board.specs.declared.spec.Backing.TheVariants.{Host}
 use Rattle.board.specs.declared.spec.SlotSpec.{SlotSpec}
 use Rattle.board.specs.Fault.{IsAccepted, Refuses}
 use Rattle.board.specs.Image.{Tells, bytes_of}
 use Rattle.board.specs.Line.{HadMemory, IsRun}
 use Rattle.board.specs.Slot.{BoardSlot, opened}
 use Rattle.board.specs.World.{extents_of, seen}
-use Rattle.trace.specs.declared.disks.Disks.{Disks}
-use Rattle.trace.specs.declared.disks.Disks.TheVariants.{Cached, Hosted}
 use Rattle.trace.specs.declared.format.Format.{Format}
 use Rattle.trace.specs.declared.format.Format.TheVariants.{Plain, Extended}
 use Rattle.trace.specs.declared.format.Version.TheVariants.{One}
@@ -20,6 +19,7 @@ use Rattle.trace.specs.declared.fault.FaultKind.TheVariants as kind
 use Rattle.trace.specs.declared.fault.TraceFault.{TraceFault}
 use Rattle.replay.specs.declared.fault.ReplayFault.{ReplayFault}
 use Rattle.replay.specs.declared.fault.ReplayFault.TheVariants.{Read, Trace, Board, Run, Write, NoMemory}
+use Rattle.trace.specs.Asked.{is_hosted}
 use Rattle.trace.specs.Sends.{AppendsFront}
 use Rattle.replay.specs.Limits.{IsSmallMemory, asked_of_board}
 use Rattle.replay.specs.OneSlot.{IsMachine}
@@ -28,7 +28,8 @@ use Rattle.trace.specs.Reading.{IsTraceFault, IsTraceOf}
 use Rattle.trace.specs.Text.{Content}
 
 -- A run over these events on a new board of these slots, which found the image so and left it so, and in which
--- this was told. A board of one slot that met no refusal did what the one-slot machine does.
+-- this was told. Where the host has all disks, the image's bytes stay. A board of one slot that met no refusal did
+-- what the one-slot machine does.
 pub record RunsOn {A : Type 0} (slots : List SlotSpec) (old new : Disk) (events : List (Event A))
     (told : List (Told A)) : Type 0 where
   pub last : List BoardSlot
@@ -36,63 +37,47 @@ pub record RunsOn {A : Type 0} (slots : List SlotSpec) (old new : Disk) (events 
   pub telling : LineTelling (seen (map opened slots) old) (seen last new) events told
   pub extents : extents_of last ≡ extents_of (map opened slots)
   pub tells : Tells new
+  pub kept : All (λ spec. spec.backing ≡ Host) slots → bytes_of new ≡ bytes_of old
   pub one : (spec : SlotSpec) → slots ≡ spec ∷ [] → new.failures ≡ old.failures
       → HadMemory 0 (records_in told)
       → IsMachine spec (bytes_of old) (bytes_of new) events (records_in told)
 
 -- What was told in such a run, of whose text this holds.
-pub record Recorded {A I : Type 0} (disks : Disks) (disk : I → Disk) (slots : List SlotSpec)
-    (events : List (Event A)) (before after : I) (Output : List ℕ → Type 0) : Type 0 where
+pub record Recorded {A I : Type 0} (disk : I → Disk) (slots : List SlotSpec) (events : List (Event A))
+    (before after : I) (Output : List ℕ → Type 0) : Type 0 where
   pub told : List (Told A)
   pub ran : Tells (disk before) → RunsOn slots (disk before) (disk after) events told
-  pub output : Output (told_text disks told)
-
--- The same where the host serves the disks: over an image without a sector. The image that was handed in has no
--- part in it.
-pub record RecordedHosted {A I : Type 0} (slots : List SlotSpec) (events : List (Event A)) (before after : I)
-    (Output : List ℕ → Type 0) : Type 0 where
-  pub told : List (Told A)
-  pub left : Disk
-  pub ran : RunsOn slots (new_disk []) left events told
-  pub image : after ≡ before
-  pub output : Output (told_text Hosted told)
-
--- a run on the board of a trace, by where its disks are
-abbrev pub RecordedBy : {A I : Type 0} → Disks → (I → Disk) → List SlotSpec → List (Event A) → I → I
-    → (List ℕ → Type 0) → Type 0
-RecordedBy (Cached capacity) disk slots events before after Output =
-    Recorded (Cached capacity) disk slots events before after Output
-RecordedBy Hosted disk slots events before after Output = RecordedHosted slots events before after Output
+  pub output : Output (told_text (is_hosted slots) told)
 
 -- the same over the first of the events, which may be none or all of them
-pub record RecordedFront {A I : Type 0} (disks : Disks) (disk : I → Disk) (slots : List SlotSpec)
-    (events : List (Event A)) (before after : I) (Output : List ℕ → Type 0) : Type 0 where
+pub record RecordedFront {A I : Type 0} (disk : I → Disk) (slots : List SlotSpec) (events : List (Event A))
+    (before after : I) (Output : List ℕ → Type 0) : Type 0 where
   pub done : ℕ
-  pub recorded : RecordedBy disks disk slots (take done events) before after Output
+  pub recorded : Recorded disk slots (take done events) before after Output
 
 -- the run stopped before one of the events
-pub record StopsAt {A I : Type 0} (disks : Disks) (disk : I → Disk) (slots : List SlotSpec)
-    (events : List (Event A)) (before after : I) (done : ℕ) (Output : List ℕ → Type 0) : Type 0 where
+pub record StopsAt {A I : Type 0} (disk : I → Disk) (slots : List SlotSpec) (events : List (Event A))
+    (before after : I) (done : ℕ) (Output : List ℕ → Type 0) : Type 0 where
   pub some_left : done < length events
-  pub recorded : RecordedBy disks disk slots (take done events) before after Output
+  pub recorded : Recorded disk slots (take done events) before after Output
 
 -- What comes of the events, where there is a board for them: the text of the records is written, or
 -- nothing where there is no memory for it, or at most its front where the writer fails.
-abbrev pub AfterRun : {A I : Type 0} → Disks → (I → Disk) → List SlotSpec → List (Event A) → I → I
+abbrev pub AfterRun : {A I : Type 0} → (I → Disk) → List SlotSpec → List (Event A) → I → I
     → Option (List ℕ) → Option (List ℕ) → Result (Unit {0}) ReplayFault → Type 0
-AfterRun disks disk slots events before after old new (Ok _) =
-    RecordedBy disks disk slots events before after (Appends old new)
-AfterRun disks disk slots events before after old new (Err (Run done)) =
-    StopsAt disks disk slots events before after done (Appends old new)
-AfterRun disks disk slots events before after old new (Err Write) =
-    RecordedFront disks disk slots events before after (AppendsFront old new)
-AfterRun disks disk slots events before after old new (Err NoMemory) =
-    RecordedFront disks disk slots events before after (λ _. Keeps old new)
-AfterRun disks disk slots events before after old new (Err _) = ⊥
+AfterRun disk slots events before after old new (Ok _) =
+    Recorded disk slots events before after (Appends old new)
+AfterRun disk slots events before after old new (Err (Run done)) =
+    StopsAt disk slots events before after done (Appends old new)
+AfterRun disk slots events before after old new (Err Write) =
+    RecordedFront disk slots events before after (AppendsFront old new)
+AfterRun disk slots events before after old new (Err NoMemory) =
+    RecordedFront disk slots events before after (λ _. Keeps old new)
+AfterRun disk slots events before after old new (Err _) = ⊥
 
 -- what a trace has before its events
-abbrev pub front : (A : Type 0) → Format → Disks → List SlotSpec → Content A
-front A format disks slots = record { format = format; disks = disks; slots = slots; events = [] }
+abbrev pub front : (A : Type 0) → Format → ℕ → List SlotSpec → Content A
+front A format cache slots = record { format = format; cache = cache; slots = slots; events = [] }
 
 -- a trace of version 1 has at most sixteen slots, whatever a board may have
 pub record HasTooMany {A : Type 0} (trace : Content A) : Type 0 where
@@ -105,23 +90,13 @@ pub record IsAdmittedUntil {A : Type 0} (format : Format) (trace : Content A) : 
   pub few : ¬ HasTooMany trace
   pub small : trace.format ≢ Extended → format ≡ Extended → All (IsSmallMemory trace.format) trace.slots
 
--- which slots there may be on the board of a trace, and why it is refused, by where its disks are: over an
--- image of so many sectors, or over one without a sector and a cache of one
-abbrev pub AcceptsBy : Disks → ℕ → List SlotSpec → Type 0
-AcceptsBy (Cached capacity) sectors slots = IsAccepted sectors slots capacity
-AcceptsBy Hosted sectors slots = IsAccepted 0 slots 1
-
-abbrev pub RefusesBy : Disks → ℕ → List SlotSpec → BoardFault → Type 0
-RefusesBy (Cached capacity) sectors slots fault = Refuses sectors slots capacity fault
-RefusesBy Hosted sectors slots fault = Refuses 0 slots 1 fault
-
 -- Why there is no board for a trace: it has too many slots for its version, before any of them is looked at;
 -- else it is the fault of the board that is asked for.
 abbrev pub RefusesBoardOf : {A : Type 0} → ℕ → Content A → BoardFault → Type 0
 RefusesBoardOf sectors trace fault =
     (HasTooMany trace × (fault ≡ TooManySlots))
-    ⊎ ((¬ HasTooMany trace) × RefusesBy trace.disks sectors
-    (map (asked_of_board trace.format) trace.slots) fault)
+    ⊎ ((¬ HasTooMany trace)
+    × Refuses sectors (map (asked_of_board trace.format) trace.slots) trace.cache fault)
 
 -- the trace was read, there is a board for it, and this came of its events
 pub record Plays {I : Type 0} (A : Type 0) (disk : I → Disk) (input old new : Option (List ℕ))
@@ -130,8 +105,8 @@ pub record Plays {I : Type 0} (A : Type 0) (disk : I → Disk) (input old new : 
   pub read : IfSome input (λ bytes. IsTraceOf bytes trace)
   pub few : ¬ HasTooMany trace
   pub small : All (IsSmallMemory trace.format) trace.slots
-  pub accepted : AcceptsBy trace.disks (disk before).sector_count trace.slots
-  pub ended : AfterRun trace.disks disk trace.slots trace.events before after old new outcome
+  pub accepted : IsAccepted (disk before).sector_count trace.slots trace.cache
+  pub ended : AfterRun disk trace.slots trace.events before after old new outcome
 
 -- nothing was written, and the image is as it was
 pub record IsUntouched {I : Type 0} (old new : Option (List ℕ)) (before after : I) : Type 0 where

@@ -1,5 +1,5 @@
 -- Running the events of lines that were validated, one after another.
-use Rattle.std.specs.Prelude.{◌≡◌, ◌≤◌, ℕ, List, [], Option, None, Some, Result, Ok, Err}
+use Rattle.std.specs.Prelude.{◌≡◌, ◌≤◌, ℕ, Bool, List, [], Option, None, Some, Result, Ok, Err}
 use Rattle.std.specs.Io.KnownBytes.{Keeps}
 use Rattle.std.specs.List.{slice_get}
 use Rattle.std.specs.Option.{option_and_then}
@@ -12,7 +12,6 @@ use Rattle.board.specs.Hosting.{verdict_in}
 use Rattle.board.specs.Image.{Tells}
 use Rattle.board.specs.Slot.{BoardSlot, interrupt_words}
 use Rattle.board.specs.World.{Answers, BoardState, extents_of, world_of}
-use Rattle.trace.specs.declared.disks.Disks.{Disks}
 use Rattle.trace.specs.declared.read.parsed_event.ParsedEvent.{ParsedEvent}
 use Rattle.trace.specs.Events.{TakesEvent}
 use Rattle.trace.specs.Validating.{parsed_len}
@@ -80,11 +79,11 @@ pub record RunsLine (A : Type 0) (lines rest : List ℕ) (Run : Event A → Type
 
 -- What comes of a run whose text goes through a buffer of its own: it is written whole, or the writer fails;
 -- where there is no memory for the buffer nothing is run.
-abbrev pub AfterLines : {A I : Type 0} → Disks → (I → Disk) → List (Event A) → BoardState I → BoardState I
+abbrev pub AfterLines : {A I : Type 0} → Bool → (I → Disk) → List (Event A) → BoardState I → BoardState I
     → Option (List ℕ) → Option (List ℕ) → Result (Unit {0}) ReplayFault → Type 0
-AfterLines disks disk events old new before after (Ok _) =
-    SendsRun disks disk old new events before after (Some []) (Some [])
-AfterLines disks disk events old new before after (Err Write) =
-    SendsRun disks disk old new events before after (Some []) None
-AfterLines disks disk events old new before after (Err NoMemory) = (new ≡ old) × Keeps before after
-AfterLines disks disk events old new before after (Err _) = ⊥
+AfterLines hosted disk events old new before after (Ok _) =
+    SendsRun hosted disk old new events before after (Some []) (Some [])
+AfterLines hosted disk events old new before after (Err Write) =
+    SendsRun hosted disk old new events before after (Some []) None
+AfterLines hosted disk events old new before after (Err NoMemory) = (new ≡ old) × Keeps before after
+AfterLines hosted disk events old new before after (Err _) = ⊥

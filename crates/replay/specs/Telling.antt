@@ -1,6 +1,6 @@
--- What the guests of a trace are told, as text: a record for each event, and where the host serves the disks
--- what it is then asked to do.
-use Rattle.std.specs.Prelude.{◌≡◌, ℕ, Bool, true, is_none, if◌then◌else◌, Option, None, Some, List, [], ◌∷◌, map}
+-- What the guests of a trace are told, as text: a record for each event, and in a hosted trace what the host is
+-- then asked to do.
+use Rattle.std.specs.Prelude.{◌≡◌, ℕ, Bool, false, true, is_none, if◌then◌else◌, Option, None, Some, List, [], ◌∷◌, map}
 use Rattle.std.specs.List.{slice_get}
 use Rattle.std.specs.Option.{option_and_then}
 use Rattle.chain.specs.declared.segment.Segment.{Segment}
@@ -10,16 +10,15 @@ use Rattle.block_device.specs.declared.operation.Verdict.{Verdict}
 use Rattle.board.specs.declared.event.Event.{Event}
 use Rattle.board.specs.declared.event.EventKind.{EventKind}
 use Rattle.board.specs.declared.reply.Record.{Record}
+use Rattle.board.specs.declared.reply.Reply.{Reply}
 use Rattle.board.specs.Backing.{InFlight, flight_in}
 use Rattle.board.specs.Hosting.{verdict_in}
 use Rattle.board.specs.Image.{Tells}
 use Rattle.board.specs.Line.{IsLine, Move, events_of}
 use Rattle.board.specs.Slot.{SlotState}
 use Rattle.board.specs.World.{BoardState, World, extents_of, world_of}
-use Rattle.trace.specs.declared.disks.Disks.{Disks}
-use Rattle.trace.specs.declared.disks.Disks.TheVariants.{Cached, Hosted}
 use Rattle.trace.specs.Asked.{asked_line}
-use Rattle.trace.specs.Records.{record_line}
+use Rattle.trace.specs.Records.{entry_of, record_line}
 use Rattle.trace.specs.Sends.{Sends}
 use Rattle.trace.specs.Text.{joined}
 
@@ -56,6 +55,11 @@ pub record Told (A : Type 0) : Type 0 where
   pub written : Record A
   pub asked : Option (Operation × List Segment)
 
+-- by its parts, of which the words are the block window's and the console's
+abbrev pub told_of : {A : Type 0} → ℕ → Reply A → List ℕ → ℕ × ℕ → Option (Operation × List Segment) → Told A
+told_of slot reply output words asked =
+    record { written = entry_of slot reply output words; asked = asked }
+
 abbrev pub told_by : {A : Type 0} → World → Move A → Told A
 told_by old move = record {
   written = move.written;
@@ -80,20 +84,20 @@ pub record LineTelling {A : Type 0} (old new : World) (events : List (Event A)) 
 
 -- ---- its text
 
--- the line of a record, by where the trace's disks are
-abbrev pub told_line : {A : Type 0} → Disks → Told A → List ℕ
-told_line (Cached capacity) told = record_line told.written
-told_line Hosted told = asked_line told.written told.asked
+-- the line of a record, by whether the trace is hosted
+abbrev pub told_line : {A : Type 0} → Bool → Told A → List ℕ
+told_line false told = record_line told.written
+told_line true told = asked_line told.written told.asked
 
-abbrev pub told_text : {A : Type 0} → Disks → List (Told A) → List ℕ
-told_text disks told = joined (map (told_line disks) told)
+abbrev pub told_text : {A : Type 0} → Bool → List (Told A) → List ℕ
+told_text hosted told = joined (map (told_line hosted) told)
 
 -- A run from one board to another over these events; the text of what is told is added to what waits for the
 -- writer.
-pub record SendsRun {A I : Type 0} (disks : Disks) (disk : I → Disk) (old new : BoardState I)
+pub record SendsRun {A I : Type 0} (hosted : Bool) (disk : I → Disk) (old new : BoardState I)
     (events : List (Event A)) (before after waiting waiting' : Option (List ℕ)) : Type 0 where
   pub told : List (Told A)
   pub run : Tells (disk old.image) → LineTelling (world_of disk old) (world_of disk new) events told
   pub tells : Tells (disk old.image) → Tells (disk new.image)
   pub extents : extents_of new.slots ≡ extents_of old.slots
-  pub sent : Sends before after waiting (told_text disks told) waiting'
+  pub sent : Sends before after waiting (told_text hosted told) waiting'

@@ -2,17 +2,15 @@
 //!
 //! The text goes through two passes: `validate` looks at all of it, and `run_text` then reads and runs line by line.
 
-ghost use Rattle.std.specs.Prelude.{◌≡◌, ◌≢◌, ℕ, [], All, List, Some, Err, IfErr, IfOk, OnOk, length, map};
+ghost use Rattle.std.specs.Prelude.{◌≡◌, ◌≢◌, ℕ, All, List, Some, Err, IfErr, IfOk, OnOk, length, map};
 ghost use Rattle.board.specs.declared.event.Event.{Event};
 ghost use Rattle.board.specs.declared.spec.SlotSpec.{SlotSpec};
-ghost use Rattle.sector_cache.specs.Disk.{new_disk};
-ghost use Rattle.sector_cache.specs.MemoryImage.{disk_of};
 ghost use Rattle.board.specs.Fault.{IsAccepted};
 ghost use Rattle.board.specs.Slot.{opened};
 ghost use Rattle.replay.specs.declared.fault.ReplayFault.{ReplayFault};
-ghost use Rattle.trace.specs.declared.disks.Disks.{Disks};
+ghost use Rattle.trace.specs.Asked.{is_hosted};
 ghost use Rattle.trace.specs.Validating.{AreEventLines, AreLinesOf, IsValidated, validation};
-ghost use Rattle.replay.specs.Limits.{IsSmallMemory, asked_of_board};
+ghost use Rattle.replay.specs.Limits.{IsSmallMemory};
 ghost use Rattle.replay.specs.Replay.{AfterRun, EndsReading, HasTooMany, RefusesBoardOf, Replays, front};
 
 use crate::fault::ReplayFault;
@@ -20,19 +18,16 @@ use crate::input::gather;
 use crate::limits::limit_memories;
 use crate::runs::run_text;
 use board::{Board, BoardFault, SlotSpec};
-use sector_cache::{Image, ImageFault, MemoryImage, Refused};
+use sector_cache::{Image, Refused};
 use std::alloc::Allocator;
 use std::io::{Read, Write};
-use trace::{Disks, FaultKind, Format, TraceFault, Validated, Version, validate};
+use trace::{FaultKind, Format, TraceFault, Validated, Version, is_hosted, validate};
 
 /// The fault where there is no memory for the input.
 const NO_ROOM: TraceFault = TraceFault {
     line: 1,
     kind: FaultKind::NoMemory,
 };
-
-/// How many sectors the cache of a board has over no image: no board has fewer.
-const LEAST_CACHE: u32 = 1;
 
 /// How many slots a trace of version 1 has at most.
 const MOST_SLOTS_IN_VERSION_1: usize = 16;
@@ -74,83 +69,33 @@ pub fn replay_text<W: Write, I: Image, A: Allocator + Copy>(
     let Ok(mut room) = vec![in alloc; 0; validated.longest] else {
         return (image, Err(ReplayFault::Trace(validated.no_room())));
     };
-    match validated.disks {
-        Disks::Cached { capacity } => {
-            replay_over(
-                alloc,
-                validated,
-                capacity,
-                room.as_mut_slice(),
-                writer,
-                image,
-            )
-        }
-        Disks::Hosted => replay_hosted(alloc, validated, room.as_mut_slice(), writer, image),
-    }
+    replay_over(alloc, validated, room.as_mut_slice(), writer, image)
 }
 
-// The same of a text that was validated, whose disks are on the image.
+// The same of a text that was validated.
 fn replay_over<W: Write, I: Image, A: Allocator + Copy>(
     alloc: A,
     mut validated: Validated<'_, A>,
-    capacity: u32,
     room: &mut [u8],
     writer: &mut W,
     image: I,
 ) -> (I, Result<(), ReplayFault>)
-    requires disks { validated.disks ≡ Disks.Cached capacity }
-    requires room { AreEventLines A (length room.old) validated.events.now }
+    requires { AreEventLines A (length room.old) validated.events.now }
     ensures comes_to { (text : List ℕ) → IsValidated A text (validation validated.entry) →
         Replays A I.disk (Some text) (W.contents writer.old) (W.contents writer.new) image result.0 result.1 }
     ensures read { result.1 ≢ Err ReplayFault.Read }
     ensures whole { (done : ℕ) → result.1 ≢ Err (ReplayFault.Run done) }
 {
+    let hosted = is_hosted(&validated.slots);
     match board_of(
         alloc,
         validated.format,
-        capacity,
+        validated.cache,
         &mut validated.slots,
         image,
     ) {
-        Ok(board) => run_validated(alloc, board, capacity, validated.events, room, writer),
+        Ok(board) => run_validated(alloc, board, hosted, validated.events, room, writer),
         Err(Refused { image, why }) => (image, Err(ReplayFault::Board(why))),
-    }
-}
-
-// The same of one whose disks the host serves. The image has no part in it.
-fn replay_hosted<W: Write, I: Image, A: Allocator + Copy>(
-    alloc: A,
-    mut validated: Validated<'_, A>,
-    room: &mut [u8],
-    writer: &mut W,
-    image: I,
-) -> (I, Result<(), ReplayFault>)
-    requires disks { validated.disks ≡ Disks.Hosted }
-    requires room { AreEventLines A (length room.old) validated.events.now }
-    ensures comes_to { (text : List ℕ) → IsValidated A text (validation validated.entry) →
-        Replays A I.disk (Some text) (W.contents writer.old) (W.contents writer.new) image result.0 result.1 }
-    ensures read { result.1 ≢ Err ReplayFault.Read }
-    ensures whole { (done : ℕ) → result.1 ≢ Err (ReplayFault.Run done) }
-{
-    match board_of(
-        alloc,
-        validated.format,
-        LEAST_CACHE,
-        &mut validated.slots,
-        empty_image(alloc),
-    ) {
-        Ok(board) => run_hosted(alloc, board, validated.events, room, writer, image),
-        Err(Refused { image: _, why }) => (image, Err(ReplayFault::Board(why))),
-    }
-}
-
-// An image without a sector.
-fn empty_image<A: Allocator>(alloc: A) -> MemoryImage<A>
-    ensures { disk_of result ≡ new_disk [] }
-{
-    match MemoryImage::new(Vec::new(alloc)) {
-        Ok(image) => image,
-        Err(ImageFault::BadSize) => unreachable!(),
     }
 }
 
@@ -163,10 +108,10 @@ fn board_of<I: Image, A: Allocator + Copy>(
     image: I,
 ) -> Result<Board<I, A>, Refused<I, BoardFault>>
     ensures made { IfOk result (λ board. board ≡ record { slots = map opened slots.old; image = image }) }
-    ensures few { OnOk result (¬ HasTooMany (front A format (Disks.Cached capacity) slots.old)) }
+    ensures few { OnOk result (¬ HasTooMany (front A format capacity slots.old)) }
     ensures small { OnOk result (All (IsSmallMemory format) slots.old) }
     ensures accepted { OnOk result (IsAccepted (I.disk image).sector_count slots.old capacity) }
-    ensures fault { IfErr result (λ refused. RefusesBoardOf (I.disk image).sector_count (front A format (Disks.Cached capacity) slots.old) refused.why) }
+    ensures fault { IfErr result (λ refused. RefusesBoardOf (I.disk image).sector_count (front A format capacity slots.old) refused.why) }
     ensures returned { IfErr result (λ refused. refused.image ≡ image) }
 {
     if format == Format::Plain(Version::One) && slots.len() > MOST_SLOTS_IN_VERSION_1 {
@@ -181,37 +126,17 @@ fn board_of<I: Image, A: Allocator + Copy>(
 fn run_validated<W: Write, I: Image, A: Allocator + Copy>(
     alloc: A,
     mut board: Board<I, A>,
-    capacity: u32,
+    hosted: bool,
     lines: &[u8],
     room: &mut [u8],
     writer: &mut W,
 ) -> (I, Result<(), ReplayFault>)
     requires { AreEventLines A (length room.old) lines.now }
     ensures ended { (slots : List SlotSpec) (events : List (Event A)) →
-        board.slots ≡ map opened slots → AreLinesOf events lines.now →
-        AfterRun (Disks.Cached capacity) I.disk slots events board.image result.0 (W.contents writer.old) (W.contents writer.new) result.1 }
+        board.slots ≡ map opened slots → hosted ≡ is_hosted slots → AreLinesOf events lines.now →
+        AfterRun I.disk slots events board.image result.0 (W.contents writer.old) (W.contents writer.new) result.1 }
     ensures whole { (done : ℕ) → result.1 ≢ Err (ReplayFault.Run done) }
 {
-    let disks = Disks::Cached { capacity };
-    let outcome = run_text(alloc, &mut board, disks, lines, room, writer);
+    let outcome = run_text(alloc, &mut board, hosted, lines, room, writer);
     (board.into_image(), outcome)
-}
-
-// The same on a board whose disks the host serves. The image is handed back as it was.
-fn run_hosted<W: Write, I: Image, A: Allocator + Copy>(
-    alloc: A,
-    mut board: Board<MemoryImage<A>, A>,
-    lines: &[u8],
-    room: &mut [u8],
-    writer: &mut W,
-    image: I,
-) -> (I, Result<(), ReplayFault>)
-    requires { AreEventLines A (length room.old) lines.now }
-    ensures ended { (slots : List SlotSpec) (events : List (Event A)) →
-        board.slots ≡ map opened slots → disk_of board.image ≡ new_disk [] → AreLinesOf events lines.now →
-        AfterRun Disks.Hosted I.disk slots events image result.0 (W.contents writer.old) (W.contents writer.new) result.1 }
-    ensures whole { (done : ℕ) → result.1 ≢ Err (ReplayFault.Run done) }
-{
-    let outcome = run_text(alloc, &mut board, Disks::Hosted, lines, room, writer);
-    (image, outcome)
 }

@@ -1,20 +1,20 @@
 //! Running an event on a board, and sending the text of what it came to.
 //!
-//! Memory that is read is printed where it lies. Where the host serves the disks, each record says besides which operation
-//! began with its event.
+//! Memory that is read is printed where it lies.
 
-ghost use Rattle.std.specs.Prelude.{◌≡◌, ◌≤◌, ◌∷◌, ◌/◌, ℕ, [], if◌then◌else◌, None, IfSome, length};
+ghost use Rattle.std.specs.Prelude.{◌≡◌, ◌≤◌, ◌∷◌, ◌/◌, [], true, if◌then◌else◌, None, IfSome, length};
 ghost use Rattle.std.specs.List.{slice_get};
 ghost use Rattle.std.specs.Option.{option_map};
 ghost use Rattle.board.specs.declared.event.EventKind.{EventKind};
+ghost use Rattle.board.specs.declared.reply.Reply.{Reply};
 ghost use Rattle.board.specs.Hosting.{verdict_in};
 ghost use Rattle.board.specs.Image.{Tells};
 ghost use Rattle.board.specs.Slot.{AreInterruptWords};
-ghost use Rattle.trace.specs.declared.disks.Disks.{Disks};
-ghost use Rattle.trace.specs.Sends.{waiting};
+ghost use Rattle.trace.specs.Sends.{Sends, waiting};
+ghost use Rattle.trace.specs.Text.{ended};
 ghost use Rattle.trace.specs.Validating.{parsed_len};
 ghost use Rattle.replay.specs.Running.{AnswersEvent, AnswersParsed, IsPart, RunsParsed, flight_of, words_of};
-ghost use Rattle.replay.specs.Telling.{SendsRun, begins, told_of_flight};
+ghost use Rattle.replay.specs.Telling.{SendsRun, begins, told_line, told_of, told_of_flight};
 ghost use Rattle.trace.specs.ParsedEvent.{IsFineParsed};
 ghost use Rattle.hexadecimal.specs.Fields.{IsBytesField};
 ghost use Rattle.trace.specs.Words.{Says, Bytes as ByBytes};
@@ -29,10 +29,11 @@ use trace::{
     Buffer, ParsedEvent, put_asked, put_fields, put_line, put_read, read_bytes, spelled_len,
 };
 
-/// Runs an event over an image, and sends the text of its record. What the console puts out waits in `output` meanwhile.
+/// Runs an event, and sends the text of its record. What the console puts out waits in `output` meanwhile.
 #[inline(always)]
 pub(crate) fn run_event<W: Write, I: Image, A: Allocator + Copy>(
     board: &mut Board<I, A>,
+    hosted: bool,
     parsed: &ParsedEvent<'_, A>,
     room: &mut [u8],
     output: &mut Vec<u8, A>,
@@ -41,71 +42,69 @@ pub(crate) fn run_event<W: Write, I: Image, A: Allocator + Copy>(
 )
     requires fine { IsFineParsed parsed.now }
     requires room { parsed_len parsed.now ≤ length room.old }
-    ensures { (capacity : ℕ) → RunsParsed parsed.now (λ event. SendsRun (Disks.Cached capacity) I.disk board.old board.new (event ∷ [])
+    ensures { RunsParsed parsed.now (λ event. SendsRun hosted I.disk board.old board.new (event ∷ [])
         (W.contents writer.old) (W.contents writer.new) (waiting text.old) (waiting text.new)) }
 {
     output.clear();
     let slot = parsed.event.slot;
     if let EventKind::MemRead { addr, len } = parsed.event.what {
         if let Some(part) = part_of(board, slot, addr, len) {
-            put_read(text, writer, slot, part, words(board, slot), b'\n');
+            put_part(text, writer, hosted, slot, part, words(board, slot));
             return;
         }
     }
+    let is_next = begins_next(board, hosted, &parsed.event);
     let Handled {
         reply,
         block_irq,
         console_irq,
     } = answer(board, parsed, room, output);
     let words = (block_irq, console_irq);
-    put_line(text, writer, slot, &reply, output.as_slice(), words);
-}
-
-/// The same where the host serves the disks.
-pub(crate) fn run_hosted_event<W: Write, I: Image, A: Allocator + Copy>(
-    board: &mut Board<I, A>,
-    parsed: &ParsedEvent<'_, A>,
-    room: &mut [u8],
-    output: &mut Vec<u8, A>,
-    text: &mut Buffer<A>,
-    writer: &mut W,
-)
-    requires fine { IsFineParsed parsed.now }
-    requires room { parsed_len parsed.now ≤ length room.old }
-    ensures { RunsParsed parsed.now (λ event. SendsRun Disks.Hosted I.disk board.old board.new (event ∷ [])
-        (W.contents writer.old) (W.contents writer.new) (waiting text.old) (waiting text.new)) }
-{
-    output.clear();
-    let slot = parsed.event.slot;
-    if let EventKind::MemRead { addr, len } = parsed.event.what {
-        if let Some(part) = part_of(board, slot, addr, len) {
-            put_read(text, writer, slot, part, words(board, slot), b' ');
-            put_asked(text, writer, None);
-            return;
-        }
+    if !hosted {
+        put_line(text, writer, slot, &reply, output.as_slice(), words);
+        return;
     }
-    let is_next = begins_next(board, &parsed.event);
-    let Handled {
-        reply,
-        block_irq,
-        console_irq,
-    } = answer(board, parsed, room, output);
-    let words = (block_irq, console_irq);
     put_fields(text, writer, slot, &reply, output.as_slice(), words, b' ');
     put_asked(text, writer, begun(board, slot, is_next));
 }
 
-// Whether what is in flight behind the event begins with it.
-fn begins_next<I: Image, A: Allocator>(board: &Board<I, A>, event: &Event<A>) -> bool
-    ensures { result ≡ begins (verdict_in event.now.what) (flight_of (slice_get board.now.slots event.now.slot)) }
+// Puts the line of a read of memory that gave these bytes. No operation begins with one.
+#[inline(always)]
+fn put_part<W: Write, A: Allocator>(
+    text: &mut Buffer<A>,
+    writer: &mut W,
+    hosted: bool,
+    slot: u8,
+    part: &[u8],
+    words: (u8, u8),
+)
+    requires block { words.0 ≤ 3 }
+    requires console { words.1 ≤ 3 }
+    ensures { Sends (W.contents writer.old) (W.contents writer.new) (waiting text.old)
+        (ended (told_line {A = A} hosted (told_of slot (Reply.Bytes part.now) [] words None))) (waiting text.new) }
+{
+    if !hosted {
+        put_read(text, writer, slot, part, words, b'\n');
+        return;
+    }
+    put_read(text, writer, slot, part, words, b' ');
+    put_asked(text, writer, None);
+}
+
+// Whether what is in flight behind the event begins with it, which a hosted trace alone tells.
+#[inline(always)]
+fn begins_next<I: Image, A: Allocator>(board: &Board<I, A>, hosted: bool, event: &Event<A>) -> bool
+    ensures { hosted ≡ true → result ≡ begins (verdict_in event.now.what) (flight_of (slice_get board.now.slots event.now.slot)) }
 {
     match event.what {
+        _ if !hosted => false,
         EventKind::Complete { .. } => true,
         _ => board.operation(event.slot).is_none(),
     }
 }
 
 // What is in flight of a slot, where it began with the last event.
+#[inline(always)]
 fn begun<I: Image, A: Allocator>(
     board: &Board<I, A>,
     slot: u8,

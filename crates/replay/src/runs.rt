@@ -3,47 +3,45 @@
 //! Each line is read, its event handled and the text of its record sent before the next. Bytes that it spells are
 //! written into room that is lent.
 
-ghost use Rattle.std.specs.Prelude.{◌≡◌, ◌≢◌, ◌≤◌, ℕ, [], ◌∷◌, List, Err, length};
+ghost use Rattle.std.specs.Prelude.{◌≢◌, ℕ, [], ◌∷◌, List, Err, length};
 ghost use Rattle.board.specs.declared.event.Event.{Event};
 ghost use Rattle.replay.specs.declared.fault.ReplayFault.{ReplayFault};
-ghost use Rattle.replay.specs.Running.{AfterLines, HasRoomFor, RunsLine, RunsParsed};
+ghost use Rattle.replay.specs.Running.{AfterLines, HasRoomFor, RunsLine};
 ghost use Rattle.replay.specs.Telling.{SendsRun};
 ghost use Rattle.trace.specs.Events.{BeginsWithEvent};
-ghost use Rattle.trace.specs.ParsedEvent.{IsFineParsed};
 ghost use Rattle.trace.specs.Sends.{waiting};
-ghost use Rattle.trace.specs.Validating.{AreEventLines, AreLinesOf, parsed_len};
+ghost use Rattle.trace.specs.Validating.{AreEventLines, AreLinesOf};
 
 use crate::fault::ReplayFault;
-use crate::running::{run_event, run_hosted_event};
+use crate::running::run_event;
 use board::Board;
 use sector_cache::Image;
 use std::alloc::Allocator;
 use std::io::Write;
-use trace::{
-    Buffer, Disks, ParsedEvent, take_event, take_input, take_mem_write, take_read, take_write,
-};
+use trace::{Buffer, take_event, take_input, take_mem_write, take_read, take_write};
 
 /// How many bytes of text wait for the writer at most.
 const TEXT_ROOM: usize = 65536;
 
-/// Runs the events that the lines say, and writes the text of their records.
+/// Runs the events that the lines of a trace say, and writes the text of their records. `hosted` tells whether the
+/// trace is.
 pub(crate) fn run_text<W: Write, I: Image, A: Allocator + Copy>(
     alloc: A,
     board: &mut Board<I, A>,
-    disks: Disks,
+    hosted: bool,
     lines: &[u8],
     room: &mut [u8],
     writer: &mut W,
 ) -> Result<(), ReplayFault>
     requires lines { AreEventLines A (length room.old) lines.now }
     ensures after { (events : List (Event A)) → AreLinesOf events lines.now →
-        AfterLines disks I.disk events board.old board.new (W.contents writer.old) (W.contents writer.new) result }
+        AfterLines hosted I.disk events board.old board.new (W.contents writer.old) (W.contents writer.new) result }
     ensures whole { (done : ℕ) → result ≢ Err (ReplayFault.Run done) }
 {
     let Ok(mut text) = Buffer::with_room(alloc, TEXT_ROOM) else {
         return Err(ReplayFault::NoMemory);
     };
-    run_lines(alloc, board, disks, lines, room, &mut text, writer);
+    run_lines(alloc, board, hosted, lines, room, &mut text, writer);
     text.flush(writer);
     if text.is_broken() {
         return Err(ReplayFault::Write);
@@ -56,7 +54,7 @@ pub(crate) fn run_text<W: Write, I: Image, A: Allocator + Copy>(
 fn run_lines<W: Write, I: Image, A: Allocator + Copy>(
     alloc: A,
     board: &mut Board<I, A>,
-    disks: Disks,
+    hosted: bool,
     lines: &[u8],
     room: &mut [u8],
     text: &mut Buffer<A>,
@@ -64,12 +62,12 @@ fn run_lines<W: Write, I: Image, A: Allocator + Copy>(
 )
     requires lines { AreEventLines A (length room.old) lines.now }
     ensures { (events : List (Event A)) → AreLinesOf events lines.now →
-        SendsRun disks I.disk board.old board.new events (W.contents writer.old) (W.contents writer.new) (waiting text.old) (waiting text.new) }
+        SendsRun hosted I.disk board.old board.new events (W.contents writer.old) (W.contents writer.new) (waiting text.old) (waiting text.new) }
 {
     let mut output = Vec::new(alloc);
     let mut rest = lines;
     while !rest.is_empty() {
-        rest = run_line(alloc, board, disks, rest, room, &mut output, text, writer);
+        rest = run_line(alloc, board, hosted, rest, room, &mut output, text, writer);
     }
 }
 
@@ -78,7 +76,7 @@ fn run_lines<W: Write, I: Image, A: Allocator + Copy>(
 fn run_line<'a, W: Write, I: Image, A: Allocator + Copy>(
     alloc: A,
     board: &mut Board<I, A>,
-    disks: Disks,
+    hosted: bool,
     lines: &'a [u8],
     room: &mut [u8],
     output: &mut Vec<u8, A>,
@@ -87,56 +85,34 @@ fn run_line<'a, W: Write, I: Image, A: Allocator + Copy>(
 ) -> &'a [u8]
     requires begins { BeginsWithEvent A lines.now }
     requires room { HasRoomFor A lines.now (length room.old) }
-    ensures { RunsLine A lines.now result.now (λ event. SendsRun disks I.disk board.old board.new (event ∷ [])
+    ensures { RunsLine A lines.now result.now (λ event. SendsRun hosted I.disk board.old board.new (event ∷ [])
         (W.contents writer.old) (W.contents writer.new) (waiting text.old) (waiting text.new)) }
 {
     match lines {
         [b'r', b' ', rest @ ..] => {
             let (parsed, after) = take_read(rest);
-            run(board, disks, &parsed, room, output, text, writer);
+            run_event(board, hosted, &parsed, room, output, text, writer);
             after
         }
         [b'w', b' ', rest @ ..] => {
             let (parsed, after) = take_write(rest);
-            run(board, disks, &parsed, room, output, text, writer);
+            run_event(board, hosted, &parsed, room, output, text, writer);
             after
         }
         [b'm', b'w', b' ', rest @ ..] => {
             let (parsed, after) = take_mem_write(alloc, rest);
-            run(board, disks, &parsed, room, output, text, writer);
+            run_event(board, hosted, &parsed, room, output, text, writer);
             after
         }
         [b'i', b'n', b' ', rest @ ..] => {
             let (parsed, after) = take_input(alloc, rest);
-            run(board, disks, &parsed, room, output, text, writer);
+            run_event(board, hosted, &parsed, room, output, text, writer);
             after
         }
         _ => {
             let (parsed, after) = take_event(alloc, lines);
-            run(board, disks, &parsed, room, output, text, writer);
+            run_event(board, hosted, &parsed, room, output, text, writer);
             after
         }
-    }
-}
-
-// Runs an event, and sends the text of its record.
-#[inline(always)]
-fn run<W: Write, I: Image, A: Allocator + Copy>(
-    board: &mut Board<I, A>,
-    disks: Disks,
-    parsed: &ParsedEvent<'_, A>,
-    room: &mut [u8],
-    output: &mut Vec<u8, A>,
-    text: &mut Buffer<A>,
-    writer: &mut W,
-)
-    requires fine { IsFineParsed parsed.now }
-    requires room { parsed_len parsed.now ≤ length room.old }
-    ensures { RunsParsed parsed.now (λ event. SendsRun disks I.disk board.old board.new (event ∷ [])
-        (W.contents writer.old) (W.contents writer.new) (waiting text.old) (waiting text.new)) }
-{
-    match disks {
-        Disks::Cached { .. } => run_event(board, parsed, room, output, text, writer),
-        Disks::Hosted => run_hosted_event(board, parsed, room, output, text, writer),
     }
 }

@@ -16,7 +16,7 @@ shown input old first last new before after p run q = record {
   trace = run.trace;
   read = run.read;
   ran =
-      ran_more run.trace.disks run.trace.slots run.trace.events before after _ _
+      ran_more run.trace.slots run.trace.events before after _ _
       (λ text out. Appends-kept old last new text (then_more old first last text p out) q) run.ran;
 }
 

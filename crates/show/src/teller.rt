@@ -86,7 +86,7 @@ fn watcher_of(
 ) -> Option<Watcher> {
     let mut trace = read_trace(alloc, front).ok()?;
     limit_memories(trace.format, &mut trace.slots);
-    let board = Watched::new(alloc, trace.disks, &trace.slots, before)?;
+    let board = Watched::new(alloc, &trace.slots, before, trace.cache)?;
     let watcher = Watcher::new(alloc, board).ok()?;
     watcher.say_board(&trace, text);
     Some(watcher)

@@ -8,13 +8,13 @@ use crate::weave::Text;
 use crate::wording::{
     Mistake, SHOWN, read_mistake, say_event, say_interrupts, say_place, say_value, write_mistake,
 };
-use board::{DeviceKind, Event, EventKind, Reply, SlotSpec};
+use board::{Backing, DeviceKind, Event, EventKind, Reply, SlotSpec};
 use chain::{Chain, Fault};
 use guest_memory::RegionSpec;
 use mmio_window::Queue;
 use negotiation::{Features, Flags};
 use std::alloc::{AllocError, Global};
-use trace::{Disks, Format, Trace, Version};
+use trace::{Format, Trace, Version};
 
 /// The offset of QueueNotify (4.2.2).
 const QUEUE_NOTIFY: u16 = 0x050;
@@ -64,16 +64,11 @@ impl Watcher {
             Format::Plain(Version::Two) => "1 version 2\n",
             Format::Extended => "1 extended\n",
         });
-        match trace.disks {
-            Disks::Cached { capacity } => {
-                text.say("2 cache of ");
-                text.counted(u64::from(capacity), "sector");
-                text.say("\n");
-            }
-            Disks::Hosted => text.say("2 hosted: the host serves each guest's disk\n"),
-        }
+        text.say("2 cache of ");
+        text.counted(u64::from(trace.cache), "sector");
+        text.say("\n");
         for (number, slot) in trace.slots.iter().enumerate() {
-            say_slot(text, number as u64, slot, trace.disks);
+            say_slot(text, number as u64, slot);
         }
     }
 
@@ -250,7 +245,7 @@ impl Watcher {
 }
 
 // Says a slot of a trace.
-fn say_slot(text: &mut Text, number: u64, slot: &SlotSpec, disks: Disks) {
+fn say_slot(text: &mut Text, number: u64, slot: &SlotSpec) {
     text.count(number.wrapping_add(3));
     text.say(" guest ");
     text.count(number);
@@ -258,9 +253,12 @@ fn say_slot(text: &mut Text, number: u64, slot: &SlotSpec, disks: Disks) {
     say_regions(text, slot.regions.as_slice());
     text.say(", ");
     text.counted(slot.extent.count, "sector");
-    if let Disks::Cached { .. } = disks {
-        text.say(" from ");
-        text.count(slot.extent.start);
+    match slot.backing {
+        Backing::Image => {
+            text.say(" from ");
+            text.count(slot.extent.start);
+        }
+        Backing::Host => text.say(" that the host serves"),
     }
     text.say(if slot.read_only {
         ", read-only"

@@ -9,7 +9,6 @@ use board::{
 use mmio_window::Window;
 use sector_cache::MemoryImage;
 use std::alloc::Global;
-use trace::Disks;
 
 /// Such a board, with the chain of each slot that was in flight when it was said last.
 #[derive(Drop)]
@@ -19,19 +18,14 @@ pub struct Watched {
 }
 
 impl Watched {
-    /// The board of a trace's slots, where there is one. `before` is the image, which disks that the host serves have no
-    /// part in.
+    /// The board of a trace's slots, where there is one. `before` is the image, and the cache keeps so many sectors.
     pub fn new(
         alloc: Global,
-        disks: Disks,
         slots: &[SlotSpec],
         before: MemoryImage,
+        cache: u32,
     ) -> Option<Watched> {
-        let capacity = match disks {
-            Disks::Cached { capacity } => capacity,
-            Disks::Hosted => 1,
-        };
-        let board = Board::new(alloc, slots, before, capacity).ok()?;
+        let board = Board::new(alloc, slots, before, cache).ok()?;
         let mut flights = Vec::with_capacity(alloc, slots.len()).ok()?;
         for _ in slots {
             flights.push(None).ok()?;

@@ -9,12 +9,12 @@ use Rattle.trace.specs.declared.format.Format.{Format}
 use Rattle.trace.specs.declared.format.Format.TheVariants.{Plain, Extended}
 use Rattle.trace.specs.declared.format.Version.TheVariants.{One, Two}
 use Rattle.trace.specs.declared.word.Word.{Word}
-use Rattle.trace.specs.declared.word.Word.TheVariants.{Slot}
+use Rattle.trace.specs.declared.word.Word.TheVariants.{Cache, Slot}
 use Rattle.trace.specs.Cuts.{lines_of}
 use Rattle.trace.specs.Faults.{AllSay, AreAsMany, HasWord, IsEnded, IsHeader, IsOfFormat, MayStand, Passes, first_field, line_at, other_fields}
 use Rattle.trace.specs.Text.{header}
 use Rattle.trace.specs.Words.{spelled, shapes, IsWordOf}
-use Rattle.trace.proofs.Entries.{Entered, EnteredEvent, EnteredSecond, same_word}
+use Rattle.trace.proofs.Entries.{Entered, EnteredEvent, same_word}
 use Rattle.trace.proofs.Refused.{may_move}
 
 -- a header is one format's, by its ninth byte
@@ -97,10 +97,10 @@ module _ (format : Format) (text : List ℕ) (k : ℕ) (g : Good format text k) 
 abbrev pub IsSlotLine : Format → List ℕ → Type 0
 IsSlotLine format l = Entered format l Slot
 
--- a text whose first lines are a header, where its disks are, slots and events, before at least one more part
+-- a text whose first lines are a header, a cache, slots and events, before at least one more part
 module _ (format : Format) (text k : List ℕ) (S E more : List (List ℕ))
     (is : lines_of text ≡ (header format ∷ k ∷ (S ++ E)) ++ more) (some : 0 < length more)
-    (second : EnteredSecond format k) (slots : All (IsSlotLine format) S)
+    (cache : Entered format k Cache) (slots : All (IsSlotLine format) S)
     (events : All (EnteredEvent format) E) where
   total : length (lines_of text) ≡ 2 + (length S + length E) + length more
   total = ap length is ∙ omega (arith, length-append (header format ∷ k ∷ (S ++ E)) more, length-append S E)
@@ -172,10 +172,9 @@ module _ (format : Format) (text k : List ℕ) (S E more : List (List ℕ))
                   }
               | inr ne ↦
                   let two : j ≡ 2 = omega arith in
-                  let e : EnteredSecond format (line_at text j) =
-                  subst (EnteredSecond format) (sym (ap (line_at text) two ∙ at_two)) second in
-                  good_entry j (omega arith) end e.word
-                  (subst (λ (n : ℕ). MayStand n e.word) (sym two) e.may) e.of_format e.entry
+                  good_entry j (omega arith) end Cache two tt
+                  (subst (λ (l : List ℕ). Entered format l Cache)
+                  (sym (ap (line_at text) two ∙ at_two)) cache)
                   (λ _ i low high. absurd (omega arith))
             ]
         | inr late ↦

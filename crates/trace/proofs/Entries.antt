@@ -1,4 +1,4 @@
--- The line of a slot, of an event and of the disks: its word, and fields that say what they have to.
+-- The line of a slot, of an event and of the cache: its word, and fields that say what they have to.
 use Rattle.std.proofs.Common.{◌≡◌, ◌≢◌, ℕ, suc, ◌+◌, ◌*◌, ◌^◌, ◌<◌, ◌≤◌, Bool, true, false, cond, eqb, length, List, [], ◌∷◌, ◌++◌, All, drop, get_or, map, refl, sym, ap, subst, ◌∙◌, arith, MatchBool}
 use Rattle.std.specs.Prelude.{⊤}
 use Rattle.block_device.specs.declared.operation.Verdict.{Verdict}
@@ -9,8 +9,8 @@ use Rattle.board.specs.declared.event.Event.{Event}
 use Rattle.board.specs.declared.event.EventKind.{EventKind}
 use Rattle.board.specs.declared.event.EventKind.TheVariants as what
 use Rattle.board.specs.declared.spec.SlotSpec.{SlotSpec}
-use Rattle.trace.specs.declared.disks.Disks.{Disks}
-use Rattle.trace.specs.declared.disks.Disks.TheVariants as disks
+use Rattle.board.specs.declared.spec.Backing.{Backing}
+use Rattle.board.specs.declared.spec.Backing.TheVariants.{Image, Host}
 use Rattle.trace.specs.declared.format.Format.{Format}
 use Rattle.trace.specs.declared.format.Format.TheVariants.{Plain, Extended}
 use Rattle.trace.specs.declared.format.Version.TheVariants.{One, Two}
@@ -19,17 +19,17 @@ use Rattle.guest_memory.specs.declared.spec.RegionSpec.{RegionSpec}
 use Rattle.trace.specs.declared.table.Field.{Field}
 use Rattle.trace.specs.declared.table.Field.TheVariants.{Identity}
 use Rattle.trace.specs.declared.word.Word.{Word}
-use Rattle.trace.specs.declared.word.Word.TheVariants.{Cache, Hosted, Slot, Read, Write, MemRead, MemWrite, Input, Resize, Restore, Complete}
+use Rattle.trace.specs.declared.word.Word.TheVariants.{Cache, Slot, Read, Write, MemRead, MemWrite, Input, Resize, Restore, Complete}
 use Rattle.trace.specs.Cuts.{fields_of}
 use Rattle.trace.specs.Faults.{AllSay, AreAsMany, MayStand, order, fault_of}
-use Rattle.trace.specs.Printable.{DisksInRange, KindInRange, IsPrintableKind, IsPrintableMemory, SlotInRange}
+use Rattle.trace.specs.Printable.{KindInRange, IsPrintableKind, IsPrintableMemory, SlotInRange}
 use Rattle.trace.specs.Refusals.{IsFine, IsFineSlot}
 use Rattle.hexadecimal.specs.Spelling.{num, fixed, bytes}
-use Rattle.trace.specs.Spelling.{window, mode, verdict, width_digit, region_text, regions_text}
-use Rattle.trace.specs.Text.{line, disks_fields, disks_line, disks_word, memory_fields, slot_fields, slot_line, event_fields, event_line, what_fields, word_for}
+use Rattle.trace.specs.Spelling.{window, disk, mode, verdict, width_digit, region_text, regions_text}
+use Rattle.trace.specs.Text.{line, cache_fields, cache_line, disk_fields, memory_fields, slot_fields, slot_line, event_fields, event_line, what_fields, word_for}
 use Rattle.trace.specs.Format.{unless_version_1}
 use Rattle.hexadecimal.specs.Fields.{IsBytesField, IsFixed}
-use Rattle.trace.specs.Words.{RegionInRange, Shape, Num, Offset, Window, Width, Value, Mode, Verdict as ByVerdict, Bytes, Identity as ByIdentity, Says, behind_memory, memory_in, shape_of, shapes, spelled, width_among, IsWidth, IsWordOf}
+use Rattle.trace.specs.Words.{RegionInRange, Shape, Num, Disk as ByDisk, Offset, Window, Width, Value, Mode, Verdict as ByVerdict, Bytes, Identity as ByIdentity, Says, behind_disk, disk_in, memory_in, shape_of, shapes, spelled, width_among, IsWidth, IsWordOf}
 use Rattle.hexadecimal.proofs.ByteFields.{AreBytes}
 use Rattle.trace.proofs.Signs.{bytes_digits}
 use Rattle.trace.proofs.Signs.{Above, AllAbove, above_append, above_tested, above_num, above_fixed, fields_of-line, above_line}
@@ -48,7 +48,7 @@ word_at n = cond (eqb n 99097) Cache
     (cond (eqb n 109114) MemRead
     (cond (eqb n 109119) MemWrite
     (cond (eqb n 105110) Input
-    (cond (eqb n 115116) Restore (cond (eqb n 104111) Hosted (cond (eqb n 105111) Complete Resize)))))))))
+    (cond (eqb n 115116) Restore (cond (eqb n 105111) Complete Resize))))))))
 
 found : (w : Word) → word_at (key (spelled w)) ≡ w
 found Cache = refl
@@ -121,6 +121,10 @@ above_regions (r ∷ (s ∷ rs)) =
     above_append 32 (region_text r) (44 ∷ regions_text (s ∷ rs)) (above_region r)
     (omega arith, above_regions (s ∷ rs))
 
+a_disk : (backing : Backing) → Stands ByDisk (disk backing)
+a_disk Image = ((Image, refl), above_tested 32 (disk Image) refl)
+a_disk Host = ((Host, refl), above_tested 32 (disk Host) refl)
+
 a_mode : (b : Bool) → Stands Mode (mode b)
 a_mode false = ((false, refl), above_tested 32 (mode false) refl)
 a_mode true = ((true, refl), above_tested 32 (mode true) refl)
@@ -190,28 +194,13 @@ module _ (format : Format) (word : Word) (fs : List (List ℕ))
 
 -- ---- the second line
 
-pub record EnteredSecond (format : Format) (l : List ℕ) : Type 0 where
-  pub word : Word
-  pub may : MayStand 2 word
-  pub of_format : IsWordOf format word
-  pub entry : Entered format l word
+pub entered_cache : (format : Format) (n : ℕ) → n < 2 ^ 32 → Entered format (cache_line n) Cache
+unfolding cache_line
+entered_cache format n lt = entered format Cache (num n ∷ []) (a_number 32 n lt, tt)
 
-pub entered_disks : (format : Format) (d : Disks) → DisksInRange d → IsWordOf format (disks_word d)
-    → EnteredSecond format (disks_line d)
-unfolding disks_line
-entered_disks format (disks.Cached n) lt of = record {
-  word = Cache;
-  may = refl;
-  of_format = of;
-  entry = entered format Cache (num n ∷ []) (a_number 32 n lt, tt);
-}
-entered_disks format disks.Hosted lt of =
-    record { word = Hosted; may = refl; of_format = of; entry = entered format Hosted [] tt }
-
-pub cut_disks : (d : Disks) → DisksInRange d → fields_of (disks_line d) ≡ disks_fields d
-unfolding disks_line
-cut_disks (disks.Cached n) lt = cut_line Extended Cache (num n ∷ []) (a_number 32 n lt, tt)
-cut_disks disks.Hosted lt = cut_line Extended Hosted [] tt
+pub cut_cache : (n : ℕ) → n < 2 ^ 32 → fields_of (cache_line n) ≡ cache_fields n
+unfolding cache_line
+cut_cache n lt = cut_line Extended Cache (num n ∷ []) (a_number 32 n lt, tt)
 
 -- ---- the line of a slot
 
@@ -241,22 +230,30 @@ memory_stands (Plain version) width (r ∷ []) fits few one = let h = fits 0 r (
     (a_number 64 r.base h.base, (a_number 64 r.len h.len, tt))
 memory_stands (Plain version) width (r ∷ (s ∷ rs)) fits few one = absurd (omega (arith, one))
 
--- what stands behind it
+-- who has its disk, where a format says so
+disk_stands : (format : Format) (width : List ℕ) (backing : Backing)
+    → EachStands (map (shape_of width) (disk_in format)) (disk_fields format backing)
+disk_stands (Plain version) width backing = tt
+disk_stands Extended width backing = (a_disk backing, tt)
+
+-- what stands behind that
 abbrev pub behind : Format → SlotSpec → List (List ℕ)
 behind format s = num s.extent.start ∷ num s.extent.count ∷ mode s.read_only ∷ num s.cols ∷ num s.rows
     ∷ unless_version_1 format (bytes s.identity ∷ [])
 
 abbrev slot_rest : Format → SlotSpec → List (List ℕ)
-slot_rest format s = memory_fields format s.regions ++ behind format s
+slot_rest format s = memory_fields format s.regions ++ (disk_fields format s.backing ++ behind format s)
 
-slot_stands : (format : Format) (disks : Disks) (s : SlotSpec) → IsFineSlot format disks s
+slot_stands : (format : Format) (s : SlotSpec) → IsFineSlot format s
     → EachStands (shapes format Slot (slot_rest format s)) (slot_rest format s)
-slot_stands format disks s h =
+slot_stands format s h =
     let width = width_among (slot_rest format s) in
     let fits = h.fits in
-    stand_both (shape_of width) (memory_in format) (behind_memory format) (memory_fields format s.regions)
-    (behind format s)
-    (memory_stands format width s.regions fits.regions fits.few h.printable.memory) (
+    stand_both (shape_of width) (memory_in format) (disk_in format ++ behind_disk format)
+    (memory_fields format s.regions) (disk_fields format s.backing ++ behind format s)
+    (memory_stands format width s.regions fits.regions fits.few h.printable.memory)
+    (stand_both (shape_of width) (disk_in format) (behind_disk format) (disk_fields format s.backing)
+    (behind format s) (disk_stands format width s.backing) (
       a_number 64 s.extent.start fits.start,
       (
         a_number 64 s.extent.count fits.count,
@@ -268,17 +265,17 @@ slot_stands format disks s h =
           ),
         ),
       ),
-    )
+    ))
 
-pub entered_slot : (format : Format) (disks : Disks) (s : SlotSpec) → IsFineSlot format disks s
+pub entered_slot : (format : Format) (s : SlotSpec) → IsFineSlot format s
     → Entered format (slot_line format s) Slot
 unfolding slot_line
-entered_slot format disks s h = entered format Slot (slot_rest format s) (slot_stands format disks s h)
+entered_slot format s h = entered format Slot (slot_rest format s) (slot_stands format s h)
 
-pub cut_slot : (format : Format) (disks : Disks) (s : SlotSpec) → IsFineSlot format disks s
+pub cut_slot : (format : Format) (s : SlotSpec) → IsFineSlot format s
     → fields_of (slot_line format s) ≡ slot_fields format s
 unfolding slot_line
-cut_slot format disks s h = cut_line format Slot (slot_rest format s) (slot_stands format disks s h)
+cut_slot format s h = cut_line format Slot (slot_rest format s) (slot_stands format s h)
 
 -- ---- the line of an event
 

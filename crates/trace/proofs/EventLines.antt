@@ -3,7 +3,6 @@ use Rattle.std.proofs.Common.{◌≡◌, ◌≢◌, ℕ, List, [], ◌∷◌, �
 use Rattle.std.proofs.lemmas.List.{append_assoc}
 use Rattle.std.proofs.lemmas.List.Elements.{All-cons, All-nil}
 use Rattle.board.specs.declared.event.Event.{Event}
-use Rattle.trace.specs.declared.disks.Disks.TheVariants.{Cached}
 use Rattle.trace.specs.declared.format.Format.TheVariants.{Extended}
 use Rattle.trace.specs.declared.fault.FaultKind.{FaultKind}
 use Rattle.trace.specs.declared.fault.FaultKind.TheVariants as kind
@@ -26,14 +25,13 @@ use Rattle.trace.proofs.Formats.{word_of_extended}
 -- ---- a trace of these events alone
 
 abbrev pub alone : {A : Type 0} → List (Event A) → Content A
-alone events = record { format = Extended; disks = Cached 0; slots = []; events = events }
+alone events = record { format = Extended; cache = 0; slots = []; events = events }
 
 pub alone_fits : {A : Type 0} (events : List (Event A)) → All IsFine events → Fits (alone events)
 alone_fits events fine = record {
-  range = record { disks = omega arith; slots = All-nil SlotInRange; events = λ k d lt. (fine k d lt).fits };
+  range = record { cache = omega arith; slots = All-nil SlotInRange; events = λ k d lt. (fine k d lt).fits };
   printable = record {
-    disks = tt;
-    slots = All-nil (IsPrintableSlot Extended (Cached 0));
+    slots = All-nil (IsPrintableSlot Extended);
     events = λ k d lt. (fine k d lt).printable;
     words =
         λ k d lt. word_of_extended (word_for (get_or events k d).what);

@@ -1,15 +1,16 @@
 -- What the formats of a trace have in common.
 use Rattle.std.proofs.Common.{◌≡◌, ◌≢◌, ℕ, ◌≤◌, List, get_or, map, refl, arith}
 use Rattle.board.specs.declared.spec.SlotSpec.{SlotSpec}
-use Rattle.trace.specs.declared.disks.Disks.{Disks}
+use Rattle.board.specs.declared.spec.Backing.{Backing}
+use Rattle.board.specs.declared.spec.Backing.TheVariants.{Image}
 use Rattle.trace.specs.declared.format.Format.{Format}
 use Rattle.trace.specs.declared.format.Format.TheVariants.{Plain, Extended}
 use Rattle.trace.specs.declared.format.Version.TheVariants.{One, Two}
 use Rattle.trace.specs.declared.word.Word.{Word}
-use Rattle.trace.specs.declared.word.Word.TheVariants.{Hosted, Restore, Complete}
-use Rattle.trace.specs.Format.{GoesInto, unless_version_1}
-use Rattle.trace.specs.Printable.{IsPrintable, IsPrintableMemory, IsPrintableSlot}
-use Rattle.trace.specs.Text.{Content, as_format, disks_word, word_for}
+use Rattle.trace.specs.declared.word.Word.TheVariants.{Restore, Complete}
+use Rattle.trace.specs.Format.{GoesInto, if_extended, unless_version_1}
+use Rattle.trace.specs.Printable.{IsPrintable, IsPrintableDisk, IsPrintableMemory, IsPrintableSlot}
+use Rattle.trace.specs.Text.{Content, as_format, word_for}
 use Rattle.trace.specs.Words.{IsWordOf}
 
 -- each of what all but version 1 have
@@ -19,9 +20,14 @@ map_unless_version_1 f (Plain One) xs = refl
 map_unless_version_1 f (Plain Two) xs = refl
 map_unless_version_1 f Extended xs = refl
 
+-- and of what the extended format alone has
+pub map_if_extended : {X Y : Type 0} (f : X → Y) (format : Format) (xs : List X)
+    → map f (if_extended format xs) ≡ if_extended format (map f xs)
+map_if_extended f (Plain version) xs = refl
+map_if_extended f Extended xs = refl
+
 -- the extended format has every word
 pub word_of_extended : (word : Word) → IsWordOf Extended word
-word_of_extended Hosted = refl
 word_of_extended Restore = refl
 word_of_extended Complete = refl
 word_of_extended word = tt
@@ -39,7 +45,6 @@ goes_extended old (Plain Two) goes is = absurd (goes is)
 goes_extended old Extended goes is = refl
 
 word_goes : (old new : Format) (word : Word) → GoesInto old new → IsWordOf old word → IsWordOf new word
-word_goes old new Hosted goes h = goes_extended old new goes h
 word_goes old new Restore goes h = goes_extended old new goes h
 word_goes old new Complete goes h = goes_extended old new goes h
 word_goes old new word goes h = tt
@@ -58,11 +63,22 @@ memory_goes old (Plain One) count goes h = one_region old count (λ is. absurd c
 memory_goes old (Plain Two) count goes h = one_region old count goes h
 memory_goes old Extended count goes h = some_regions old count h
 
-slot_goes : (old new : Format) (disks : Disks) (s : SlotSpec) → GoesInto old new
-    → IsPrintableSlot old disks s → IsPrintableSlot new disks s
-slot_goes old new disks s goes h = record {
+on_image : (format : Format) (backing : Backing) → format ≢ Extended → IsPrintableDisk format backing
+    → backing ≡ Image
+on_image (Plain version) backing plain h = h
+on_image Extended backing plain h = absurd (plain refl)
+
+disk_goes : (old new : Format) (backing : Backing) → GoesInto old new → IsPrintableDisk old backing
+    → IsPrintableDisk new backing
+disk_goes old (Plain One) backing goes h = on_image old backing (λ is. absurd cc) h
+disk_goes old (Plain Two) backing goes h = on_image old backing goes h
+disk_goes old Extended backing goes h = tt
+
+slot_goes : (old new : Format) (s : SlotSpec) → GoesInto old new → IsPrintableSlot old s
+    → IsPrintableSlot new s
+slot_goes old new s goes h = record {
   memory = memory_goes old new _ goes h.memory;
-  backed = h.backed;
+  disk = disk_goes old new s.backing goes h.disk;
   identity = λ is. h.identity (first_is_1 old new goes is);
 }
 
@@ -70,8 +86,7 @@ slot_goes old new disks s goes h = record {
 pub fits_format : {A : Type 0} (format : Format) (t : Content A) → GoesInto t.format format → IsPrintable t
     → IsPrintable (as_format format t)
 fits_format format t goes h = record {
-  disks = word_goes t.format format (disks_word t.disks) goes h.disks;
-  slots = λ k d lt. slot_goes t.format format t.disks (get_or t.slots k d) goes (h.slots k d lt);
+  slots = λ k d lt. slot_goes t.format format (get_or t.slots k d) goes (h.slots k d lt);
   events = h.events;
   words = λ k d lt. word_goes t.format format (word_for (get_or t.events k d).what) goes (h.words k d lt);
 }

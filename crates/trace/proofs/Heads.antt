@@ -5,11 +5,14 @@ use Rattle.trace.specs.declared.fault.FaultKind.{FaultKind}
 use Rattle.trace.specs.declared.fault.FaultKind.TheVariants as kind
 use Rattle.trace.specs.Cuts.{lines_of}
 use Rattle.trace.specs.Faults.{IsCleanBefore, IsEnded, IsFault, IsHeader, IsOfFormat, Passes, first_field, line_at, other_fields}
-use Rattle.trace.specs.Refusals.{RefusesDisks, RefusesFields, RefusesHead, RefusesSecond}
+use Rattle.trace.specs.Refusals.{RefusesCache, RefusesFields, RefusesHead, RefusesSecond}
 use Rattle.trace.specs.Text.{header, joined}
+use Rattle.trace.specs.Words.{spelled}
+use Rattle.trace.specs.declared.word.Word.TheVariants.{Cache}
 use Rattle.trace.specs.declared.format.Format.{Format}
 use Rattle.trace.proofs.Clean.{Good, good_passes}
 use Rattle.trace.proofs.Faulty.{cut_fault, fields_fault, header_fault, word_fault}
+use Rattle.trace.proofs.Refused.{only_cache}
 use Rattle.trace.proofs.Signs.{above_header, lines_of-joined}
 use Rattle.trace.proofs.Sofar.{some_lines}
 
@@ -56,14 +59,14 @@ module _ (format : Format) (text rest : List ℕ)
   at_two : line_at text 2 ≡ get_or (lines_of rest) 0 []
   at_two = ap (λ (ls : List (List ℕ)). get_or ls 1 []) headed
 
-  fields_of_second : (fault : FaultKind) → RefusesDisks format rest fault → fault ≢ kind.NoMemory
+  fields_of_second : (fault : FaultKind) → RefusesCache format rest fault → fault ≢ kind.NoMemory
       → IsFault text 2 fault
   fields_of_second fault h known =
       let here : line_at text 2 ≡ h.line = at_two ∙ ap (λ (ls : List (List ℕ)). get_or ls 0 []) h.cut in
       let end : IsEnded text 2 = omega (arith, ap length headed, ap length h.cut, some_lines h.rest) in
-      fields_fault text 2 (omega arith) head_clean end format names_it h.word h.may h.of_format
+      fields_fault text 2 (omega arith) head_clean end format names_it Cache refl tt
       (ap first_field here ∙ h.first) (λ _ _ j low high. absurd (omega arith)) fault
-      (subst (λ (l : List ℕ). RefusesFields format h.word (other_fields l) fault) (sym here) h.refused) known
+      (subst (λ (l : List ℕ). RefusesFields format Cache (other_fields l) fault) (sym here) h.refused) known
 
   pub second_fault : (fault : FaultKind) → RefusesSecond format rest fault → fault ≢ kind.NoMemory
       → IsFault text 2 fault
@@ -74,5 +77,5 @@ module _ (format : Format) (text rest : List ℕ)
       let here : line_at text 2 ≡ h.line = at_two ∙ ap (λ (ls : List (List ℕ)). get_or ls 0 []) h.cut in
       let end : IsEnded text 2 = omega (arith, ap length headed, ap length h.cut, some_lines h.rest) in
       word_fault text 2 (omega arith) head_clean end format names_it
-      (λ w may of is. h.other w may of (sym (ap first_field here) ∙ is))
+      (λ w may of is. h.other (sym (ap first_field here) ∙ is ∙ ap spelled (only_cache w may)))
   second_fault fault h known = fields_of_second fault h known

@@ -1,11 +1,8 @@
 -- Fields written one after another, and lines.
-use Rattle.std.proofs.Common.{◌≡◌, ◌↔◌, ℕ, ◌+◌, ◌<◌, Bool, IsTrue, true, All, List, [], ◌∷◌, ◌++◌, length, get_or, map, take, refl, sym, ap, ◌∙◌}
+use Rattle.std.proofs.Common.{◌≡◌, ℕ, ◌+◌, ◌<◌, List, [], ◌∷◌, ◌++◌, length, get_or, map, take, refl, sym, ap, ◌∙◌}
 use Rattle.std.proofs.lemmas.List.{append-nil, append_assoc, map_more}
-use Rattle.trace.specs.declared.disks.Disks.{Disks}
-use Rattle.trace.specs.Printable.{IsPrintable, IsPrintableKind, IsPrintableSlot}
 use Rattle.trace.specs.declared.format.Format.{Format}
-use Rattle.trace.specs.Words.{IsWordOf}
-use Rattle.trace.specs.Text.{Content, disks_line, disks_word, ended, event_line, front_text, header, joined, line, slot_line, text, trace_lines, word_for}
+use Rattle.trace.specs.Text.{Content, cache_line, ended, event_line, front_text, header, joined, line, slot_line, text, trace_lines}
 use Rattle.trace.proofs.Signs.{joined_push}
 
 pub line_push : (x : List ℕ) (xs : List (List ℕ)) (y : List ℕ)
@@ -61,37 +58,20 @@ joined_append [] ys = refl
 joined_append (x ∷ xs) ys = ap (λ (t : List ℕ). ended x ++ t) (joined_append xs ys)
     ∙ sym (append_assoc (ended x) (joined xs) (joined ys))
 
-front_is : (format : Format) (disks : Disks) → joined (header format ∷ disks_line disks ∷ [])
-    ≡ front_text format disks
+front_is : (format : Format) (cache : ℕ) → joined (header format ∷ cache_line cache ∷ [])
+    ≡ front_text format cache
 unfolding joined
-front_is format disks = ap (λ (t : List ℕ). ended (header format)
-    ++ t) (append-nil (ended (disks_line disks)))
+front_is format cache = ap (λ (t : List ℕ). ended (header format)
+    ++ t) (append-nil (ended (cache_line cache)))
 
 -- the text, in its three parts
 pub text_is : {A : Type 0} (c : Content A)
-    → (front_text c.format c.disks ++ joined (map (slot_line c.format) c.slots))
+    → (front_text c.format c.cache ++ joined (map (slot_line c.format) c.slots))
     ++ joined (map event_line c.events) ≡ text c
 unfolding trace_lines
 text_is c =
-    sym (joined_append (header c.format ∷ disks_line c.disks ∷ map (slot_line c.format) c.slots)
+    sym (joined_append (header c.format ∷ cache_line c.cache ∷ map (slot_line c.format) c.slots)
     (map event_line c.events)
     ∙ ap (λ (t : List ℕ). t ++ joined (map event_line c.events))
-    (joined_append (header c.format ∷ disks_line c.disks ∷ []) (map (slot_line c.format) c.slots)
-    ∙ ap (λ (t : List ℕ). t ++ joined (map (slot_line c.format) c.slots)) (front_is c.format c.disks)))
-
--- a trace has a text where four tests say so, of which the first three passed
-pub printable_when : {A : Type 0} (t : Content A) (front slots lines words : Bool) → IsTrue front
-    ↔ IsWordOf t.format (disks_word t.disks)
-    → IsTrue slots ↔ All (IsPrintableSlot t.format t.disks) t.slots → IsTrue lines
-    ↔ All (λ e. IsPrintableKind e.what) t.events → IsTrue words
-    ↔ All (λ e. IsWordOf t.format (word_for e.what)) t.events
-    → front ≡ true → slots ≡ true → lines ≡ true → IsTrue words ↔ IsPrintable t
-printable_when t front slots lines words f s l w a b c = (
-  λ h. record {
-    disks = f.0 a;
-    slots = s.0 b;
-    events = l.0 c;
-    words = w.0 h;
-  },
-  λ h. w.1 h.words,
-)
+    (joined_append (header c.format ∷ cache_line c.cache ∷ []) (map (slot_line c.format) c.slots)
+    ∙ ap (λ (t : List ℕ). t ++ joined (map (slot_line c.format) c.slots)) (front_is c.format c.cache)))

@@ -6,7 +6,6 @@ use Rattle.std.proofs.lemmas.List.Elements.{All-map, All-nil, All-push}
 use Rattle.std.proofs.lemmas.List.Splits.{length-slice_split}
 use Rattle.board.specs.declared.event.Event.{Event}
 use Rattle.board.specs.declared.spec.SlotSpec.{SlotSpec}
-use Rattle.trace.specs.declared.disks.Disks.{Disks}
 use Rattle.trace.specs.declared.fault.FaultKind.{FaultKind}
 use Rattle.trace.specs.declared.fault.FaultKind.TheVariants as kind
 use Rattle.trace.specs.declared.read.parsed_event.ParsedEvent.{ParsedEvent}
@@ -19,9 +18,9 @@ use Rattle.trace.specs.Printable.{InRange, IsPrintable, EventInRange, IsPrintabl
 use Rattle.trace.specs.ParsedEvent.{parsed_fields}
 use Rattle.trace.specs.Words.{IsWordOf}
 use Rattle.trace.specs.Refusals.{AddsLine, AddsParsed, IsFine, IsFineSlot, IsHead, RefusesLine, RefusesAfterWord, SaysEvent, has_begun, with_event, with_slot}
-use Rattle.trace.specs.Text.{Content, ended, header, joined, text, line, disks_fields, disks_line, slot_fields, slot_line, event_fields, event_line, trace_lines, word_for}
+use Rattle.trace.specs.Text.{Content, ended, header, joined, text, line, cache_fields, cache_line, slot_fields, slot_line, event_fields, event_line, trace_lines, word_for}
 use Rattle.trace.proofs.Clean.{Good, IsSlotLine, good, good_passes, only_slots, one_event}
-use Rattle.trace.proofs.Entries.{EnteredEvent, entered_disks, entered_event, entered_slot, same_word}
+use Rattle.trace.proofs.Entries.{EnteredEvent, entered_cache, entered_event, entered_slot, same_word}
 use Rattle.trace.proofs.Faulty.{cut_fault, fields_fault, order_fault, word_fault}
 use Rattle.trace.proofs.Refused.{may_move}
 use Rattle.trace.proofs.Signs.{AllAbove, above_header, above_lines, joined_push, line-fields_of, lines_of-joined, long_header}
@@ -31,11 +30,11 @@ pub record Fits {A : Type 0} (c : Content A) : Type 0 where
   pub range : InRange c
   pub printable : IsPrintable c
 
-slot_lines : (format : Format) (disks : Disks) (slots : List SlotSpec) → All SlotInRange slots
-    → All (IsPrintableSlot format disks) slots → All (IsSlotLine format) (map (slot_line format) slots)
-slot_lines format disks slots h fine =
+slot_lines : (format : Format) (slots : List SlotSpec) → All SlotInRange slots
+    → All (IsPrintableSlot format) slots → All (IsSlotLine format) (map (slot_line format) slots)
+slot_lines format slots h fine =
     All-map (IsSlotLine format) (slot_line format) slots
-    (λ k d lt. entered_slot format disks (get_or slots k d) (record { fits = h k d lt; printable = fine k d lt }))
+    (λ k d lt. entered_slot format (get_or slots k d) (record { fits = h k d lt; printable = fine k d lt }))
 
 event_lines : {A : Type 0} (format : Format) (events : List (Event A)) → All EventInRange events
     → All (λ e. IsPrintableKind e.what) events → All (λ e. IsWordOf format (word_for e.what)) events
@@ -59,13 +58,13 @@ unbroken_events format (l ∷ ls) h = let first = h 0 l (omega arith) in
 pub unbroken : {A : Type 0} (c : Content A) → Fits c → AllAbove 10 (trace_lines c)
 unfolding trace_lines
 unbroken c h =
-    let second = entered_disks c.format c.disks h.range.disks h.printable.disks in (
+    let cache = entered_cache c.format c.cache h.range.cache in (
       above_header c.format,
       (
-        second.entry.unbroken,
+        cache.unbroken,
         above_lines (map (slot_line c.format) c.slots)
             (map event_line c.events) (unbroken_slots c.format (map (slot_line c.format) c.slots)
-            (slot_lines c.format c.disks c.slots h.range.slots h.printable.slots))
+            (slot_lines c.format c.slots h.range.slots h.printable.slots))
             (unbroken_events c.format (map event_line c.events)
             (event_lines c.format c.events h.range.events h.printable.events h.printable.words)),
       ),
@@ -82,7 +81,7 @@ pub record Sofar {A : Type 0} (text : List ℕ) (c : Content A) (k : ℕ) (rest 
   pub count : k ≡ 3 + (length c.slots + length c.events)
 
 module _ {A : Type 0} (text : List ℕ) (c : Content A) (k : ℕ) (rest : List ℕ) (s : Sofar text c k rest) where
-  pub parts : lines_of text ≡ (header c.format ∷ disks_line c.disks ∷ (map (slot_line c.format) c.slots
+  pub parts : lines_of text ≡ (header c.format ∷ cache_line c.cache ∷ (map (slot_line c.format) c.slots
       ++ map event_line c.events)) ++ lines_of rest
   unfolding trace_lines
   parts = ap lines_of s.spelled ∙ lines_of-joined (trace_lines c) rest (unbroken c s.fits)
@@ -96,10 +95,10 @@ module _ {A : Type 0} (text : List ℕ) (c : Content A) (k : ℕ) (rest : List �
   good_before : (j : ℕ) → 1 ≤ j → j < k → Good c.format text j
   good_before j le lt =
       let count = s.count in
-      good c.format text (disks_line c.disks) (map (slot_line c.format) c.slots) (map event_line c.events)
+      good c.format text (cache_line c.cache) (map (slot_line c.format) c.slots) (map event_line c.events)
       (lines_of rest) parts (some_lines rest)
-      (entered_disks c.format c.disks s.fits.range.disks s.fits.printable.disks)
-      (slot_lines c.format c.disks c.slots s.fits.range.slots s.fits.printable.slots)
+      (entered_cache c.format c.cache s.fits.range.cache)
+      (slot_lines c.format c.slots s.fits.range.slots s.fits.printable.slots)
       (event_lines c.format c.events s.fits.range.events s.fits.printable.events s.fits.printable.words)
       j le (omega (arith, slots_len, events_len))
 
@@ -113,7 +112,7 @@ module _ {A : Type 0} (text : List ℕ) (c : Content A) (k : ℕ) (rest : List �
   pub next_is : line_at text k ≡ get_or (lines_of rest) 0 []
   next_is =
       let count = s.count in
-      let front : length (header c.format ∷ disks_line c.disks ∷ (map (slot_line c.format) c.slots
+      let front : length (header c.format ∷ cache_line c.cache ∷ (map (slot_line c.format) c.slots
       ++ map event_line c.events))
       ≡ k - 1 = omega (
         arith,
@@ -124,7 +123,7 @@ module _ {A : Type 0} (text : List ℕ) (c : Content A) (k : ℕ) (rest : List �
       ) in
       let none : k - 1 - (k - 1) ≡ 0 = omega arith in
       ap (λ (ls : List (List ℕ)). get_or ls (k - 1) []) parts
-      ∙ get_or-append_right (header c.format ∷ disks_line c.disks ∷ (map (slot_line c.format) c.slots
+      ∙ get_or-append_right (header c.format ∷ cache_line c.cache ∷ (map (slot_line c.format) c.slots
       ++ map event_line c.events)) (lines_of rest) (k - 1) (k - 1) [] front (omega arith)
       ∙ ap (λ (n : ℕ). get_or (lines_of rest) n []) none
 
@@ -138,7 +137,7 @@ module _ {A : Type 0} (text : List ℕ) (c : Content A) (k : ℕ) (rest : List �
         events_len,
         length-append (map (slot_line c.format) c.slots)
             (map event_line c.events),
-        length-append (header c.format ∷ disks_line c.disks ∷ (map (slot_line c.format) c.slots
+        length-append (header c.format ∷ cache_line c.cache ∷ (map (slot_line c.format) c.slots
             ++ map event_line c.events)) (lines_of rest),
       )
 
@@ -158,10 +157,10 @@ module _ {A : Type 0} (text : List ℕ) (c : Content A) (k : ℕ) (rest : List �
       elim (cases_Bool begun) [
         | inl so ↦ absurd (r.ordered so (same_word r.word Slot (sym r.first ∙ slot)))
         | inr not_yet ↦
-            only_slots c.format text (disks_line c.disks) (map (slot_line c.format) c.slots)
+            only_slots c.format text (cache_line c.cache) (map (slot_line c.format) c.slots)
             (map event_line c.events) (lines_of rest) parts (some_lines rest)
-            (entered_disks c.format c.disks s.fits.range.disks s.fits.printable.disks)
-            (slot_lines c.format c.disks c.slots s.fits.range.slots s.fits.printable.slots)
+            (entered_cache c.format c.cache s.fits.range.cache)
+            (slot_lines c.format c.slots s.fits.range.slots s.fits.printable.slots)
             (event_lines c.format c.events s.fits.range.events s.fits.printable.events
             s.fits.printable.words) (events_len
             ∙ none not_yet) j low (omega (arith, slots_len, events_len))
@@ -188,10 +187,10 @@ module _ {A : Type 0} (text : List ℕ) (c : Content A) (k : ℕ) (rest : List �
       let begins = some h.0 in
       order_fault text k late clean end (omega arith) h.1 (3 + length (map (slot_line c.format) c.slots))
       (omega arith) (omega (arith, slots_len))
-      (one_event c.format text (disks_line c.disks) (map (slot_line c.format) c.slots)
+      (one_event c.format text (cache_line c.cache) (map (slot_line c.format) c.slots)
       (map event_line c.events) (lines_of rest) parts (some_lines rest)
-      (entered_disks c.format c.disks s.fits.range.disks s.fits.printable.disks)
-      (slot_lines c.format c.disks c.slots s.fits.range.slots s.fits.printable.slots)
+      (entered_cache c.format c.cache s.fits.range.cache)
+      (slot_lines c.format c.slots s.fits.range.slots s.fits.printable.slots)
       (event_lines c.format c.events s.fits.range.events s.fits.printable.events s.fits.printable.words)
       (omega (arith, events_len)))
   refused begun fault end late some none h known = fault_after begun fault end late none h known
@@ -222,22 +221,22 @@ push_slot c s none =
     let empty = nil_from_length c.events none in
     let e : map event_line c.events ≡ [] = ap (map event_line) empty in
     let v = c.format in
-    ap (λ (ls : List (List ℕ)). (header v ∷ disks_line c.disks ∷ map (slot_line v) (c.slots ++ s ∷ []))
+    ap (λ (ls : List (List ℕ)). (header v ∷ cache_line c.cache ∷ map (slot_line v) (c.slots ++ s ∷ []))
     ++ ls) e
-    ∙ append-nil (header v ∷ disks_line c.disks ∷ map (slot_line v) (c.slots ++ s ∷ []))
-    ∙ ap (λ (ls : List (List ℕ)). header v ∷ disks_line c.disks ∷ ls) (map_push (slot_line v) c.slots s)
+    ∙ append-nil (header v ∷ cache_line c.cache ∷ map (slot_line v) (c.slots ++ s ∷ []))
+    ∙ ap (λ (ls : List (List ℕ)). header v ∷ cache_line c.cache ∷ ls) (map_push (slot_line v) c.slots s)
     ∙ ap (λ (ls : List (List ℕ)). ls
-    ++ slot_line v s ∷ []) (sym (append-nil (header v ∷ disks_line c.disks ∷ map (slot_line v) c.slots))
-    ∙ ap (λ (ls : List (List ℕ)). (header v ∷ disks_line c.disks ∷ map (slot_line v) c.slots)
+    ++ slot_line v s ∷ []) (sym (append-nil (header v ∷ cache_line c.cache ∷ map (slot_line v) c.slots))
+    ∙ ap (λ (ls : List (List ℕ)). (header v ∷ cache_line c.cache ∷ map (slot_line v) c.slots)
     ++ ls) (sym e))
 
 pub push_event : {A : Type 0} (c : Content A) (e : Event A)
     → trace_lines (record c { events = c.events ++ e ∷ [] }) ≡ trace_lines c ++ event_line e ∷ []
 unfolding trace_lines
 push_event c e =
-    ap (λ (ls : List (List ℕ)). (header c.format ∷ disks_line c.disks ∷ map (slot_line c.format) c.slots)
+    ap (λ (ls : List (List ℕ)). (header c.format ∷ cache_line c.cache ∷ map (slot_line c.format) c.slots)
     ++ ls) (map_push event_line c.events e)
-    ∙ sym (append_assoc (header c.format ∷ disks_line c.disks ∷ map (slot_line c.format) c.slots)
+    ∙ sym (append_assoc (header c.format ∷ cache_line c.cache ∷ map (slot_line c.format) c.slots)
     (map event_line c.events) (event_line e ∷ []))
 
 -- a line taken off the rest goes to the end of what was read
@@ -262,20 +261,19 @@ line_read text c d k rest l after fields so cut is lines fits more =
       count = omega arith;
     }
 
-fits_slot : {A : Type 0} (c : Content A) (s : SlotSpec) → Fits c → IsFineSlot c.format c.disks s
+fits_slot : {A : Type 0} (c : Content A) (s : SlotSpec) → Fits c → IsFineSlot c.format s
     → Fits (with_slot c s)
 fits_slot c s h fine =
     let range = h.range in
     let printable = h.printable in
     record {
       range = record {
-        disks = range.disks;
+        cache = range.cache;
         slots = All-push SlotInRange c.slots s range.slots fine.fits;
         events = range.events;
       };
       printable = record {
-        disks = printable.disks;
-        slots = All-push (IsPrintableSlot c.format c.disks) c.slots s printable.slots fine.printable;
+        slots = All-push (IsPrintableSlot c.format) c.slots s printable.slots fine.printable;
         events = printable.events;
         words = printable.words;
       };
@@ -283,7 +281,7 @@ fits_slot c s h fine =
 
 pub slot_read : {A : Type 0} (text : List ℕ) (c : Content A) (k : ℕ) (rest l after : List ℕ) (s : SlotSpec)
     → Sofar text c k rest → rest ≡ l ++ 10 ∷ after → fields_of l ≡ slot_fields c.format s
-    → IsFineSlot c.format c.disks s → length c.events ≡ 0 → Sofar text (with_slot c s) (k + 1) after
+    → IsFineSlot c.format s → length c.events ≡ 0 → Sofar text (with_slot c s) (k + 1) after
 unfolding slot_line
 slot_read text c k rest l after s so cut is fine none =
     line_read text c (with_slot c s) k rest l after (slot_fields c.format s) so cut is (push_slot c s none)
@@ -296,12 +294,11 @@ fits_event c e h fine of =
     let printable = h.printable in
     record {
       range = record {
-        disks = range.disks;
+        cache = range.cache;
         slots = range.slots;
         events = All-push EventInRange c.events e range.events fine.fits;
       };
       printable = record {
-        disks = printable.disks;
         slots = printable.slots;
         events = All-push (λ x. IsPrintableKind x.what) c.events e printable.events fine.printable;
         words = All-push (λ x. IsWordOf c.format (word_for x.what)) c.events e printable.words of;
@@ -321,27 +318,26 @@ two_lines : (a b rest : List ℕ) → ((a ++ 10 ∷ []) ++ ((b ++ 10 ∷ []) ++ 
 two_lines a b rest = simp (append_assoc, append-nil)
 
 -- the first two lines
-pub begun_so : {A : Type 0} (text : List ℕ) (format : Format) (disks : Disks) (rest : List ℕ)
-    → IsHead text format disks rest
-    → Sofar {A = A} text (record { format = format; disks = disks; slots = []; events = [] }) 3 rest
-unfolding trace_lines joined disks_line
-begun_so text format disks rest h =
+pub begun_so : {A : Type 0} (text : List ℕ) (format : Format) (cache : ℕ) (rest : List ℕ)
+    → IsHead text format cache rest
+    → Sofar {A = A} text (record { format = format; cache = cache; slots = []; events = [] }) 3 rest
+unfolding trace_lines joined cache_line
+begun_so text format cache rest h =
     let first = h.format_is in
-    let second = h.disks_are in
-    let e = line-fields_of second.line (disks_fields disks) second.fields in
+    let second = h.cache_is in
+    let e = line-fields_of second.line (cache_fields cache) second.fields in
     record {
       spelled = first.ended ∙ ap (λ (m : List ℕ). header format ++ 10 ∷ m) (second.ended
           ∙ ap (λ (x : List ℕ). x ++ 10 ∷ rest) e)
-          ∙ sym (two_lines (header format) (line (disks_fields disks)) rest);
+          ∙ sym (two_lines (header format) (line (cache_fields cache)) rest);
       fits = record {
         range = record {
-          disks = second.fits;
+          cache = second.fits;
           slots = All-nil SlotInRange;
           events = λ k d lt. absurd (omega arith);
         };
         printable = record {
-          disks = second.of_format;
-          slots = All-nil (IsPrintableSlot format disks);
+          slots = All-nil (IsPrintableSlot format);
           events = λ k d lt. absurd (omega arith);
           words = λ k d lt. absurd (omega arith);
         };
@@ -404,7 +400,7 @@ unfolding trace_lines joined
 numbered text c k rest so =
     let count = so.count in
     let others : List (List ℕ) =
-    disks_line c.disks ∷ (map (slot_line c.format) c.slots ++ map event_line c.events) in
+    cache_line c.cache ∷ (map (slot_line c.format) c.slots ++ map event_line c.events) in
     omega (
       arith,
       ap length so.spelled,

@@ -15,10 +15,9 @@ use Rattle.board.specs.declared.event.Event.{Event}
 use Rattle.board.specs.declared.event.EventKind.{EventKind}
 use Rattle.board.specs.declared.event.EventKind.TheVariants as what
 use Rattle.board.specs.declared.spec.Backing.{Backing}
+use Rattle.board.specs.declared.spec.Backing.TheVariants.{Image, Host}
 use Rattle.board.specs.declared.spec.SlotSpec.{SlotSpec}
 use Rattle.guest_memory.specs.declared.spec.RegionSpec.{RegionSpec}
-use Rattle.trace.specs.declared.disks.Disks.{Disks}
-use Rattle.trace.specs.declared.disks.Disks.TheVariants as kept
 use Rattle.trace.specs.declared.format.Format.{Format}
 use Rattle.trace.specs.declared.format.Format.TheVariants.{Plain, Extended}
 use Rattle.trace.specs.declared.format.Version.TheVariants.{One, Two}
@@ -30,12 +29,12 @@ use Rattle.trace.specs.Faults.{IsCleanBefore, IsEnded, IsFault, Passes, line_at,
 use Rattle.trace.specs.Printable.{IsPrintableKind, IsPrintableMemory, IsWriteAccess, KindInRange}
 use Rattle.trace.specs.Refusals.{IsFine, IsFineSlot}
 use Rattle.hexadecimal.specs.Spelling.{bytes, fixed}
-use Rattle.trace.specs.Spelling.{mode, region_text, verdict, window}
-use Rattle.trace.specs.Text.{Content, disks_fields, disks_line, event_fields, event_line, memory_fields, region_fields, slot_fields, slot_line, text, trace_lines, what_fields, word_for}
+use Rattle.trace.specs.Spelling.{disk, mode, region_text, verdict, window}
+use Rattle.trace.specs.Text.{Content, cache_line, disk_fields, event_fields, event_line, memory_fields, region_fields, slot_fields, slot_line, text, trace_lines, what_fields, word_for}
 use Rattle.trace.specs.Words.{spelled}
 use Rattle.hexadecimal.proofs.ByteFields.{AreBytes, is_bytes}
 use Rattle.trace.proofs.FaultKinds.{same_kind}
-use Rattle.trace.proofs.Entries.{behind, cut_disks, cut_event, cut_slot, entered_event, entered_slot, fits_digits, same_word}
+use Rattle.trace.proofs.Entries.{behind, cut_cache, cut_event, cut_slot, entered_event, entered_slot, fits_digits, same_word}
 use Rattle.trace.proofs.Clean.{same_header}
 use Rattle.hexadecimal.proofs.Numbers.{same_fixed, same_num}
 use Rattle.trace.proofs.RegionFields.{region_parts, regions_parts}
@@ -158,29 +157,43 @@ equally_long (Plain version) (r ∷ (q ∷ rs)) (s ∷ ss) hr hs = absurd (omega
 equally_long (Plain version) (r ∷ []) (s ∷ (q ∷ ss)) hr hs = absurd (omega (arith, hs))
 equally_long (Plain version) (r ∷ []) (s ∷ []) hr hs = refl
 
+-- who has the disks of slots of one format, and what stands behind that
+same_backing : (b c : Backing) → disk b ≡ disk c → b ≡ c
+same_backing Image Image e = refl
+same_backing Host Host e = refl
+same_backing b c e = absurd (omega (arith, ap length e))
+
+same_disk : (format : Format) (s t : SlotSpec) → IsFineSlot format s → IsFineSlot format t
+    → disk_fields format s.backing ++ behind format s ≡ disk_fields format t.backing ++ behind format t
+    → (s.backing ≡ t.backing) × (behind format s ≡ behind format t)
+same_disk (Plain version) s t fs ft e = (fs.printable.disk ∙ sym ft.printable.disk, e)
+same_disk Extended s t fs ft e = (same_backing s.backing t.backing (same_at e 0), ap (drop 1) e)
+
 -- the identities of slots of one format
-same_identity : (format : Format) (disks : Disks) (s t : SlotSpec) → IsFineSlot format disks s
-    → IsFineSlot format disks t → behind format s ≡ behind format t → s.identity ≡ t.identity
-same_identity (Plain One) disks s t fs ft e = fs.printable.identity refl ∙ sym (ft.printable.identity refl)
-same_identity (Plain Two) disks s t fs ft e =
+same_identity : (format : Format) (s t : SlotSpec) → IsFineSlot format s → IsFineSlot format t
+    → behind format s ≡ behind format t → s.identity ≡ t.identity
+same_identity (Plain One) s t fs ft e = fs.printable.identity refl ∙ sym (ft.printable.identity refl)
+same_identity (Plain Two) s t fs ft e =
     same_bytes s.identity t.identity fs.fits.identity ft.fits.identity (same_at e 5)
-same_identity Extended disks s t fs ft e =
+same_identity Extended s t fs ft e =
     same_bytes s.identity t.identity fs.fits.identity ft.fits.identity (same_at e 5)
 
-same_slot_fields : (format : Format) (disks : Disks) (s t : SlotSpec) → IsFineSlot format disks s
-    → IsFineSlot format disks t → slot_fields format s ≡ slot_fields format t → s ≡ t
+same_slot_fields : (format : Format) (s t : SlotSpec) → IsFineSlot format s → IsFineSlot format t
+    → slot_fields format s ≡ slot_fields format t → s ≡ t
 unfolding made_slot
-same_slot_fields format disks s t fs ft e =
+same_slot_fields format s t fs ft e =
     let long = equally_long format s.regions t.regions fs.printable.memory ft.printable.memory in
     let halves = same_halves (memory_fields format s.regions) (memory_fields format t.regions)
-    (behind format s) (behind format t) long (ap (drop 1) e) in
+    (disk_fields format s.backing ++ behind format s) (disk_fields format t.backing ++ behind format t)
+    long (ap (drop 1) e) in
+    let disks = same_disk format s t fs ft halves.1 in
     let regions = same_memory format s.regions t.regions fs.printable.memory ft.printable.memory halves.0 in
-    let start = same_num s.extent.start t.extent.start (same_at halves.1 0) in
-    let count = same_num s.extent.count t.extent.count (same_at halves.1 1) in
-    let read_only = same_mode s.read_only t.read_only (same_at halves.1 2) in
-    let cols = same_num s.cols t.cols (same_at halves.1 3) in
-    let rows = same_num s.rows t.rows (same_at halves.1 4) in
-    let identity = same_identity format disks s t fs ft halves.1 in
+    let start = same_num s.extent.start t.extent.start (same_at disks.1 0) in
+    let count = same_num s.extent.count t.extent.count (same_at disks.1 1) in
+    let read_only = same_mode s.read_only t.read_only (same_at disks.1 2) in
+    let cols = same_num s.cols t.cols (same_at disks.1 3) in
+    let rows = same_num s.rows t.rows (same_at disks.1 4) in
+    let identity = same_identity format s t fs ft disks.1 in
     ap (λ (x : List RegionSpec). made_slot x s.extent.start s.extent.count s.backing s.read_only s.cols
     s.rows s.identity) regions
     ∙ ap (λ (x : ℕ). made_slot t.regions x s.extent.count s.backing s.read_only s.cols s.rows
@@ -188,7 +201,7 @@ same_slot_fields format disks s t fs ft e =
     ∙ ap (λ (x : ℕ). made_slot t.regions t.extent.start x s.backing s.read_only s.cols s.rows
     s.identity) count
     ∙ ap (λ (x : Backing). made_slot t.regions t.extent.start t.extent.count x s.read_only s.cols s.rows
-    s.identity) (fs.printable.backed ∙ sym ft.printable.backed)
+    s.identity) disks.0
     ∙ ap (λ (x : Bool). made_slot t.regions t.extent.start t.extent.count t.backing x s.cols s.rows
     s.identity) read_only
     ∙ ap (λ (x : ℕ). made_slot t.regions t.extent.start t.extent.count t.backing t.read_only x s.rows
@@ -251,22 +264,22 @@ same_event_fields d e fd fe h =
     ap (λ (n : ℕ). record { slot = n; what = d.what }) both.0
     ∙ ap (λ w. record { slot = e.slot; what = w }) both.1
 
-same_slot_line : (format : Format) (disks : Disks) (s t : SlotSpec) → IsFineSlot format disks s
-    → IsFineSlot format disks t → slot_line format s ≡ slot_line format t → s ≡ t
-same_slot_line format disks s t fs ft e =
-    same_slot_fields format disks s t fs ft (sym (cut_slot format disks s fs) ∙ ap fields_of e
-    ∙ cut_slot format disks t ft)
+same_slot_line : (format : Format) (s t : SlotSpec) → IsFineSlot format s → IsFineSlot format t
+    → slot_line format s ≡ slot_line format t → s ≡ t
+same_slot_line format s t fs ft e =
+    same_slot_fields format s t fs ft (sym (cut_slot format s fs) ∙ ap fields_of e
+    ∙ cut_slot format t ft)
 
 same_event_line : {A : Type 0} (d e : Event A) → IsFine d → IsFine e → event_line d ≡ event_line e → d ≡ e
 same_event_line d e hd he h =
     same_event_fields d e hd he (sym (cut_event d hd) ∙ ap fields_of h ∙ cut_event e he)
 
 -- a slot's line is no event's
-other_line : {A : Type 0} (format : Format) (disks : Disks) (s : SlotSpec) (e : Event A)
-    → IsFineSlot format disks s → IsFine e → slot_line format s ≡ event_line e → ⊥
-other_line format disks s e hs he h =
+other_line : {A : Type 0} (format : Format) (s : SlotSpec) (e : Event A)
+    → IsFineSlot format s → IsFine e → slot_line format s ≡ event_line e → ⊥
+other_line format s e hs he h =
     let event = entered_event Extended e he (word_of_extended (word_for e.what)) in
-    let slot = entered_slot format disks s hs in
+    let slot = entered_slot format s hs in
     let words : spelled Slot ≡ spelled event.word =
     same_at (sym slot.cut ∙ ap fields_of h ∙ event.entry.cut) 0 in
     event.other (sym (same_word Slot event.word words))
@@ -280,25 +293,25 @@ same_events : {A : Type 0} (ds es : List (Event A)) → AllFine ds → AllFine e
     → map event_line ds ≡ map event_line es → ds ≡ es
 same_events ds es hd he e = same_list IsFine event_line same_event_line ds es hd he e
 
-module _ {A : Type 0} (format : Format) (disks : Disks) where
-  same_parts : (ss ts : List SlotSpec) (ds es : List (Event A)) → All (IsFineSlot format disks) ss
-      → All (IsFineSlot format disks) ts → AllFine ds → AllFine es
+module _ {A : Type 0} (format : Format) where
+  same_parts : (ss ts : List SlotSpec) (ds es : List (Event A)) → All (IsFineSlot format) ss
+      → All (IsFineSlot format) ts → AllFine ds → AllFine es
       → map (slot_line format) ss ++ map event_line ds ≡ map (slot_line format) ts ++ map event_line es
       → (ss ≡ ts) × (ds ≡ es)
   same_parts [] [] ds es hs ht hd he e = (refl, same_events ds es hd he e)
   same_parts [] (t ∷ ts) [] es hs ht hd he e = absurd cc
   same_parts [] (t ∷ ts) (d ∷ ds) es hs ht hd he e =
       let first : event_line d ≡ slot_line format t = cc in
-      absurd (other_line format disks t d (ht 0 t (omega arith)) (hd 0 d (omega arith)) (sym first))
+      absurd (other_line format t d (ht 0 t (omega arith)) (hd 0 d (omega arith)) (sym first))
   same_parts (s ∷ ss) [] ds [] hs ht hd he e = absurd cc
   same_parts (s ∷ ss) [] ds (x ∷ es) hs ht hd he e =
       let first : slot_line format s ≡ event_line x = cc in
-      absurd (other_line format disks s x (hs 0 s (omega arith)) (he 0 x (omega arith)) first)
+      absurd (other_line format s x (hs 0 s (omega arith)) (he 0 x (omega arith)) first)
   same_parts (s ∷ ss) (t ∷ ts) ds es hs ht hd he e =
       let first : slot_line format s ≡ slot_line format t = cc in
       let rest : map (slot_line format) ss ++ map event_line ds ≡ map (slot_line format) ts
       ++ map event_line es = cc in
-      let a = same_slot_line format disks s t (hs 0 s (omega arith)) (ht 0 t (omega arith)) first in
+      let a = same_slot_line format s t (hs 0 s (omega arith)) (ht 0 t (omega arith)) first in
       let b = same_parts ss ts ds es (λ k d lt. hs (suc k) d (omega arith))
       (λ k d lt. ht (suc k) d (omega arith)) hd he rest in
       (let c = b.0 in cc, b.1)
@@ -306,44 +319,36 @@ module _ {A : Type 0} (format : Format) (disks : Disks) where
 all_fine : {A : Type 0} (c : Content A) → Fits c → AllFine c.events
 all_fine c h = λ k d lt. record { fits = h.range.events k d lt; printable = h.printable.events k d lt }
 
-all_fine_slots : {A : Type 0} (c : Content A) → Fits c → All (IsFineSlot c.format c.disks) c.slots
+all_fine_slots : {A : Type 0} (c : Content A) → Fits c → All (IsFineSlot c.format) c.slots
 all_fine_slots c h = λ k d lt. record { fits = h.range.slots k d lt; printable = h.printable.slots k d lt }
 
 lines_of_text : {A : Type 0} (c : Content A) → Fits c → lines_of (text c) ≡ trace_lines c ++ lines_of []
 lines_of_text c h = ap lines_of (sym (append-nil (text c)))
     ∙ lines_of-joined (trace_lines c) [] (unbroken c h)
 
--- the second line says where the disks are
-same_disks : (c d : Disks) → disks_fields c ≡ disks_fields d → c ≡ d
-same_disks (kept.Cached m) (kept.Cached n) e =
-    ap kept.Cached (same_num m n (same_at e 1))
-same_disks kept.Hosted kept.Hosted e = refl
-same_disks c d e = absurd (omega (arith, ap length e))
-
 same_lines : {A : Type 0} (c d : Content A) → Fits c → Fits d → trace_lines c ≡ trace_lines d → c ≡ d
 unfolding trace_lines
 same_lines c d hc hd e =
     let format : c.format ≡ d.format = same_header c.format d.format (same_at e 0) in
-    let seconds : disks_line c.disks ≡ disks_line d.disks = same_at e 1 in
-    let disks = same_disks c.disks d.disks (sym (cut_disks c.disks hc.range.disks) ∙ ap fields_of seconds
-    ∙ cut_disks d.disks hd.range.disks) in
-    let fine : All (IsFineSlot c.format c.disks) d.slots =
-    subst (λ (v : Format). All (IsFineSlot v c.disks) d.slots) (sym format)
-    (subst (λ (k : Disks). All (IsFineSlot d.format k) d.slots) (sym disks) (all_fine_slots d hd)) in
+    let seconds : cache_line c.cache ≡ cache_line d.cache = same_at e 1 in
+    let cache = same_num c.cache d.cache (same_at (sym (cut_cache c.cache hc.range.cache) ∙ ap fields_of seconds
+    ∙ cut_cache d.cache hd.range.cache) 1) in
+    let fine : All (IsFineSlot c.format) d.slots =
+    subst (λ (v : Format). All (IsFineSlot v) d.slots) (sym format) (all_fine_slots d hd) in
     let lines : map (slot_line c.format) c.slots
     ++ map event_line c.events ≡ map (slot_line c.format) d.slots ++ map event_line d.events =
     ap (drop 2) e ∙ ap (λ (v : Format). map (slot_line v) d.slots ++ map event_line d.events) (sym format) in
-    let parts = same_parts c.format c.disks c.slots d.slots c.events d.events
+    let parts = same_parts c.format c.slots d.slots c.events d.events
     (all_fine_slots c hc) fine (all_fine c hc) (all_fine d hd) lines in
-    ap (λ (f : Format). record { format = f; disks = c.disks; slots = c.slots; events = c.events }) format
-    ∙ ap (λ (k : Disks). record { format = d.format; disks = k; slots = c.slots; events = c.events }) disks
+    ap (λ (f : Format). record { format = f; cache = c.cache; slots = c.slots; events = c.events }) format
+    ∙ ap (λ (n : ℕ). record { format = d.format; cache = n; slots = c.slots; events = c.events }) cache
     ∙ ap (λ (ss : List SlotSpec). record {
       format = d.format;
-      disks = d.disks;
+      cache = d.cache;
       slots = ss;
       events = c.events;
     }) parts.0
-    ∙ ap (λ es. record { format = d.format; disks = d.disks; slots = d.slots; events = es }) parts.1
+    ∙ ap (λ es. record { format = d.format; cache = d.cache; slots = d.slots; events = es }) parts.1
 
 -- a text belongs to one trace
 pub one_trace : {A : Type 0} (c d : Content A) → Fits c → Fits d → text c ≡ text d → c ≡ d

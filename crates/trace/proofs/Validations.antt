@@ -5,7 +5,6 @@ use Rattle.std.proofs.lemmas.List.{append-nil, length-append, length-map, map_pu
 use Rattle.std.proofs.lemmas.List.Elements.{All-nil, All-push, All-weaker}
 use Rattle.board.specs.declared.event.Event.{Event}
 use Rattle.board.specs.declared.spec.SlotSpec.{SlotSpec}
-use Rattle.trace.specs.declared.disks.Disks.{Disks}
 use Rattle.trace.specs.declared.format.Format.{Format}
 use Rattle.trace.specs.declared.fault.FaultKind.{FaultKind}
 use Rattle.trace.specs.declared.fault.FaultKind.TheVariants as kind
@@ -85,29 +84,29 @@ pub record ValidatedSofar (A : Type 0) (whole : List ℕ) (j : Validation) (k : 
   pub trace : Content A
   pub so : Sofar whole trace k rest
   pub format : trace.format ≡ j.format
-  pub disks : trace.disks ≡ j.disks
+  pub cache : trace.cache ≡ j.cache
   pub slots : trace.slots ≡ j.slots
   pub lines : j.events ≡ joined (map event_line trace.events) ++ rest
   pub fit : HaveRoom j.longest trace.events
   pub numbered : 1 ≤ j.longest_line
 
 -- the first two lines
-pub validated_first : (A : Type 0) (whole : List ℕ) (format : Format) (disks : Disks) (rest : List ℕ)
-    → Sofar {A = A} whole (record { format = format; disks = disks; slots = []; events = [] }) 3 rest
+pub validated_first : (A : Type 0) (whole : List ℕ) (format : Format) (cache : ℕ) (rest : List ℕ)
+    → Sofar {A = A} whole (record { format = format; cache = cache; slots = []; events = [] }) 3 rest
     → ValidatedSofar A whole (record {
       format = format;
-      disks = disks;
+      cache = cache;
       slots = [];
       events = rest;
       longest = 0;
       longest_line = 1;
     }) 3 rest
 unfolding joined
-validated_first A whole format disks rest so = record {
-  trace = record { format = format; disks = disks; slots = []; events = [] };
+validated_first A whole format cache rest so = record {
+  trace = record { format = format; cache = cache; slots = []; events = [] };
   so = so;
   format = refl;
-  disks = refl;
+  cache = refl;
   slots = refl;
   lines = refl;
   fit = All-nil (λ (e : Event A). bytes_len e.what ≤ 0);
@@ -144,7 +143,7 @@ module _ (A : Type 0) (whole : List ℕ) (j : Validation) (k : ℕ) (rest : List
 -- one line more
 slot_more : (A : Type 0) (whole : List ℕ) (j : Validation) (k : ℕ) (rest l after : List ℕ) (begun : Bool)
     (slot : SlotSpec) → ValidatedSofar A whole j k rest → rest ≡ l ++ 10 ∷ after
-    → begun ≡ not (length j.events == length rest) → SaysSlot j.format j.disks begun l slot
+    → begun ≡ not (length j.events == length rest) → SaysSlot j.format begun l slot
     → ValidatedSofar A whole (record j { slots = j.slots ++ slot ∷ []; events = after }) (k + 1) after
 slot_more A whole j k rest l after begun slot s cut test parsed =
     let same : (length j.events == length rest) ≡ true =
@@ -152,13 +151,12 @@ slot_more A whole j k rest l after begun slot s cut test parsed =
     [ inl same ↦ same | inr other ↦ absurd (parsed.early (test ∙ ap not other)) ] in
     let none = no_events A whole j k rest s (eqb-true (length j.events) (length rest) same) in
     let is = subst (λ (v : Format). fields_of l ≡ slot_fields v slot) (sym s.format) parsed.fields in
-    let fine = subst (λ (d : Disks). IsFineSlot s.trace.format d slot) (sym s.disks)
-    (subst (λ (v : Format). IsFineSlot v j.disks slot) (sym s.format) parsed.fine) in
+    let fine = subst (λ (v : Format). IsFineSlot v slot) (sym s.format) parsed.fine in
     record {
       trace = with_slot s.trace slot;
       so = slot_read whole s.trace k rest l after slot s.so cut is fine none;
       format = s.format;
-      disks = s.disks;
+      cache = s.cache;
       slots = ap (λ (ss : List SlotSpec). ss ++ slot ∷ []) s.slots;
       lines = no_lines s.trace.events after none;
       fit = s.fit;
@@ -177,7 +175,7 @@ event_more A whole j k longest longest_line rest l after event s cut parsed fits
       so = event_read whole s.trace k rest l after event s.so cut parsed.fields parsed.fine
           (subst (λ (v : Format). IsWordOf v (word_for event.what)) (sym s.format) parsed.of_format);
       format = s.format;
-      disks = s.disks;
+      cache = s.cache;
       slots = s.slots;
       lines = taken j.events (map event_line es) (map event_line (es ++ event ∷ [])) rest l after s.lines cut
           (map_push event_line es event
@@ -280,7 +278,7 @@ validated_whole A whole j k rest s none =
         only = λ u ru pu e. one_trace u t (record { range = ru; printable = pu }) s.so.fits (sym e ∙ found);
       };
       format = s.format;
-      disks = s.disks;
+      cache = s.cache;
       slots = s.slots;
       lines_of = record {
         fine = λ i d lt. record {

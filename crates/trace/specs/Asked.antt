@@ -1,15 +1,25 @@
--- The records of a trace whose disks the host serves: each has a sixth field, the operation that began with
--- its event.
+-- The records of a hosted trace: each has a sixth field, the operation that began with its event.
 use Rattle.std.specs.Prelude.{ℕ, Bool, true, false, Option, None, Some, List, [], ◌∷◌, ◌++◌, codes}
-use Rattle.std.specs.List.{flat_map}
+use Rattle.std.specs.List.{flat_map, list_any}
 use Rattle.chain.specs.declared.segment.Segment.{Segment}
 use Rattle.block_device.specs.declared.operation.Operation.{Operation}
 use Rattle.block_device.specs.declared.operation.OperationKind.{OperationKind}
 use Rattle.block_device.specs.declared.operation.OperationKind.TheVariants.{In, Out, Flush, Zeroes}
 use Rattle.board.specs.declared.reply.Record.{Record}
+use Rattle.board.specs.declared.spec.Backing.{Backing}
+use Rattle.board.specs.declared.spec.Backing.TheVariants.{Image, Host}
+use Rattle.board.specs.declared.spec.SlotSpec.{SlotSpec}
 use Rattle.hexadecimal.specs.Spelling.{num}
 use Rattle.trace.specs.Records.{record_fields}
 use Rattle.trace.specs.Text.{line}
+
+-- a trace is hosted where some slot's disk is the host's
+abbrev pub is_host : Backing → Bool
+is_host Image = false
+is_host Host = true
+
+abbrev pub is_hosted : List SlotSpec → Bool
+is_hosted slots = list_any (λ slot. is_host slot.backing) slots
 
 -- what the host is asked to do, and whether it has to be on the medium before it is done
 abbrev pub kind_field : OperationKind → List ℕ

@@ -4,10 +4,10 @@ use Rattle.trace.specs.declared.fault.FaultKind.{FaultKind}
 use Rattle.trace.specs.declared.fault.FaultKind.TheVariants as kind
 use Rattle.trace.specs.declared.format.Format.{Format}
 use Rattle.trace.specs.declared.word.Word.{Word}
-use Rattle.trace.specs.declared.word.Word.TheVariants.{Cache, Hosted, Slot}
+use Rattle.trace.specs.declared.word.Word.TheVariants.{Cache, Slot}
 use Rattle.trace.specs.Cuts.{lines_of, fields_of}
 use Rattle.trace.specs.Text.{header}
-use Rattle.trace.specs.Words.{IsWordOf, Shape, Num, Regions, Offset, Window, Width, Value, Mode, Verdict, Bytes, Identity, Says, spelled, shapes}
+use Rattle.trace.specs.Words.{IsWordOf, Shape, Num, Regions, Disk, Offset, Window, Width, Value, Mode, Verdict, Bytes, Identity, Says, spelled, shapes}
 
 -- line k of a text, numbered from 1; a text ends before line k where nothing stands there
 abbrev pub line_at : List ℕ → ℕ → List ℕ
@@ -35,10 +35,9 @@ first_field line = slice_index_or (fields_of line) 0 []
 abbrev pub other_fields : List ℕ → List (List ℕ)
 other_fields line = drop 1 (fields_of line)
 
--- in line 2 stands `cache` or `hosted`, and in the later ones the other words
+-- in line 2 stands `cache`, and in the later ones the other words
 abbrev pub MayStand : ℕ → Word → Type 0
 MayStand k Cache = k ≡ 2
-MayStand k Hosted = k ≡ 2
 MayStand k _ = 3 ≤ k
 
 -- the line begins with a word of a format that may stand in line k
@@ -56,6 +55,7 @@ fault_of Offset = kind.Number
 fault_of (Value width_field) = kind.Number
 fault_of Window = kind.Choice
 fault_of Width = kind.Choice
+fault_of Disk = kind.Choice
 fault_of Mode = kind.Choice
 fault_of Verdict = kind.Choice
 fault_of Bytes = kind.Bytes

@@ -13,6 +13,11 @@ unless_version_1 (Plain One) xs = []
 unless_version_1 (Plain Two) xs = xs
 unless_version_1 Extended xs = xs
 
+-- what the extended format alone has
+abbrev pub if_extended : {X : Type 0} → Format → List X → List X
+if_extended (Plain version) xs = []
+if_extended Extended xs = xs
+
 -- the identity of each slot of a version 1 trace, whose lines leave it out: a text, and NULs up to 20 bytes
 abbrev pub identity_in_version_1 : List ℕ
 identity_in_version_1 = codes "vreplay-block" ++ replicate 7 0

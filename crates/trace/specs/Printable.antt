@@ -5,13 +5,11 @@ use Rattle.board.specs.declared.event.EventKind.{EventKind}
 use Rattle.board.specs.declared.event.EventKind.TheVariants.{Read, Write, MemRead, MemWrite, Input, Resize, Restore, Complete}
 use Rattle.board.specs.declared.spec.SlotSpec.{SlotSpec}
 use Rattle.board.specs.declared.spec.Backing.{Backing}
-use Rattle.board.specs.declared.spec.Backing.TheVariants as backing
-use Rattle.trace.specs.declared.disks.Disks.{Disks}
-use Rattle.trace.specs.declared.disks.Disks.TheVariants.{Cached, Hosted}
+use Rattle.board.specs.declared.spec.Backing.TheVariants.{Image}
 use Rattle.trace.specs.declared.format.Format.{Format}
 use Rattle.trace.specs.declared.format.Format.TheVariants.{Plain, Extended}
 use Rattle.trace.specs.declared.format.Version.TheVariants.{One}
-use Rattle.trace.specs.Text.{Content, disks_word, word_for}
+use Rattle.trace.specs.Text.{Content, word_for}
 use Rattle.trace.specs.Format.{identity_in_version_1}
 use Rattle.trace.specs.Words.{IsWidth, IsWordOf, RegionInRange}
 
@@ -41,22 +39,20 @@ abbrev pub IsPrintableMemory : Format → ℕ → Type 0
 IsPrintableMemory (Plain version) count = count ≡ 1
 IsPrintableMemory Extended count = 1 ≤ count
 
--- who has the bytes of each disk, by where the disks are
-abbrev pub backing_by : Disks → Backing
-backing_by (Cached capacity) = backing.Image
-backing_by Hosted = backing.Host
+-- a disk that has a spelling in a format: in a plain one it is on the image
+abbrev pub IsPrintableDisk : Format → Backing → Type 0
+IsPrintableDisk (Plain version) backing = backing ≡ Image
+IsPrintableDisk Extended backing = ⊤
 
--- A slot that has a line in a trace of a format whose disks are there: the second line says who has the bytes of
--- its disk, and version 1 leaves its identity out.
-pub record IsPrintableSlot (format : Format) (disks : Disks) (s : SlotSpec) : Type 0 where
+-- a slot that has a line in a format; version 1 leaves its identity out
+pub record IsPrintableSlot (format : Format) (s : SlotSpec) : Type 0 where
   pub memory : IsPrintableMemory format (length s.regions)
-  pub backed : s.backing ≡ backing_by disks
+  pub disk : IsPrintableDisk format s.backing
   pub identity : format ≡ Plain One → s.identity ≡ identity_in_version_1
 
 -- a trace that has a text: each of its slots and events has a line, and each line's word is of its format
 pub record IsPrintable {A : Type 0} (t : Content A) : Type 0 where
-  pub disks : IsWordOf t.format (disks_word t.disks)
-  pub slots : All (IsPrintableSlot t.format t.disks) t.slots
+  pub slots : All (IsPrintableSlot t.format) t.slots
   pub events : All (λ e. IsPrintableKind e.what) t.events
   pub words : All (λ e. IsWordOf t.format (word_for e.what)) t.events
 
@@ -101,11 +97,7 @@ pub record EventInRange {A : Type 0} (e : Event A) : Type 0 where
   pub slot : e.slot < 2 ^ 8
   pub what : KindInRange e.what
 
-abbrev pub DisksInRange : Disks → Type 0
-DisksInRange (Cached capacity) = capacity < 2 ^ 32
-DisksInRange Hosted = ⊤
-
 pub record InRange {A : Type 0} (t : Content A) : Type 0 where
-  pub disks : DisksInRange t.disks
+  pub cache : t.cache < 2 ^ 32
   pub slots : All SlotInRange t.slots
   pub events : All EventInRange t.events

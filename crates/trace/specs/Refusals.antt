@@ -1,20 +1,19 @@
 -- Why one line is refused, once its word is known: what a function that reads its fields answers.
-use Rattle.std.specs.Prelude.{◌≡◌, ◌⊎◌, ℕ, ◌∷◌, ◌++◌, [], nat_lt, Bool, true, List, length}
+use Rattle.std.specs.Prelude.{◌≡◌, ◌⊎◌, ℕ, ◌^◌, ◌<◌, ◌∷◌, ◌++◌, [], nat_lt, Bool, true, List, length}
 use Rattle.trace.specs.declared.fault.FaultKind.{FaultKind}
 use Rattle.trace.specs.declared.fault.FaultKind.TheVariants as kind
 use Rattle.board.specs.declared.event.Event.{Event}
-use Rattle.trace.specs.declared.disks.Disks.{Disks}
-use Rattle.trace.specs.Printable.{DisksInRange, EventInRange, IsPrintableKind, IsPrintableSlot}
+use Rattle.trace.specs.Printable.{EventInRange, IsPrintableKind, IsPrintableSlot}
 use Rattle.trace.specs.Cuts.{lines_of, fields_of}
 use Rattle.trace.specs.Faults.{AllSay, AreAsMany, IsHeader, MayStand, first_field, other_fields}
-use Rattle.trace.specs.Text.{Content, header, disks_fields, disks_word, slot_fields, event_fields, word_for}
+use Rattle.trace.specs.Text.{Content, header, cache_fields, slot_fields, event_fields, word_for}
 use Rattle.trace.specs.Printable.{SlotInRange}
 use Rattle.trace.specs.declared.format.Format.{Format}
 use Rattle.board.specs.declared.spec.SlotSpec.{SlotSpec}
 use Rattle.trace.specs.declared.read.entry.Entry.{Entry}
 use Rattle.trace.specs.declared.read.entry.Entry.TheVariants as entry
 use Rattle.trace.specs.declared.word.Word.{Word}
-use Rattle.trace.specs.declared.word.Word.TheVariants.{Slot}
+use Rattle.trace.specs.declared.word.Word.TheVariants.{Cache, Slot}
 use Rattle.trace.specs.declared.read.parsed_event.ParsedEvent.{ParsedEvent}
 use Rattle.trace.specs.ParsedEvent.{IsFineParsed, parsed_fields}
 use Rattle.trace.specs.Words.{IsWordOf, spelled, shapes}
@@ -61,14 +60,14 @@ entry_fields format (entry.Slot s) = slot_fields format s
 entry_fields format (entry.Event s) = parsed_fields s
 
 -- a slot that its integers admit and that has a line
-pub record IsFineSlot (format : Format) (disks : Disks) (s : SlotSpec) : Type 0 where
+pub record IsFineSlot (format : Format) (s : SlotSpec) : Type 0 where
   pub fits : SlotInRange s
-  pub printable : IsPrintableSlot format disks s
+  pub printable : IsPrintableSlot format s
 
 -- what was read has a line whose word is of the format, and a slot comes before every event
-abbrev pub IsFineEntry : {A : Type 0} → Format → Disks → Bool → Entry A → Type 0
-IsFineEntry format disks begun (entry.Slot s) = IsFineSlot format disks s × (begun ≡ true → ⊥)
-IsFineEntry format disks begun (entry.Event s) = IsFineParsed s × IsWordOf format (word_for s.event.what)
+abbrev pub IsFineEntry : {A : Type 0} → Format → Bool → Entry A → Type 0
+IsFineEntry format begun (entry.Slot s) = IsFineSlot format s × (begun ≡ true → ⊥)
+IsFineEntry format begun (entry.Event s) = IsFineParsed s × IsWordOf format (word_for s.event.what)
 
 -- the first line is cut off, or isn't the header
 pub record IsOtherHead (text : List ℕ) : Type 0 where
@@ -86,43 +85,39 @@ RefusesHead text _ = ⊥
 pub record IsFirst (text : List ℕ) (format : Format) (rest : List ℕ) : Type 0 where
   pub ended : text ≡ header format ++ 10 ∷ rest
 
--- in a format, a text whose first line says where the disks are
-pub record IsSecond (format : Format) (text : List ℕ) (disks : Disks) (rest : List ℕ) : Type 0 where
-  pub fits : DisksInRange disks
-  pub of_format : IsWordOf format (disks_word disks)
+-- a text whose first line says the cache
+pub record IsSecond (text : List ℕ) (cache : ℕ) (rest : List ℕ) : Type 0 where
+  pub fits : cache < 2 ^ 32
   pub line : List ℕ
   pub ended : text ≡ line ++ 10 ∷ rest
-  pub fields : fields_of line ≡ disks_fields disks
+  pub fields : fields_of line ≡ cache_fields cache
 
--- a text whose first two lines say the format and where the disks are
-pub record IsHead (text : List ℕ) (format : Format) (disks : Disks) (rest : List ℕ) : Type 0 where
+-- a text whose first two lines say the format and the cache
+pub record IsHead (text : List ℕ) (format : Format) (cache : ℕ) (rest : List ℕ) : Type 0 where
   pub second : List ℕ
   pub format_is : IsFirst text format second
-  pub disks_are : IsSecond format second disks rest
+  pub cache_is : IsSecond second cache rest
 
--- a text whose first line is ended and begins with no word of the format that may stand in line 2
-pub record IsOtherWord (format : Format) (text : List ℕ) : Type 0 where
+-- a text whose first line is ended and begins with another word than the cache's
+pub record IsOtherWord (text : List ℕ) : Type 0 where
   pub line : List ℕ
   pub rest : List ℕ
   pub cut : lines_of text ≡ line ∷ lines_of rest
-  pub other : (word : Word) → MayStand 2 word → IsWordOf format word → ¬ (first_field line ≡ spelled word)
+  pub other : ¬ (first_field line ≡ spelled Cache)
 
--- a text whose first line has such a word, but for its fields
-pub record RefusesDisks (format : Format) (text : List ℕ) (fault : FaultKind) : Type 0 where
+-- a text whose first line has that word, but for its fields
+pub record RefusesCache (format : Format) (text : List ℕ) (fault : FaultKind) : Type 0 where
   pub line : List ℕ
   pub rest : List ℕ
   pub cut : lines_of text ≡ line ∷ lines_of rest
-  pub word : Word
-  pub may : MayStand 2 word
-  pub of_format : IsWordOf format word
-  pub first : first_field line ≡ spelled word
-  pub refused : RefusesFields format word (other_fields line) fault
+  pub first : first_field line ≡ spelled Cache
+  pub refused : RefusesFields format Cache (other_fields line) fault
 
 -- the second line, at the front of a text, is refused
 abbrev pub RefusesSecond : Format → List ℕ → FaultKind → Type 0
 RefusesSecond format text kind.Cut = lines_of text ≡ text ∷ []
-RefusesSecond format text kind.Word = IsOtherWord format text
-RefusesSecond format text fault = RefusesDisks format text fault
+RefusesSecond format text kind.Word = IsOtherWord text
+RefusesSecond format text fault = RefusesCache format text fault
 
 -- whether an event was read
 abbrev pub has_begun : {A : Type 0} → Content A → Bool
@@ -136,10 +131,9 @@ abbrev pub with_event : {A : Type 0} → Content A → Event A → Content A
 with_event c e = record c { events = c.events ++ e ∷ [] }
 
 -- the line is that of a slot, before all events
-pub record SaysSlot (format : Format) (disks : Disks) (begun : Bool) (line : List ℕ) (s : SlotSpec)
-    : Type 0 where
+pub record SaysSlot (format : Format) (begun : Bool) (line : List ℕ) (s : SlotSpec) : Type 0 where
   pub fields : fields_of line ≡ slot_fields format s
-  pub fine : IsFineSlot format disks s
+  pub fine : IsFineSlot format s
   pub early : begun ≡ true → ⊥
 
 -- the line is that of an event, whose word is of the format
@@ -151,7 +145,7 @@ pub record SaysEvent {A : Type 0} (format : Format) (line : List ℕ) (e : Event
 -- the new trace is the old one with the slot that the line says, or with the event
 pub record AddsSlot {A : Type 0} (old : Content A) (line : List ℕ) (new : Content A) : Type 0 where
   pub slot : SlotSpec
-  pub parsed : SaysSlot old.format old.disks (has_begun old) line slot
+  pub parsed : SaysSlot old.format (has_begun old) line slot
   pub added : new ≡ with_slot old slot
 
 pub record AddsEvent {A : Type 0} (old : Content A) (line : List ℕ) (new : Content A) : Type 0 where

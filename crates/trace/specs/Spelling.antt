@@ -2,6 +2,8 @@
 use Rattle.std.specs.Prelude.{ℕ, ◌+◌, ◌*◌, Bool, true, false, List, [], ◌∷◌, ◌++◌, codes, map}
 use Rattle.std.specs.List.{join_with_byte}
 use Rattle.guest_memory.specs.declared.spec.RegionSpec.{RegionSpec}
+use Rattle.board.specs.declared.spec.Backing.{Backing}
+use Rattle.board.specs.declared.spec.Backing.TheVariants.{Image, Host}
 use Rattle.hexadecimal.specs.Spelling.{num, fixed, bytes}
 use Rattle.block_device.specs.declared.operation.Verdict as operation
 use Rattle.block_device.specs.declared.operation.Verdict.TheVariants.{Done, Failed}
@@ -11,7 +13,7 @@ use Rattle.trace.specs.declared.print.line.LineFields.{LineFields}
 use Rattle.trace.specs.declared.table.Field.{Field}
 use Rattle.trace.specs.declared.table.Field.TheVariants as field
 use Rattle.trace.specs.declared.value.FieldValue.{FieldValue}
-use Rattle.trace.specs.declared.value.FieldValue.TheVariants.{Number, Mode, Window, Offset, Width, Value, Identity, Verdict, Spelled}
+use Rattle.trace.specs.declared.value.FieldValue.TheVariants.{Number, Disk, Mode, Window, Offset, Width, Value, Identity, Verdict, Spelled}
 
 -- a region of a guest's memory: its base and its length, with `+` (43) between them
 abbrev pub region_text : RegionSpec → List ℕ
@@ -25,6 +27,11 @@ regions_text regions = join_with_byte 44 (map region_text regions)
 abbrev pub window : DeviceKind → List ℕ
 window Block = codes "b"
 window Console = codes "c"
+
+-- who has a slot's disk
+abbrev pub disk : Backing → List ℕ
+disk Image = codes "image"
+disk Host = codes "host"
 
 -- whether a slot is read-only
 abbrev pub mode : Bool → List ℕ
@@ -43,6 +50,7 @@ width_digit width = (48 + width) ∷ []
 -- the value of a field, by its kind
 abbrev pub value_text : FieldValue → List ℕ
 value_text (Number n) = num n
+value_text (Disk backing) = disk backing
 value_text (Mode read_only) = mode read_only
 value_text (Window kind) = window kind
 value_text (Offset offset) = fixed 3 offset
@@ -58,6 +66,7 @@ field_text says field.Sectors = num says.sectors
 field_text says field.Base = num says.base
 field_text says field.Size = num says.size
 field_text says field.Regions = regions_text says.regions.now
+field_text says field.Disk = disk says.backing
 field_text says field.Start = num says.start
 field_text says field.Count = num says.count
 field_text says field.Mode = mode says.read_only

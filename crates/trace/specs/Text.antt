@@ -6,30 +6,29 @@ use Rattle.board.specs.declared.event.Event.{Event}
 use Rattle.board.specs.declared.event.EventKind.{EventKind}
 use Rattle.board.specs.declared.event.EventKind.TheVariants as what
 use Rattle.board.specs.declared.spec.SlotSpec.{SlotSpec}
+use Rattle.board.specs.declared.spec.Backing.{Backing}
 use Rattle.guest_memory.specs.declared.spec.RegionSpec.{RegionSpec}
 use Rattle.block_device.specs.declared.operation.Verdict.{Verdict}
-use Rattle.trace.specs.declared.disks.Disks.{Disks}
-use Rattle.trace.specs.declared.disks.Disks.TheVariants as disks
 use Rattle.trace.specs.declared.format.Format.{Format}
 use Rattle.trace.specs.declared.format.Format.TheVariants.{Plain, Extended}
 use Rattle.trace.specs.declared.format.Version.TheVariants.{One, Two}
 use Rattle.trace.specs.declared.trace.Trace.{Trace}
 use Rattle.trace.specs.declared.word.Word.{Word}
-use Rattle.trace.specs.declared.word.Word.TheVariants.{Cache, Hosted, Slot, Read, Write, MemRead, MemWrite, Input, Resize, Restore, Complete}
+use Rattle.trace.specs.declared.word.Word.TheVariants.{Cache, Slot, Read, Write, MemRead, MemWrite, Input, Resize, Restore, Complete}
 use Rattle.hexadecimal.specs.Spelling.{num, fixed, bytes}
-use Rattle.trace.specs.Spelling.{window, width_digit, mode, verdict, regions_text}
-use Rattle.trace.specs.Format.{unless_version_1}
+use Rattle.trace.specs.Spelling.{window, width_digit, disk, mode, verdict, regions_text}
+use Rattle.trace.specs.Format.{if_extended, unless_version_1}
 use Rattle.trace.specs.Words.{spelled}
 
 -- a trace without where it lies in memory
 pub record Content (A : Type 0) : Type 0 where
   pub format : Format
-  pub disks : Disks
+  pub cache : ℕ
   pub slots : List SlotSpec
   pub events : List (Event A)
 
 abbrev pub content : {A : Type 0} → Trace A → Content A
-content t = record { format = t.format; disks = t.disks; slots = t.slots.items; events = t.events.items }
+content t = record { format = t.format; cache = t.cache; slots = t.slots.items; events = t.events.items }
 
 -- a line of fields: a space stands between two of them
 abbrev pub line : List (List ℕ) → List ℕ
@@ -41,14 +40,9 @@ header (Plain One) = codes "vreplay 1"
 header (Plain Two) = codes "vreplay 2"
 header Extended = codes "kalyubos 1"
 
--- the second line: the capacity of the cache before the image, or that the host has the disks
-abbrev pub disks_word : Disks → Word
-disks_word (disks.Cached capacity) = Cache
-disks_word disks.Hosted = Hosted
-
-abbrev pub disks_fields : Disks → List (List ℕ)
-disks_fields (disks.Cached capacity) = spelled Cache ∷ num capacity ∷ []
-disks_fields disks.Hosted = spelled Hosted ∷ []
+-- the second line: how many sectors the cache before the image keeps
+abbrev pub cache_fields : ℕ → List (List ℕ)
+cache_fields sectors = spelled Cache ∷ num sectors ∷ []
 
 -- the memory of a slot, in a format: its region by two fields, or all its regions by one
 abbrev pub region_fields : RegionSpec → List (List ℕ)
@@ -58,12 +52,16 @@ abbrev pub memory_fields : Format → List RegionSpec → List (List ℕ)
 memory_fields (Plain version) regions = flat_map region_fields regions
 memory_fields Extended regions = regions_text regions ∷ []
 
+-- who has its disk, where a format says so
+abbrev pub disk_fields : Format → Backing → List (List ℕ)
+disk_fields format backing = if_extended format (disk backing ∷ [])
+
 -- a slot, in a format
 abbrev pub slot_fields : Format → SlotSpec → List (List ℕ)
 slot_fields format s =
-    spelled Slot ∷ (memory_fields format s.regions
+    spelled Slot ∷ (memory_fields format s.regions ++ (disk_fields format s.backing
     ++ (num s.extent.start ∷ num s.extent.count ∷ mode s.read_only ∷ num s.cols ∷ num s.rows
-    ∷ unless_version_1 format (bytes s.identity ∷ [])))
+    ∷ unless_version_1 format (bytes s.identity ∷ []))))
 
 -- a read and a write of a register, a read and a write of memory
 abbrev pub read_fields : ℕ → DeviceKind → ℕ → ℕ → List (List ℕ)
@@ -127,12 +125,12 @@ slot_line format s = line (slot_fields format s)
 unfoldable pub event_line : {A : Type 0} → Event A → List ℕ
 event_line e = line (event_fields e)
 
-unfoldable pub disks_line : Disks → List ℕ
-disks_line d = line (disks_fields d)
+unfoldable pub cache_line : ℕ → List ℕ
+cache_line sectors = line (cache_fields sectors)
 
--- the lines of a trace: the header, where its disks are, the slots, the events
+-- the lines of a trace: the header, its cache, the slots, the events
 unfoldable pub trace_lines : {A : Type 0} → Content A → List (List ℕ)
-trace_lines t = header t.format ∷ disks_line t.disks ∷ map (slot_line t.format) t.slots
+trace_lines t = header t.format ∷ cache_line t.cache ∷ map (slot_line t.format) t.slots
     ++ map event_line t.events
 
 -- lines as a text, each ended by a line feed
@@ -147,8 +145,8 @@ abbrev pub text : {A : Type 0} → Content A → List ℕ
 text t = joined (trace_lines t)
 
 -- its first two lines
-abbrev pub front_text : Format → Disks → List ℕ
-front_text format d = ended (header format) ++ ended (disks_line d)
+abbrev pub front_text : Format → ℕ → List ℕ
+front_text format cache = ended (header format) ++ ended (cache_line cache)
 
 -- the same trace as one of a format
 abbrev pub as_format : {A : Type 0} → Format → Content A → Content A

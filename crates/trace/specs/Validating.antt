@@ -4,7 +4,6 @@ use Rattle.board.specs.declared.event.Event.{Event}
 use Rattle.board.specs.declared.event.EventKind.{EventKind}
 use Rattle.board.specs.declared.event.EventKind.TheVariants as event
 use Rattle.board.specs.declared.spec.SlotSpec.{SlotSpec}
-use Rattle.trace.specs.declared.disks.Disks.{Disks}
 use Rattle.trace.specs.declared.format.Format.{Format}
 use Rattle.trace.specs.declared.fault.FaultKind.{FaultKind}
 use Rattle.trace.specs.declared.fault.FaultKind.TheVariants as kind
@@ -43,7 +42,7 @@ pub record AreEventLines (A : Type 0) (room : ℕ) (lines : List ℕ) : Type 0 w
 -- what was validated, without where it lies in memory
 pub record Validation : Type 0 where
   pub format : Format
-  pub disks : Disks
+  pub cache : ℕ
   pub slots : List SlotSpec
   pub events : List ℕ
   pub longest : ℕ
@@ -52,7 +51,7 @@ pub record Validation : Type 0 where
 abbrev pub validation : {A : Type 0} → Validated A → Validation
 validation j = record {
   format = j.format;
-  disks = j.disks;
+  cache = j.cache;
   slots = j.slots.items;
   events = j.events.now;
   longest = j.longest;
@@ -64,7 +63,7 @@ pub record IsValidated (A : Type 0) (text : List ℕ) (j : Validation) : Type 0 
   pub trace : Content A
   pub read : IsTraceOf text trace
   pub format : trace.format ≡ j.format
-  pub disks : trace.disks ≡ j.disks
+  pub cache : trace.cache ≡ j.cache
   pub slots : trace.slots ≡ j.slots
   pub lines_of : AreLinesOf trace.events j.events
   pub fit : HaveRoom j.longest trace.events
@@ -74,7 +73,7 @@ pub record IsValidated (A : Type 0) (text : List ℕ) (j : Validation) : Type 0 
 -- bytes are counted
 pub record ValidatesSlot (begun : Bool) (line after : List ℕ) (old new : Validation) : Type 0 where
   pub slot : SlotSpec
-  pub parsed : SaysSlot old.format old.disks begun line slot
+  pub parsed : SaysSlot old.format begun line slot
   pub is : new ≡ record old { slots = old.slots ++ slot ∷ []; events = after }
 
 pub record ValidatesEvent (A : Type 0) (line : List ℕ) (old new : Validation) : Type 0 where

@@ -1,6 +1,7 @@
 -- The table of a trace's lines: the word that each begins with, and what the fields after it say.
 use Rattle.std.specs.Prelude.{◌≡◌, ℕ, ◌*◌, ◌^◌, ◌<◌, ◌≤◌, ◌⊎◌, ⊤, All, Bool, List, [], ◌∷◌, ◌++◌, codes, length, map, slice_index_or}
 use Rattle.guest_memory.specs.declared.spec.RegionSpec.{RegionSpec}
+use Rattle.board.specs.declared.spec.Backing.{Backing}
 use Rattle.mmio_window.specs.declared.device_kind.DeviceKind.{DeviceKind}
 use Rattle.block_device.specs.declared.operation.Verdict as operation
 use Rattle.trace.specs.declared.format.Format.{Format}
@@ -8,10 +9,10 @@ use Rattle.trace.specs.declared.format.Format.TheVariants.{Plain, Extended}
 use Rattle.trace.specs.declared.table.Field.{Field}
 use Rattle.trace.specs.declared.table.Field.TheVariants as field
 use Rattle.trace.specs.declared.word.Word.{Word}
-use Rattle.trace.specs.declared.word.Word.TheVariants.{Cache, Hosted, Slot, Read, Write, MemRead, MemWrite, Input, Resize, Restore, Complete}
+use Rattle.trace.specs.declared.word.Word.TheVariants.{Cache, Slot, Read, Write, MemRead, MemWrite, Input, Resize, Restore, Complete}
 use Rattle.hexadecimal.specs.Fields.{IsBytesField, IsFixed, SpellsBytes, SpellsNumber}
-use Rattle.trace.specs.Spelling.{window, width_digit, mode, verdict, region_text, regions_text}
-use Rattle.trace.specs.Format.{IsExtended, unless_version_1}
+use Rattle.trace.specs.Spelling.{window, width_digit, disk, mode, verdict, region_text, regions_text}
+use Rattle.trace.specs.Format.{IsExtended, if_extended, unless_version_1}
 
 -- how many bytes a register access may have
 abbrev pub IsWidth : ℕ → Type 0
@@ -48,6 +49,7 @@ pub record IsRegionsField (field : List ℕ) (regions : List RegionSpec) : Type 
 pub data Shape : Type 0 where
   Num : (bits : ℕ) → Shape
   Regions : Shape
+  Disk : Shape
   Offset : Shape
   Window : Shape
   Width : Shape
@@ -62,6 +64,7 @@ pub data Shape : Type 0 where
 abbrev pub Says : Shape → List ℕ → Type 0
 Says (Num bits) field = SpellsNumber bits field
 Says Regions field = (regions : List RegionSpec) × IsRegionsField field regions
+Says Disk field = (backing : Backing) × (field ≡ disk backing)
 Says Offset field = (n : ℕ) × IsFixed 3 field n
 Says Window field = (kind : DeviceKind) × (field ≡ window kind)
 Says Width field = (width : ℕ) × IsWidthField field width
@@ -75,7 +78,6 @@ Says Identity field = (bs : List ℕ) × IsIdentityField field bs
 -- how each word is spelled
 abbrev pub spelled : Word → List ℕ
 spelled Cache = codes "cache"
-spelled Hosted = codes "hosted"
 spelled Slot = codes "slot"
 spelled Read = codes "r"
 spelled Write = codes "w"
@@ -86,10 +88,9 @@ spelled Resize = codes "sz"
 spelled Restore = codes "st"
 spelled Complete = codes "io"
 
--- the words of a format: the extended one alone has those of hosted disks, restores and completions, and the
--- others are in each
+-- the words of a format: the extended one alone has those of restores and completions, and the others are in
+-- each
 abbrev pub IsWordOf : Format → Word → Type 0
-IsWordOf format Hosted = IsExtended format
 IsWordOf format Restore = IsExtended format
 IsWordOf format Complete = IsExtended format
 IsWordOf format _ = ⊤
@@ -102,17 +103,20 @@ abbrev pub memory_in : Format → List Field
 memory_in (Plain version) = field.Base ∷ field.Size ∷ []
 memory_in Extended = field.Regions ∷ []
 
+-- who has its disk, where a format says so
+abbrev pub disk_in : Format → List Field
+disk_in format = if_extended format (field.Disk ∷ [])
+
 -- what stands behind that
-abbrev pub behind_memory : Format → List Field
-behind_memory format =
+abbrev pub behind_disk : Format → List Field
+behind_disk format =
     field.Start ∷ field.Count ∷ field.Mode ∷ field.Columns ∷ field.Rows
     ∷ unless_version_1 format (field.Identity ∷ [])
 
 -- the fields after each word, in a format
 abbrev pub fields_in : Format → Word → List Field
 fields_in format Cache = field.Sectors ∷ []
-fields_in format Hosted = []
-fields_in format Slot = memory_in format ++ behind_memory format
+fields_in format Slot = memory_in format ++ (disk_in format ++ behind_disk format)
 fields_in format Read = field.Slot ∷ field.Window ∷ field.Offset ∷ field.Width ∷ []
 fields_in format Write = field.Slot ∷ field.Window ∷ field.Offset ∷ field.Width ∷ field.Value ∷ []
 fields_in format MemRead = field.Slot ∷ field.Address ∷ field.Length ∷ []
@@ -132,6 +136,7 @@ shape_of width field.Sectors = Num 32
 shape_of width field.Base = Num 64
 shape_of width field.Size = Num 64
 shape_of width field.Regions = Regions
+shape_of width field.Disk = Disk
 shape_of width field.Start = Num 64
 shape_of width field.Count = Num 64
 shape_of width field.Mode = Mode

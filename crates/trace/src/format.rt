@@ -10,7 +10,7 @@ ghost use Rattle.trace.specs.Text.{header};
 pub enum Format {
     /// `vreplay 1` or `vreplay 2`: a memory has one region, and the disks are on an image.
     Plain(Version),
-    /// `kalyubos 1`: with memories of several regions, restores and hosted disks.
+    /// `kalyubos 1`: with memories of several regions, restores, and disks that the host serves.
     Extended,
 }
 

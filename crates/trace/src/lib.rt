@@ -4,12 +4,13 @@
 //! one text. `read` has the way from a text to its trace, `print` the way back and the text of records, and
 //! `round_trip` goes both ways. `word` says what a line is, `table` which fields it has, `value` what one says, and
 //! `format` what the first line says. How numbers and bytes are spelled is `hexadecimal`'s.
-//! `disks` is where the guests' disks are. `fault` has what is answered for a text that isn't a trace, and `laws` says that a text has one meaning or one fault.
+//! `hosted` tells whether the host serves a disk. `fault` has what is answered for a text that isn't a trace, and `laws`
+//! says that a text has one meaning or one fault.
 #![tactic(auto)]
 
-mod disks;
 mod fault;
 mod format;
+mod hosted;
 mod laws;
 mod no_memory;
 mod print;
@@ -20,9 +21,9 @@ mod trace;
 mod value;
 mod word;
 
-pub use disks::Disks;
 pub use fault::{FaultKind, TraceFault};
 pub use format::{Format, Version, format_of};
+pub use hosted::is_hosted;
 pub use laws::{a_trace_has_no_fault, lines_begin_with_an_event, one_fault, one_trace};
 pub use no_memory::NoMemory;
 pub use print::{

@@ -4,9 +4,9 @@
 //! `buffer` before a writer, `asked` what a host is asked to do, and `write` writes whole texts.
 
 ghost use Rattle.std.specs.Prelude.{◌≡◌, ◌*◌, ◌^◌, ◌<◌, ◌↔◌, ◌++◌, ◌∷◌, All, IsTrue, IfOk, OnOk, length, map};
-ghost use Rattle.trace.specs.Printable.{InRange, IsAccess, IsPrintable, IsPrintableKind, IsPrintableMemory, IsPrintableSlot};
+ghost use Rattle.trace.specs.Printable.{InRange, IsAccess, IsPrintable, IsPrintableDisk, IsPrintableKind, IsPrintableMemory, IsPrintableSlot};
 ghost use Rattle.trace.specs.Spelling.{field_text};
-ghost use Rattle.trace.specs.Text.{content, disks_word, text as text_of, ended, event_fields, event_line, front_text, joined, slot_line, word_for};
+ghost use Rattle.trace.specs.Text.{content, text as text_of, ended, event_fields, event_line, front_text, joined, slot_line, word_for};
 ghost use Rattle.trace.specs.Words.{IsWidth, IsWordOf, fields_in, spelled};
 
 mod asked;
@@ -17,7 +17,6 @@ mod records;
 mod regions;
 mod write;
 
-use crate::disks::{Disks, backing_of, word_of_disks};
 use crate::format::{Format, Version, header_of, identity_in_version_1};
 use crate::no_memory::NoMemory;
 pub use crate::print::asked::put_asked;
@@ -28,43 +27,35 @@ pub use crate::print::records::{print_records, put_fields, put_line, put_read};
 pub use crate::print::write::write_whole;
 use crate::trace::Trace;
 use crate::word::{Word, is_word_of, word_for};
-use board::{Event, EventKind, SlotSpec};
+use board::{Backing, Event, EventKind, SlotSpec};
 use guest_memory::RegionSpec;
 use std::alloc::{AllocError, Allocator};
 
 /// Whether the trace has a text. In each, the offset of a register access has three digits, its width is 1, 2 or 4, and a value
-/// that is written is within that width. Each slot's disk is where the second line says that the disks are. In a plain trace, each memory has one region, the disks are on the image, there is no
+/// that is written is within that width. In a plain trace, each memory has one region, the disks are on the image, there is no
 /// Restore and no Complete, and in version 1 each slot has the identity of that version. In an extended one, each memory has a
 /// region. Each trace that was read has a text.
 pub fn is_printable<A: Allocator>(trace: &Trace<A>) -> bool
     ensures { IsTrue result ↔ IsPrintable (content trace.now) }
 {
-    disks_have_line(trace.format, trace.disks)
-        && slots_have_lines(trace.format, trace.disks, &trace.slots)
+    slots_have_lines(trace.format, &trace.slots)
         && events_have_lines(&trace.events)
         && events_have_words(trace.format, &trace.events)
 }
 
-// Whether a format has the word that says where the disks are.
-fn disks_have_line(format: Format, disks: Disks) -> bool
-    ensures { IsTrue result ↔ IsWordOf format (disks_word disks) }
+// Whether each slot has a line in a format.
+fn slots_have_lines(format: Format, slots: &[SlotSpec]) -> bool
+    ensures { IsTrue result ↔ All (IsPrintableSlot format) slots.now }
 {
-    is_word_of(format, word_of_disks(disks))
+    slots.iter().all(|slot| slot_has_line(format, slot))
 }
 
-// Whether each slot has a line in a format, where the disks are there.
-fn slots_have_lines(format: Format, disks: Disks, slots: &[SlotSpec]) -> bool
-    ensures { IsTrue result ↔ All (IsPrintableSlot format disks) slots.now }
-{
-    slots.iter().all(|slot| slot_has_line(format, disks, slot))
-}
-
-// Whether a slot has a line in a format, where the disks are there.
-fn slot_has_line(format: Format, disks: Disks, slot: &SlotSpec) -> bool
-    ensures { IsTrue result ↔ IsPrintableSlot format disks slot.now }
+// Whether a slot has a line in a format.
+fn slot_has_line(format: Format, slot: &SlotSpec) -> bool
+    ensures { IsTrue result ↔ IsPrintableSlot format slot.now }
 {
     has_memory(format, slot.regions.as_slice().len())
-        && slot.backing == backing_of(disks)
+        && has_disk(format, slot.backing)
         && (format != Format::Plain(Version::One) || slot.identity == identity_in_version_1())
 }
 
@@ -75,6 +66,16 @@ fn has_memory(format: Format, count: usize) -> bool
     match format {
         Format::Plain(_) => count == 1,
         Format::Extended => count >= 1,
+    }
+}
+
+// Whether a disk has a spelling in a format.
+fn has_disk(format: Format, backing: Backing) -> bool
+    ensures { IsTrue result ↔ IsPrintableDisk format backing }
+{
+    match format {
+        Format::Plain(_) => backing == Backing::Image,
+        Format::Extended => true,
     }
 }
 
@@ -148,7 +149,7 @@ pub fn print_trace<A: Allocator>(alloc: A, trace: &Trace<A>) -> Result<Vec<u8, A
 {
     in_range(trace);
     let mut out = Vec::new(alloc);
-    push_front(&mut out, trace.format, trace.disks)?;
+    push_front(&mut out, trace.format, trace.cache)?;
     push_slots(&mut out, trace.format, &trace.slots)?;
     push_events(&mut out, &trace.events)?;
     Ok(out)
@@ -181,25 +182,25 @@ fn push_events<A: Allocator>(out: &mut Vec<u8, A>, events: &[Event<A>]) -> Resul
 }
 
 // Appends the first two lines.
-#[tactic(auto, unfolding(crate::specs::Text::disks_line))]
+#[tactic(auto, unfolding(crate::specs::Text::cache_line))]
 fn push_front<A: Allocator>(
     out: &mut Vec<u8, A>,
     format: Format,
-    disks: Disks,
+    cache: u32,
 ) -> Result<(), AllocError>
-    ensures { OnOk result (out.new.items ≡ out.old.items ++ front_text format disks) }
+    ensures { OnOk result (out.new.items ≡ out.old.items ++ front_text format cache) }
 {
     out.extend_from_slice(header_of(format))?;
     out.push(b'\n')?;
-    let mut fields = LineFields::default();
-    if let Disks::Cached { capacity } = disks {
-        fields.sectors = capacity;
-    }
-    push_line(out, format, word_of_disks(disks), &fields)
+    let fields = LineFields {
+        sectors: cache,
+        ..LineFields::default()
+    };
+    push_line(out, format, Word::Cache, &fields)
 }
 
 // Appends the line of a slot.
-#[tactic(auto, using(crate::proofs::Formats::map_unless_version_1), unfolding(crate::specs::Text::slot_line))]
+#[tactic(auto, using(crate::proofs::Formats::map_if_extended, crate::proofs::Formats::map_unless_version_1), unfolding(crate::specs::Text::slot_line))]
 fn push_slot<A: Allocator>(
     out: &mut Vec<u8, A>,
     format: Format,
@@ -214,6 +215,7 @@ fn push_slot<A: Allocator>(
         base,
         size: len,
         regions,
+        backing: slot.backing,
         start: slot.extent.start,
         count: slot.extent.count,
         read_only: slot.read_only,

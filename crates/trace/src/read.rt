@@ -29,7 +29,6 @@ mod trusting;
 mod validating;
 mod values;
 
-use crate::disks::Disks;
 use crate::fault::{FaultKind, TraceFault};
 use crate::format::{Format, format_of};
 use crate::read::at_fault::fault_in;
@@ -39,18 +38,18 @@ use crate::read::cut::{take_field, take_line};
 use crate::read::entry::{Entry, entry_of};
 pub use crate::read::event_line::event_of_line;
 pub use crate::read::events::{take_event, unrefused_line_begins};
-use crate::read::fields::disks_of;
+use crate::read::fields::sectors_of;
 pub use crate::read::parsed_event::ParsedEvent;
 pub use crate::read::trusting::{take_input, take_mem_write, take_read, take_write};
 pub use crate::read::validating::{Validated, validate};
 use crate::trace::Trace;
-use crate::word::second_word;
+use crate::word::{Word, is_cache};
 use board::Event;
 pub use hexadecimal::{read_bytes, spelled_len};
 use std::alloc::{AllocError, Allocator};
 
-/// The format and where the disks are, from the first two lines, and what follows these.
-pub(crate) fn after_head(text: &[u8]) -> Result<(Format, Disks, &[u8]), TraceFault>
+/// The format and the capacity of the cache, from the first two lines, and what follows these.
+pub(crate) fn after_head(text: &[u8]) -> Result<(Format, u32, &[u8]), TraceFault>
     ensures ok { IfOk result (λ x. IsHead text.now x.0 x.1 x.2.now) }
     ensures fault { IfErr result (λ e. e.kind ≢ FaultKind.NoMemory → IsFault text.now e.line e.kind) }
     ensures numbered { IfErr result (λ e. 1 ≤ e.line) }
@@ -60,8 +59,8 @@ pub(crate) fn after_head(text: &[u8]) -> Result<(Format, Disks, &[u8]), TraceFau
         Ok(found) => found,
         Err(kind) => return Err(TraceFault { line: 1, kind }),
     };
-    match after_disks(format, rest) {
-        Ok((disks, rest)) => Ok((format, disks, rest)),
+    match after_cache(format, rest) {
+        Ok((cache, rest)) => Ok((format, cache, rest)),
         Err(kind) => Err(TraceFault { line: 2, kind }),
     }
 }
@@ -80,21 +79,21 @@ fn after_header(text: &[u8]) -> Result<(Format, &[u8]), FaultKind>
     Ok((format, rest))
 }
 
-// Where the disks are in a trace of a format, from the second line, and what follows it.
-fn after_disks(format: Format, rest: &[u8]) -> Result<(Disks, &[u8]), FaultKind>
-    ensures ok { IfOk result (λ x. IsSecond format rest.now x.0 x.1.now) }
+// The capacity of the cache, from the second line of a trace of a format, and what follows it.
+fn after_cache(format: Format, rest: &[u8]) -> Result<(u32, &[u8]), FaultKind>
+    ensures ok { IfOk result (λ x. IsSecond rest.now x.0 x.1.now) }
     ensures err { IfErr result (λ fault. RefusesSecond format rest.now fault) }
 {
     let Some((line, after)) = take_line(rest) else {
         return Err(FaultKind::Cut);
     };
     let (first, others) = take_field(line);
-    let Some(word) = second_word(format, first) else {
+    if !is_cache(first) {
         return Err(FaultKind::Word);
-    };
-    match disks_of(format, word, others) {
-        Some(disks) => Ok((disks, after)),
-        None => Err(fault_in(format, word, others)),
+    }
+    match sectors_of(format, others) {
+        Some(cache) => Ok((cache, after)),
+        None => Err(fault_in(format, Word::Cache, others)),
     }
 }
 
@@ -117,8 +116,8 @@ pub fn read_trace<A: Allocator + Copy>(alloc: A, text: &[u8]) -> Result<Trace<A>
     ensures numbered { IfErr result (λ e. 1 ≤ e.line) }
     ensures clean { IfErr result (λ e. IsCleanBefore text.now e.line) }
 {
-    let (format, disks, mut rest) = after_head(text)?;
-    let mut trace = Trace::new(alloc, format, disks);
+    let (format, cache, mut rest) = after_head(text)?;
+    let mut trace = Trace::new(alloc, format, cache);
     let mut line = 3;
     while !rest.is_empty() {
         let Some((this, after)) = take_line(rest) else {
@@ -145,7 +144,7 @@ fn add_line<A: Allocator + Copy>(
         RefusesLine trace.old.format (has_begun (content trace.old)) line.now fault) }
 {
     let begun = !trace.events.is_empty();
-    match entry_of(alloc, trace.format, trace.disks, line, begun) {
+    match entry_of(alloc, trace.format, line, begun) {
         Ok(Entry::Slot(slot)) => match trace.slots.push(slot) {
             Ok(()) => Ok(()),
             Err(_) => Err(FaultKind::NoMemory),

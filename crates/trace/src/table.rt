@@ -16,6 +16,8 @@ pub enum Field {
     Size,
     /// The regions of a slot's memory.
     Regions,
+    /// Who has a slot's disk.
+    Disk,
     /// The first sector of a slot's extent, and how many it has.
     Start,
     Count,
@@ -45,13 +47,12 @@ pub fn fields_after(format: Format, word: Word) -> &'static [Field]
     use Field::*;
     match word {
         Word::Cache => &[Sectors],
-        Word::Hosted => &[],
         Word::Slot => match format {
             Format::Plain(Version::One) => &[Base, Size, Start, Count, Mode, Columns, Rows],
             Format::Plain(Version::Two) => {
                 &[Base, Size, Start, Count, Mode, Columns, Rows, Identity]
             }
-            Format::Extended => &[Regions, Start, Count, Mode, Columns, Rows, Identity],
+            Format::Extended => &[Regions, Disk, Start, Count, Mode, Columns, Rows, Identity],
         },
         Word::Read => &[Slot, Window, Offset, Width],
         Word::Write => &[Slot, Window, Offset, Width, Value],

@@ -4,7 +4,6 @@ ghost use Rattle.std.specs.Prelude.{◌≡◌, ◌≢◌, []};
 ghost use Rattle.trace.specs.Printable.{IsPrintable};
 ghost use Rattle.trace.specs.Text.{as_format, content};
 
-use crate::disks::Disks;
 use crate::format::{Format, Version};
 use board::{Event, SlotSpec};
 use std::alloc::{Allocator, Global};
@@ -15,8 +14,8 @@ use std::alloc::{Allocator, Global};
 pub struct Trace<A: Allocator = Global> {
     /// How it is written.
     pub format: Format,
-    /// Where the guests' disks are.
-    pub disks: Disks,
+    /// How many sectors the cache before the image keeps.
+    pub cache: u32,
     /// The slots, numbered from 0 in their order.
     pub slots: Vec<SlotSpec, A>,
     /// The events, in the order in which they happen.
@@ -25,12 +24,12 @@ pub struct Trace<A: Allocator = Global> {
 
 impl<A: Allocator + Copy> Trace<A> {
     /// A trace with no slot and no event. This takes no memory.
-    pub fn new(alloc: A, format: Format, disks: Disks) -> Trace<A>
-        ensures { content result ≡ record { format = format; disks = disks; slots = []; events = [] } }
+    pub fn new(alloc: A, format: Format, cache: u32) -> Trace<A>
+        ensures { content result ≡ record { format = format; cache = cache; slots = []; events = [] } }
     {
         Trace {
             format,
-            disks,
+            cache,
             slots: Vec::new(alloc),
             events: Vec::new(alloc),
         }

@@ -1,6 +1,6 @@
 //! The value of a field, as a line is read.
 
-use board::{DeviceKind, Verdict};
+use board::{Backing, DeviceKind, Verdict};
 
 /// The most fields that a word has after it.
 pub(crate) const MOST_FIELDS: usize = 8;
@@ -9,6 +9,7 @@ pub(crate) const MOST_FIELDS: usize = 8;
 #[derive(Clone, Copy)]
 pub(crate) enum FieldValue<'a> {
     Number(u64),
+    Disk(Backing),
     Mode(bool),
     Window(DeviceKind),
     Offset(u16),

@@ -1,7 +1,6 @@
 //! The words that lines begin with.
 
 ghost use Rattle.std.specs.Prelude.{◌≡◌, ◌≢◌, ◌↔◌, IsTrue, IfSome, IfNone};
-ghost use Rattle.trace.specs.Faults.{MayStand};
 ghost use Rattle.trace.specs.Text.{word_for};
 ghost use Rattle.trace.specs.Words.{IsWordOf, spelled};
 ghost use Rattle.trace.specs.declared.word.Word.{Word};
@@ -10,12 +9,10 @@ use crate::format::Format;
 use board::EventKind;
 use std::alloc::Allocator;
 
-/// The first word of a line after the header. The second line has `Cache` or `Hosted`, the later ones the
-/// others.
+/// The first word of a line after the header. The second line has `Cache`, the later ones the others.
 #[derive(Clone, Copy, Debug, PartialEq, Eq)]
 pub enum Word {
     Cache,
-    Hosted,
     Slot,
     Read,
     Write,
@@ -43,7 +40,6 @@ pub(crate) fn word_of(field: &[u8]) -> Option<Word>
         b"io" => Some(Word::Complete),
         b"slot" => Some(Word::Slot),
         b"cache" => Some(Word::Cache),
-        b"hosted" => Some(Word::Hosted),
         _ => None,
     }
 }
@@ -66,7 +62,7 @@ pub(crate) fn is_word_of(format: Format, word: Word) -> bool
     ensures { IsTrue result ↔ IsWordOf format word }
 {
     match word {
-        Word::Hosted | Word::Restore | Word::Complete => format == Format::Extended,
+        Word::Restore | Word::Complete => format == Format::Extended,
         _ => true,
     }
 }
@@ -102,20 +98,12 @@ pub(crate) fn spelling_of(word: Word) -> &'static [u8]
         Word::Complete => b"io",
         Word::Slot => b"slot",
         Word::Cache => b"cache",
-        Word::Hosted => b"hosted",
     }
 }
 
-/// The word of the second line that a field is in a format.
-pub(crate) fn second_word(format: Format, field: &[u8]) -> Option<Word>
-    ensures some { IfSome result (λ word. field.now ≡ spelled word) }
-    ensures may { IfSome result (λ word. MayStand 2 word) }
-    ensures of_format { IfSome result (IsWordOf format) }
-    ensures none { IfNone result ((word : Word) → MayStand 2 word → IsWordOf format word → field.now ≢ spelled word) }
+/// Whether a field is the word of the second line.
+pub(crate) fn is_cache(field: &[u8]) -> bool
+    ensures { IsTrue result ↔ (field.now ≡ spelled Word.Cache) }
 {
-    match word_in(format, field)? {
-        Word::Cache => Some(Word::Cache),
-        Word::Hosted => Some(Word::Hosted),
-        _ => None,
-    }
+    matches!(field, b"cache")
 }

@@ -9,7 +9,7 @@ use crate::format::Format;
 use crate::print::regions::push_regions;
 use crate::table::{Field, fields_after};
 use crate::word::{Word, spelling_of};
-use board::{DeviceKind, Verdict};
+use board::{Backing, DeviceKind, Verdict};
 use guest_memory::RegionSpec;
 use hexadecimal::{push_bytes, push_fixed, push_num};
 use std::alloc::{AllocError, Allocator};
@@ -21,6 +21,7 @@ pub(crate) struct LineFields<'a> {
     pub base: u64,
     pub size: u64,
     pub regions: &'a [RegionSpec],
+    pub backing: Backing,
     pub start: u64,
     pub count: u64,
     pub read_only: bool,
@@ -46,6 +47,7 @@ impl Default for LineFields<'_> {
             base: 0,
             size: 0,
             regions: &[],
+            backing: Backing::Image,
             start: 0,
             count: 0,
             read_only: false,
@@ -97,6 +99,10 @@ fn push_field<A: Allocator>(
         Field::Base => push_num(out, fields.base),
         Field::Size => push_num(out, fields.size),
         Field::Regions => push_regions(out, fields.regions),
+        Field::Disk => match fields.backing {
+            Backing::Image => out.extend_from_slice(b"image"),
+            Backing::Host => out.extend_from_slice(b"host"),
+        },
         Field::Start => push_num(out, fields.start),
         Field::Count => push_num(out, fields.count),
         Field::Mode if fields.read_only => out.extend_from_slice(b"ro"),

@@ -4,11 +4,10 @@
 //! nothing when they run.
 
 ghost use Rattle.std.specs.Prelude.{All, ◌^◌, ◌<◌};
-ghost use Rattle.trace.specs.Printable.{DisksInRange, EventInRange, InRange, KindInRange, SlotInRange};
+ghost use Rattle.trace.specs.Printable.{EventInRange, InRange, KindInRange, SlotInRange};
 ghost use Rattle.trace.specs.Text.{content};
 ghost use Rattle.trace.specs.Words.{RegionInRange};
 
-use crate::disks::Disks;
 use crate::trace::Trace;
 use board::{Event, EventKind, SlotSpec};
 use guest_memory::RegionSpec;
@@ -18,23 +17,12 @@ use std::alloc::Allocator;
 pub(crate) fn in_range<A: Allocator>(trace: &Trace<A>)
     ensures { InRange (content trace.now) }
 {
-    disks_in_range(trace.disks);
+    let _cache = trace.cache;
     for slot in trace.slots.iter() {
         slot_in_range(slot);
     }
     for event in trace.events.iter() {
         event_in_range(event);
-    }
-}
-
-fn disks_in_range(disks: Disks)
-    ensures { DisksInRange disks }
-{
-    match disks {
-        Disks::Cached { capacity } => {
-            let _capacity = capacity;
-        }
-        Disks::Hosted => {}
     }
 }
 

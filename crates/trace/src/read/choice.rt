@@ -1,10 +1,10 @@
 //! Fields that choose one of a few values.
 
 ghost use Rattle.std.specs.Prelude.{◌≡◌, IfSome, IfNone, OnSome};
-ghost use Rattle.trace.specs.Spelling.{window, mode, verdict};
-ghost use Rattle.trace.specs.Words.{IsWidthField, Says, Window, Width, Mode, Verdict as ByVerdict};
+ghost use Rattle.trace.specs.Spelling.{disk, window, mode, verdict};
+ghost use Rattle.trace.specs.Words.{IsWidthField, Says, Disk, Window, Width, Mode, Verdict as ByVerdict};
 
-use board::{DeviceKind, Verdict};
+use board::{Backing, DeviceKind, Verdict};
 
 /// The kind of device whose window a field names.
 pub(crate) fn window_of(field: &[u8]) -> Option<DeviceKind>
@@ -29,6 +29,19 @@ pub(crate) fn width_of(field: &[u8]) -> Option<u8>
         b"1" => Some(1),
         b"2" => Some(2),
         b"4" => Some(4),
+        _ => None,
+    }
+}
+
+/// Who has a slot's disk.
+pub(crate) fn backing_of(field: &[u8]) -> Option<Backing>
+    ensures some { IfSome result (λ backing. field.now ≡ disk backing) }
+    ensures parsed { OnSome result (Says Disk field.now) }
+    ensures none { IfNone result (¬ Says Disk field.now) }
+{
+    match field {
+        b"image" => Some(Backing::Image),
+        b"host" => Some(Backing::Host),
         _ => None,
     }
 }

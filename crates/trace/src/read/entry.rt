@@ -6,7 +6,6 @@ ghost use Rattle.std.specs.Prelude.{◌≡◌, IfOk, IfErr};
 ghost use Rattle.trace.specs.Cuts.{fields_of};
 ghost use Rattle.trace.specs.Refusals.{RefusesLine, IsFineEntry, entry_fields};
 
-use crate::disks::Disks;
 use crate::fault::FaultKind;
 use crate::format::Format;
 use crate::read::at_fault::fault_in;
@@ -24,17 +23,15 @@ pub(crate) enum Entry<'a, A: Allocator> {
     Event(ParsedEvent<'a, A>),
 }
 
-/// The slot or the event that a line is in a format whose second line said where the `disks` are, where events may have
-/// `begun` before it.
+/// The slot or the event that a line is in a format, where events may have `begun` before it.
 pub(crate) fn entry_of<A: Allocator>(
     alloc: A,
     format: Format,
-    disks: Disks,
     line: &[u8],
     begun: bool,
 ) -> Result<Entry<'_, A>, FaultKind>
     ensures ok { IfOk result (λ entry. fields_of line.now ≡ entry_fields format entry) }
-    ensures fine { IfOk result (IsFineEntry format disks begun) }
+    ensures fine { IfOk result (IsFineEntry format begun) }
     ensures err { IfErr result (λ fault. RefusesLine format begun line.now fault) }
 {
     let (first, rest) = take_field(line);
@@ -42,9 +39,9 @@ pub(crate) fn entry_of<A: Allocator>(
         return Err(FaultKind::Word);
     };
     match word {
-        Word::Cache | Word::Hosted => Err(FaultKind::Word),
+        Word::Cache => Err(FaultKind::Word),
         Word::Slot if begun => Err(FaultKind::Order),
-        Word::Slot => match slot_of(format, disks, rest) {
+        Word::Slot => match slot_of(format, rest) {
             Some(slot) => Ok(Entry::Slot(slot)),
             None => Err(fault_in(format, word, rest)),
         },

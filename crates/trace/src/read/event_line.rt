@@ -6,7 +6,6 @@ ghost use Rattle.trace.specs.Cuts.{fields_of};
 ghost use Rattle.trace.specs.Refusals.{IsFine};
 ghost use Rattle.trace.specs.Text.{event_fields};
 
-use crate::disks::Disks;
 use crate::format::Format;
 use crate::no_memory::NoMemory;
 use crate::read::entry::{Entry, entry_of};
@@ -22,7 +21,7 @@ pub fn event_of_line<A: Allocator + Copy>(
     ensures none { IfOk result
         (λ found. IfNone found ((event : Event A) → IsFine event → event_fields event ≢ fields_of line.now)) }
 {
-    match entry_of(alloc, Format::Extended, Disks::Hosted, line, true) {
+    match entry_of(alloc, Format::Extended, line, true) {
         Ok(Entry::Event(parsed)) => match parsed.into_event(alloc) {
             Ok(event) => Ok(Some(event)),
             Err(_) => Err(NoMemory),

@@ -7,7 +7,6 @@ ghost use Rattle.trace.specs.declared.fault.FaultKind.{FaultKind};
 ghost use Rattle.trace.specs.Refusals.{RefusesLine};
 ghost use Rattle.trace.specs.ParsedEvent.{IsFineParsed, parsed_fields};
 
-use crate::disks::Disks;
 use crate::format::Format;
 use crate::read::cut::take_line;
 use crate::read::entry::{Entry, entry_of};
@@ -45,7 +44,7 @@ fn event_of<A: Allocator + Copy>(alloc: A, line: &[u8]) -> ParsedEvent<'_, A>
     ensures fields { fields_of line.now ≡ parsed_fields result }
     ensures fine { IsFineParsed result }
 {
-    match entry_of(alloc, Format::Extended, Disks::Hosted, line, true) {
+    match entry_of(alloc, Format::Extended, line, true) {
         Ok(Entry::Event(parsed)) => parsed,
         _ => unreachable!(),
     }

@@ -6,47 +6,39 @@ ghost use Rattle.std.specs.Prelude.{◌≡◌, ◌≢◌, ◌<◌, ◌≤◌, �
 ghost use Rattle.std.specs.Option.{option_copied};
 ghost use Rattle.trace.specs.Cuts.{fields_left};
 ghost use Rattle.trace.specs.Faults.{MayStand};
-ghost use Rattle.trace.specs.Printable.{DisksInRange, IsPrintableMemory};
+ghost use Rattle.trace.specs.Printable.{IsPrintableDisk, IsPrintableMemory};
 ghost use Rattle.trace.specs.Refusals.{IsFineSlot};
 ghost use Rattle.trace.specs.ParsedEvent.{IsFineParsed, parsed_fields};
 ghost use Rattle.hexadecimal.specs.Spelling.{bytes as bytes_field};
 ghost use Rattle.trace.specs.Spelling.{value_text};
-ghost use Rattle.trace.specs.Text.{disks_fields, disks_word, memory_fields, slot_fields, word_for};
+ghost use Rattle.trace.specs.Text.{cache_fields, disk_fields, memory_fields, slot_fields, word_for};
 ghost use Rattle.trace.specs.Values.{AreOf};
 ghost use Rattle.trace.specs.declared.format.Format.{Format};
-ghost use Rattle.trace.specs.Format.{identity_in_version_1, unless_version_1};
-ghost use Rattle.trace.specs.Words.{AreRight, Identity as ByIdentity, Mode as ByMode, Num, RegionInRange, shapes, spelled};
+ghost use Rattle.trace.specs.Format.{identity_in_version_1, if_extended, unless_version_1};
+ghost use Rattle.trace.specs.Words.{AreRight, Disk as ByDisk, Identity as ByIdentity, Mode as ByMode, Num, RegionInRange, shapes, spelled};
 
-use crate::disks::{Disks, backing_of};
 use crate::format::{Format, Version, identity_in_version_1};
 use crate::read::parsed_event::ParsedEvent;
 use crate::read::regions::regions_of;
 use crate::read::values::values_of;
 use crate::value::FieldValue::{
-    self, Identity, Mode, Number, Offset, Spelled, Value, Verdict, Width, Window,
+    self, Disk, Identity, Mode, Number, Offset, Spelled, Value, Verdict, Width, Window,
 };
 use crate::word::Word;
-use board::{Bytes, EventKind, Extent, SlotSpec};
+use board::{Backing, Bytes, EventKind, Extent, SlotSpec};
 use guest_memory::Regions;
 use std::alloc::Allocator;
 
-/// Where the disks are that a word of the second line and the fields after it say.
-pub(crate) fn disks_of(format: Format, word: Word, rest: Option<&[u8]>) -> Option<Disks>
-    requires { MayStand 2 word }
-    ensures fields { IfSome result (λ disks. disks_fields disks ≡ spelled word ∷ fields_left (option_copied rest.entry)) }
-    ensures word { IfSome result (λ disks. disks_word disks ≡ word) }
-    ensures fits { IfSome result DisksInRange }
-    ensures none { IfNone result (¬ AreRight format word (fields_left (option_copied rest.entry))) }
+/// How many sectors the cache keeps, which the fields after its word say.
+pub(crate) fn sectors_of(format: Format, rest: Option<&[u8]>) -> Option<u32>
+    ensures fields { IfSome result (λ sectors. cache_fields sectors ≡ spelled Word.Cache ∷ fields_left (option_copied rest.entry)) }
+    ensures none { IfNone result (¬ AreRight format Word.Cache (fields_left (option_copied rest.entry))) }
 {
-    let values = values_of(format, word, rest)?;
-    match (word, values.as_slice()) {
-        (Word::Cache, &[Number(sectors)]) => {
-            let capacity = sectors as u32;
-            Some(Disks::Cached { capacity })
-        }
-        (Word::Hosted, []) => Some(Disks::Hosted),
-        _ => unreachable!(),
-    }
+    let values = values_of(format, Word::Cache, rest)?;
+    let &[Number(sectors)] = values.as_slice() else {
+        unreachable!()
+    };
+    Some(sectors as u32)
 }
 
 /// The event that the fields after a word say. They are the same in each format that has it.
@@ -122,7 +114,7 @@ fn parsed_of<'a, A: Allocator>(
             };
             ParsedEvent::plain(slot as u8, EventKind::Complete { verdict })
         }
-        Word::Cache | Word::Hosted | Word::Slot => unreachable!(),
+        Word::Cache | Word::Slot => unreachable!(),
     }
 }
 
@@ -171,15 +163,15 @@ fn write_of<'a, A: Allocator>(values: &[FieldValue<'a>]) -> ParsedEvent<'a, A>
     ParsedEvent::plain(slot as u8, what)
 }
 
-/// The slot that the fields after its word say in a format whose second line said where the `disks` are. The first of them
-/// say its memory.
-pub(crate) fn slot_of(format: Format, disks: Disks, rest: Option<&[u8]>) -> Option<SlotSpec>
+/// The slot that the fields after its word say in a format. The first of them say its memory.
+pub(crate) fn slot_of(format: Format, rest: Option<&[u8]>) -> Option<SlotSpec>
     ensures fields { IfSome result (λ s. slot_fields format s ≡ spelled Word.Slot ∷ fields_left (option_copied rest.entry)) }
-    ensures fine { IfSome result (IsFineSlot format disks) }
+    ensures fine { IfSome result (IsFineSlot format) }
     ensures none { IfNone result (¬ AreRight format Word.Slot (fields_left (option_copied rest.entry))) }
 {
     let values = values_of(format, Word::Slot, rest)?;
     let (regions, others) = memory_of(format, values.as_slice());
+    let (backing, others) = disk_of(format, others);
     let &[
         Number(start),
         Number(count),
@@ -196,7 +188,7 @@ pub(crate) fn slot_of(format: Format, disks: Disks, rest: Option<&[u8]>) -> Opti
     Some(SlotSpec {
         regions,
         extent,
-        backing: backing_of(disks),
+        backing,
         read_only,
         cols: cols as u16,
         rows: rows as u16,
@@ -211,7 +203,7 @@ fn memory_of<'a, 'b>(
 ) -> (Regions, &'b [FieldValue<'a>])
     requires { AreOf (shapes format Word.Slot (map value_text values.now)) values.now }
     ensures fields { map value_text values.now ≡ memory_fields format result.0 ++ map value_text result.1.now }
-    ensures others { AreOf (Num 64 ∷ Num 64 ∷ ByMode ∷ Num 16 ∷ Num 16 ∷ unless_version_1 format (ByIdentity ∷ [])) result.1.now }
+    ensures others { AreOf (if_extended format (ByDisk ∷ []) ++ (Num 64 ∷ Num 64 ∷ ByMode ∷ Num 16 ∷ Num 16 ∷ unless_version_1 format (ByIdentity ∷ []))) result.1.now }
     ensures fits { All RegionInRange result.0 }
     ensures few { length result.0 ≤ 8 }
     ensures printable { IsPrintableMemory format (length result.0) }
@@ -224,6 +216,20 @@ fn memory_of<'a, 'b>(
             Some(regions) => (regions, others),
             None => unreachable!(),
         },
+        _ => unreachable!(),
+    }
+}
+
+// Who has a slot's disk, from the first of the values behind its memory, and the values behind that.
+fn disk_of<'a, 'b>(format: Format, values: &'b [FieldValue<'a>]) -> (Backing, &'b [FieldValue<'a>])
+    requires { AreOf (if_extended format (ByDisk ∷ []) ++ (Num 64 ∷ Num 64 ∷ ByMode ∷ Num 16 ∷ Num 16 ∷ unless_version_1 format (ByIdentity ∷ []))) values.now }
+    ensures fields { map value_text values.now ≡ disk_fields format result.0 ++ map value_text result.1.now }
+    ensures others { AreOf (Num 64 ∷ Num 64 ∷ ByMode ∷ Num 16 ∷ Num 16 ∷ unless_version_1 format (ByIdentity ∷ [])) result.1.now }
+    ensures printable { IsPrintableDisk format result.0 }
+{
+    match (format, values) {
+        (Format::Plain(_), others) => (Backing::Image, others),
+        (Format::Extended, &[Disk(backing), ref others @ ..]) => (backing, others),
         _ => unreachable!(),
     }
 }

@@ -5,7 +5,6 @@ ghost use Rattle.trace.specs.Validating.{IsValidated, ValidatesFirst, ValidatesL
 ghost use Rattle.trace.specs.Refusals.{RefusesLine};
 ghost use Rattle.trace.specs.Reading.{IsTraceFault};
 
-use crate::disks::Disks;
 use crate::fault::{FaultKind, TraceFault};
 use crate::format::Format;
 use crate::read::after_head;
@@ -19,7 +18,7 @@ use std::alloc::{Allocator, Global};
 #[derive(Drop)]
 pub struct Validated<'a, A: Allocator = Global> {
     pub format: Format,
-    pub disks: Disks,
+    pub cache: u32,
     pub slots: Vec<SlotSpec, A>,
     /// The lines of its events.
     pub events: &'a [u8],
@@ -33,10 +32,10 @@ pub fn validate<A: Allocator + Copy>(alloc: A, text: &[u8]) -> Result<Validated<
     ensures ok { IfOk result (λ j. IsValidated A text.now (validation j)) }
     ensures fault { IfErr result (λ e. IsTraceFault A text.now e) }
 {
-    let (format, disks, mut rest) = after_head(text)?;
+    let (format, cache, mut rest) = after_head(text)?;
     let mut validated = Validated {
         format,
-        disks,
+        cache,
         slots: Vec::new(alloc),
         events: rest,
         longest: 0,
@@ -98,7 +97,7 @@ impl<'a, A: Allocator + Copy> Validated<'a, A> {
         ensures err { IfErr result (λ fault. fault ≢ FaultKind.NoMemory →
             RefusesLine self.old.format begun this.now fault) }
     {
-        match entry_of(alloc, self.format, self.disks, this, begun) {
+        match entry_of(alloc, self.format, this, begun) {
             Ok(Entry::Slot(slot)) => {
                 if self.slots.push(slot).is_err() {
                     return Err(FaultKind::NoMemory);

@@ -8,14 +8,14 @@ ghost use Rattle.trace.specs.Words.{AllRight, AreRight, Says, Value as ByWidth, 
 ghost use Rattle.trace.specs.declared.word.Word.{Word};
 
 use crate::format::Format;
-use crate::read::choice::{mode_of, verdict_of, width_of, window_of};
+use crate::read::choice::{backing_of, mode_of, verdict_of, width_of, window_of};
 use crate::read::cut::{at_end, next_field, nth_field};
 use crate::read::identity::identity_of;
 use crate::read::offset::offset_of;
 use crate::read::regions::are_regions;
 use crate::table::{Field, fields_after};
 use crate::value::FieldValue::{
-    self, Identity, Mode, Number, Offset, Spelled, Value, Verdict, Width, Window,
+    self, Disk, Identity, Mode, Number, Offset, Spelled, Value, Verdict, Width, Window,
 };
 use crate::value::MOST_FIELDS;
 use crate::word::Word;
@@ -83,6 +83,7 @@ fn value_of<'a>(field: Field, width: &[u8], bytes: &'a [u8]) -> Option<FieldValu
         Field::Value => written_value(width, bytes),
         Field::Window => Some(Window(window_of(bytes)?)),
         Field::Width => Some(Width(width_of(bytes)?)),
+        Field::Disk => Some(Disk(backing_of(bytes)?)),
         Field::Mode => Some(Mode(mode_of(bytes)?)),
         Field::Verdict => Some(Verdict(verdict_of(bytes)?)),
         Field::Bytes if are_bytes(bytes) => Some(Spelled(bytes)),

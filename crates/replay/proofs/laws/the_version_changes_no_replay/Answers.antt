@@ -10,6 +10,6 @@ returns g c t format old new before after outcome range printable admitted goes 
     } in
     let other = as_format_may format t goes may in
     let same = asked_alike t.format format t.slots goes admitted.small in (
-      alike disk old new before after t.format format t.disks t.slots t.events may other same.0 outcome,
-      alike disk old new before after format t.format t.disks t.slots t.events other may same.1 outcome,
+      alike disk old new before after t.format format t.cache t.slots t.events may other same.0 outcome,
+      alike disk old new before after format t.format t.cache t.slots t.events other may same.1 outcome,
     )

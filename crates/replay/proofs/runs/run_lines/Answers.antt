@@ -7,7 +7,7 @@ use Rattle.replay.proofs.runs.run_lines.Goals as goal
 pub loop-rest-init : goal.loop-rest-init
 loop-rest-init g c =
     run_none _ c.args.lines.now _ _ c.requires.lines
-    (sends_no_run c.args.disks g.I.Image.disk c.args.board.now _ _)
+    (sends_no_run c.args.hosted g.I.Image.disk c.args.board.now _ _)
 
 pub run_line-rest-requires-clause-begins : goal.run_line-rest-requires-clause-begins
 run_line-rest-requires-clause-begins g c =
@@ -22,7 +22,7 @@ pub loop-rest-preserved : goal.loop-rest-preserved
 loop-rest-preserved g c =
     run_more _ c.args.lines.now _ c.loop-rest.rest.now _ _ _ _ c.loop-rest.invariant
     c.run_line-rest.ensures
-    (λ es e. sends_runs c.args.disks g.I.Image.disk c.args.board.now _ _ es (e ∷ []) _ _ _ _ _ _)
+    (λ es e. sends_runs c.args.hosted g.I.Image.disk c.args.board.now _ _ es (e ∷ []) _ _ _ _ _ _)
 
 pub returns : goal.returns
 returns g c events are =

@@ -8,7 +8,7 @@ use Rattle.replay.proofs.runs.run_lines.Given as goal
 abbrev pub invariant-loop-rest : goal.invariant-loop-rest
 invariant-loop-rest g l =
     RunSofar g.row.A.Denot l.lines (length l.fn.room) l.rest
-    (λ events. SendsRun l.disks g.I.Image.disk l.fn.board l.board events (g.W.Write.contents l.fn.writer)
+    (λ events. SendsRun l.hosted g.I.Image.disk l.fn.board l.board events (g.W.Write.contents l.fn.writer)
     (g.W.Write.contents l.writer) (waiting l.fn.text) (waiting l.text))
 
 abbrev pub decreases-loop-rest : goal.decreases-loop-rest

@@ -11,5 +11,5 @@ returns-clause-text g c =
     ∙ ap (λ (xs : List ℕ). xs ++ joined (map event_line t.events.items)) (c.in_ok-push_slots.ensures
     ∙ ap (λ ss. c.push_front.new.out.items ++ joined (map (slot_line t.format) ss)) c.deref.ensures.value
     ∙ ap (λ (xs : List ℕ). xs ++ joined (map (slot_line t.format) t.slots.items)) (c.in_ok-push_front.ensures
-    ∙ ap (λ (xs : List ℕ). xs ++ front_text t.format t.disks) c.new-out.ensures.items))
+    ∙ ap (λ (xs : List ℕ). xs ++ front_text t.format t.cache) c.new-out.ensures.items))
     ∙ text_is (content t)

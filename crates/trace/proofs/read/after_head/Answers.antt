@@ -7,12 +7,12 @@ returns-in-Err-clause-fault c known = head_fault c.args.text.now c.in-Err.kind c
 pub returns-in-Err-clause-clean : goal.returns-in-Err-clause-clean
 returns-in-Err-clause-clean c = nothing_before c.args.text.now
 
-pub returns-in-Err-after_disks-clause-fault : goal.returns-in-Err-after_disks-clause-fault
-returns-in-Err-after_disks-clause-fault c known =
+pub returns-in-Err-after_cache-clause-fault : goal.returns-in-Err-after_cache-clause-fault
+returns-in-Err-after_cache-clause-fault c known =
     second_fault c.in-Ok.found.0 c.args.text.now c.in-Ok.found.1.now
-    c.in-Ok.ensures.ok.ended c.in-Err-after_disks.kind c.in-Err-after_disks.ensures.err known
+    c.in-Ok.ensures.ok.ended c.in-Err-after_cache.kind c.in-Err-after_cache.ensures.err known
 
-pub returns-in-Err-after_disks-clause-clean : goal.returns-in-Err-after_disks-clause-clean
-returns-in-Err-after_disks-clause-clean c =
+pub returns-in-Err-after_cache-clause-clean : goal.returns-in-Err-after_cache-clause-clean
+returns-in-Err-after_cache-clause-clean c =
     head_clean c.in-Ok.found.0 c.args.text.now c.in-Ok.found.1.now
     c.in-Ok.ensures.ok.ended

@@ -18,7 +18,7 @@ returns-in_err-format-clause-none g c =
 pub loop-rest-init : goal.loop-rest-init
 loop-rest-init g c =
     subst (λ x. Sofar c.args.text.now x 3 c.in_ok-format.rest.now) (sym c.new-trace.ensures)
-    (begun_so c.args.text.now c.in_ok-format.format c.in_ok-format.disks c.in_ok-format.rest.now
+    (begun_so c.args.text.now c.in_ok-format.format c.in_ok-format.cache c.in_ok-format.rest.now
     c.in_ok-format.ensures.ok)
 
 pub returns-in_default-clause-fault : goal.returns-in_default-clause-fault

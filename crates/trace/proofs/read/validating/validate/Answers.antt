@@ -18,15 +18,15 @@ loop-rest-init g c =
     subst (λ (slots : List SlotSpec). ValidatedSofar g.row.A.Denot c.args.text.now
     (record {
       format = head.format;
-      disks = head.disks;
+      cache = head.cache;
       slots = slots;
       events = head.rest.now;
       longest = 0;
       longest_line = 1;
     }) 3 head.rest.now)
     (sym c.new.ensures.items)
-    (validated_first g.row.A.Denot c.args.text.now head.format head.disks head.rest.now
-    (begun_so c.args.text.now head.format head.disks head.rest.now head.ensures.ok))
+    (validated_first g.row.A.Denot c.args.text.now head.format head.cache head.rest.now
+    (begun_so c.args.text.now head.format head.cache head.rest.now head.ensures.ok))
 
 pub returns-in-Err-clause-fault : goal.returns-in-Err-clause-fault
 returns-in-Err-clause-fault g c =
