@@ -19,12 +19,11 @@ class Slot(namedtuple("Slot", "base length start count read_only columns rows id
         """All regions of the memory, in ascending order."""
         return sorted([(self.base, self.length), *self.others])
 
-    def fields(self, start=None):
+    def fields(self, disk="image"):
         """What the small model makes a slot of."""
         (base, length), *others = self.regions()
-        start = self.start if start is None else start
         mode = "ro" if self.read_only else "rw"
-        return [base, length, start, self.count, mode, self.columns, self.rows, self.identity, *others]
+        return [disk, base, length, self.start, self.count, mode, self.columns, self.rows, self.identity, *others]
 
     def ends(self):
         """Where each region begins and ends."""
@@ -71,6 +70,8 @@ class Guest:
         self.dice, self.slot, self.wildness = dice, slot, wildness
         self.places = random.Random(f"places {slot}")
         self.events, self.expected, self.disk = [], {}, None
+        # whether the host serves its disk
+        self.is_hosted = False
         # what the suite's small model says that it is told, where the model made its events
         self.told = None
         # of each block request: the event that reads its status, its type, whether it is refused, and runs of sectors with

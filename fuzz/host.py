@@ -1,4 +1,4 @@
-"""The host of a guest's disk in a hosted trace: what it does stands among the guest's events.
+"""The host of a guest's disk: what it does stands among the guest's events.
 
 The suite's small model says which operations there are. When the host does one, how much of it, and whether it fails come of
 dice: what it reads into memory are `mw` lines, and a completion is an `io` line.
@@ -18,7 +18,7 @@ class Host:
     """Serves one guest's disk: at once and always well, or late and not always well."""
 
     def __init__(self, guest, disk, dice, is_late):
-        self.board = model.hosted_board_of([guest.slot.fields(start=0)], ())
+        self.board = model.board_of([guest.slot.fields("host")], 1, model.Image(b"", ()), (), largest=2**32)
         self.guest, self.disk, self.dice, self.is_late, self.due = guest, bytearray(disk), dice, is_late, 0
         self.events, self.told = [], []
 
@@ -84,3 +84,16 @@ class Host:
             start += count
 
     WAYS = {"in": read, "out": out, "flush": flush, "zeroes": zeroes}
+
+
+def complete_nothing(guest, dice):
+    """A host completes now and then what a guest on the image never has in flight."""
+    events, expected = [], {}
+    for number, event in enumerate(guest.events):
+        if dice.random() < 0.02:
+            expected[len(events)] = "idle -"
+            events.append(("io", dice.choice(["done", "failed"])))
+        if number in guest.expected:
+            expected[len(events)] = guest.expected[number]
+        events.append(event)
+    guest.events, guest.expected = events, expected

@@ -10,7 +10,6 @@ KINDS = ["Cut", "Header", "Word", "Order", "Fields", "Number", "Choice", "Bytes"
 # The fields of each line behind its first word. A number says how many bits it may have.
 LINES = {
     "cache": [32],
-    "hosted": [],
     "slot": [64, 64, 64, 64, "mode", 16, 16],
     "r": [8, "win", "off", "wid"],
     "w": [8, "win", "off", "wid", "val"],
@@ -27,16 +26,13 @@ FIRST_LINES = ["vreplay 1", "vreplay 2", "kalyubos 1"]
 FIRST, _, EXTENDED = FIRST_LINES
 
 # The fields of those that have others in an extended trace.
-IN_EXTENDED = {"slot": ["regions", 64, 64, "mode", 16, 16]}
-
-# The words that stand in line 2, and nowhere else.
-SECOND = ["cache", "hosted"]
+IN_EXTENDED = {"slot": ["regions", "disk", 64, 64, "mode", 16, 16]}
 
 # What stands behind them in all but version 1, and the words that an extended trace has alone.
 ADDED = {"slot": ["identity"]}
-EXTENDED_WORDS = ["hosted", "st", "io"]
+EXTENDED_WORDS = ["st", "io"]
 
-CHOICES = {"win": ["b", "c"], "wid": ["1", "2", "4"], "mode": ["rw", "ro"], "verdict": ["done", "failed"]}
+CHOICES = {"win": ["b", "c"], "wid": ["1", "2", "4"], "mode": ["rw", "ro"], "disk": ["image", "host"], "verdict": ["done", "failed"]}
 
 
 def fault_of(text):
@@ -61,7 +57,7 @@ def fault_in(text, line, had_event, first):
     if line == 1:
         return None if text in FIRST_LINES else "Header"
     word, *fields = text.split(" ")
-    if word not in LINES or (word in SECOND) != (line == 2) or word in EXTENDED_WORDS and first != EXTENDED:
+    if word not in LINES or (word == "cache") != (line == 2) or word in EXTENDED_WORDS and first != EXTENDED:
         return "Word"
     if word == "slot" and had_event:
         return "Order"

@@ -2,7 +2,7 @@
 import random
 
 from guests import IDENTITY_TEXT, MEMORIES, SECTOR, Guest, Slot, live
-from host import Host
+from host import Host, complete_nothing
 from reader import EXTENDED, FIRST, FIRST_LINES
 
 BASES = [0x80000000, 0x80000000, 0, 0x40000000, (1 << 64) - 0x10000]
@@ -15,21 +15,23 @@ OTHERS = [0, 0, 1, 1, 2, 7]
 OTHER_LENGTHS = [0x8000, 0x10000]
 GAPS = [0x1000, 0x1000, 0x3000, 0x100000, 0x10000000]
 
-# The share of the traces whose disks the host serves, where there may be any, and how often the host of a guest is late.
-HOSTED, LATE = 1 / 3, 0.7
+# The share of the traces with disks that the host serves, where there may be any, of these the share with disks on the image too, and how
+# often the host of a guest is late.
+HOSTED, BOTH, LATE = 1 / 3, 1 / 2, 0.7
 
 
 class Scene:
-    """Two to four guests on one board, each with a run of the image's sectors for its disk. Where the host serves the disks,
-    they begin with the bytes of these runs."""
+    """Two to four guests on one board, each with a run of the image's sectors for its disk. A disk that the host serves begins with
+    the bytes of this run; its line says that it begins anywhere."""
 
     GUESTS = 2, 5
     DISKS = 2 * [0, 1, 2, 4, 8] + [130]
 
     def __init__(self, seed, offered, may_be_hosted=False):
         self.seed, dice = seed, random.Random(seed)
-        names, hosts = random.Random(f"identities {seed}"), random.Random(f"hosts {seed}")
+        names, hosts, kinds = (random.Random(f"{what} {seed}") for what in ("identities", "hosts", "kinds"))
         self.is_hosted = may_be_hosted and hosts.random() < HOSTED
+        is_both = kinds.random() < BOTH
         self.first_line = EXTENDED if self.is_hosted else self.first_line_of(seed, names)
         self.cache = dice.choice(CACHES)
         self.guests, start = [], dice.randrange(3)
@@ -41,14 +43,19 @@ class Scene:
             slot = Slot(base, length, start, count, dice.random() < 0.2, dice.randrange(200), dice.randrange(100), identity)
             slot = slot._replace(others=self.others(slot, random.Random(f"regions {seed} {len(self.guests)}")))
             self.guests.append(Guest(dice, slot, dice.choice(WILDNESS)))
+            self.guests[-1].is_hosted = self.is_hosted and not (is_both and kinds.random() < 0.5)
             start += count + dice.choice([0, 0, 1, 2])
         self.image = dice.randbytes(SECTOR * (start + dice.randrange(2)))
         for guest in self.guests:
             first = SECTOR * guest.slot.start
             disk = self.image[first:first + SECTOR * guest.slot.count]
             self.live(guest, offered, disk, dice.randrange(100, 350))
-            if self.is_hosted:
+            if guest.is_hosted:
                 Host(guest, disk, hosts, hosts.random() < LATE).serve()
+                guest.slot = guest.slot._replace(start=kinds.choice([guest.slot.start, 0, self.guests[0].slot.start, (1 << 64) - 1]))
+            elif self.is_hosted:
+                complete_nothing(guest, hosts)
+        self.is_hosted = any(guest.is_hosted for guest in self.guests)
         self.lines = list(self.interleaved(dice))
 
     def first_line_of(self, seed, dice):
@@ -93,24 +100,23 @@ class Scene:
         return self.text(self.first_line, self.cache, [guest], [self.event(guest, number, 0) for number in range(count)])
 
     def text(self, first_line, cache, guests, events):
-        slots = [slot_line(self.guests[guest].slot, first_line) for guest in guests]
-        second = "hosted" if self.is_hosted else f"cache {cache:x}"
-        return "\n".join([first_line, second] + slots + events) + "\n"
+        slots = [slot_line(guest.slot, first_line, "host" if guest.is_hosted else "image") for guest in map(self.guests.__getitem__, guests)]
+        return "\n".join([first_line, f"cache {cache:x}"] + slots + events) + "\n"
 
     def event(self, guest, number, slot):
         word, fields = self.guests[guest].events[number]
         return f"{word} {slot:x} {fields}"
 
     def outside_of_disks(self, image):
-        """The sectors of an image that lie in no guest's disk."""
-        ends = [(guest.slot.start, guest.slot.start + guest.slot.count) for guest in self.guests]
+        """The sectors of an image that lie in no guest's extent."""
+        ends = [(guest.slot.start, guest.slot.start + guest.slot.count) for guest in self.guests if not guest.is_hosted]
         gaps = zip([0] + [last for _, last in ends], [first for first, _ in ends] + [len(image) // SECTOR])
         return [image[SECTOR * first:SECTOR * last] for first, last in gaps]
 
 
-def slot_line(slot, first_line):
+def slot_line(slot, first_line, disk="image"):
     mode = "ro" if slot.read_only else "rw"
     identity = f" {slot.identity.hex()}" if first_line != FIRST else ""
     regions = [f"{base:x}+{length:x}" for base, length in slot.regions()]
-    memory = ",".join(regions) if first_line == EXTENDED else f"{slot.base:x} {slot.length:x}"
+    memory = f"{','.join(regions)} {disk}" if first_line == EXTENDED else f"{slot.base:x} {slot.length:x}"
     return f"slot {memory} {slot.start:x} {slot.count:x} {mode} {slot.columns:x} {slot.rows:x}{identity}"

@@ -1,10 +1,9 @@
 /*
  * Replays a trace over the C library, and compares what each guest is told on a board of all guests, whose outlets are small,
- * with what it is told on a board of its own:
- *  - over an image, once for each of BUDGETS, where others' events are served between the pieces of a service; alone there
- *    is no budget;
- *  - with disks that the host serves, where operations are completed at random moments, and some fail (flights.c). The
- *    boards of one guest are called by a thread each, all at once and without a lock.
+ * with what it is told on a board of its own, without a budget. All are on a board once for each of BOARDS:
+ *  - others' events are served between the pieces of a service;
+ *  - where the host serves a disk, its operations are completed at random moments, and some fail (flights.c). The
+ *    boards of one such guest are called by a thread each, all at once and without a lock.
  *
  *     sessions TRACE IMAGE SEED    prints what was counted, or ends with 1 and the first event that was answered otherwise
  *     sessions                     prints the features that a board offers, as records: of both windows, and the high word
@@ -27,8 +26,22 @@
 
 enum { SECTOR = 512, TAKEN_AT_ONCE = 1 << 16 };
 static const uint32_t OUTLETS[] = { 1 << 16, 300, 4095, 1, 1000, 0 };
-static const struct budget BUDGETS[] = { { 0, 0 }, { 1, 0 }, { 3, 0 }, { 0, 4096 } };
-enum { BUDGETS_LEN = sizeof BUDGETS / sizeof *BUDGETS };
+
+/* The boards of all guests: whether the host serves the disks of the even and of the odd ones, and a call's budget. */
+static const struct {
+    bool hosted[2];
+    uint32_t chains;
+    uint64_t bytes;
+} BOARDS[] = {
+    { { false, false }, 0, 0 }, { { false, false }, 1, 0 }, { { false, false }, 3, 0 }, { { false, false }, 0, 4096 },
+    { { true, true }, 0, 0 },   { { true, true }, 1, 0 },   { { true, false }, 3, 0 },  { { false, true }, 0, 4096 },
+};
+enum { BOARDS_LEN = sizeof BOARDS / sizeof *BOARDS };
+
+static bool is_hosted(size_t board, size_t guest)
+{
+    return BOARDS[board].hosted[guest % 2];
+}
 
 /* ---- the trace, read once */
 
@@ -186,6 +199,8 @@ static void act(struct seat *seat, const struct event *event)
         tell_number(told, kalyubos_resize(seat->board, seat->slot, event->cols, event->rows, &pending));
         tell_pending(told, &pending);
         break;
+    case RESTORE:
+    case COMPLETE: break; /* these traces have none */
     }
     look(seat);
     if (chance(seat, 8) == 0)
@@ -310,47 +325,41 @@ static void act_alone(struct seat *seat)
     tell_rest(seat, 0);
 }
 
-static void run_together(struct file image, struct budget budget)
+static void give_disk(struct seat *seat, struct file image)
+{
+    size_t guest = (size_t)(seat->guest - trace.guests);
+    open_disk(seat, image.at + seat->guest->start * SECTOR, (seed + guest) % 2 == 0);
+}
+
+static void run_together(size_t board, struct file image)
 {
     struct kalyubos_slot slots[MOST_GUESTS];
     for (size_t i = 0; i < trace.guests_len; i++) {
         slots[i] = slot_of(i, trace.guests[i].start);
+        slots[i].hosted = is_hosted(board, i);
         seats[i] = seat_of(&shared, (uint8_t)i, i);
+        if (slots[i].hosted)
+            give_disk(&seats[i], image);
     }
-    make(&shared, slots, trace.guests_len, image.at, image.len, trace.cache, budget);
+    size_t image_len = is_hosted(board, 0) && is_hosted(board, 1) ? 0 : image.len;
+    struct kalyubos_config config = over_image(slots, trace.guests_len, image.at, image_len);
+    config.cache = trace.cache;
+    config.chains = BOARDS[board].chains;
+    config.bytes = BOARDS[board].bytes;
+    make(&shared, config);
     act_together();
 }
 
-static struct seat run_alone(size_t guest, struct file image)
+static void run_alone(struct seat *alone, struct file image)
 {
-    struct kalyubos board = { NULL };
-    struct kalyubos_slot slot = slot_of(guest, 0);
-    struct seat seat = seat_of(&board, 0, guest);
-    const uint8_t *part = image.at + trace.guests[guest].start * SECTOR;
-    make(&board, &slot, 1, part, trace.guests[guest].count * SECTOR, trace.cache, NO_LIMIT);
-    act_alone(&seat);
-    end(&board);
-    return seat;
-}
-
-/* ---- the same with disks that the host serves */
-
-static struct seat hosted_seat_of(struct kalyubos *board, uint8_t slot, size_t guest, struct file image)
-{
-    struct seat seat = seat_of(board, slot, guest);
-    open_disk(&seat, image.at + trace.guests[guest].start * SECTOR, (seed + guest) % 2 == 0);
-    return seat;
-}
-
-static void run_hosted_together(struct file image)
-{
-    struct kalyubos_slot slots[MOST_GUESTS];
-    for (size_t i = 0; i < trace.guests_len; i++)
-        slots[i] = slot_of(i, 0);
-    make_hosted(&shared, slots, trace.guests_len);
-    for (size_t i = 0; i < trace.guests_len; i++)
-        seats[i] = hosted_seat_of(&shared, (uint8_t)i, i, image);
-    act_together();
+    for (size_t i = 0; i < trace.guests_len; i++) {
+        struct kalyubos board = { NULL };
+        struct kalyubos_slot slot = slot_of(i, 0);
+        alone[i] = seat_of(&board, 0, i);
+        make(&board, over_image(&slot, 1, image.at + trace.guests[i].start * SECTOR, trace.guests[i].count * SECTOR));
+        act_alone(&alone[i]);
+        end(&board);
+    }
 }
 
 static void *act_on_a_thread(void *seat)
@@ -359,18 +368,20 @@ static void *act_on_a_thread(void *seat)
     return NULL;
 }
 
-/* Each guest on a board and on a thread of its own, all at once. */
-static void run_hosted_alone(struct file image)
+/* Each guest on a board and on a thread of its own, all at once, with a disk that the host serves. */
+static void run_hosted_alone(struct seat *alone, struct file image)
 {
     static struct kalyubos boards[MOST_GUESTS];
     pthread_t threads[MOST_GUESTS];
     for (size_t i = 0; i < trace.guests_len; i++) {
         struct kalyubos_slot slot = slot_of(i, 0);
-        make_hosted(&boards[i], &slot, 1);
-        seats[i] = hosted_seat_of(&boards[i], 0, i, image);
+        slot.hosted = true;
+        make(&boards[i], kalyubos_config(&slot, 1));
+        alone[i] = seat_of(&boards[i], 0, i);
+        give_disk(&alone[i], image);
     }
     for (size_t i = 0; i < trace.guests_len; i++)
-        need(pthread_create(&threads[i], NULL, act_on_a_thread, &seats[i]) == 0, "no thread", i);
+        need(pthread_create(&threads[i], NULL, act_on_a_thread, &alone[i]) == 0, "no thread", i);
     for (size_t i = 0; i < trace.guests_len; i++)
         need(pthread_join(threads[i], NULL) == 0, "no end of a thread", i);
     end_all(boards, trace.guests_len);
@@ -407,7 +418,6 @@ static void add_counts(const struct counts *counts)
 
 static void release(struct seat *seat)
 {
-    add_counts(&seat->counts);
     free(seat->told.bytes);
     free(seat->told.starts);
     if (seat->disk != NULL)
@@ -420,7 +430,7 @@ static void print_features(void)
     static uint8_t image[SECTOR];
     struct kalyubos board = { NULL };
     struct kalyubos_slot slot = { .size = sizeof slot, .regions = { { 0, 0x1000 } }, .count = 1 };
-    make(&board, &slot, 1, image, SECTOR, 1, NO_LIMIT);
+    make(&board, over_image(&slot, 1, image, SECTOR));
     for (uint32_t i = 0; i < 3; i++) {
         struct kalyubos_pending pending;
         uint32_t word = 0;
@@ -431,36 +441,23 @@ static void print_features(void)
     end(&board);
 }
 
-static void check_budgets(struct file image)
+static void check_boards(struct file image)
 {
-    static struct seat all[BUDGETS_LEN][MOST_GUESTS];
-    for (size_t i = 0; i < BUDGETS_LEN; i++) {
-        seats = all[i];
-        run_together(image, BUDGETS[i]);
+    static struct seat together[BOARDS_LEN][MOST_GUESTS], alone[MOST_GUESTS], hosted_alone[MOST_GUESTS];
+    for (size_t i = 0; i < BOARDS_LEN; i++) {
+        seats = together[i];
+        run_together(i, image);
     }
+    run_alone(alone, image);
+    run_hosted_alone(hosted_alone, image);
     for (size_t i = 0; i < trace.guests_len; i++) {
-        struct seat alone = run_alone(i, image);
-        for (size_t j = 0; j < BUDGETS_LEN; j++) {
-            compare(i, &all[j][i].told, &alone.told);
-            release(&all[j][i]);
+        for (size_t j = 0; j < BOARDS_LEN; j++) {
+            compare(i, &together[j][i].told, is_hosted(j, i) ? &hosted_alone[i].told : &alone[i].told);
+            add_counts(&together[j][i].counts);
+            release(&together[j][i]);
         }
-        alone.counts = (struct counts){ 0 };
-        release(&alone);
-    }
-}
-
-static void check_hosted(struct file image)
-{
-    static struct seat together[MOST_GUESTS], alone[MOST_GUESTS];
-    seats = together;
-    run_hosted_together(image);
-    seats = alone;
-    run_hosted_alone(image);
-    for (size_t i = 0; i < trace.guests_len; i++) {
-        compare(i, &together[i].told, &alone[i].told);
-        release(&together[i]);
-        alone[i].counts = (struct counts){ 0 };
         release(&alone[i]);
+        release(&hosted_alone[i]);
     }
 }
 
@@ -475,12 +472,11 @@ int main(int argc, char **argv)
     read_trace(text);
     begun = calloc(events_len + 1, sizeof *begun);
     need(begun != NULL, "no memory", events_len);
-    check_budgets(image);
-    check_hosted(image);
+    check_boards(image);
     printf("%zu events, %" PRIu64 " pauses, %" PRIu64 " writes without room, %" PRIu64 " bytes taken, %" PRIu64
            " operations, %" PRIu64 " of them failed, %" PRIu64 " writes that waited for a disk, %" PRIu64
            " guests that were saved and restored\n",
-           (BUDGETS_LEN + 1) * events_len, total.pauses, total.refused, total.taken, total.operations, total.failures,
+           BOARDS_LEN * events_len, total.pauses, total.refused, total.taken, total.operations, total.failures,
            total.waits, total.saves);
     free(begun);
     for (size_t i = 0; i < events_len; i++)

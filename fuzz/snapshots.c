@@ -395,8 +395,12 @@ static void make_boards(struct kalyubos *boards, struct guest guests[][GUESTS])
         slots[i] = (struct kalyubos_slot){ .size = sizeof *slots, .start = SECTORS * i, .count = SECTORS, .cols = 80,
                                            .regions = { { MEMORY, MEMORY_LEN }, { MEMORY + MEMORY_LEN + GAP, SECOND_LEN } },
                                            .rows = 25, .outlet = OUTLET, .identity = "alike" };
-    make(&boards[0], slots, GUESTS, image, sizeof image, 2, (struct budget){ 2, 0 });
-    make_hosted(&boards[1], slots, GUESTS);
+    struct kalyubos_config config = over_image(slots, GUESTS, image, sizeof image);
+    config.chains = 2;
+    make(&boards[0], config);
+    for (size_t i = 0; i < GUESTS; i++)
+        slots[i].hosted = true;
+    make(&boards[1], kalyubos_config(slots, GUESTS));
     for (uint8_t i = 0; i < 2 * GUESTS; i++) {
         struct guest *guest = &guests[i / GUESTS][i % GUESTS];
         size_t len;

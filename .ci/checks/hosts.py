@@ -97,9 +97,9 @@ def differences(program, folder, name, *words):
 
 def library():
     """What a host in C is linked to where the library is built, or nothing."""
-    built, header = TOP / "crates/board_ffi/out/libboard_ffi.a", TOP / "crates/board_ffi/kalyubos.h"
+    built, header = TOP / "packaging/out/libkalyubos.a", TOP / "crates/board_ffi/kalyubos.h"
     is_built = built.exists() and built.stat().st_mtime > header.stat().st_mtime
-    return [EMBED / "heap.c", built] if is_built else []
+    return [built] if is_built else []
 
 
 def recorder():
@@ -165,7 +165,7 @@ def disks():
     with tempfile.TemporaryDirectory() as folder:
         if not library():
             wrong = [line for source in sources for line in compiled(f"{folder}/{source.stem}.o", [source, "-c"])]
-            return not wrong, wrong or ["compiled alone: the library isn't built (`make embed` builds it)"]
+            return not wrong, wrong or ["compiled alone: the library isn't built (`make library` builds it)"]
         host, ways = f"{folder}/disk", []
         wrong = compiled(host, [*sources, *library(), "-pthread"])
         for words in () if wrong else ([], ["threads"]):

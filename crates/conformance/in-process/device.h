@@ -25,6 +25,7 @@ struct guest {
     struct region regions[MOST_REGIONS];
     size_t regions_len;
     uint64_t start, count;
+    bool hosted; /* the trace serves the disk, which has `count` sectors; its start says nothing */
     bool read_only;
     uint16_t cols, rows;
     uint8_t identity[20];
@@ -59,7 +60,7 @@ struct setup {
     uint32_t cache;
     const uint64_t *fails; /* the numbers of the image's calls that fail, for a device with calls of an image */
     size_t fails_len;
-    bool hosted; /* the trace serves the disks: there is no image */
+    bool hosted; /* the trace serves a disk, or all */
 };
 
 enum { BLOCK_WINDOW = 0, CONSOLE_WINDOW = 1 };
@@ -75,8 +76,10 @@ struct operation {
     } runs[256];
 };
 
-/* What a device has besides where a trace may serve its disks. */
+/* What a device has besides where a trace may serve its disks. The calls are of guests whose disk it serves. */
 struct hosting {
+    /* Whether other guests of the same board may have disks on the image. */
+    bool beside_extents;
     /* As `write` of a device. False, and nothing changed: it waits for what is in flight. */
     bool (*write)(unsigned guest, unsigned window, unsigned offset, unsigned width, uint32_t value);
     /* Says of what is in flight of a guest that it was done or that it failed. False: nothing is. */

@@ -42,8 +42,11 @@ void open_disks(struct kalyubos *its_board, const struct setup *its_setup)
     free(kept);
     kept = calloc((size_t)setup.cache + 1, sizeof *kept);
     need(kept != NULL, "no memory");
-    for (size_t i = 0; i < setup.guests_len; i++)
-        need(is_inside(setup.guests[i].start, setup.guests[i].count, 0, setup.image_len / SECTOR), "a disk outside the image");
+    for (size_t i = 0; i < setup.guests_len; i++) {
+        const struct guest *guest = &setup.guests[i];
+        need(guest->hosted || is_inside(guest->start, guest->count, 0, setup.image_len / SECTOR),
+             "a disk outside the image");
+    }
 }
 
 /* ---- the calls of the image, one of which may fail */

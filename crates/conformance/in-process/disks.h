@@ -5,7 +5,7 @@
 #include "device.h"
 #include "kalyubos.h"
 
-/* Serves the disks of a board that was made of this setup. */
+/* Serves the disks of a board that was made of this setup, but those that the trace serves. */
 void open_disks(struct kalyubos *board, const struct setup *setup);
 
 /* Goes on behind a call that was answered so, until nothing of the guest is in flight. The answer is then DONE for IO. */

@@ -4,7 +4,7 @@
  * an image that differs at the end.
  *
  *     clang -std=c11 -g -O1 -fsanitize=fuzzer,address -I ../../board_ffi -DOURS -o fuzz fuzz.c trace.c kalyubos.c \
- *         my_device.c ../../../examples/embed/heap.c ../../board_ffi/out/libboard_ffi.a
+ *         my_device.c ../../../packaging/out/libkalyubos.a
  *     mkdir -p found && ./fuzz -only_ascii=1 -max_len=8000 found ../data/scenarios/[a-z]*[a-z] \
  *         -seed_inputs=../../../examples/linux-boot.trace
  *
@@ -120,7 +120,8 @@ int LLVMFuzzerTestOneInput(const uint8_t *bytes, size_t len)
 {
     static uint8_t images[2][IMAGE];
     struct trace trace;
-    if (!read_setup((const char *)bytes, len, &trace) || (trace.hosted && !device.hosting))
+    if (!read_setup((const char *)bytes, len, &trace) || !has_such_disks(&device, &trace) ||
+        !has_such_disks(&kalyubos, &trace))
         return -1;
     for (size_t i = 0; i < trace.guests_len; i++)
         if (memory_size(&trace.guests[i]) > MOST_MEMORY)

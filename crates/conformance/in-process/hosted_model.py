@@ -51,7 +51,7 @@ class ServedSlot(model.HostedSlot):
         self.cache.flush()
 
 
-model.Slot = ServedSlot
+model.SLOTS["image"] = ServedSlot
 
 if __name__ == "__main__":
     sys.exit(print(__doc__) if "--help" in sys.argv else model.main(sys.argv[1:]))

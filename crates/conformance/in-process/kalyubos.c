@@ -1,7 +1,7 @@
 /*
  * The C library of this repository as the suite's device: crates/board_ffi/kalyubos.h. With OURS defined it is called
- * `kalyubos` and not `device`, so that another device can stand beside it. With HOSTED defined, and linked to disks.c, it is a
- * board whose disks the host serves.
+ * `kalyubos` and not `device`, so that another device can stand beside it. With HOSTED defined, and linked to disks.c,
+ * no disk is on the image: this host serves those that the trace doesn't serve.
  */
 #include "kalyubos.h"
 
@@ -12,6 +12,8 @@
 #include "device.h"
 #ifdef HOSTED
 #include "disks.h"
+#else
+#define HOSTED 0
 #endif
 
 /* How many bytes of output a guest may have waiting: a chain that puts out more never goes out. */
@@ -23,10 +25,8 @@ static struct kalyubos board;
 static uint8_t *image;
 static size_t image_len;
 
-/* Whether the trace serves the disks, and whether the last write or completion of a guest began an operation. */
-static bool hosted, began;
-
-enum { OUTLET = 1 << 20 /* more than a guest of the scenarios puts out by one event */ };
+/* Whether the last write or completion of a guest began an operation. */
+static bool began;
 
 /* Ends the program where a call doesn't answer what it must. */
 static void must(uint32_t answer)
@@ -54,28 +54,10 @@ static const char *name_of(uint32_t answer)
     }
 }
 
-/* The board, and how what a call left to do is done. */
-#ifdef HOSTED
-static uint32_t create(const struct kalyubos_slot *slots, const struct setup *setup)
+#if !HOSTED
+static void open_disks(struct kalyubos *its_board, const struct setup *setup)
 {
-    uint32_t answer = kalyubos_create_hosted(&board, slots, setup->guests_len);
-    open_disks(&board, setup);
-    return answer;
-}
-
-static void take_image(void)
-{
-}
-#else
-static uint32_t create(const struct kalyubos_slot *slots, const struct setup *setup)
-{
-    return kalyubos_create(&board, slots, setup->guests_len, image, image_len, setup->cache, 0, 0);
-}
-
-static void take_image(void)
-{
-    if (!hosted && image_len > 0)
-        must(kalyubos_read_image(&board, 0, image, image_len));
+    (void)its_board, (void)setup;
 }
 
 static uint32_t serve_disk(unsigned guest, uint32_t answer, const struct kalyubos_pending *pending)
@@ -88,26 +70,34 @@ static uint32_t serve_disk(unsigned guest, uint32_t answer, const struct kalyubo
 static const char *make(const struct setup *setup)
 {
     struct kalyubos_slot slots[MOST_SLOTS] = {0};
+    struct kalyubos_config config = kalyubos_config(slots, setup->guests_len);
     if (setup->guests_len > MOST_SLOTS)
         return "TooManySlots";
     for (size_t i = 0; i < setup->guests_len; i++) {
         const struct guest *guest = &setup->guests[i];
         slots[i] = (struct kalyubos_slot){
-            .size = sizeof *slots, .start = guest->start, .count = guest->count, .cols = guest->cols, .rows = guest->rows, .outlet = MOST_WAITING, .read_only = guest->read_only,
+            .size = sizeof *slots, .start = guest->start, .count = guest->count, .cols = guest->cols,
+            .rows = guest->rows, .outlet = MOST_WAITING, .read_only = guest->read_only,
+            .hosted = guest->hosted || HOSTED,
         };
         for (size_t j = 0; j < guest->regions_len; j++)
             slots[i].regions[j] = (struct kalyubos_region){guest->regions[j].base, guest->regions[j].len};
         memcpy(slots[i].identity, guest->identity, sizeof slots[i].identity);
     }
     image = setup->image;
-    image_len = setup->image_len;
-    hosted = setup->hosted;
-    return name_of(hosted ? kalyubos_create_hosted(&board, slots, setup->guests_len) : create(slots, setup));
+    image_len = HOSTED ? 0 : setup->image_len; /* disks.c has the image itself */
+    config.image = image;
+    config.image_len = image_len;
+    config.cache = setup->cache;
+    uint32_t answer = kalyubos_create(&board, &config);
+    open_disks(&board, setup);
+    return name_of(answer);
 }
 
 static void end(void)
 {
-    take_image();
+    if (image_len > 0)
+        must(kalyubos_read_image(&board, 0, image, image_len));
     must(kalyubos_destroy(&board));
 }
 
@@ -218,7 +208,7 @@ static bool asked(unsigned guest, struct operation *operation)
     return true;
 }
 
-static const struct hosting hosting = {write_hosted, complete, asked};
+static const struct hosting hosting = {true, write_hosted, complete, asked};
 
 #ifdef OURS
 extern const struct device kalyubos;

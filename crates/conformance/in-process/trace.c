@@ -142,13 +142,19 @@ static bool read_regions(struct field field, struct guest *guest)
     return false;
 }
 
-/* Line 2: the cache's capacity, or in an extended trace that the host serves the disks. */
-static bool read_disks(struct field line, bool hosted_may_be, struct trace *trace)
+/* Who has the disk, in an extended trace. */
+static bool read_disk(struct field field, struct guest *guest)
 {
-    struct field fields[9];
+    guest->hosted = is(field, "host");
+    return guest->hosted || is(field, "image");
+}
+
+/* Line 2: the cache's capacity. */
+static bool read_cache(struct field line, struct trace *trace)
+{
+    struct field fields[2];
     uint64_t value = 0;
-    trace->hosted = hosted_may_be && is(line, "hosted");
-    if (!trace->hosted && (split(line.at, line.len, fields, 9) != 2 || !is(fields[0], "cache") || !number(fields[1], UINT32_MAX, &value)))
+    if (split(line.at, line.len, fields, 2) != 2 || !is(fields[0], "cache") || !number(fields[1], UINT32_MAX, &value))
         return false;
     trace->cache = (uint32_t)value;
     return true;
@@ -163,19 +169,27 @@ bool read_setup(const char *text, size_t len, struct trace *trace)
         (!is(line, "vreplay 1") && !is(line, "vreplay 2") && !is(line, "kalyubos 1")))
         return false;
     bool named = !is(line, "vreplay 1"), extended = is(line, "kalyubos 1");
-    if (!next_line(&trace->events, trace->end, &line) || !read_disks(line, extended, trace))
+    if (!next_line(&trace->events, trace->end, &line) || !read_cache(line, trace))
         return false;
     most = named ? MOST_GUESTS : 16;
     for (const char *at = trace->events; next_line(&at, trace->end, &line); trace->events = at) {
         if (line.len < 5 || memcmp(line.at, "slot ", 5))
             return true;
         struct guest *guest = &trace->guests[trace->guests_len];
-        if (trace->guests_len++ == most || split(line.at, line.len, fields, 9) != (named && !extended ? 9 : 8) ||
-            !(extended ? read_regions(fields[1], guest) : read_region(&fields[1], guest)) ||
-            !read_guest(&fields[extended ? 2 : 3], named, guest))
+        if (trace->guests_len++ == most || split(line.at, line.len, fields, 9) != (named ? 9 : 8) ||
+            !(extended ? read_regions(fields[1], guest) && read_disk(fields[2], guest)
+                       : read_region(&fields[1], guest)) ||
+            !read_guest(&fields[3], named, guest))
             return false;
+        trace->hosted = trace->hosted || guest->hosted;
+        trace->has_extents = trace->has_extents || !guest->hosted;
     }
     return true;
+}
+
+bool has_such_disks(const struct device *device, const struct trace *trace)
+{
+    return !trace->hosted || (device->hosting && (device->hosting->beside_extents || !trace->has_extents));
 }
 
 static bool read_bytes(struct field field, struct event *event)
@@ -316,7 +330,7 @@ static void reply(const struct device *device, const struct trace *trace, const 
                  (unsigned)device->read(event->guest, event->window, event->offset, event->width));
         break;
     case WRITE:
-        if (!trace->hosted)
+        if (!trace->guests[event->guest].hosted)
             device->write(event->guest, event->window, event->offset, event->width, event->value);
         else if (!device->hosting->write(event->guest, event->window, event->offset, event->width, event->value))
             strcpy(word, "busy");
@@ -325,7 +339,7 @@ static void reply(const struct device *device, const struct trace *trace, const 
         strcpy(word, device->restore(event->guest, event->bytes, event->len));
         break;
     case COMPLETE:
-        if (!trace->hosted || !device->hosting->complete(event->guest, event->failed))
+        if (!trace->guests[event->guest].hosted || !device->hosting->complete(event->guest, event->failed))
             strcpy(word, "idle");
         break;
     case MEMORY_READ:
@@ -346,12 +360,12 @@ static void reply(const struct device *device, const struct trace *trace, const 
 }
 
 /* The operation that began with the event, or that none did. */
-static void append_asked(const struct device *device, const struct event *event, struct text *record)
+static void append_asked(const struct device *device, bool hosted, const struct event *event, struct text *record)
 {
     static const char *const kinds[] = {"in", "out", "flush", "zeroes"};
     static struct operation operation;
     char word[64];
-    bool may_ask = event->kind == WRITE || event->kind == COMPLETE;
+    bool may_ask = hosted && (event->kind == WRITE || event->kind == COMPLETE);
     if (!may_ask || !device->hosting->asked(event->guest, &operation)) {
         append_word(record, " -");
         return;
@@ -384,6 +398,6 @@ void replay_event(const struct device *device, const struct trace *trace, const 
              (unsigned)device->read(event->guest, CONSOLE_WINDOW, 0x060, 4));
     append_word(record, word);
     if (trace->hosted)
-        append_asked(device, event, record);
+        append_asked(device, trace->guests[event->guest].hosted, event, record);
     append_word(record, "\n");
 }

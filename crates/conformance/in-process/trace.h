@@ -8,7 +8,7 @@ enum { MOST_GUESTS = 64 };
 
 /* What stands before a trace's events. */
 struct trace {
-    bool hosted;
+    bool hosted, has_extents; /* the trace serves a disk, or all; a disk is on the image */
     uint32_t cache;
     struct guest guests[MOST_GUESTS];
     size_t guests_len;
@@ -32,6 +32,9 @@ struct text {
     char *at;
     size_t len, room;
 };
+
+/* Whether the device can be asked for the disks of a trace. */
+bool has_such_disks(const struct device *device, const struct trace *trace);
 
 /* Reads what stands before the events. False: the text isn't a trace that this program can replay. */
 bool read_setup(const char *text, size_t len, struct trace *trace);

@@ -23,7 +23,8 @@ LINE_2 = {"a_cache": "cache 8", "no_capacity": "cache", "a_space": "cache ", "no
           "hosted_in_part": "hoste", "a_slot": "slot 0 1000"}
 
 # A wrong field of a slot line, with its fault.
-BAD_NUMBER, BAD_MODE, BAD_BYTES = ("0g", "Number"), ("wr", "Choice"), (IDENTITY[1][:-1] + "G", "Bytes")
+BAD_NUMBER, BAD_BYTES = ("0g", "Number"), (IDENTITY[1][:-1] + "G", "Bytes")
+BAD_CHOICES = {"rw": ("wr", "Choice"), "image": ("hosts", "Choice")}
 PLACES = (8, 9, 16, 17, 33, 63)
 
 # Event lines that are none, each with its fault; the one out of order is a slot line.
@@ -60,8 +61,8 @@ def stories():
         yield extended(make())
     for make in (guests.identities, guests.memories, guests.bases, guests.consoles, disks):
         yield hosted(make())
-    yield regions_of_64_slots("eight_regions", "cache 8")
-    yield asking_nothing(regions_of_64_slots("hosted_eight_regions", "hosted"))
+    yield regions_of_64_slots("eight_regions", "image")
+    yield asking_nothing(regions_of_64_slots("hosted_eight_regions", "host"))
 
 
 # --- texts that are refused
@@ -75,7 +76,7 @@ def fields_of(first):
     """The fields of a right slot line, whose extent is empty."""
     fields = [one for _, one in SLOT] + ([] if first == "vreplay 1" else [IDENTITY[1]])
     fields[3] = "0"
-    return ["+".join(fields[:2]), *fields[2:]] if first == EXTENDED else fields
+    return ["+".join(fields[:2]), "image", *fields[2:]] if first == EXTENDED else fields
 
 
 def head(first, slots):
@@ -92,7 +93,7 @@ def bad_slots(first, place):
     fields = fields_of(first)
     lines = {"a_field_too_few": (fields[:-1], "Fields"), "a_field_too_many": ([*fields, "0"], "Fields")}
     for at, field in enumerate(fields):
-        wrong, fault = BAD_MODE if field == "rw" else BAD_BYTES if at == len(fields) - 1 else BAD_NUMBER
+        wrong, fault = BAD_CHOICES.get(field, BAD_BYTES if at == len(fields) - 1 else BAD_NUMBER)
         lines[f"a_bad_field_{at + 1}"] = ([*fields[:at], wrong, *fields[at + 1:]], fault)
     for what, (spelled, fault) in lines.items():
         text = text_of(head(first, place) + [" ".join(["slot", *spelled]), "r 0 b 000 4"])
@@ -112,9 +113,9 @@ def bad_event(first, count, kind, line, fault):
 
 # --- traces that are taken
 
-def extended(story):
-    """A story of 64 slots in an extended trace: its records stay."""
-    lines = list(map(in_regions, story.trace().split("\n")[1:-1]))
+def extended(story, disk="image"):
+    """A story of 64 slots in an extended trace: over an image its records stay."""
+    lines = [in_regions(line, disk) for line in story.trace().split("\n")[1:-1]]
     story.name = f"far/extended_{story.name.partition('/')[2]}"
     story.shows = [("each field of 64 slots", "in an extended trace")]
     story.trace = lambda: text_of([EXTENDED, *lines])
@@ -123,10 +124,9 @@ def extended(story):
 
 def hosted(story):
     """A story of 64 slots that asks nothing, on a board whose disks the host serves: each record says so."""
-    _, _, *lines = extended(story).trace().split("\n")[:-1]
+    extended(story, "host")
     story.name = story.name.replace("/extended_", "/hosted_")
     story.shows = [("each field of 64 slots", "in a hosted trace")]
-    story.trace = lambda: text_of([EXTENDED, "hosted", *lines])
     return asking_nothing(story)
 
 
@@ -148,13 +148,13 @@ def disks():
     return story
 
 
-def in_regions(line):
+def in_regions(line, disk):
     """A line of a plain trace as an extended one has it."""
     word, *fields = line.split(" ")
-    return " ".join([word, f"{fields[0]}+{fields[1]}", *fields[2:]]) if word == "slot" else line
+    return " ".join([word, f"{fields[0]}+{fields[1]}", disk, *fields[2:]]) if word == "slot" else line
 
 
-def regions_of_64_slots(name, second_line):
+def regions_of_64_slots(name, disk):
     """Region k of a slot has k + 1 pages: its first and its last byte are inside, their neighbours aren't."""
     slots = [Slot(count=0, identity=guests.identity(slot)) for slot in range(64)]
     about = "Each of 64 slots has eight regions, at other places than its neighbours'."
@@ -170,8 +170,8 @@ def regions_of_64_slots(name, second_line):
             story.look(first + count - 2, 2, bytes([0, count >> 12]), slot=slot)
             story.look(first + count - 1, 2, BADRANGE, slot=slot)
             story.look(first - 1, 2, BADRANGE, slot=slot)
-    lines = [f"slot {spelled(regions_of(at))} " + slot.line().split(" ", 3)[3] for at, slot in enumerate(slots)]
-    story.trace = lambda: text_of([EXTENDED, second_line, *lines, *story.lines])
+    lines = [f"slot {spelled(regions_of(at))} {disk} " + slot.line().split(" ", 3)[3] for at, slot in enumerate(slots)]
+    story.trace = lambda: text_of([EXTENDED, "cache 8", *lines, *story.lines])
     return story
 
 

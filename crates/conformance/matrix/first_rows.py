@@ -148,11 +148,32 @@ mr 0 80005000 4 > 0 b:eeeeee00 - 0 0
 mr 0 80003000 c > 0 b:000001000000000000000000 - 0 0
 """
 
+# Slot 0 has sector 4 of the image as its sector 1.
+BOTH_KINDS = """
+mw 1 80004000 04000000000000000000000000000000 > 1 done - 0 0
+mw 1 80001000 0040008000000000100000000100010000600080000000000100000002000000 > 1 done - 0 0
+mw 1 80002000 000001000000 > 1 done - 0 0
+w 1 b 050 4 00000000 > 1 done - 0 0 flush:0:0:-
+mw 0 80004000 00000000000000000100000000000000 > 0 done - 0 0
+mw 0 80001000 0040008000000000100000000100010000500080000000000102000002000000 > 0 done - 0 0
+mw 0 80002000 000001000000 > 0 done - 0 0
+w 0 b 050 4 00000000 > 0 done - 1 0
+mr 0 800051fe 3 > 0 b:141400 - 1 0
+mr 0 80003000 c > 0 b:000001000000000001020000 - 1 0
+mr 1 80003000 c > 1 b:000000000000000000000000 - 0 0
+io 0 done > 0 idle - 1 0
+io 1 failed > 1 done - 1 0
+mr 1 80006000 1 > 1 b:01 - 1 0
+mr 1 80003000 c > 1 b:000001000000000001000000 - 1 0
+r 0 b 060 4 > 0 v:00000001 - 1 0
+"""
+
 
 def first(name, about, text, window="b", slots=(Slot(),), hosted=False, **more):
     """A scenario of these lines; in a hosted trace a record that asks nothing ends in -."""
     rows = [row.replace("W", window).split(" > ") for row in text.split("\n") if row]
-    records = [record + " -" if hosted and record.count(" ") == 4 else record for _, record in rows]
+    is_hosted = hosted or any(getattr(slot, "disk", "image") == "host" for slot in slots)
+    records = [record + " -" if is_hosted and record.count(" ") == 4 else record for _, record in rows]
 
     def script(life):
         for line, _ in rows:
@@ -194,3 +215,13 @@ def of_in_flight():
     return first("in_flight/zeroes_by_hand",
                  "Zeroes with room before their status; the driver's flags change while they are in flight.",
                  BEGINS + FIRST_QUEUE + GOES + IN_FLIGHT, slots=[Wide(length=0x10000)], hosted=True)
+
+
+def of_slot_1(text):
+    return text.replace("w 0 ", "w 1 ").replace("> 0 ", "> 1 ")
+
+
+def of_both_kinds():
+    up = BEGINS + FIRST_QUEUE + GOES
+    return first("beside_a_flight/a_flush_by_hand", "A flush of a hosted disk in flight, and a read of a guest on the image.",
+                 up + of_slot_1(up) + BOTH_KINDS, slots=[Wide(length=0x10000, start=3), Wide(length=0x10000, disk="host")], image=plain_image(12))

@@ -26,38 +26,37 @@ INDICES = {"b": (0,), "c": (0, 1)}
 
 @dataclasses.dataclass(frozen=True)
 class Wide(Slot):
-    """A slot line of an extended trace: the other regions of its memory stand behind the first."""
+    """A slot line of an extended trace: the other regions of its memory stand behind the first, and then who has the disk."""
 
     others: tuple = ()
+    disk: str = "image"
 
     def line(self):
         regions = ",".join(f"{base:x}+{length:x}" for base, length in ((self.base, self.length), *self.others))
         identity = (self.identity or model.IDENTITY).hex()
-        return f"slot {regions} {self.start:x} {self.count:x} {self.mode} {self.columns:x} {self.rows:x} {identity}"
+        return f"slot {regions} {self.disk} {self.start:x} {self.count:x} {self.mode} {self.columns:x} {self.rows:x} {identity}"
 
 
 class Life(Story):
-    """A scenario that `script` writes once its files are wanted. `worked` are its records, where they are by hand."""
+    """A scenario that `script` writes once its files are wanted. `worked` are its records, where they are by hand. With `hosted` the
+    host has all disks."""
 
     def __init__(self, name, about, script, slots=(Slot(),), worked=None, hosted=False, **more):
-        super().__init__(name, about, slots, **more)
-        self.script, self.worked, self.hosted, self.records = script, worked, hosted, []
-        self.extended = hosted or any(isinstance(slot, Wide) for slot in self.slots)
+        super().__init__(name, about, [dataclasses.replace(slot, disk="host") for slot in slots] if hosted else slots, **more)
+        self.script, self.worked, self.records = script, worked, []
+        self.extended = any(isinstance(slot, Wide) for slot in self.slots)
+        self.hosted = self.extended and any(slot.disk == "host" for slot in self.slots)
         self.version = 3 if self.extended else self.version
 
     def head(self):
-        second = "hosted" if self.hosted else f"cache {self.cache:x}"
-        return [EXTENDED, second] if self.extended else super().head()
+        return [EXTENDED, f"cache {self.cache:x}"] if self.extended else super().head()
 
     def begin(self):
         """The board, as the model has it."""
         self.disk = model.Image(self.before(), set(self.fails or ()))
         fields = [model.slot_of(self.head()[0], slot.line().split(" ")) for slot in self.slots]
-        largest = 2**32 if self.extended else 2**28
-        if self.hosted:
-            self.board, self.told = model.hosted_board_of(fields, ()), model.hosted_record_of
-        else:
-            self.board, self.told = model.board_of(fields, self.cache, self.disk, (), largest=largest), model.record_of
+        self.board = model.board_of(fields, self.cache, self.disk, (), largest=2**32 if self.extended else 2**28)
+        self.told = model.hosted_record_of if self.hosted else model.record_of
 
     def do(self, line):
         """Writes an event down, and answers its record."""

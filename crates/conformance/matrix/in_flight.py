@@ -39,8 +39,10 @@ AT_5 = Wide(0x80000000, 0x10000, start=5)
 class Asking(Guest):
     """A driver whose host completes all that is asked; before each completion comes `meanwhile`."""
 
-    def __init__(self, life, meanwhile=None):
-        super().__init__(life)
+    requests = REQUESTS
+
+    def __init__(self, life, meanwhile=None, slot=0):
+        super().__init__(life, slot)
         self.meanwhile, self.completed = meanwhile, 0
 
     def flight(self):
@@ -67,7 +69,7 @@ class Asking(Guest):
 
     def asks(self, name):
         """A request, completed, and what is seen of it."""
-        content, rooms = REQUESTS[name]
+        content, rooms = self.requests[name]
         self.put(self.room + HEADER, content)
         self.put(self.done, b"\xee")
         at, data = self.room + DATA, []

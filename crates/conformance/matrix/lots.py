@@ -44,7 +44,7 @@ class Lots(Guest):
         return self.life.extended
 
     def flight(self):
-        return getattr(self.life.board[self.slot], "flight", None)
+        return self.life.board[self.slot].flight
 
     # --- a window
 

@@ -107,7 +107,7 @@ def sum_there(one):
 
 def is_in_both(story):
     """Whether the gate's program replays it in version 2 too."""
-    return folder_of(story) == "matrix" and story.version == 1 and len(story.slots) <= 16 and not (story.fault or "").startswith("trace")
+    return folder_of(story) == "matrix" and story.head()[0] == "vreplay 1" and len(story.slots) <= 16 and not (story.fault or "").startswith("trace")
 
 
 def make(names, known, jobs):

@@ -13,7 +13,7 @@ IDENTITY = ("identity", "6469736b2d62" + "00" * 14)
 EXTENDED = "kalyubos 1"
 # The lines that version 2 and an extended trace have otherwise than version 1.
 SLOT_OF_VERSION_2 = {"slot_of_version_2": [*SLOT, IDENTITY]}
-EXTENDED_LINES = {"slot_of_an_extended_trace": [("regions", "80000000+10000"), *SLOT[2:], IDENTITY],
+EXTENDED_LINES = {"slot_of_an_extended_trace": [("regions", "80000000+10000"), ("disk", "image"), *SLOT[2:], IDENTITY],
                   "st": [(8, "0"), ("bytes", "aabb")], "io": [(8, "0")]}
 VERDICT = "done"
 
@@ -43,7 +43,7 @@ class Text(Story):
     def trace(self):
         slot = self.slots[0].line()
         if self.first == EXTENDED:
-            slot = "slot 80000000+10000 " + slot.split(" ", 3)[3]
+            slot = "slot 80000000+10000 image " + slot.split(" ", 3)[3]
         lines = [self.first, "cache 8", slot]
         lines[self.number - 1:self.number] = [self.line]
         return "\n".join(lines) + "\n"
@@ -97,7 +97,7 @@ def first_line(line):
 
 def regions():
     """The regions of an extended slot line: a base or a length of the first or the second."""
-    rest = " ".join(one for _, one in [*SLOT[2:], IDENTITY])
+    rest = " ".join(["image", *(one for _, one in [*SLOT[2:], IDENTITY])])
     for place, what in enumerate(("first_base", "first_length", "second_base", "second_length")):
         for how, mark in MARKED.items():
             numbers = ["80000000", "10000", "90000000", "10000"]

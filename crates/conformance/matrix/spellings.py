@@ -1,4 +1,6 @@
 """Each field of each line of a trace, spelled wrong in each way."""
+from mutants.model import EXTENDED
+
 from .story import Slot, Story
 
 TITLE = "Spellings"
@@ -21,8 +23,10 @@ LINES = {
     "in": [(8, "0"), ("bytes", "aabb")],
     "sz": [(8, "0"), (16, "50"), (16, "19")],
 }
-FAULTS = {"mode": "Choice", "win": "Choice", "wid": "Choice", "bytes": "Bytes", "identity": "Bytes", "off": "Number", "val": "Number"}
+FAULTS = {"mode": "Choice", "disk": "Choice", "win": "Choice", "wid": "Choice", "bytes": "Bytes", "identity": "Bytes", "off": "Number", "val": "Number"}
 CHOICES = {"mode": {"in_upper_case": "RW", "cut": "r", "too_long": "rww", "that_is_none": "wo"},
+           "disk": {"in_upper_case": "HOST", "with_a_capital": "Image", "cut_behind_its_third_letter": "hos", "cut": "imag", "too_long": "hosted",
+                    "too_long_by_a_letter": "images", "that_is_none": "file", "of_a_number": "0"},
            "win": {"in_upper_case": "B", "too_long": "bc", "that_is_none": "d"},
            "wid": {"with_a_leading_zero": "04", "of_0": "0", "of_3": "3", "of_8": "8"}}
 # The line in which each word stands: the first behind the slots, but for these.
@@ -35,10 +39,10 @@ class Text(Story):
     def __init__(self, name, about, version, number, line, fault, what):
         slot = Slot(identity=bytes(20) if version == 2 else None)
         super().__init__(f"bits_spellings/{name}", about, [slot], fault=f"trace {number} {fault}", shows=[what])
-        self.number, self.line = number, line
+        self.number, self.line, self.first = number, line, f"vreplay {version}" if version else EXTENDED
 
     def trace(self):
-        lines = super().trace().split("\n")[:-1]
+        lines = [self.first, *super().trace().split("\n")[1:-1]]
         lines[self.number - 1:self.number] = [self.line]
         return "\n".join(lines) + "\n"
 
@@ -52,6 +56,10 @@ def stories():
                 yield Text(f"field_{place + 1}_of_{name}_{how}", f"Field {place + 1} of a line `{word}` {how.replace('_', ' ')} is a fault.",
                            version, NUMBERS.get(word, 4), " ".join([word, *spelled]), FAULTS.get(kind, "Number"),
                            (f"each field of `{word}`" + (" in version 2" if version == 2 else ""), "each spelling that is none"))
+    for how, wrong in spellings("disk", "image").items():
+        line = " ".join(["slot 80000000+10000", wrong, *(one for _, one in SLOT[2:]), "00" * 20])
+        yield Text(f"disk_of_slot_{how}", f"Who has the disk {how.replace('_', ' ')} is a fault.", 0, 3, line, "Choice",
+                   ("who has the disk in `slot`", "each spelling that is none"))
 
 
 def spellings(kind, right):

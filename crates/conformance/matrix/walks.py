@@ -14,11 +14,13 @@ COLUMNS = ("What", "Where")
 FOLDERS = {"walks": "Guests that choose by lot what they do next."}
 
 # What a board is like, and how many walks there are on such.
-BOARDS = {"plain": 3, "of_version_2": 3, "extended": 12, "hosted": 9, "failing": 6, "two": 4, "two_hosted": 4, "regions": 6, "many": 3}
+BOARDS = {"plain": 3, "of_version_2": 3, "extended": 12, "hosted": 9, "failing": 6, "two": 4, "two_hosted": 4, "regions": 6, "many": 3, "two_both": 8,
+          "two_both_failing": 4}
 ABOUT = {"plain": "on a slot of version 1", "of_version_2": "on a slot of version 2", "extended": "on a slot that is restored",
          "hosted": "on a disk that the host serves", "failing": "on an image whose calls fail", "two": "beside another",
-         "two_hosted": "beside another, on disks that the host serves", "regions": "in a memory of three regions", "many": "among 64 slots"}
-WIDE = ("extended", "hosted", "two", "two_hosted", "regions")
+         "two_hosted": "beside another, on disks that the host serves", "regions": "in a memory of three regions", "many": "among 64 slots",
+         "two_both": "beside another, on an extent and a hosted disk", "two_both_failing": "beside another, on a hosted disk and an image whose calls fail"}
+WIDE = ("extended", "hosted", "two", "two_hosted", "regions", "two_both", "two_both_failing")
 # The sizes that split rings of a walk may have.
 SIZES = [(1, 2, 4, 8), (4,), (2, 8), (8, 16), (1,), (256, 4)]
 STEPS = 800
@@ -62,6 +64,9 @@ def slots_of(kind, dice):
         others = ((slot.base + LENGTH + 0x1000, LENGTH), (slot.base + 0x1000000000, LENGTH)) if kind == "regions" else ()
         slots.append(Wide(**dataclasses.asdict(slot), others=others) if kind in WIDE else slot)
         start += sectors
+    if kind.startswith("two_both"):
+        at = dice.below(2)
+        slots[at] = dataclasses.replace(slots[at], disk="host", start=slots[1 - at].start)
     return slots
 
 
@@ -79,8 +84,8 @@ def walk(kind, turn):
     name = f"walks/{kind}_{turn}"
     dice = Dice(name)
     slots = slots_of(kind, dice)
-    image = plain_image(max(slots[-1].start + slots[-1].count + dice.below(2), 8))
-    fails = sorted({dice.below(900) for _ in range(200)}) if kind == "failing" else None
+    image = plain_image(max(max(slot.start + slot.count for slot in slots) + dice.below(2), 8))
+    fails = sorted({dice.below(900) for _ in range(200)}) if kind.endswith("failing") else None
 
     def script(life):
         guests = guests_of(life, dice, SIZES[(turn + 2 * list(BOARDS).index(kind)) % len(SIZES)])

@@ -553,6 +553,9 @@ class Window:
 
 
 class Slot:
+    # What is in flight: over an image nothing ever is.
+    flight = None
+
     def __init__(self, fields, cache, lacks):
         base, length, self.start, self.count, mode, self.cols, self.rows, *named = fields
         self.identity = named[0] if named else IDENTITY
@@ -783,8 +786,6 @@ class Slot:
 class HostedSlot(Slot):
     """A slot whose disk the host serves: a chain that asks for it is in flight until the host says what came of it."""
 
-    flight = None
-
     def serve(self, window, index):
         if window == "c":
             return super().serve(window, index)
@@ -874,18 +875,31 @@ def judge_others(base, length, others):
         end = at + size
 
 
+def judge_disk(count):
+    """A disk that the host serves: it has fewer than 2^64 bytes."""
+    if count > 2**55 - 1:
+        raise BadBoard("ExtentOutside")
+
+
+# The slots by who has their disks.
+SLOTS = {"image": Slot, "host": HostedSlot}
+
+
 def board_of(slots, capacity, image, lacks, most=64, largest=2**28):
     if not slots:
         raise BadBoard("NoSlots")
     if len(slots) > most:
         raise BadBoard("TooManySlots")
     taken = []
-    for base, length, start, count, *rest in slots:
+    for disk, base, length, start, count, *rest in slots:
         if length % 4096 or not 4096 <= length <= room_of(rest[4:], largest):
             raise BadBoard("BadSize")
         if base % 4096 or base + length > 2**64:
             raise BadBoard("BadBase")
         judge_others(base, length, rest[4:])
+        if disk == "host":
+            judge_disk(count)
+            continue
         if start + count > len(image.bytes) // SECTOR:
             raise BadBoard("ExtentOutside")
         if count and any(start < end and first < start + count for first, end in taken):
@@ -895,15 +909,7 @@ def board_of(slots, capacity, image, lacks, most=64, largest=2**28):
     if not 1 <= capacity <= 65536:
         raise BadBoard("BadCapacity")
     cache = Cache(image, capacity)
-    return [Slot(fields, cache, lacks) for fields in slots]
-
-
-def hosted_board_of(slots, lacks):
-    """The slots of a board whose disks the host serves. They are judged as empty ones; a disk that is too large wants a sector of
-    an image that has none."""
-    judged = [[base, length, 0, int(count > 2**55 - 1), *rest] for base, length, _, count, *rest in slots]
-    board_of(judged, 1, Image(b"", ()), lacks, largest=2**32)
-    return [HostedSlot(fields, None, lacks) for fields in slots]
+    return [SLOTS[disk](fields, cache, lacks) for disk, *fields in slots]
 
 
 def bytes_of(field):
@@ -915,11 +921,12 @@ def spelled(content):
 
 
 def slot_of(first_line, line):
-    """What a slot line says: base and length of the first region, what stands behind the memory, and the other regions."""
-    memory, rest = ([one.split("+") for one in line[1].split(",")], line[2:]) if first_line == EXTENDED else ([line[1:3]], line[3:])
+    """What a slot line says: who has the disk, base and length of the first region, what stands behind both, and the other regions."""
+    memory, disk = ([one.split("+") for one in line[1].split(",")], line[2]) if first_line == EXTENDED else ([line[1:3]], "image")
+    rest = line[3:]
     regions = [tuple(int(number, 16) for number in one) for one in memory]
     numbers = [field if field in ("rw", "ro") else int(field, 16) for field in rest[:5]]
-    return [*regions[0], *numbers, *[bytes.fromhex(field) for field in rest[5:]], *regions[1:]]
+    return [disk, *regions[0], *numbers, *[bytes.fromhex(field) for field in rest[5:]], *regions[1:]]
 
 
 def record_of(slots, word, fields):
@@ -1006,11 +1013,12 @@ def replay(text, content, fails=(), lacks=(), fault_of=None):
     if fault:
         return f"fault trace {fault[0]} {fault[1]}\n", 1, image
     lines = [line.split(" ") for line in text.decode("ascii").split("\n")[:-1]]
-    first_line, is_hosted = " ".join(lines[0]), lines[1] == ["hosted"]
+    first_line = " ".join(lines[0])
     slots = [slot_of(first_line, line) for line in lines if line[0] == "slot"]
+    is_hosted = any(disk == "host" for disk, *_ in slots)
     most, largest = 16 if first_line == "vreplay 1" else 64, 2**32 if first_line == EXTENDED else 2**28
     try:
-        board = hosted_board_of(slots, lacks) if is_hosted else board_of(slots, int(lines[1][1], 16), image, lacks, most, largest)
+        board = board_of(slots, int(lines[1][1], 16), image, lacks, most, largest)
     except BadBoard as refused:
         return f"fault board {refused}\n", 1, image
     events, told = lines[2 + len(slots):], hosted_record_of if is_hosted else record_of

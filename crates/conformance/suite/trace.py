@@ -151,16 +151,16 @@ def features_of(text, replies):
     They are the features that a driver takes or asks for (DriverFeatures), those that a device shows (the expected
     answers of DeviceFeatures), and those whose configuration fields are touched. Others are no bits: `offer`, all
     offered features are read; `vendor`, VendorID is; `resize`, `input` and `restore`, the host does that; `hosted`, it
-    serves the disks; `guests`, there are more than one; `ro`, a slot is read-only; `extended`, the trace is of no
+    serves a disk; `guests`, there are more than one; `ro`, a slot is read-only; `extended`, the trace is of no
     version that a plain one has.
     """
     found = {"extended"} if text.startswith(EXTENDED) else set()
     slots = slots_of(text)
     if len(slots) > 1:
         found.add("guests")
-    if "\nhosted\n" in text:
+    if "extended" in found and any(fields[1:2] == ["host"] for fields in slots):
         found.add("hosted")
-    if any("ro" in fields[3:5] for fields in slots):
+    if any(fields[4:5] == ["ro"] for fields in slots):
         found.add("ro")
     windows = {}
     for event, reply in zip(events_of(text), replies):

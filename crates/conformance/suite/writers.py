@@ -17,8 +17,7 @@ class Watch:
         self.lines = iter([event.line for event in scenario.events])
         model = models.model()
         self.flag, self.record_of, model["record_of"] = model["WRITE"], model["record_of"], self.counted
-        for kind in ("Slot", "HostedSlot"):
-            model[kind] = self.watched(model[kind])
+        model["SLOTS"] = {disk: self.watched(kind) for disk, kind in model["SLOTS"].items()}
         try:
             model["replay"](scenario.read(".trace"), scenario.image, set(scenario.fails or ()))
         except Reached:
