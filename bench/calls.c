@@ -189,10 +189,12 @@ static void open_board(uint8_t guests, bool is_hosted)
     for (uint8_t i = 0; i < guests; i++)
         slots[i] = (struct kalyubos_slot){
             .size = sizeof *slots, .regions = { { MEMORY, 0x100000 } }, .count = i + 1 == guests ? SECTORS : 0,
-            .cols = 80, .rows = 25, .outlet = OUTLET,
+            .cols = 80, .rows = 25, .outlet = OUTLET, .hosted = is_hosted,
         };
-    must(is_hosted ? kalyubos_create_hosted(&board, slots, guests)
-                   : kalyubos_create(&board, slots, guests, image, sizeof image, 8, 0, 0));
+    struct kalyubos_config config = kalyubos_config(slots, guests);
+    config.image = image;
+    config.image_len = is_hosted ? 0 : sizeof image;
+    must(kalyubos_create(&board, &config));
     guest = guests - 1;
     idx = 0;
     must(kalyubos_memory(&board, guest, MEMORY, &memory, &memory_len));

@@ -130,10 +130,11 @@ static void power_on(struct guest *guest, const char *path, uint32_t block)
     *guest = (struct guest){ .path = path, .block = block, .blocks = (uint64_t)file.st_size / block };
     struct kalyubos_slot slot = {
         .size = sizeof slot, .regions = { { MEMORY, (DATA + (uint64_t)RING * block + 0xfff) & ~(uint64_t)0xfff } },
-        .count = (uint64_t)file.st_size / SECTOR, .read_only = true,
+        .count = (uint64_t)file.st_size / SECTOR, .read_only = true, .hosted = true,
     };
+    struct kalyubos_config config = kalyubos_config(&slot, 1);
     size_t len;
-    need(kalyubos_create_hosted(&guest->board, &slot, 1) == KALYUBOS_DONE, "create_hosted");
+    need(kalyubos_create(&guest->board, &config) == KALYUBOS_DONE, "create");
     need(kalyubos_memory(&guest->board, 0, MEMORY, &guest->memory, &len) == KALYUBOS_DONE, "memory");
     const char *wrong = file_disk_open(&guest->disk, &guest->board, 0, path, slot.count * SECTOR, true, way);
     need(wrong == NULL, wrong);

@@ -38,14 +38,14 @@ static void need(bool holds, const char *what)
 
 static uint64_t heap_calls;
 
-struct kalyubos_block rattle_alloc(size_t size, size_t align)
+struct kalyubos_block kalyubos_alloc(size_t size, size_t align)
 {
     heap_calls++;
     void *at = malloc(size != 0 ? size : align);
     return (struct kalyubos_block){ at != NULL, at };
 }
 
-struct kalyubos_block rattle_realloc(void *at, size_t kept, size_t size, size_t align)
+struct kalyubos_block kalyubos_realloc(void *at, size_t kept, size_t size, size_t align)
 {
     (void)kept;
     heap_calls++;
@@ -53,7 +53,7 @@ struct kalyubos_block rattle_realloc(void *at, size_t kept, size_t size, size_t 
     return (struct kalyubos_block){ moved != NULL, moved };
 }
 
-void rattle_dealloc(void *at)
+void kalyubos_dealloc(void *at)
 {
     heap_calls++;
     free(at);
@@ -72,11 +72,14 @@ static void power_on(struct guest *guest, bool is_hosted)
     const uint32_t at = (uint32_t)MEMORY;
     const uint32_t steps[][2] = { { 0x70, 1 }, { 0x70, 3 }, { 0x24, 1 }, { 0x20, 1 }, { 0x70, 11 }, { 0x38, 4 },
                                   { 0x80, at + TABLE }, { 0x90, at + AVAIL }, { 0xa0, at + 0x3000 }, { 0x44, 1 }, { 0x70, 15 } };
-    struct kalyubos_slot slot = { .size = sizeof slot, .regions = { { MEMORY, MEMORY_LEN } }, .count = SECTORS };
+    struct kalyubos_slot slot = { .size = sizeof slot, .regions = { { MEMORY, MEMORY_LEN } }, .count = SECTORS,
+                                  .hosted = is_hosted };
+    struct kalyubos_config config = kalyubos_config(&slot, 1);
     struct kalyubos_pending pending;
     size_t len;
-    need((is_hosted ? kalyubos_create_hosted(&guest->board, &slot, 1)
-                    : kalyubos_create(&guest->board, &slot, 1, image, sizeof image, 8, 0, 0)) == KALYUBOS_DONE, "a board");
+    config.image = image;
+    config.image_len = is_hosted ? 0 : sizeof image;
+    need(kalyubos_create(&guest->board, &config) == KALYUBOS_DONE, "a board");
     need(kalyubos_memory(&guest->board, 0, MEMORY, &guest->memory, &len) == KALYUBOS_DONE, "memory");
     for (size_t i = 0; i < sizeof steps / sizeof *steps; i++)
         need(kalyubos_write(&guest->board, 0, KALYUBOS_BLOCK, (uint16_t)steps[i][0], 4, steps[i][1], &pending) ==

@@ -1,10 +1,10 @@
 /*
- * How long fifteen guests wait for a 4 KiB IN beside one that keeps the board as busy as it can, under one lock: without a
- * budget, with two, and where the host serves the disks. bench/waits builds it.
+ * How long fifteen guests wait for a 4 KiB IN beside one that keeps the board as busy as it can, under one lock:
+ * without a budget, with two, and where the host serves the disks, by a disk and by a console. bench/waits builds it.
  *
- * In each round every guest asks at once, the hostile one is called first, and the others one after another. What each of
- * them waits is the time from the round's start to the end of its own call. A host that serves the disks moves no byte here, and
- * a guest's own calls are three: the notify, kalyubos_operation and kalyubos_completed.
+ * In each round every guest asks at once, the hostile one is called first, and the others one after another. What each
+ * of them waits is the time from the round's start to the end of its own call. A host that serves the disks moves no
+ * byte here, and a guest's own calls are three: the notify, kalyubos_operation and kalyubos_completed.
  */
 #include <stdint.h>
 #include <stdio.h>
@@ -14,8 +14,10 @@
 
 #include "kalyubos.h"
 
-enum { GUESTS = 16, RING = 256, LEN = 4096, LARGE = 8 << 20, SECTORS = LARGE / 512, CHAINS = 3 * RING };
-static const uint64_t BASE = 0x80000000, AVAIL = 0x80002000, HEADER = 0x80005000, DATA = 0x80010000;
+enum { GUESTS = 16, RING = 256, CHAINS = 3 * RING, TEXT = RING * RING, LEN = 4096, LARGE = 8 << 20 };
+enum { SECTORS = LARGE / 512 };
+static const uint64_t BASE = 0x80000000, AVAIL = 0x80002000, HEADER = 0x80005000, DATA = 0x80010000,
+                      TABLES = 0x80100000;
 
 static struct kalyubos board;
 static uint8_t image[(SECTORS + GUESTS * LEN / 512) * 512], *memory[GUESTS];
@@ -29,10 +31,15 @@ static void must(uint32_t answer)
     }
 }
 
-static void descriptor(uint8_t guest, int place, uint64_t addr, uint32_t len, uint16_t flags, uint16_t next)
+static void describe(uint8_t *table, int place, uint64_t addr, uint32_t len, uint16_t flags, uint16_t next)
 {
     struct { uint64_t addr; uint32_t len; uint16_t flags, next; } it = { addr, len, flags, next };
-    memcpy(memory[guest] + 0x1000 + 16 * place, &it, sizeof it);
+    memcpy(table + 16 * place, &it, sizeof it);
+}
+
+static void descriptor(uint8_t guest, int place, uint64_t addr, uint32_t len, uint16_t flags, uint16_t next)
+{
+    describe(memory[guest] + 0x1000, place, addr, len, flags, next);
 }
 
 /* A queue of 256, each of whose chains is one IN of the disk's first `len` bytes into so many buffers. */
@@ -73,14 +80,22 @@ static double now(void)
     return (double)t.tv_sec * 1e6 + (double)t.tv_nsec / 1e3;
 }
 
-static void fill_in(struct kalyubos_slot *slots)
+/* Makes a board of all guests, over an image of all disks or with disks that the host serves. */
+static void make(bool hosted, uint32_t chains, uint64_t bytes)
 {
+    struct kalyubos_slot slots[GUESTS];
+    struct kalyubos_config config = kalyubos_config(slots, GUESTS);
     for (uint8_t i = 0; i < GUESTS; i++)
         slots[i] = (struct kalyubos_slot){
             .size = sizeof *slots, .regions = { { BASE, i ? 0x20000 : 0x20000 + LARGE } },
             .start = i ? SECTORS + (uint64_t)i * LEN / 512 : 0, .count = i ? LEN / 512 : SECTORS,
-            .cols = 80, .rows = 25, .outlet = 0x1000,
+            .cols = 80, .rows = 25, .outlet = TEXT, .hosted = hosted,
         };
+    config.image = image;
+    config.image_len = hosted ? 0 : sizeof image;
+    config.chains = chains;
+    config.bytes = bytes;
+    must(kalyubos_create(&board, &config));
 }
 
 /* The waits of the guests, and the calls of the hostile one. */
@@ -108,17 +123,15 @@ static void begin(void)
 
 static void end(const char *what)
 {
-    printf("%-44s %4ld calls, the longest %9.1f us; longest wait %9.1f us, mean %9.1f us\n", what, calls, longest_call,
+    printf("%-48s %4ld calls, the longest %9.1f us; longest wait %9.1f us, mean %9.1f us\n", what, calls, longest_call,
            longest, sum / (double)waits);
     must(kalyubos_destroy(&board));
 }
 
 static void time_of(const char *what, uint32_t chains, uint64_t bytes, uint32_t len)
 {
-    struct kalyubos_slot slots[GUESTS];
     struct kalyubos_pending pending;
-    fill_in(slots);
-    must(kalyubos_create(&board, slots, GUESTS, image, sizeof image, 8, chains, bytes));
+    make(false, chains, bytes);
     for (uint8_t i = 0; i < GUESTS; i++)
         bring_up(i, i ? LEN : len, 1);
     uint32_t answer = KALYUBOS_DONE;
@@ -159,31 +172,120 @@ static void keep_best(double *best, double took, int run)
         *best = took;
 }
 
-/* A call of the hostile guest, which notifies or says that its operation is done. */
-static uint32_t call_hostile(uint32_t answer, uint32_t len)
+/* What the hostile guest does where the host serves the disks: what it begins with, and each of so many calls. */
+struct hostile {
+    void (*begin)(const struct hostile *it);
+    uint32_t (*call)(const struct hostile *it, uint32_t answer);
+    int calls;
+    uint32_t chains, len;
+    uint16_t buffers;
+};
+
+static void begin_reads(const struct hostile *it)
+{
+    bring_up(0, it->len, it->buffers);
+}
+
+/* Its disk: it notifies, or says that its operation is done. */
+static uint32_t call_disk(const struct hostile *it, uint32_t answer)
 {
     struct kalyubos_pending pending;
     answer = answer == KALYUBOS_IO ? kalyubos_completed(&board, 0, false, &pending) : notify(0, RING);
     if (answer == KALYUBOS_IO)
-        ask(0, len);
+        ask(0, it->len);
     else
         must(answer);
     return answer;
 }
 
-static void run_hosted(uint32_t len, uint16_t buffers, int run)
+/* Either window has one queue of 256, with INDIRECT_DESC, whose every chain is a table of 256 buffers. */
+static void begin_tables(uint8_t window, uint32_t queue)
 {
-    struct kalyubos_slot slots[GUESTS];
+    const uint32_t steps[][2] = { { 0x70, 0 }, { 0x70, 1 }, { 0x70, 3 }, { 0x24, 0 }, { 0x20, 1 << 28 }, { 0x24, 1 },
+                                  { 0x20, 1 }, { 0x70, 11 }, { 0x30, queue }, { 0x38, RING }, { 0x80, 0x80001000 },
+                                  { 0x90, 0x80002000 }, { 0xa0, 0x80003000 }, { 0x44, 1 }, { 0x70, 15 } };
     struct kalyubos_pending pending;
-    fill_in(slots);
-    must(kalyubos_create_hosted(&board, slots, GUESTS));
-    for (uint8_t i = 0; i < GUESTS; i++)
-        bring_up(i, i ? LEN : len, i ? 1 : buffers);
+    size_t memory_len;
+    must(kalyubos_memory(&board, 0, BASE, &memory[0], &memory_len));
+    for (size_t i = 0; i < sizeof steps / sizeof *steps; i++)
+        must(kalyubos_write(&board, 0, window, (uint16_t)steps[i][0], 4, steps[i][1], &pending));
+    for (uint16_t i = 0; i < RING; i++) {
+        uint64_t table = TABLES + (uint64_t)i * RING * 16;
+        descriptor(0, i, table, RING * 16, 4, 0);
+        memcpy(memory[0] + (AVAIL - BASE) + 4 + 2 * i, &i, sizeof i);
+        for (uint16_t j = 0; j < RING; j++)
+            describe(memory[0] + (table - BASE), j, DATA + j, 1, j + 1 < RING, j + 1);
+    }
+    idx[0] = 0;
+}
+
+/* To its console: 256 bytes a chain. */
+static void begin_texts(const struct hostile *it)
+{
+    (void)it;
+    begin_tables(KALYUBOS_CONSOLE, 1);
+}
+
+/* To its disk: requests of no known type, of a header, 254 bytes and a status, which ask the host for nothing. */
+static void begin_others(const struct hostile *it)
+{
+    (void)it;
+    begin_tables(KALYUBOS_BLOCK, 0);
+    memory[0][HEADER - BASE] = 99;
+    for (uint16_t i = 0; i < RING; i++) {
+        uint8_t *table = memory[0] + (TABLES - BASE) + (uint64_t)i * RING * 16;
+        describe(table, 0, HEADER, 16, 1, 1);
+        describe(table, RING - 1, HEADER + 16, 1, 2, 0);
+    }
+}
+
+/* Either window: it puts 256 chains more on offer, or its service goes on. */
+static uint32_t call_window(uint8_t window, uint32_t queue, uint32_t answer)
+{
+    struct kalyubos_pending pending;
+    if (answer == KALYUBOS_MORE)
+        return kalyubos_go_on(&board, 0, &pending);
+    idx[0] += RING;
+    memcpy(memory[0] + (AVAIL - BASE) + 2, &idx[0], 2);
+    return kalyubos_write(&board, 0, window, 0x50, 4, queue, &pending);
+}
+
+static uint32_t call_console(const struct hostile *it, uint32_t answer)
+{
+    (void)it;
+    return call_window(KALYUBOS_CONSOLE, 1, answer);
+}
+
+static uint32_t call_other(const struct hostile *it, uint32_t answer)
+{
+    (void)it;
+    return call_window(KALYUBOS_BLOCK, 0, answer);
+}
+
+/* Takes what the hostile guest's console put out, between the rounds. */
+static void take_text(void)
+{
+    static uint8_t text[TEXT];
+    size_t taken;
+    must(kalyubos_take_output(&board, 0, text, sizeof text, &taken));
+}
+
+static void run_hosted(const struct hostile *it, int run)
+{
+    struct kalyubos_pending pending;
+    struct kalyubos_counters counters;
+    make(true, it->chains, 0);
+    it->begin(it);
+    for (uint8_t i = 1; i < GUESTS; i++)
+        bring_up(i, LEN, 1);
     uint32_t answer = KALYUBOS_DONE;
-    for (calls = 0; calls < MOST_CALLS; calls++) {
+    for (calls = 0; calls < it->calls; calls++) {
+        take_text();
         double start = now();
-        answer = call_hostile(answer, len);
+        answer = it->call(it, answer);
         keep_best(&call_took[calls], now() - start, run);
+        if (answer != KALYUBOS_IO && answer != KALYUBOS_MORE)
+            must(answer);
         for (uint8_t guest = 1; guest < GUESTS; guest++) {
             must(notify(guest, 1) == KALYUBOS_IO ? KALYUBOS_DONE : KALYUBOS_IDLE);
             ask(guest, LEN);
@@ -191,16 +293,20 @@ static void run_hosted(uint32_t len, uint16_t buffers, int run)
             keep_best(&wait_took[calls][guest], now() - start, run);
         }
     }
+    must(answer); /* the last service is at its end, */
+    must(kalyubos_counters(&board, 0, &counters));
+    if (counters.chains != CHAINS || counters.faults != 0) /* and all was served */
+        must(KALYUBOS_IDLE);
     if (run + 1 < RUNS)
         must(kalyubos_destroy(&board));
 }
 
-static void time_hosted(const char *what, uint32_t len, uint16_t buffers)
+static void time_hosted(const char *what, struct hostile it)
 {
     for (int run = 0; run < RUNS; run++)
-        run_hosted(len, buffers, run);
+        run_hosted(&it, run);
     begin();
-    for (int call = 0; call < MOST_CALLS; call++) {
+    for (int call = 0; call < it.calls; call++) {
         take_in_call(call_took[call]);
         for (uint8_t guest = 1; guest < GUESTS; guest++)
             take_in(wait_took[call][guest]);
@@ -216,7 +322,14 @@ int main(void)
     time_of("256 chains of 4 KiB, no budget", 0, 0, LEN);
     time_of("256 chains of 4 KiB, 1 chain a call", 1, 0, LEN);
     time_of("256 chains of 4 KiB, 64 KiB a call", 0, 0x10000, LEN);
-    time_hosted("256 chains of 8 MiB, hosted", LARGE, 1);
-    time_hosted("256 chains of 8 MiB in 254 buffers, hosted", LARGE, 254);
+    time_hosted("256 chains of 8 MiB, hosted", (struct hostile){ begin_reads, call_disk, MOST_CALLS, 0, LARGE, 1 });
+    time_hosted("256 chains of 8 MiB in 254 buffers, hosted",
+                (struct hostile){ begin_reads, call_disk, MOST_CALLS, 0, LARGE, 254 });
+    time_hosted("256 tables of 256 bytes to a console, no budget",
+                (struct hostile){ begin_texts, call_console, CHAINS / RING, 0, 0, 0 });
+    time_hosted("256 tables of 256 bytes to a console, 1 chain",
+                (struct hostile){ begin_texts, call_console, CHAINS, 1, 0, 0 });
+    time_hosted("256 tables of 256 buffers to a disk, 1 chain",
+                (struct hostile){ begin_others, call_other, CHAINS / RING, 1, 0, 0 });
     return 0;
 }

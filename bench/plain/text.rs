@@ -19,7 +19,7 @@ pub enum Kind {
 pub enum Refused {
     /// The first line with a fault.
     Fault(usize, Kind),
-    /// A word of an extended trace that this program leaves out, or a memory of several regions.
+    /// A word of an extended trace that this program leaves out, a memory of several regions, or a hosted disk.
     NotServed,
 }
 
@@ -126,7 +126,6 @@ fn capacity(line: &[u8], form: Form) -> Result<u32, Refused> {
             judge(word, &fields, form).map_err(|kind| Refused::Fault(2, kind))?;
             Ok(number(fields[0], 32).expect("a judged number") as u32)
         }
-        b"hosted" if form == Form::Extended => Err(Refused::NotServed),
         _ => Err(Refused::Fault(2, Kind::Word)),
     }
 }
@@ -150,10 +149,11 @@ impl<'a> Trace<'a> {
 }
 
 impl Description {
-    /// What judged fields say, where the memory has one region.
+    /// What judged fields say, where the memory has one region and the disk is on the image.
     fn of(fields: &[&[u8]], form: Form) -> Option<Description> {
         let ((base, len), fields) = match fields {
-            [regions, others @ ..] if form == Form::Extended => (region(regions)?, others),
+            [regions, b"image", others @ ..] if form == Form::Extended => (region(regions)?, others),
+            _ if form == Form::Extended => return None,
             [base, len, others @ ..] => ((number(base, 64)?, number(len, 64)?), others),
             _ => return None,
         };
@@ -288,6 +288,7 @@ enum Field {
     Win,
     Wid,
     Mode,
+    Disk,
     Bytes,
     Identity,
 }
@@ -304,7 +305,7 @@ fn fields_of(word: &[u8], form: Form) -> Option<&'static [Field]> {
     Some(match word {
         b"cache" => &[Num(32)],
         b"slot" if form == Form::Version1 => &[Num(64), Num(64), Num(64), Num(64), Mode, Num(16), Num(16)],
-        b"slot" if form == Form::Extended => &[Regions, Num(64), Num(64), Mode, Num(16), Num(16), Identity],
+        b"slot" if form == Form::Extended => &[Regions, Disk, Num(64), Num(64), Mode, Num(16), Num(16), Identity],
         b"slot" => &[Num(64), Num(64), Num(64), Num(64), Mode, Num(16), Num(16), Identity],
         b"r" => &[Num(8), Win, Off, Wid],
         b"w" => &[Num(8), Win, Off, Wid, Val],
@@ -337,6 +338,7 @@ fn fault_of(wanted: Field, field: &[u8], fields: &[&[u8]]) -> Option<Kind> {
         Field::Win => (matches!(field, b"b" | b"c"), Kind::Choice),
         Field::Wid => (width(field).is_some(), Kind::Choice),
         Field::Mode => (matches!(field, b"rw" | b"ro"), Kind::Choice),
+        Field::Disk => (matches!(field, b"image" | b"host"), Kind::Choice),
         Field::Bytes => (field == b"-" || !field.is_empty() && field.len() % 2 == 0 && are_digits(field.len()), Kind::Bytes),
         Field::Identity => (are_digits(40), Kind::Bytes),
     };

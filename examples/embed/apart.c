@@ -227,7 +227,7 @@ static uint64_t alone(int number, uint64_t seed)
     struct kalyubos board = { NULL };
     struct kalyubos_slot slot = slots[number];
     slot.start = 0;
-    make(&board, &slot, 1, image + 512 * slots[number].start, COUNT * 512, 8, NO_LIMIT);
+    make(&board, over_image(&slot, 1, image + 512 * slots[number].start, COUNT * 512));
     struct guest guest = powered_on(&board, 0, number, seed);
     while (guest.turns != 0)
         turn(&guest);
@@ -241,9 +241,12 @@ static void check_seed(uint64_t seed)
     struct kalyubos board = { NULL };
     struct guest guests[GUESTS], host = { .state = 0x2545f4914f6cdd1d * (seed + 1) };
     for (int i = 0; i < GUESTS; i++)
-        slots[i] = (struct kalyubos_slot){ sizeof *slots, { { MEMORY, MEMORY_LEN } }, COUNT * (uint64_t)i, COUNT, 80, 25,
-                                           OUTLETS[(seed + (uint64_t)i) % 4], i % 5 == 4, { 'g', (uint8_t)i } };
-    make(&board, slots, GUESTS, image, sizeof image, 8, NO_LIMIT);
+        slots[i] = (struct kalyubos_slot){
+            .size = sizeof *slots, .regions = { { MEMORY, MEMORY_LEN } }, .start = COUNT * (uint64_t)i, .count = COUNT,
+            .cols = 80, .rows = 25, .outlet = OUTLETS[(seed + (uint64_t)i) % 4], .read_only = i % 5 == 4,
+            .identity = { 'g', (uint8_t)i },
+        };
+    make(&board, over_image(slots, GUESTS, image, sizeof image));
     for (int i = 0; i < GUESTS; i++)
         guests[i] = powered_on(&board, (uint8_t)i, i, seed);
     for (unsigned left = HOSTILE_TURNS + (GUESTS - 1) * TURNS; left != 0; left--) {
@@ -301,9 +304,11 @@ static void check_full_outlet(void)
     static uint8_t out[OUTLET];
     static const uint8_t again[2] = { (2 * CHAINS) & 255, (2 * CHAINS) >> 8 };
     struct kalyubos board = { NULL };
-    struct kalyubos_slot two[2] = { { sizeof *two, { { MEMORY, 0x20000 } }, 0, 1, 80, 25, OUTLET, false, "full" },
-                                    { sizeof *two, { { MEMORY, 0x1000 } }, 1, 1, 80, 25, 1, false, "other" } };
-    make(&board, two, 2, image, 1024, 8, NO_LIMIT);
+    struct kalyubos_slot two[2] = {
+        { .size = sizeof *two, .regions = { { MEMORY, 0x20000 } }, .start = 0, .count = 1, .outlet = OUTLET },
+        { .size = sizeof *two, .regions = { { MEMORY, 0x1000 } }, .start = 1, .count = 1, .outlet = 1 },
+    };
+    make(&board, over_image(two, 2, image, 1024));
     offer_all(&board);
     set_console(&board, 0, 0x50, 1, KALYUBOS_DONE);
     need(kalyubos_write_memory(&board, 0, MEMORY + 0x12002, again, 2) == KALYUBOS_DONE, "idx", 0);

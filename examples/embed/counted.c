@@ -26,7 +26,7 @@ static const struct descriptor IDENTITY[] = { { AT(0x400), 16, NEXT, 1 }, { AT(0
 static const struct descriptor SECTOR[] = { { AT(0x400), 16, NEXT, 1 }, { AT(0x800), 512, NEXT | WRITE, 2 }, { AT(0xc00), 1, WRITE, 0 } };
 
 static uint8_t image[1024];
-static const struct kalyubos_slot slots[] = {
+static struct kalyubos_slot slots[] = {
     { .size = sizeof *slots, .regions = { { 0x80000000, MEMORY_LEN } }, .start = 0, .count = 1, .outlet = OUTLET },
     { .size = sizeof *slots, .regions = { { 0x80000000, MEMORY_LEN } }, .start = 1, .count = 1, .outlet = OUTLET },
 };
@@ -148,7 +148,9 @@ static void check_image(void)
         { .notifies = 1, .chains = 6, .bytes_in = 6 * 21, .bytes_out = 6 * 16, .pauses = 5 },
     };
     uint8_t before[SNAPSHOT];
-    make(&board, slots, 2, image, sizeof image, 1, (struct budget){ 1, 0 });
+    struct kalyubos_config config = over_image(slots, 2, image, sizeof image);
+    config.chains = 1;
+    make(&board, config);
     size_t len = saved(0, before);
     is_counted(0, NOTHING, "nothing was asked for");
     talk();
@@ -189,7 +191,8 @@ static void check_hosted(void)
         { .notifies = 1, .chains = 2, .bytes_in = 2 * 513, .bytes_out = 2 * 16 },
     };
     uint8_t before[SNAPSHOT];
-    make_hosted(&board, slots, 2);
+    slots[0].hosted = slots[1].hosted = true;
+    make(&board, kalyubos_config(slots, 2));
     size_t len = saved(0, before);
     read_sectors(0, 3, true);
     is_counted(1, NOTHING, "the second guest did nothing");

@@ -188,14 +188,16 @@ static void power_on(struct guest *guest, unsigned number, bool threads)
     static uint8_t content[DISK_LEN];
     struct kalyubos_slot slot = {
         .size = sizeof slot, .regions = { { MEMORY, MEMORY_LEN } }, .count = DISK_LEN / SECTOR_LEN, .outlet = OUTLET,
+        .hosted = true,
     };
+    struct kalyubos_config config = kalyubos_config(&slot, 1);
     size_t len;
     guest->number = number;
     strcpy(guest->path, "/tmp/kalyubos-disk-XXXXXX");
     memset(content, (int)('a' + number), sizeof content);
     int file = mkstemp(guest->path);
     need(file >= 0 && write(file, content, sizeof content) == DISK_LEN && close(file) == 0, "a file");
-    need(kalyubos_create_hosted(&guest->board, &slot, 1) == KALYUBOS_DONE, "create_hosted");
+    need(kalyubos_create(&guest->board, &config) == KALYUBOS_DONE, "create");
     need(kalyubos_memory(&guest->board, 0, MEMORY, &guest->memory, &len) == KALYUBOS_DONE, "memory");
     const char *wrong = file_disk_open(&guest->disk, &guest->board, 0, guest->path, DISK_LEN, false,
                                        threads ? &file_thread : &file_ring);

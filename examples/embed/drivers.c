@@ -376,7 +376,10 @@ static void *run(void *user)
     return NULL;
 }
 
-static const struct kalyubos_slot SLOT = { sizeof SLOT, { { MEMORY, MEMORY_LEN }, { DATA, DATA_LEN } }, 0, SECTORS, 80, 25, 64, false, "drivers" };
+static const struct kalyubos_slot SLOT = {
+    .size = sizeof SLOT, .regions = { { MEMORY, MEMORY_LEN }, { DATA, DATA_LEN } }, .count = SECTORS, .cols = 80,
+    .rows = 25, .outlet = 64, .hosted = true, .identity = "drivers",
+};
 
 static void run_together(uint64_t seed)
 {
@@ -385,7 +388,7 @@ static void run_together(uint64_t seed)
     struct guest host = { .state = 0x2545f4914f6cdd1d * (seed + 1) };
     for (int i = 0; i < GUESTS; i++)
         slots[i] = SLOT;
-    make_hosted(&board, slots, GUESTS);
+    make(&board, kalyubos_config(slots, GUESTS));
     for (uint8_t i = 0; i < GUESTS; i++)
         power_on(&guests[i], &board, i, GUESTS * seed + i);
     for (unsigned left = GUESTS * TURNS; left != 0; left--) {
@@ -404,7 +407,7 @@ static void run_on_threads(uint64_t seed)
     struct kalyubos boards[GUESTS] = { { NULL } };
     pthread_t threads[GUESTS];
     for (int i = 0; i < GUESTS; i++) {
-        make_hosted(&boards[i], &SLOT, 1);
+        make(&boards[i], kalyubos_config(&SLOT, 1));
         power_on(&guests[i], &boards[i], 0, GUESTS * seed + (uint64_t)i);
     }
     for (int i = 0; i < GUESTS; i++)

@@ -212,19 +212,23 @@ static void create(struct guest *guests, bool hosted)
 {
     static uint8_t image[GUESTS * DISK_LEN];
     struct kalyubos_slot slots[GUESTS] = {
-        { sizeof *slots, { { MEMORY, MEMORY_LEN } }, 0, 2, 80, 25, OUTLET, false, "first half" },
-        { sizeof *slots, { { MEMORY, MEMORY_LEN } }, 2, 2, 80, 25, OUTLET, false, "second half" },
+        { .size = sizeof *slots, .regions = { { MEMORY, MEMORY_LEN } }, .start = 0, .count = 2, .cols = 80, .rows = 25,
+          .outlet = OUTLET, .hosted = hosted, .identity = "first half" },
+        { .size = sizeof *slots, .regions = { { MEMORY, MEMORY_LEN } }, .start = 2, .count = 2, .cols = 80, .rows = 25,
+          .outlet = OUTLET, .hosted = hosted, .identity = "second half" },
     };
+    struct kalyubos_config config = kalyubos_config(slots, GUESTS);
     for (uint8_t slot = 0; slot < GUESTS; slot++) {
         guests[slot].slot = slot;
         strcpy((char *)image + slot * DISK_LEN, DISKS[slot]);
     }
+    config.chains = CHAINS;
     if (!hosted) {
-        must(kalyubos_create(&board, slots, GUESTS, image, sizeof image, 8, CHAINS, 0), "create");
-        return;
+        config.image = image;
+        config.image_len = sizeof image;
     }
-    must(kalyubos_create_hosted(&board, slots, GUESTS), "create_hosted");
-    for (unsigned i = 0; i < GUESTS; i++)
+    must(kalyubos_create(&board, &config), "create");
+    for (unsigned i = 0; i < GUESTS && hosted; i++)
         open_disk(&guests[i]);
 }
 

@@ -165,7 +165,11 @@ int main(void)
         .size = sizeof slot, .regions = { { MEMORY, MEMORY_LEN } }, .start = 0, .count = 2, .cols = 80, .rows = 25,
         .outlet = OUTLET, .identity = "a disk of two",
     };
-    must(kalyubos_create(&board, &slot, 1, image, sizeof image, 8, CHAINS, 0), "create");
+    struct kalyubos_config config = kalyubos_config(&slot, 1);
+    config.image = image;
+    config.image_len = sizeof image;
+    config.chains = CHAINS;
+    must(kalyubos_create(&board, &config), "create");
 
     guest();
 

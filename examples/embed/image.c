@@ -49,7 +49,10 @@ static void serve_file(void)
     };
     size_t len;
     must(in_place_open(path, IMAGE_LEN));
-    need(kalyubos_create(&board, &slot, 1, in_place_image(), IMAGE_LEN, 1, 0, 0) == KALYUBOS_DONE, "create");
+    struct kalyubos_config config = kalyubos_config(&slot, 1);
+    config.image = in_place_image();
+    config.image_len = IMAGE_LEN;
+    need(kalyubos_create(&board, &config) == KALYUBOS_DONE, "create");
     must(in_place_serve(&board));
     need(kalyubos_memory(&board, 0, MEMORY, &memory, &len) == KALYUBOS_DONE, "memory");
 }

@@ -39,7 +39,7 @@ static void give_pages(void)
     block = NULL;
 }
 
-struct kalyubos_block rattle_alloc(size_t size, size_t align)
+struct kalyubos_block kalyubos_alloc(size_t size, size_t align)
 {
     if (block == NULL && size == image_len && size != 0 && align == 1)
         return block_at(block = take_pages(size));
@@ -47,7 +47,7 @@ struct kalyubos_block rattle_alloc(size_t size, size_t align)
 }
 
 /* A block of another length isn't the image's. */
-struct kalyubos_block rattle_realloc(void *at, size_t kept, size_t size, size_t align)
+struct kalyubos_block kalyubos_realloc(void *at, size_t kept, size_t size, size_t align)
 {
     if (at == NULL || at != block)
         return block_at(realloc(at, size != 0 ? size : align));
@@ -59,7 +59,7 @@ struct kalyubos_block rattle_realloc(void *at, size_t kept, size_t size, size_t 
     return block_at(moved);
 }
 
-void rattle_dealloc(void *at)
+void kalyubos_dealloc(void *at)
 {
     if (at != NULL && at == block)
         give_pages();

@@ -1,18 +1,60 @@
 /*
- * What kalyubos_judge and kalyubos_judge_hosted tell of slots, also of two that are wrong, and where the heap refuses all.
+ * What kalyubos_judge tells of a config: of slots, also of two that are wrong, of extents beside disks that the host
+ * serves, and of all else that a config has. kalyubos_create answers the same. Where the heap refuses all, judge
+ * answers NO_MEMORY or the same.
  */
 #include <stdio.h>
+#include <string.h>
 
 #include "shut_heap.h"
 
-enum { SIZE = 184, PAGE = 0x1000, TOO_LARGE = (1 << 24) + 1, SECTORS = 4, UNTOLD = 99 };
+enum { CONFIG = 72, SIZE = 184, PAGE = 0x1000, TOO_LARGE = (1 << 24) + 1, SECTORS = 4, IMAGE = SECTORS * 512 };
+enum { UNTOLD = 99 };
 
-/* Sizes come first, then outlets, then slot by slot all else. What an answer isn't about is left. */
+_Static_assert(sizeof(struct kalyubos_config) == CONFIG, "a config of this version has 72 bytes");
+
+static const uint8_t image[IMAGE];
+
+/* Whether the answer comes before any memory is asked for. */
+static bool is_judged_first(uint32_t answer)
+{
+    return answer == KALYUBOS_BAD_SIZE || answer == KALYUBOS_BAD_LOAN || answer == KALYUBOS_BAD_IMAGE ||
+           answer == KALYUBOS_BAD_OUTLET;
+}
+
+/* What an answer isn't about is left, and no loan is taken. */
+static void is_judged(enum heap heap, const struct kalyubos_config *config, uint32_t answer, struct place wanted,
+                      size_t i)
+{
+    struct place found = { UNTOLD, UNTOLD };
+    struct kalyubos_loan lent[2] = { { NULL, 0 } };
+    memcpy(lent, config->loans, config->loans_len * sizeof *lent);
+    need(judge(heap, config, &found) == answer, "a judgement", i);
+    need(found.slot == wanted.slot, "the slot that is told", i);
+    need(found.region == wanted.region, "the region that is told", i);
+    need(memcmp(lent, config->loans, config->loans_len * sizeof *lent) == 0, "a loan that is taken", i);
+}
+
+static void check(struct kalyubos_config config, uint32_t answer, struct place place, size_t i)
+{
+    struct kalyubos board = { NULL };
+    is_judged(AMPLE, &config, answer, place, i);
+    if (is_judged_first(answer))
+        is_judged(FULL, &config, answer, place, i);
+    else
+        is_judged(FULL, &config, KALYUBOS_NO_MEMORY, (struct place){ UNTOLD, UNTOLD }, i);
+    need(create(&board, &config) == answer, "what create answers", i);
+    if (answer == KALYUBOS_DONE)
+        end(&board);
+}
+
+/* ---- two slots: sizes come first, then outlets, then slot by slot all else */
+
 static const struct {
     struct kalyubos_slot slots[2];
     uint32_t answer;
     struct place place;
-} ROWS[] = {
+} PAIRS[] = {
     { { { .size = SIZE, .regions = { { 0, PAGE } } }, { .size = SIZE, .regions = { { 0, PAGE } } } },
       KALYUBOS_DONE, { UNTOLD, UNTOLD } },
     { { { .size = SIZE, .regions = { { 0, PAGE } }, .outlet = TOO_LARGE }, { .size = SIZE + 8 } },
@@ -37,28 +79,117 @@ static const struct {
     { { { .size = SIZE, .regions = { { 0, PAGE } } }, { .size = SIZE, .regions = { { 0, PAGE } }, .count = 1ull << 55 } },
       KALYUBOS_EXTENT_OUTSIDE, { 1, UNTOLD } },
 };
-enum { HOW_MANY = sizeof ROWS / sizeof *ROWS };
+enum { PAIRS_LEN = sizeof PAIRS / sizeof *PAIRS };
 
-/* Without memory a size and an outlet are told as ever. In the place of all else comes NO_MEMORY, and nothing is told. */
-static void check(size_t i, enum kind kind, enum heap heap)
+/* The same whoever has their disks: bit 0 and bit 1 of `hosts` say that the host serves the first and the second. */
+static void check_pairs(void)
 {
-    struct place found = { UNTOLD, UNTOLD }, wanted = ROWS[i].place;
-    uint32_t answer = ROWS[i].answer;
-    if (heap == FULL && answer != KALYUBOS_BAD_SIZE && answer != KALYUBOS_BAD_OUTLET) {
-        answer = KALYUBOS_NO_MEMORY;
-        wanted = found;
+    for (size_t i = 0; i < PAIRS_LEN; i++)
+        for (int hosts = 0; hosts < 4; hosts++) {
+            struct kalyubos_slot slots[2];
+            memcpy(slots, PAIRS[i].slots, sizeof slots);
+            slots[0].hosted = hosts & 1;
+            slots[1].hosted = hosts >> 1;
+            check(over_image(slots, 2, image, hosts == 3 ? 0 : IMAGE), PAIRS[i].answer, PAIRS[i].place, i);
+        }
+}
+
+/* ---- two disks: extents are inside the image and share no sector; of one that the host serves `start` isn't read */
+
+struct disk {
+    bool hosted;
+    uint64_t start, count;
+};
+
+static const struct {
+    struct disk disks[2];
+    uint32_t answer;
+    size_t slot;
+} DISKS[] = {
+    { { { false, 0, 2 }, { false, 2, 2 } }, KALYUBOS_DONE, UNTOLD },
+    { { { false, 0, 2 }, { false, 1, 2 } }, KALYUBOS_EXTENTS_OVERLAP, 1 },
+    { { { false, 0, 2 }, { true, 1, 2 } }, KALYUBOS_DONE, UNTOLD },
+    { { { true, 0, SECTORS }, { false, 0, SECTORS } }, KALYUBOS_DONE, UNTOLD },
+    { { { true, UINT64_MAX, SECTORS }, { false, 0, SECTORS } }, KALYUBOS_DONE, UNTOLD },
+    { { { true, 0, (1ull << 55) - 1 }, { false, 0, SECTORS } }, KALYUBOS_DONE, UNTOLD },
+    { { { true, 0, 1ull << 55 }, { false, 1, SECTORS } }, KALYUBOS_EXTENT_OUTSIDE, 0 },
+    { { { true, 1, SECTORS }, { false, 1, SECTORS } }, KALYUBOS_EXTENT_OUTSIDE, 1 },
+    { { { false, 0, SECTORS + 1 }, { true, 0, 1 } }, KALYUBOS_EXTENT_OUTSIDE, 0 },
+};
+enum { DISKS_LEN = sizeof DISKS / sizeof *DISKS };
+
+static void check_disks(void)
+{
+    for (size_t i = 0; i < DISKS_LEN; i++) {
+        struct kalyubos_slot slots[2];
+        for (int j = 0; j < 2; j++)
+            slots[j] = (struct kalyubos_slot){
+                .size = SIZE, .regions = { { 0, PAGE } }, .start = DISKS[i].disks[j].start,
+                .count = DISKS[i].disks[j].count, .hosted = DISKS[i].disks[j].hosted,
+            };
+        check(over_image(slots, 2, image, IMAGE), DISKS[i].answer, (struct place){ DISKS[i].slot, UNTOLD }, i);
     }
-    need(judge(kind, heap, ROWS[i].slots, 2, SECTORS, &found) == answer, "a judgement", i);
-    need(found.slot == wanted.slot, "the slot that is told", i);
-    need(found.region == wanted.region, "the region that is told", i);
+}
+
+/* ---- the config's own fields, of one slot: its size comes before the slot's, loans before the image */
+
+enum { ALL_GOOD = 0, OTHER_SIZE = 1, LARGE_OUTLET = 2, SMALL_REGION = 4, LARGE_DISK = 8 };
+
+static const struct {
+    size_t size, loans[2], loans_len, image_len;
+    uint32_t cache;
+    int slot;
+    uint32_t answer;
+    struct place place;
+} CONFIGS[] = {
+    { CONFIG, { 0 }, 0, IMAGE, 1, ALL_GOOD, KALYUBOS_DONE, { UNTOLD, UNTOLD } },
+    { CONFIG - 8, { 0 }, 0, IMAGE, 1, ALL_GOOD, KALYUBOS_BAD_SIZE, { UNTOLD, UNTOLD } },
+    { CONFIG + 8, { 0 }, 0, IMAGE, 1, ALL_GOOD, KALYUBOS_BAD_SIZE, { UNTOLD, UNTOLD } },
+    { 0, { 0 }, 0, IMAGE, 1, OTHER_SIZE, KALYUBOS_BAD_SIZE, { UNTOLD, UNTOLD } },
+    { SIZE_MAX, { 0 }, 1, 1, 0, LARGE_OUTLET, KALYUBOS_BAD_SIZE, { UNTOLD, UNTOLD } },
+    { CONFIG, { 0 }, 1, 1, 0, OTHER_SIZE, KALYUBOS_BAD_SIZE, { 0, UNTOLD } },
+    { CONFIG, { PAGE }, 1, IMAGE, 1, ALL_GOOD, KALYUBOS_DONE, { UNTOLD, UNTOLD } },
+    { CONFIG, { PAGE - 1 }, 1, IMAGE, 1, ALL_GOOD, KALYUBOS_BAD_LOAN, { UNTOLD, UNTOLD } },
+    { CONFIG, { 2 * PAGE }, 1, IMAGE, 1, ALL_GOOD, KALYUBOS_BAD_LOAN, { UNTOLD, UNTOLD } },
+    { CONFIG, { PAGE, 0 }, 2, IMAGE, 1, ALL_GOOD, KALYUBOS_BAD_LOAN, { UNTOLD, UNTOLD } },
+    { CONFIG, { PAGE }, 1, 1, 0, SMALL_REGION, KALYUBOS_BAD_LOAN, { UNTOLD, UNTOLD } },
+    { CONFIG, { 1 }, 1, IMAGE, 0, SMALL_REGION, KALYUBOS_BAD_MEMORY_SIZE, { 0, 0 } },
+    { CONFIG, { PAGE }, 1, 511, 0, LARGE_OUTLET, KALYUBOS_BAD_IMAGE, { UNTOLD, UNTOLD } },
+    { CONFIG, { 0 }, 0, IMAGE - 1, 0, LARGE_OUTLET, KALYUBOS_BAD_IMAGE, { UNTOLD, UNTOLD } },
+    { CONFIG, { 0 }, 0, IMAGE, 0, LARGE_OUTLET, KALYUBOS_BAD_OUTLET, { 0, UNTOLD } },
+    { CONFIG, { 0 }, 0, IMAGE, 0, LARGE_DISK, KALYUBOS_EXTENT_OUTSIDE, { 0, UNTOLD } },
+    { CONFIG, { PAGE }, 1, IMAGE, 0, ALL_GOOD, KALYUBOS_BAD_CACHE, { UNTOLD, UNTOLD } },
+    { CONFIG, { 0 }, 0, 0, 0, ALL_GOOD, KALYUBOS_BAD_CACHE, { UNTOLD, UNTOLD } },
+    { CONFIG, { 0 }, 0, IMAGE, 65536, ALL_GOOD, KALYUBOS_DONE, { UNTOLD, UNTOLD } },
+    { CONFIG, { 0 }, 0, IMAGE, 65537, ALL_GOOD, KALYUBOS_BAD_CACHE, { UNTOLD, UNTOLD } },
+};
+enum { CONFIGS_LEN = sizeof CONFIGS / sizeof *CONFIGS };
+
+static void check_configs(void)
+{
+    static uint8_t lent[2 * PAGE];
+    for (size_t i = 0; i < CONFIGS_LEN; i++) {
+        int is = CONFIGS[i].slot;
+        struct kalyubos_slot slot = {
+            .size = is & OTHER_SIZE ? SIZE - 8 : SIZE, .regions = { { 0, is & SMALL_REGION ? 1 : PAGE } },
+            .outlet = is & LARGE_OUTLET ? TOO_LARGE : 0, .count = is & LARGE_DISK ? SECTORS + 1 : 0,
+        };
+        struct kalyubos_loan loans[2] = { { lent, CONFIGS[i].loans[0] }, { lent, CONFIGS[i].loans[1] } };
+        struct kalyubos_config config = over_image(&slot, 1, image, CONFIGS[i].image_len);
+        config.size = CONFIGS[i].size;
+        config.loans = loans;
+        config.loans_len = CONFIGS[i].loans_len;
+        config.cache = CONFIGS[i].cache;
+        check(config, CONFIGS[i].answer, CONFIGS[i].place, i);
+    }
 }
 
 int main(void)
 {
-    for (size_t i = 0; i < HOW_MANY; i++)
-        for (int kind = OF_IMAGE; kind <= HOSTED; kind++)
-            for (int heap = AMPLE; heap <= FULL; heap++)
-                check(i, kind, heap);
-    printf("judged: %d pairs of slots, for boards of both kinds, with memory and without\n", HOW_MANY);
+    check_pairs();
+    check_disks();
+    check_configs();
+    printf("judged: %d pairs of slots, with disks of either kind, %d pairs of disks, %d configs; create alike\n",
+           PAIRS_LEN, DISKS_LEN, CONFIGS_LEN);
     return 0;
 }

@@ -84,40 +84,27 @@ static uint32_t serve_console(struct slot *guest, struct window *console)
     return KALYUBOS_DONE;
 }
 
-uint32_t kalyubos_create_hosted(struct kalyubos *board, const struct kalyubos_slot *slots, size_t slots_len)
+/* Its guests' memory is its own: what is lent it leaves. */
+uint32_t kalyubos_create(struct kalyubos *board, struct kalyubos_config *config)
 {
-    for (size_t i = 0; i < slots_len; i++) {
-        size_t len = slots[i].regions[1].base + slots[i].regions[1].len;
-        guests[i] = (struct slot){ .memory = aligned_alloc(PAGE, len), .outlet = slots[i].outlet };
-        memcpy(guests[i].regions, slots[i].regions, sizeof guests[i].regions);
+    for (size_t i = 0; i < config->slots_len; i++) {
+        const struct kalyubos_slot *slot = &config->slots[i];
+        size_t len = slot->regions[1].base + slot->regions[1].len;
+        guests[i] = (struct slot){ .memory = aligned_alloc(PAGE, len), .outlet = slot->outlet, .hosted = slot->hosted };
+        memcpy(guests[i].regions, slot->regions, sizeof guests[i].regions);
         if (guests[i].memory == NULL)
             return KALYUBOS_NO_MEMORY;
         memset(guests[i].memory, 0, len);
-        guests[i].hosted = true;
+        if (!slot->hosted)
+            memcpy(guests[i].disk, config->image + slot->start * SECTOR, SECTOR);
     }
     board->at = guests;
     return KALYUBOS_DONE;
 }
 
-uint32_t kalyubos_create(struct kalyubos *board, const struct kalyubos_slot *slots, size_t slots_len,
-                         const uint8_t *image, size_t image_len, uint32_t cache, uint32_t chains, uint64_t bytes)
+const char *kalyubos_answer(uint32_t number)
 {
-    uint32_t answer = kalyubos_create_hosted(board, slots, slots_len);
-    (void)image_len, (void)cache, (void)chains, (void)bytes;
-    for (size_t i = 0; i < slots_len && answer == KALYUBOS_DONE; i++) {
-        guests[i].hosted = false;
-        memcpy(guests[i].disk, image + slots[i].start * SECTOR, SECTOR);
-    }
-    return answer;
-}
-
-/* Its guests' memory is its own. */
-uint32_t kalyubos_create_lent(struct kalyubos *board, const struct kalyubos_slot *slots, size_t slots_len,
-                              struct kalyubos_loan *loans, size_t loans_len, const uint8_t *image, size_t image_len,
-                              uint32_t cache, uint32_t chains, uint64_t bytes)
-{
-    (void)loans, (void)loans_len;
-    return kalyubos_create(board, slots, slots_len, image, image_len, cache, chains, bytes);
+    return number == KALYUBOS_DONE ? "done" : "refused";
 }
 
 uint32_t kalyubos_destroy(struct kalyubos *board)

@@ -448,27 +448,30 @@ static void create(struct guest *guests)
 {
     static uint8_t image[GUESTS * DISK_LEN];
     struct kalyubos_slot slots[GUESTS] = {
-        { .size = sizeof *slots, .start = 0, .count = 2, .cols = 80, .rows = 25, .outlet = OUTLET, .identity = "first half" },
-        { .size = sizeof *slots, .start = 2, .count = 2, .cols = 80, .rows = 25, .outlet = OUTLET, .identity = "second half" },
+        { .size = sizeof *slots, .start = 0, .count = 2, .cols = 80, .rows = 25, .outlet = OUTLET, .hosted = hosted,
+          .identity = "first half" },
+        { .size = sizeof *slots, .start = 2, .count = 2, .cols = 80, .rows = 25, .outlet = OUTLET, .hosted = hosted,
+          .identity = "second half" },
     };
+    struct kalyubos_config config = kalyubos_config(slots, GUESTS);
+    struct kalyubos_loan loans[GUESTS * REGIONS];
     for (uint8_t slot = 0; slot < GUESTS; slot++) {
         memcpy(slots[slot].regions, MEMORY, sizeof MEMORY);
         guests[slot].slot = slot;
         strcpy((char *)image + slot * DISK_LEN, DISKS[slot]);
     }
     if (lent) {
-        struct kalyubos_loan loans[GUESTS * REGIONS];
         lend(loans);
-        must_do(kalyubos_create_lent(&board, slots, GUESTS, loans, GUESTS * REGIONS, image, sizeof image, 8, CHAINS, 0),
-                "create_lent");
-        return;
+        config.loans = loans;
+        config.loans_len = GUESTS * REGIONS;
     }
     if (!hosted) {
-        must_do(kalyubos_create(&board, slots, GUESTS, image, sizeof image, 8, CHAINS, 0), "create");
-        return;
+        config.image = image;
+        config.image_len = sizeof image;
     }
-    must_do(kalyubos_create_hosted(&board, slots, GUESTS), "create_hosted");
-    for (unsigned i = 0; i < GUESTS; i++)
+    config.chains = CHAINS;
+    must_do(kalyubos_create(&board, &config), "create");
+    for (unsigned i = 0; i < GUESTS && hosted; i++)
         open_disk(&guests[i]);
 }
 

@@ -1,6 +1,6 @@
 /*
  * What is large and isn't refused: a guest of eight regions, of which one has more than 1 GiB, and whose console puts 1 MiB and a
- * byte out in one chain. On boards of both kinds, over memory of the library's and over memory that the host lends.
+ * byte out in one chain. With a disk of either kind, over memory of the library's and over memory that the host lends.
  */
 #define _DEFAULT_SOURCE
 #include <stdio.h>
@@ -14,7 +14,7 @@ enum { PAGE = 0x1000, TEXT_LEN = 0x100001, NOTIFY = 0x050, TRANSMIT = 1 };
 #define BASE 0x80000000ull
 #define TEXT (BASE + LARGE - TEXT_LEN)
 
-static const struct kalyubos_slot slot = {
+static struct kalyubos_slot slot = {
     .size = sizeof slot,
     .regions = { { 1 << 16, PAGE }, { 2 << 16, PAGE }, { 3 << 16, PAGE }, { 4 << 16, PAGE }, { 5 << 16, PAGE }, { 6 << 16, PAGE },
                  { 7 << 16, PAGE }, { BASE, LARGE } },
@@ -69,28 +69,40 @@ static void check_text(void)
     need(text[0] == 'A' && text[1] == 0 && text[TEXT_LEN - 2] == 0 && text[TEXT_LEN - 1] == 'B', "the text", taken);
 }
 
-static void check_board(uint32_t answer, uint64_t number)
+static void check_board(struct kalyubos_config config, uint64_t number)
 {
-    need(answer == KALYUBOS_DONE, "create", number);
+    need(create(&board, &config) == KALYUBOS_DONE, "create", number);
     check_regions();
     check_text();
     end(&board);
 }
 
+/* A loan of each region's length. */
+static void lend(struct kalyubos_loan *loans)
+{
+    for (size_t i = 0; i < KALYUBOS_REGIONS; i++) {
+        size_t len = slot.regions[i].len;
+        uint8_t *bytes = mmap(NULL, len, PROT_READ | PROT_WRITE, MAP_PRIVATE | MAP_ANONYMOUS | MAP_NORESERVE, -1, 0);
+        need(bytes != MAP_FAILED, "a mapping", len);
+        loans[i] = (struct kalyubos_loan){ bytes, len };
+    }
+}
+
 int main(void)
 {
     struct kalyubos_loan loans[KALYUBOS_REGIONS];
-    check_board(create(&board, &slot, 1, image, sizeof image, 1, NO_LIMIT), 0);
-    check_board(create_hosted(&board, &slot, 1), 1);
-    for (enum kind kind = OF_IMAGE; kind <= HOSTED; kind++) {
-        for (size_t i = 0; i < KALYUBOS_REGIONS; i++) {
-            size_t len = slot.regions[i].len;
-            uint8_t *bytes = mmap(NULL, len, PROT_READ | PROT_WRITE, MAP_PRIVATE | MAP_ANONYMOUS | MAP_NORESERVE, -1, 0);
-            need(bytes != MAP_FAILED, "a mapping", len);
-            loans[i] = (struct kalyubos_loan){ bytes, len };
+    for (int hosted = 0; hosted < 2; hosted++)
+        for (int lent = 0; lent < 2; lent++) {
+            slot.hosted = hosted;
+            struct kalyubos_config config = over_image(&slot, 1, image, hosted ? 0 : sizeof image);
+            if (lent) {
+                lend(loans);
+                config.loans = loans;
+                config.loans_len = KALYUBOS_REGIONS;
+            }
+            check_board(config, 2 * hosted + lent);
         }
-        check_board(create_lent(kind, &board, &slot, 1, loans, KALYUBOS_REGIONS, image, sizeof image), 2 + kind);
-    }
-    puts("large: eight regions, 1 GiB and a page in one, and a text of 1 MiB and a byte, on boards of both kinds, also in lent memory");
+    puts("large: eight regions, 1 GiB and a page in one, and a text of 1 MiB and a byte, with disks of both kinds, "
+         "also in lent memory");
     return 0;
 }

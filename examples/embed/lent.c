@@ -48,41 +48,49 @@ static double milliseconds(void)
     return 1e3 * (double)now.tv_sec + 1e-6 * (double)now.tv_nsec;
 }
 
-static struct kalyubos_slot slot(void)
+static struct kalyubos_slot slot(bool hosted)
 {
     return (struct kalyubos_slot){
-        .size = sizeof(struct kalyubos_slot), .regions = { { MEMORY, MEMORY_LEN } }, .count = SECTORS,
+        .size = sizeof(struct kalyubos_slot), .regions = { { MEMORY, MEMORY_LEN } }, .count = SECTORS, .hosted = hosted,
     };
 }
 
 /* ---- its memory is lent, and taken back */
 
+static uint32_t create(const struct kalyubos_slot *slots, size_t count, struct kalyubos_loan *loans, size_t loans_len)
+{
+    static const uint8_t image[SECTORS * SECTOR_LEN];
+    struct kalyubos_config config = kalyubos_config(slots, count);
+    config.loans = loans;
+    config.loans_len = loans_len;
+    config.image = image;
+    config.image_len = slots[0].hosted ? 0 : sizeof image;
+    return kalyubos_create(&board, &config);
+}
+
 static void refuse(void)
 {
-    struct kalyubos_slot one = slot(), old = slot();
-    struct kalyubos_loan loans[2] = { { memory, MEMORY_LEN - PAGE }, { memory, 0 } };
-    need(kalyubos_create_hosted_lent(&board, &one, 1, loans, 1) == KALYUBOS_BAD_LOAN, "another length");
-    loans[0] = (struct kalyubos_loan){ memory, MEMORY_LEN };
-    need(kalyubos_create_hosted_lent(&board, &one, 1, loans, 2) == KALYUBOS_BAD_LOAN, "one too many");
-    need(kalyubos_create_hosted_lent(&board, &one, 1, loans, 0) == KALYUBOS_BAD_LOAN, "one too few");
-    loans[0] = (struct kalyubos_loan){ memory, MEMORY_LEN };
-    old.size--;
-    need(kalyubos_create_hosted_lent(&board, &old, 1, loans, 1) == KALYUBOS_BAD_SIZE, "another size");
-    need(loans[0].bytes == memory && loans[0].len == MEMORY_LEN, "a loan that wasn't taken");
+    struct kalyubos_slot two[] = { slot(true), slot(true) };
+    struct kalyubos_loan less[] = { { memory, MEMORY_LEN - PAGE } }, more[] = { { memory, MEMORY_LEN }, { memory, 0 } };
+    struct kalyubos_loan one[] = { { memory, MEMORY_LEN } }, kept[] = { { memory, MEMORY_LEN } };
+    need(create(two, 1, less, 1) == KALYUBOS_BAD_LOAN, "another length");
+    need(create(two, 1, more, 2) == KALYUBOS_BAD_LOAN, "one too many");
+    need(create(two, 2, one, 1) == KALYUBOS_BAD_LOAN, "one too few");
+    two[0].size--;
+    need(create(two, 1, kept, 1) == KALYUBOS_BAD_SIZE, "another size");
+    need(kept[0].bytes == memory && kept[0].len == MEMORY_LEN, "a loan that wasn't taken");
     need(kalyubos_destroy(&board) == KALYUBOS_NO_BOARD, "a board of loans that were refused");
     puts("refused: another length, one too many, one too few");
 }
 
 static void make(bool hosted)
 {
-    static uint8_t image[SECTORS * SECTOR_LEN];
-    struct kalyubos_slot one = slot();
+    struct kalyubos_slot one = slot(hosted);
     struct kalyubos_loan loan = { memory, MEMORY_LEN };
     size_t before = pages(), len = 0;
     uint8_t *at = NULL;
     double start = milliseconds();
-    uint32_t answer = hosted ? kalyubos_create_hosted_lent(&board, &one, 1, &loan, 1)
-                             : kalyubos_create_lent(&board, &one, 1, &loan, 1, image, sizeof image, 4, 0, 0);
+    uint32_t answer = create(&one, 1, &loan, 1);
     double took = milliseconds() - start;
     need(answer == KALYUBOS_DONE, kalyubos_answer(answer));
     need(loan.bytes == NULL && loan.len == 0, "a loan that was taken");

@@ -159,7 +159,10 @@ int main(void)
           .count = SECTORS, .outlet = 8 },
     };
     need(kalyubos_version() == KALYUBOS_VERSION, "the library is of another version than the header");
-    need(kalyubos_create(&board, slots, GUESTS, image, sizeof image, 4, 0, 0) == KALYUBOS_DONE, "create");
+    struct kalyubos_config config = kalyubos_config(slots, GUESTS);
+    config.image = image;
+    config.image_len = sizeof image;
+    need(kalyubos_create(&board, &config) == KALYUBOS_DONE, "create");
     lend();
     ask();
     copy();

@@ -40,9 +40,12 @@ static void start(struct machine *machine, const char *name, const uint8_t *disk
 {
     struct kalyubos_slot slot = { .size = sizeof slot, .regions = { { MEMORY, MEMORY_LEN } }, .count = DISK_LEN / SECTOR,
                                   .cols = 80, .rows = 25, .outlet = 256, .identity = "the guest's disk" };
+    struct kalyubos_config config = kalyubos_config(&slot, 1);
     size_t len;
+    config.image = disk;
+    config.image_len = DISK_LEN;
     *machine = (struct machine){ .name = name };
-    must(kalyubos_create(&machine->board, &slot, 1, disk, DISK_LEN, 1, 0, 0), "create");
+    must(kalyubos_create(&machine->board, &config), "create");
     must(kalyubos_memory(&machine->board, 0, MEMORY, &machine->memory, &len), "memory");
 }
 

@@ -35,7 +35,7 @@ static void power_on(struct kalyubos *board, uint32_t outlet)
                                          { 0xa0, 0x80003000 }, { 0x44, 1 }, { 0x70, 15 } };
     struct kalyubos_slot slot = { .size = sizeof slot, .regions = { { MEMORY, 0x10000 } }, .count = 1, .cols = 80,
                                   .rows = 25, .outlet = outlet };
-    make(board, &slot, 1, image, sizeof image, 1, NO_LIMIT);
+    make(board, over_image(&slot, 1, image, sizeof image));
     for (size_t i = 0; i < sizeof steps / sizeof *steps; i++)
         need(set(board, (uint16_t)steps[i][0], steps[i][1]) == KALYUBOS_DONE, "a driver's step", i);
 }

@@ -38,8 +38,8 @@ static const uint8_t made_up[WITH_QUEUE] = {
 };
 
 static struct kalyubos board;
-static const struct kalyubos_slot slot = { .size = sizeof slot, .regions = { { MEMORY, MEMORY_LEN } }, .count = SECTORS,
-                                           .cols = 80, .rows = 25, .outlet = 16, .identity = "disk-a" };
+static struct kalyubos_slot slot = { .size = sizeof slot, .regions = { { MEMORY, MEMORY_LEN } }, .count = SECTORS,
+                                     .cols = 80, .rows = 25, .outlet = 16, .identity = "disk-a" };
 
 /* The slot is saved as these bytes, into buffers of three lengths; a shorter one is left as it was. */
 static void is_saved_as(const uint8_t *bytes, size_t count)
@@ -164,9 +164,12 @@ int main(void)
 {
     static const uint8_t image[SECTORS * 512];
     check_missing(0, KALYUBOS_NO_BOARD);
-    make(&board, &slot, 1, image, sizeof image, 1, (struct budget){ 1, 0 });
+    struct kalyubos_config config = over_image(&slot, 1, image, sizeof image);
+    config.chains = 1;
+    make(&board, config);
     check_board(KALYUBOS_MORE);
-    make_hosted(&board, &slot, 1);
+    slot.hosted = true;
+    make(&board, kalyubos_config(&slot, 1));
     check_board(KALYUBOS_IO);
     printf("saved: snapshots as they are written down, and each refusal, on both kinds of board\n");
     return 0;

@@ -1,5 +1,6 @@
 /*
  * How many slots a board may have, the size that each must say, which one is wrong, and that each disk tells its own identity.
+ * kalyubos_judge answers all this before kalyubos_create, and the same.
  */
 #include <stdio.h>
 #include <stdlib.h>
@@ -22,7 +23,17 @@ static struct kalyubos_slot slot_of(int number)
     return slot;
 }
 
-/* ---- what create answers */
+/* ---- what judge and create answer */
+
+/* Judges slots over the image, and tries to make a board of them; `place` is `count` and 8 where it is about none. */
+static uint32_t tried(struct kalyubos *board, const struct kalyubos_slot *slots, size_t count, struct place *place)
+{
+    struct kalyubos_config config = over_image(slots, count, image, sizeof image);
+    *place = (struct place){ count, KALYUBOS_REGIONS };
+    uint32_t judged = judge(AMPLE, &config, place), answer = create(board, &config);
+    need(answer == judged, "what create answers behind judge", judged);
+    return answer;
+}
 
 /* A board of so many slots. One of them says this size, and where `cut` is set the array ends right behind it. */
 static uint32_t answer_of(size_t count, size_t which, size_t size, bool cut)
@@ -37,7 +48,9 @@ static uint32_t answer_of(size_t count, size_t which, size_t size, bool cut)
             slot.size = size;
         memcpy(slots + i * SIZE, &slot, cut && i == which ? sizeof size : SIZE);
     }
-    uint32_t answer = create(&board, (const struct kalyubos_slot *)slots, count, image, sizeof image, 1, NO_LIMIT);
+    struct place place;
+    uint32_t answer = tried(&board, (const struct kalyubos_slot *)slots, count, &place);
+    need(place.slot == (answer == KALYUBOS_BAD_SIZE ? which : count), "the slot of another size", place.slot);
     need((board.at != NULL) == (answer == KALYUBOS_DONE), "the handle after create", answer);
     if (board.at != NULL)
         end(&board);
@@ -74,9 +87,11 @@ static void check_order(void)
     struct kalyubos board = { NULL };
     struct kalyubos_slot good = slot_of(0);
     struct kalyubos_slot bad = { .size = SIZE - 1, .regions = { { 1, 1 } }, .start = 1, .count = 1, .outlet = UINT32_MAX };
-    need(create(&board, &bad, 1, image, 511, 0, NO_LIMIT) == KALYUBOS_BAD_SIZE, "a size before all else", 0);
-    make(&board, &good, 1, image, sizeof image, 1, NO_LIMIT);
-    need(create(&board, &bad, 1, image, 511, 0, NO_LIMIT) == KALYUBOS_HAS_BOARD, "a full handle before a size", 0);
+    struct kalyubos_config config = over_image(&bad, 1, image, 511);
+    config.cache = 0;
+    need(create(&board, &config) == KALYUBOS_BAD_SIZE, "a size before all else", 0);
+    make(&board, over_image(&good, 1, image, sizeof image));
+    need(create(&board, &config) == KALYUBOS_HAS_BOARD, "a full handle before a size", 0);
     end(&board);
 }
 
@@ -95,21 +110,19 @@ static void check_places(void)
     };
     struct kalyubos board = { NULL };
     struct kalyubos_slot slots[MOST];
+    struct place told;
     for (size_t i = 0; i < sizeof rows / sizeof *rows; i++)
         for (size_t count = 2; count <= MOST; count += 31)
             for (size_t place = 1; place < count; place++) {
                 for (size_t j = 0; j < count; j++)
                     slots[j] = j == place ? rows[i].bad : slot_of((int)j);
                 slots[0].count = 1; /* the image's one sector */
-                uint32_t answer = create(&board, slots, count, image, sizeof image, 1, NO_LIMIT);
-                need(answer == rows[i].answer, "a slot that is wrong", i);
-                need(place_of(answer, slots, count, image, sizeof image) == place, "its place", place);
+                need(tried(&board, slots, count, &told) == rows[i].answer, "a slot that is wrong", i);
+                need(told.slot == place, "its place", place);
             }
     slots[0] = rows[2].bad;
-    need(place_of(KALYUBOS_BAD_MEMORY_SIZE, slots, MOST, image, sizeof image) == 0, "the first place", 0);
-    need(place_of(KALYUBOS_BAD_MEMORY_SIZE, slots, 1, image, sizeof image) == 0, "the only place", 0);
-    need(place_of(KALYUBOS_BAD_CACHE, slots, MOST, image, sizeof image) == MOST, "an answer of no slot", 0);
-    need(place_of(KALYUBOS_NO_SLOTS, slots, 0, image, sizeof image) == 0, "no slot", 0);
+    need(tried(&board, slots, MOST, &told) == KALYUBOS_BAD_MEMORY_SIZE && told.slot == 0, "the first place", told.slot);
+    need(tried(&board, slots, 1, &told) == KALYUBOS_BAD_MEMORY_SIZE && told.slot == 0, "the only place", told.slot);
 }
 
 /* ---- regions */
@@ -138,9 +151,10 @@ static void check_regions(void)
     for (size_t i = 0; i < sizeof rows / sizeof *rows; i++) {
         struct kalyubos_slot slot = { .size = SIZE };
         memcpy(slot.regions, rows[i].regions, sizeof slot.regions);
-        uint32_t answer = create(&board, &slot, 1, image, sizeof image, 1, NO_LIMIT);
+        struct place told;
+        uint32_t answer = tried(&board, &slot, 1, &told);
         need(answer == rows[i].answer, "a region that is wrong", i);
-        need(region_of(answer, &slot) == rows[i].place, "the region's place", i);
+        need(told.region == rows[i].place, "the region's place", i);
         if (answer == KALYUBOS_DONE)
             end(&board);
     }
@@ -190,7 +204,7 @@ static void check_identities(void)
     uint32_t value;
     for (int i = 0; i < MOST; i++)
         slots[i] = slot_of(i);
-    make(&board, slots, MOST, image, sizeof image, 1, NO_LIMIT);
+    make(&board, over_image(slots, MOST, image, sizeof image));
     memset(slots, 0, sizeof slots); /* nothing of the caller's is kept */
     for (uint8_t slot = 0; slot < MOST; slot++)
         ask(&board, slot);

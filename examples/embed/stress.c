@@ -51,21 +51,21 @@ static bool refuse(void)
     return no;
 }
 
-struct kalyubos_block rattle_alloc(size_t size, size_t align)
+struct kalyubos_block kalyubos_alloc(size_t size, size_t align)
 {
     void *at = refuse() ? NULL : malloc(size != 0 ? size : align);
     live += at != NULL;
     return (struct kalyubos_block){ at != NULL, at };
 }
 
-struct kalyubos_block rattle_realloc(void *at, size_t kept, size_t size, size_t align)
+struct kalyubos_block kalyubos_realloc(void *at, size_t kept, size_t size, size_t align)
 {
     void *moved = refuse() ? NULL : realloc(at, size != 0 ? size : align);
     (void)kept;
     return (struct kalyubos_block){ moved != NULL, moved };
 }
 
-void rattle_dealloc(void *at)
+void kalyubos_dealloc(void *at)
 {
     need_open();
     live -= at != NULL;
@@ -284,6 +284,14 @@ static void offer(struct kalyubos *board, uint8_t slot, uint8_t window)
     write_register(board, slot, window, 0x50, 4, window ? (uint32_t)chance(2) : 0);
 }
 
+static struct kalyubos_config over_image(size_t count)
+{
+    struct kalyubos_config config = kalyubos_config(slots, count);
+    config.image = image;
+    config.image_len = sizeof image;
+    return config;
+}
+
 static void make(struct kalyubos *board)
 {
     bool had = board->at != NULL;
@@ -291,7 +299,9 @@ static void make(struct kalyubos *board)
     size_t count = chance(50) ? SLOTS : chance(MOST + 1), which = chance(MOST);
     bool other_size = chance(50) == 0;
     slots[which].size += other_size;
-    uint32_t answer = kalyubos_create(board, slots, count, image, sizeof image, chance(50) ? 8 : 0, 0, 0);
+    struct kalyubos_config config = over_image(count);
+    config.cache = chance(50) ? 8 : 0;
+    uint32_t answer = kalyubos_create(board, &config);
     slots[which].size -= other_size;
     heap_is_open = false;
     if ((answer == KALYUBOS_BAD_SIZE) != (!had && other_size && which < count))
@@ -348,7 +358,7 @@ static void open_files(const char *trace_path, const char *records_path)
     for (int i = 0; i < SLOTS; i++) {
         for (size_t j = 0; j < KALYUBOS_REGIONS && slots[i].regions[j].len != 0; j++)
             fprintf(trace, "%s%" PRIx64 "+%" PRIx64, j == 0 ? "slot " : ",", slots[i].regions[j].base, slots[i].regions[j].len);
-        fprintf(trace, " %" PRIx64 " %" PRIx64 " %s %x %x ", slots[i].start, slots[i].count,
+        fprintf(trace, " image %" PRIx64 " %" PRIx64 " %s %x %x ", slots[i].start, slots[i].count,
                 slots[i].read_only ? "ro" : "rw", slots[i].cols, slots[i].rows);
         put_bytes(trace, slots[i].identity, sizeof slots[i].identity);
         fputc('\n', trace);
@@ -360,16 +370,21 @@ int main(int argc, char **argv)
     uint64_t calls = argc > 1 ? strtoull(argv[1], NULL, 10) : 1000;
     state = 0x9e3779b97f4a7c15 + (argc > 2 ? strtoull(argv[2], NULL, 10) : 0);
     for (int i = 0; i < MOST; i++)
-        slots[i] = (struct kalyubos_slot){ sizeof *slots, { { MEMORY, i % 2 ? MEMORY_LEN : HALF },
-                                                            { MEMORY + HALF + GAP, i % 2 ? 0 : HALF } },
-                                           i < SLOTS ? 4 * (uint64_t)i : 0, i < SLOTS ? 4 : 0, 80, 25, OUTLETS[i % 4],
-                                           i % 5 == 4, { 's', (uint8_t)i, 0xff, [19] = '!' } };
+        slots[i] = (struct kalyubos_slot){
+            .size = sizeof *slots,
+            .regions = { { MEMORY, i % 2 ? MEMORY_LEN : HALF }, { MEMORY + HALF + GAP, i % 2 ? 0 : HALF } },
+            .start = i < SLOTS ? 4 * (uint64_t)i : 0, .count = i < SLOTS ? 4 : 0, .cols = 80, .rows = 25,
+            .outlet = OUTLETS[i % 4], .read_only = i % 5 == 4, .identity = { 's', (uint8_t)i, 0xff, [19] = '!' },
+        };
     if (argc > 4)
         open_files(argv[3], argv[4]);
     heap_is_open = true;
-    for (int i = 0; i < BOARDS; i++)
-        if (kalyubos_create(&boards[i], slots, SLOTS, image, sizeof image, 8, 0, 0) != KALYUBOS_DONE)
+    for (int i = 0; i < BOARDS; i++) {
+        struct kalyubos_config config = over_image(SLOTS);
+        config.cache = 8;
+        if (kalyubos_create(&boards[i], &config) != KALYUBOS_DONE)
             fail("first create", 0);
+    }
     heap_is_open = false;
     refuses = records == NULL ? 50 : 0;
     for (uint64_t i = 0; i < calls; i++) {

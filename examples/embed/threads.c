@@ -29,7 +29,10 @@ static void must(bool holds, const char *what)
 static void make(struct kalyubos *board)
 {
     static const uint8_t image[1024];
-    must(kalyubos_create(board, &SLOT, 1, image, sizeof image, 4, 0, 0) == KALYUBOS_DONE, "create");
+    struct kalyubos_config config = kalyubos_config(&SLOT, 1);
+    config.image = image;
+    config.image_len = sizeof image;
+    must(kalyubos_create(board, &config) == KALYUBOS_DONE, "create");
 }
 
 /* Calls that change a board or read it, one after another. `mark` is what the bytes that are written are told by. */

@@ -56,17 +56,24 @@ static uint32_t set(uint8_t window, uint16_t offset, uint8_t width, uint32_t val
 
 enum kind { OF_IMAGE, HOSTED };
 
-/* A board of one guest. Over an image a call serves one chain. */
+/* A board of one guest, of whose chains a call serves one. */
 static void make(enum kind kind)
 {
     static const uint8_t image[IMAGE];
     struct kalyubos_slot slot = {
         .size = sizeof slot, .regions = { { MEMORY, LEN } }, .count = SECTORS, .cols = 80, .rows = 25, .outlet = OUTLET,
+        .hosted = kind == HOSTED,
     };
     struct kalyubos_loan loan = { memory, LEN };
-    done(kind == HOSTED ? kalyubos_create_hosted_lent(&board, &slot, 1, &loan, 1)
-                        : kalyubos_create_lent(&board, &slot, 1, &loan, 1, image, sizeof image, 1, 1, 0),
-         "create");
+    struct kalyubos_config config = kalyubos_config(&slot, 1);
+    config.loans = &loan;
+    config.loans_len = 1;
+    config.chains = 1;
+    if (kind == OF_IMAGE) {
+        config.image = image;
+        config.image_len = sizeof image;
+    }
+    done(kalyubos_create(&board, &config), "create");
 }
 
 /* The features of a driver with split rings, and of one with packed rings, both with event indices. */
@@ -126,9 +133,11 @@ static void ask_always(void)
     bool disturbed;
     size_t len;
     struct kalyubos_counters counters;
+    struct kalyubos_fault fault;
     done(kalyubos_interrupts(&board, 0, &block, &console), "interrupts");
     done(kalyubos_disturbed(&board, 0, &disturbed), "disturbed");
     done(kalyubos_counters(&board, 0, &counters), "counters");
+    done(kalyubos_last_fault(&board, 0, KALYUBOS_BLOCK, &fault), "last_fault");
     done(kalyubos_take_output(&board, 0, out, sizeof out, &len), "take_output");
     kalyubos_memory(&board, 0, MEMORY, &bytes, &len);
 }

@@ -76,21 +76,22 @@ static void open_disk(uint8_t slot)
     }
 }
 
-/* A board whose disks the host serves. */
-static void create_hosted(const struct kalyubos_slot *slots)
-{
-    must(record_create_hosted(&board, slots, settings.guests), "create_hosted");
-    for (size_t i = 0; i < settings.guests; i++)
-        open_disk(i);
-}
-
-/* A board of one image. */
+/* A board of one image, with the budget, or one whose disks the host serves. */
 static void create(const struct kalyubos_slot *slots, uint64_t sectors)
 {
-    must(record_create(&board, slots, settings.guests, settings.image, sectors * 512, settings.cache, settings.chains,
-                       settings.bytes),
-         "create");
-    disk_serve(&board);
+    struct kalyubos_config config = kalyubos_config(slots, settings.guests);
+    config.cache = settings.cache;
+    if (!settings.hosted) {
+        config.image = settings.image;
+        config.image_len = sectors * 512;
+        config.chains = settings.chains;
+        config.bytes = settings.bytes;
+    }
+    must(record_create(&board, &config), "create");
+    if (!settings.hosted)
+        disk_serve(&board);
+    for (size_t i = 0; i < settings.guests && settings.hosted; i++)
+        open_disk(i);
 }
 
 void board_open(const struct board_settings *wanted)
@@ -100,17 +101,15 @@ void board_open(const struct board_settings *wanted)
     settings = *wanted;
     for (size_t i = 0; i < settings.guests; i++) {
         slots[i] = (struct kalyubos_slot){ .size = sizeof *slots, .start = start, .count = settings.sectors[i],
-                                           .cols = COLUMNS, .rows = ROWS, .outlet = settings.outlet };
+                                           .cols = COLUMNS, .rows = ROWS, .outlet = settings.outlet,
+                                           .hosted = settings.hosted };
         memcpy(slots[i].regions, settings.large ? LARGE : SMALL, sizeof slots[i].regions);
         name_disk(&slots[i], settings.names[i]);
         start += settings.sectors[i];
     }
     if (settings.record != NULL && !record_to(settings.record))
         must(KALYUBOS_NO_ROOM, settings.record);
-    if (settings.hosted)
-        create_hosted(slots);
-    else
-        create(slots, start);
+    create(slots, start);
     for (size_t i = 0; i < settings.guests; i++)
         open_memory(i, &slots[i]);
 }

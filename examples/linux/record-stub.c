@@ -42,8 +42,9 @@ static void put_out(struct guest *guest, const char *text)
     memcpy(guest->output, text, guest->waiting);
 }
 
-static uint32_t make(struct kalyubos *board)
+uint32_t kalyubos_create(struct kalyubos *board, struct kalyubos_config *config)
 {
+    hosted = config->slots[0].hosted;
     for (int i = 0; i < GUESTS; i++)
         if ((guests[i].memory = calloc(LEN + PAGE, 1)) == NULL)
             return KALYUBOS_NO_MEMORY;
@@ -51,20 +52,6 @@ static uint32_t make(struct kalyubos *board)
     return KALYUBOS_DONE;
 }
 
-uint32_t kalyubos_create(struct kalyubos *board, const struct kalyubos_slot *slots, size_t slots_len,
-                         const uint8_t *image, size_t image_len, uint32_t cache, uint32_t chains, uint64_t bytes)
-{
-    (void)slots, (void)slots_len, (void)image, (void)image_len, (void)cache;
-    (void)chains, (void)bytes;
-    return make(board);
-}
-
-uint32_t kalyubos_create_hosted(struct kalyubos *board, const struct kalyubos_slot *slots, size_t slots_len)
-{
-    (void)slots, (void)slots_len;
-    hosted = true;
-    return make(board);
-}
 
 uint32_t kalyubos_destroy(struct kalyubos *board)
 {

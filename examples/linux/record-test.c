@@ -137,7 +137,10 @@ static void begin(FILE *mistakes)
 static void use_image(FILE *mistakes)
 {
     static const uint8_t IMAGE[SECTORS * 512];
-    must(record_create(&board, &SLOT, 1, IMAGE, sizeof IMAGE, 1, 0, 0) == KALYUBOS_DONE, "create");
+    struct kalyubos_config config = kalyubos_config(&SLOT, 1);
+    config.image = IMAGE;
+    config.image_len = sizeof IMAGE;
+    must(record_create(&board, &config) == KALYUBOS_DONE, "create");
     begin(mistakes);
     must(read_register(KALYUBOS_BLOCK, 0x000, 4) == 0x74726976, "MagicValue");
     use_memory_and_console();
@@ -209,8 +212,10 @@ static void ask_for_what_fails(void)
 static void serve_disks(FILE *mistakes)
 {
     struct kalyubos_slot slots[] = { SLOT, SLOT };
+    slots[0].hosted = slots[1].hosted = true;
     slots[1].regions[1] = (struct kalyubos_region){ BASE + 2 * LEN, 0x1000 };
-    must(record_create_hosted(&board, slots, 2) == KALYUBOS_DONE, "create_hosted");
+    struct kalyubos_config config = kalyubos_config(slots, 2);
+    must(record_create(&board, &config) == KALYUBOS_DONE, "create");
     begin(mistakes);
     bring_up(KALYUBOS_BLOCK, 0, BASE + TABLE);
     write_register(KALYUBOS_BLOCK, 0x070, 4, 15);

@@ -39,7 +39,7 @@ struct asked {
 static FILE *trace, *records;
 static size_t lines, called; /* the lines of the trace so far, and the number of the last call's */
 static struct seen seen[SLOTS];
-static bool hosted; /* the host serves the disks: each record says what was asked */
+static bool hosted; /* the host serves a disk: each record says what was asked */
 static struct asked asked;
 
 /* Whether a call is one to write down: those that name a slot that isn't there are none. */
@@ -248,10 +248,10 @@ bool record_end(void)
 
 /* ---- the calls */
 
-/* Versions 1 and 2 have one region of 256 MiB at most. */
-static bool is_small(const struct kalyubos_slot *slot)
+/* Versions 1 and 2 have one region of 256 MiB at most, and no disk of the host's. */
+static bool is_plain(const struct kalyubos_slot *slot)
 {
-    return slot->regions[0].len <= 0x10000000 && slot->regions[1].len == 0;
+    return slot->regions[0].len <= 0x10000000 && slot->regions[1].len == 0 && !slot->hosted;
 }
 
 static void see_memory(struct kalyubos *board, uint8_t index, const struct kalyubos_slot *slot)
@@ -268,50 +268,36 @@ static void see_memory(struct kalyubos *board, uint8_t index, const struct kalyu
     }
 }
 
-/* A slot's line, whose regions are one field of an extended trace. */
+/* A slot's line, whose regions are one field of an extended trace, and who has its disk another. */
 static void put_slot(const struct memory *memory, const struct kalyubos_slot *slot, bool extended)
 {
     fputs("slot ", trace);
     for (size_t i = 0; i < memory->count; i++)
         fprintf(trace, "%s%llx%c%llx", i > 0 ? "," : "", (unsigned long long)memory->regions[i].base,
                 extended ? '+' : ' ', (unsigned long long)memory->regions[i].len);
-    fprintf(trace, " %llx %llx %s %x %x ", (unsigned long long)slot->start, (unsigned long long)slot->count,
-            slot->read_only ? "ro" : "rw", slot->cols, slot->rows);
+    fprintf(trace, "%s %llx %llx %s %x %x ", !extended ? "" : slot->hosted ? " host" : " image",
+            (unsigned long long)slot->start, (unsigned long long)slot->count, slot->read_only ? "ro" : "rw", slot->cols,
+            slot->rows);
     put_bytes(trace, slot->identity, sizeof slot->identity);
     fputc('\n', trace);
 }
 
-static void put_slots(struct kalyubos *board, const struct kalyubos_slot *slots, size_t slots_len, bool extended)
+uint32_t record_create(struct kalyubos *board, struct kalyubos_config *config)
 {
-    for (size_t i = 0; i < slots_len; i++) {
-        see_memory(board, i, &slots[i]);
-        put_slot(&seen[i].now, &slots[i], extended);
-    }
-    lines = called = 2 + slots_len;
-}
-
-uint32_t record_create(struct kalyubos *board, const struct kalyubos_slot *slots, size_t slots_len,
-                       const uint8_t *image, size_t image_len, uint32_t cache, uint32_t chains, uint64_t bytes)
-{
-    uint32_t answer = kalyubos_create(board, slots, slots_len, image, image_len, cache, chains, bytes);
+    uint32_t answer = kalyubos_create(board, config);
     if (trace == NULL || answer != KALYUBOS_DONE)
         return answer;
     bool extended = false;
-    for (size_t i = 0; i < slots_len; i++)
-        extended = extended || !is_small(&slots[i]);
-    fprintf(trace, "%s\ncache %x\n", extended ? "kalyubos 1" : "vreplay 2", (unsigned)cache);
-    put_slots(board, slots, slots_len, extended);
-    return answer;
-}
-
-uint32_t record_create_hosted(struct kalyubos *board, const struct kalyubos_slot *slots, size_t slots_len)
-{
-    uint32_t answer = kalyubos_create_hosted(board, slots, slots_len);
-    if (trace == NULL || answer != KALYUBOS_DONE)
-        return answer;
-    hosted = true;
-    fputs("kalyubos 1\nhosted\n", trace);
-    put_slots(board, slots, slots_len, true);
+    for (size_t i = 0; i < config->slots_len; i++) {
+        extended = extended || !is_plain(&config->slots[i]);
+        hosted = hosted || config->slots[i].hosted;
+    }
+    fprintf(trace, "%s\ncache %x\n", extended ? "kalyubos 1" : "vreplay 2", (unsigned)config->cache);
+    for (size_t i = 0; i < config->slots_len; i++) {
+        see_memory(board, i, &config->slots[i]);
+        put_slot(&seen[i].now, &config->slots[i], extended);
+    }
+    lines = called = 2 + config->slots_len;
     return answer;
 }
 

@@ -5,8 +5,8 @@
  * changed in it during a call `mr` lines with the bytes that stand there then. A write that finds no room is made again
  * before any other call for its guest.
  *
- * Of disks that the host serves a completion is a line, each record says what was asked, and what the host read into memory
- * stands as `mw` lines before.
+ * Where the host serves a disk, a completion is a line, each record of the board says what was asked, and what the host
+ * read into memory stands as `mw` lines before.
  *
  * One board for the process. Where record_to wasn't called nothing is written, and each call is the library's.
  */
@@ -24,9 +24,7 @@ size_t record_line(void);
 /* Ends the files; false where not all was written. */
 bool record_end(void);
 
-uint32_t record_create(struct kalyubos *board, const struct kalyubos_slot *slots, size_t slots_len,
-                       const uint8_t *image, size_t image_len, uint32_t cache, uint32_t chains, uint64_t bytes);
-uint32_t record_create_hosted(struct kalyubos *board, const struct kalyubos_slot *slots, size_t slots_len);
+uint32_t record_create(struct kalyubos *board, struct kalyubos_config *config);
 uint32_t record_read(struct kalyubos *board, uint8_t slot, uint8_t window, uint16_t offset, uint8_t width,
                      uint32_t *value);
 uint32_t record_write(struct kalyubos *board, uint8_t slot, uint8_t window, uint16_t offset, uint8_t width,

@@ -1,12 +1,11 @@
 //! A VMM whose guest memory is behind traits like those of the crate `vm-memory` lends it to a board: no byte is copied.
 //!
-//! [`GuestMemory`] and [`GuestMemoryRegion`] stand for that crate's traits, which have more; [`Pages`] stands for its mapping. To use the
-//! real ones, replace the three by a `use`. [`Machine`] keeps the duties of [`HostedBoard::over_lent`]. A guest then reads a sector,
-//! which the host puts where the guest wants it.
+//! [`GuestMemory`] and [`GuestMemoryRegion`] stand for that crate's traits, which have more; [`Pages`] stands for its
+//! mapping. To use the real ones, replace the three by a `use`. [`Machine`] keeps the duties of [`Board::over_lent`]. A
+//! guest then reads a sector, which the host puts where the guest wants it.
 
-use kalyubos::{CreateError, Error, HostedBoard, Kind, Outcome, Served, Slot, Window};
+use kalyubos::{Board, Config, CreateError, Error, Kind, Outcome, Slot, Window};
 use std::alloc::{alloc_zeroed, dealloc, Layout};
-use std::ops::Range;
 use std::ptr::{self, NonNull};
 use std::sync::Arc;
 
@@ -92,7 +91,7 @@ impl GuestMemory for Vec<Pages> {
 /// The board is dropped first, and the memory lives as long as it. CPUs that write the memory in place stand while a call of `board`
 /// touches it: a write to QueueNotify, `input`, `complete`, and the two that copy.
 struct Machine<M> {
-    board: HostedBoard,
+    board: Board,
     memory: Arc<M>,
 }
 
@@ -102,11 +101,11 @@ impl<M: GuestMemory> Machine<M> {
     /// # Safety
     ///
     /// No other board was lent this memory, and whoever has it too keeps the duty above.
-    unsafe fn new(memory: Arc<M>, sectors: Range<u64>) -> Result<Machine<M>, CreateError> {
+    unsafe fn new(memory: Arc<M>, sectors: u64) -> Result<Machine<M>, CreateError> {
         let mut regions = memory.iter();
         let first = regions.next().ok_or(CreateError::BadMemorySize)?;
         let slot = regions.fold(
-            Slot::new(first.start_addr(), first.len(), sectors),
+            Slot::hosted(first.start_addr(), first.len(), sectors),
             |slot, region| slot.with_region(region.start_addr(), region.len()),
         );
         let lent: Vec<_> = memory
@@ -114,7 +113,7 @@ impl<M: GuestMemory> Machine<M> {
             .map(|region| NonNull::slice_from_raw_parts(region.as_ptr(), region.len() as usize))
             .collect();
         // SAFETY: the bytes stay until `memory` is dropped, behind the board, and the caller keeps the other duties.
-        let board = unsafe { HostedBoard::over_lent(&[slot], &lent) }?;
+        let board = unsafe { Board::over_lent(&Config::new(&[slot]), &lent) }?;
         Ok(Machine { board, memory })
     }
 
@@ -164,8 +163,7 @@ impl<M: GuestMemory> Machine<M> {
             } else {
                 Outcome::Failed
             };
-            let Served { pending, .. } = self.board.complete(0, outcome)?;
-            is_high = pending.interrupts.block != 0;
+            is_high = self.board.complete(0, outcome)?.interrupts.block != 0;
         }
         Ok(is_high)
     }
@@ -229,7 +227,7 @@ fn run() -> Result<(u8, [u8; 5]), Box<dyn std::error::Error>> {
     disk[512..517].copy_from_slice(b"hello");
 
     // SAFETY: this is the memory's only board, and nobody else writes it.
-    let mut machine = unsafe { Machine::new(Arc::clone(&memory), 0..2) }?;
+    let mut machine = unsafe { Machine::new(Arc::clone(&memory), 2) }?;
     assert!(drive(&mut machine)?);
     assert!(machine.serve(&disk)?);
     let text = [0, 1, 2, 3, 4].map(|at| machine.get(HIGH + at));

@@ -1,21 +1,22 @@
 //! The board and its calls.
 
+use crate::config::Config;
 use crate::counters::Counters;
 use crate::error::{CreateError, Error};
 use crate::ffi;
-use crate::slot::Slot;
+use std::collections::BTreeMap;
 use std::num::{NonZeroU32, NonZeroU64};
 use std::ptr::{self, NonNull};
 use std::slice;
-
-/// The version of the header that `ffi` declares.
-const HEADER: u32 = 300;
 
 /// The number of an output that finds no room.
 const NO_ROOM: u32 = 15;
 
 /// The number of a service that pauses.
 const MORE: u32 = 18;
+
+/// The number of a call that is done, after which a disk waits for the host.
+const IO: u32 = 20;
 
 /// A guest's two windows, each of 4096 bytes.
 #[derive(Clone, Copy, Debug, PartialEq, Eq, Hash)]
@@ -39,7 +40,7 @@ pub struct Interrupts {
 
 /// What waits once a call is answered: the host moves the slot's lines and takes its output by it.
 #[derive(Clone, Copy, Debug, Default, PartialEq, Eq, Hash)]
-#[must_use = "the slot's lines move by it, and where `more` is true its service pauses until `go_on`"]
+#[must_use = "the slot's lines move by it, and nothing else tells that its service pauses or its disk waits"]
 pub struct Pending {
     /// Both interrupt words.
     pub interrupts: Interrupts,
@@ -47,6 +48,8 @@ pub struct Pending {
     pub output: u64,
     /// Whether the slot's service pauses: [`Board::go_on`] goes on with it.
     pub more: bool,
+    /// Whether the slot's disk waits for the host from now on: [`Board::operation`] says for what.
+    pub io: bool,
 }
 
 /// How much one call serves before a service pauses.
@@ -59,7 +62,7 @@ pub struct Budget {
 }
 
 impl Pending {
-    // What a call told that doesn't pause.
+    // What a call that is done told.
     pub(crate) fn of(told: ffi::Pending) -> Pending {
         let interrupts = Interrupts {
             block: told.block,
@@ -69,17 +72,19 @@ impl Pending {
             interrupts,
             output: told.output,
             more: false,
+            io: false,
         }
     }
 
-    // What a call that answered this number told; a service that pauses is no error.
+    // What a call that answered this number told. A service that pauses, and a disk that waits, are no errors.
     pub(crate) fn told(number: u32, told: ffi::Pending) -> Result<Pending, Error> {
         let pending = Pending {
             more: number == MORE,
+            io: number == IO,
             ..Pending::of(told)
         };
         match number {
-            MORE => Ok(pending),
+            MORE | IO => Ok(pending),
             NO_ROOM => Err(Error::NoRoom(pending)),
             number => Error::check(number).map(|()| pending),
         }
@@ -87,6 +92,9 @@ impl Pending {
 }
 
 /// A board of up to sixty-four guests. It is ended, and its memory freed, where it is dropped.
+///
+/// A guest's disk is a part of the board's image, or one that the host serves. Guests whose disks the host serves share
+/// nothing: a host may have a board for each, of one slot, and no lock between them.
 ///
 /// A board is `Send` and not `Sync`: one thread at a time calls it. Threads that share it put it into a `Mutex`, and
 /// what each guest sees is the same in whichever order they take the lock.
@@ -97,8 +105,10 @@ impl Pending {
 /// ```
 #[derive(Debug)]
 pub struct Board {
-    // It holds a board from `new` until the drop.
+    // It holds a board until the drop.
     handle: ffi::Handle,
+    // The bits of slots' pages, which are lent to the library.
+    pub(crate) kept: BTreeMap<u8, Vec<u8>>,
 }
 
 // SAFETY: a handle is proved to be `Send`: what it owns, any thread may use and free, one at a time.
@@ -107,159 +117,78 @@ unsafe impl Send for Board {}
 // Each duty of the header is kept here. References are never null, an exclusive one overlaps no other, and a `Board` can't
 // be copied. It isn't `Sync`, so one call at a time is made on its handle; those that take `&self` change nothing.
 impl Board {
-    /// Makes a board over a copy of the image, with a cache of at most `cache` sectors before it. It takes all memory that
-    /// the board ever needs.
+    /// Makes a board. It takes all memory that the board ever needs.
     ///
     /// ```
-    /// use kalyubos::{Board, CreateError, Slot};
+    /// use kalyubos::{Board, Config, CreateError, Slot};
     ///
     /// let disk = vec![0; 16 * 512];
     /// let guests = [
     ///     Slot::new(0x8000_0000, 0x1_0000, 0..8),
     ///     Slot::new(0x8000_0000, 0x1_0000, 8..16).with_read_only(true),
     /// ];
-    /// let board = Board::new(&guests, &disk, 8)?;
+    /// let board = Board::create(&Config::new(&guests).with_image(&disk))?;
     ///
     /// let both = [guests[0].clone(), guests[0].clone()];
-    /// assert_eq!(Board::new(&both, &disk, 8).unwrap_err(), CreateError::ExtentsOverlap);
+    /// let refused = Board::create(&Config::new(&both).with_image(&disk));
+    /// assert_eq!(refused.unwrap_err(), CreateError::ExtentsOverlap);
     /// # Ok::<(), CreateError>(())
     /// ```
-    pub fn new(slots: &[Slot], image: &[u8], cache: u32) -> Result<Board, CreateError> {
-        Board::with_budget(slots, image, cache, Budget::default())
+    pub fn create(config: &Config<'_>) -> Result<Board, CreateError> {
+        Board::over_loans(config, &mut [])
     }
 
-    /// A board whose services pause once the budget of a call is spent, so that no guest holds the others up for long.
-    pub fn with_budget(
-        slots: &[Slot],
-        image: &[u8],
-        cache: u32,
-        budget: Budget,
-    ) -> Result<Board, CreateError> {
-        Board::check_version()?;
-        let slots = slots
-            .iter()
-            .map(Slot::in_c)
-            .collect::<Result<Vec<_>, _>>()?;
-        let mut handle = ffi::Handle::empty();
-        CreateError::check(unsafe {
-            ffi::kalyubos_create(
-                &mut handle,
-                slots.as_ptr(),
-                slots.len(),
-                image.as_ptr(),
-                image.len(),
-                cache,
-                budget.chains.map_or(0, NonZeroU32::get),
-                budget.bytes.map_or(0, NonZeroU64::get),
-            )
-        })?;
-        Ok(Board { handle })
-    }
-
-    /// A board as [`with_budget`](Board::with_budget) makes it, over memory that the host lends: for each region of all slots, slot by
-    /// slot, as many bytes as it has. None is copied, cleared or touched, then or where the board is dropped, which frees none.
-    /// So a guest of any size is made at once, and its memory begins as the bytes stand.
+    /// A board as [`create`](Board::create) makes it, over memory that the host lends: for each region of all slots,
+    /// slot by slot, as many bytes as it has. None is copied, cleared or touched, then or where the board is dropped,
+    /// which frees none. So a guest of any size is made at once, and its memory begins as the bytes stand.
     ///
     /// # Safety
     ///
-    /// Until the board is dropped the bytes stay where they are, each with a value, and no two regions of any boards share one.
-    /// Nobody else reads or writes them while a call touches them, while [`memory`](Board::memory) lends them, or while a service
-    /// of their guest is paused. The calls that touch a guest's memory are [`write`](Board::write) to QueueNotify (0x050),
-    /// [`input`](Board::input), [`go_on`](Board::go_on), [`complete`](crate::HostedBoard::complete),
-    /// [`read_memory`](Board::read_memory) and [`write_memory`](Board::write_memory). During others the guest's CPUs may run.
+    /// Until the board is dropped the bytes stay where they are, each with a value, and no two regions of any boards
+    /// share one. Nobody else reads or writes them while a call touches them, while [`memory`](Board::memory) lends
+    /// them, or while a service of their guest is paused. The calls that touch a guest's memory are
+    /// [`write`](Board::write) to QueueNotify (0x050), [`input`](Board::input), [`go_on`](Board::go_on),
+    /// [`complete`](Board::complete), [`read_memory`](Board::read_memory) and [`write_memory`](Board::write_memory).
+    /// During others the guest's CPUs may run.
     ///
     /// ```
-    /// # use kalyubos::{Board, Budget, CreateError, Slot};
+    /// # use kalyubos::{Board, Config, CreateError, Slot};
     /// # use std::ptr::NonNull;
     /// let mut bytes = vec![7; 0x1000];
     /// let lent = [NonNull::from(&mut bytes[..])];
-    /// let slots = [Slot::new(0x8000_0000, 0x1000, 0..1)];
+    /// let slots = [Slot::hosted(0x8000_0000, 0x1000, 8)];
     /// // SAFETY: nothing else reaches the bytes until the board is dropped.
-    /// let mut board = unsafe { Board::over_lent(&slots, &lent, &[0; 512], 1, Budget::default()) }?;
+    /// let mut board = unsafe { Board::over_lent(&Config::new(&slots), &lent) }?;
     /// board.write_memory(0, 0x8000_0ffe, b"ab")?;
     /// drop(board);
     /// assert_eq!(&bytes[0xffd..], b"\x07ab");
     ///
-    /// let none = unsafe { Board::over_lent(&slots, &[], &[0; 512], 1, Budget::default()) };
+    /// let none = unsafe { Board::over_lent(&Config::new(&slots), &[]) };
     /// assert_eq!(none.unwrap_err(), CreateError::BadLoan);
     /// # Ok::<(), Box<dyn std::error::Error>>(())
     /// ```
     pub unsafe fn over_lent(
-        slots: &[Slot],
-        lent: &[NonNull<[u8]>],
-        image: &[u8],
-        cache: u32,
-        budget: Budget,
-    ) -> Result<Board, CreateError> {
-        Board::check_version()?;
-        let slots = slots
-            .iter()
-            .map(Slot::in_c)
-            .collect::<Result<Vec<_>, _>>()?;
-        let mut loans: Vec<_> = lent.iter().map(loan_of).collect();
-        let mut handle = ffi::Handle::empty();
-        CreateError::check(unsafe {
-            ffi::kalyubos_create_lent(
-                &mut handle,
-                slots.as_ptr(),
-                slots.len(),
-                loans.as_mut_ptr(),
-                loans.len(),
-                image.as_ptr(),
-                image.len(),
-                cache,
-                budget.chains.map_or(0, NonZeroU32::get),
-                budget.bytes.map_or(0, NonZeroU64::get),
-            )
-        })?;
-        Ok(Board { handle })
-    }
-
-    // A board whose disks the host serves, over memory that it lends; the caller keeps the duties of `over_lent`.
-    pub(crate) unsafe fn hosted_over_lent(
-        slots: &[Slot],
+        config: &Config<'_>,
         lent: &[NonNull<[u8]>],
     ) -> Result<Board, CreateError> {
-        Board::check_version()?;
-        let slots = slots
-            .iter()
-            .map(Slot::in_c)
-            .collect::<Result<Vec<_>, _>>()?;
-        let mut loans: Vec<_> = lent.iter().map(loan_of).collect();
-        let mut handle = ffi::Handle::empty();
-        CreateError::check(unsafe {
-            ffi::kalyubos_create_hosted_lent(
-                &mut handle,
-                slots.as_ptr(),
-                slots.len(),
-                loans.as_mut_ptr(),
-                loans.len(),
-            )
-        })?;
-        Ok(Board { handle })
-    }
-
-    // A board whose disks the host serves.
-    pub(crate) fn hosted(slots: &[Slot]) -> Result<Board, CreateError> {
-        Board::check_version()?;
-        let slots = slots
-            .iter()
-            .map(Slot::in_c)
-            .collect::<Result<Vec<_>, _>>()?;
-        let mut handle = ffi::Handle::empty();
-        CreateError::check(unsafe {
-            ffi::kalyubos_create_hosted(&mut handle, slots.as_ptr(), slots.len())
-        })?;
-        Ok(Board { handle })
-    }
-
-    // Whether the library is one that the crate fits.
-    fn check_version() -> Result<(), CreateError> {
-        let version = unsafe { ffi::kalyubos_version() };
-        if version / 100 != HEADER / 100 {
-            return Err(CreateError::WrongLibrary(version));
+        if lent.is_empty() {
+            return Err(CreateError::BadLoan); // of no loans C would make a board over its own memory
         }
-        Ok(())
+        let mut loans: Vec<_> = lent.iter().map(loan_of).collect();
+        Board::over_loans(config, &mut loans)
+    }
+
+    // A board over these loans, whose bytes are lent by `over_lent` alone, or over memory of its own where there are
+    // none.
+    fn over_loans(config: &Config<'_>, loans: &mut [ffi::Loan]) -> Result<Board, CreateError> {
+        let mut handle = ffi::Handle::empty();
+        let number = config.with_c(loans, |config| unsafe {
+            ffi::kalyubos_create(&mut handle, config)
+        })?;
+        CreateError::check(number).map(|()| Board {
+            handle,
+            kept: BTreeMap::new(),
+        })
     }
 
     // The handle, for the calls of other modules that change nothing.
@@ -276,8 +205,8 @@ impl Board {
     /// and width has an answer.
     ///
     /// ```
-    /// # use kalyubos::{Board, Slot, Window};
-    /// # let mut board = Board::new(&[Slot::new(0, 0x1000, 0..1)], &[0; 512], 1)?;
+    /// # use kalyubos::{Board, Config, Slot, Window};
+    /// # let mut board = Board::create(&Config::new(&[Slot::hosted(0, 0x1000, 1)]))?;
     /// const DEVICE_ID: u16 = 0x008;
     /// assert_eq!(board.read(0, Window::Block, DEVICE_ID, 4)?, 2);
     /// assert_eq!(board.read(0, Window::Console, DEVICE_ID, 4)?, 3);
@@ -299,11 +228,15 @@ impl Board {
     /// waits, by which the lines move. Take the output and make the same write again, as long as it is answered so and
     /// there was output to take.
     ///
+    /// [`Error::Busy`]: a service of the slot is paused. Or the write, to Status or QueueReady of the block window,
+    /// waits for what is in flight of a disk that the host serves. The guest's CPU waits with it; make the same write
+    /// again after the completion.
+    ///
     /// ```
-    /// # use kalyubos::{Board, Error, Slot, Window};
-    /// # let slot = Slot::new(0, 0x1000, 0..1);
+    /// # use kalyubos::{Board, Config, Error, Slot, Window};
+    /// # let slot = Slot::hosted(0, 0x1000, 1);
     /// const EMERG_WR: u16 = 0x108;
-    /// let mut board = Board::new(&[slot.with_outlet(1)], &[0; 512], 1)?;
+    /// let mut board = Board::create(&Config::new(&[slot.with_outlet(1)]))?;
     /// assert_eq!(board.write(0, Window::Console, EMERG_WR, 4, b'a'.into())?.output, 1);
     /// let refused = board.write(0, Window::Console, EMERG_WR, 4, b'b'.into());
     /// assert!(matches!(refused, Err(Error::NoRoom(pending)) if pending.output == 1));
@@ -338,7 +271,8 @@ impl Board {
     }
 
     /// Goes on with a slot's service that pauses, and tells what then waits. Until it is done every other call for the
-    /// slot is [`Error::Busy`], but those that tell its interrupts or take its output, and none of its CPUs runs.
+    /// slot is [`Error::Busy`], but those that tell its interrupts, counters or operation or take its output, and none
+    /// of its CPUs runs.
     pub fn go_on(&mut self, slot: u8) -> Result<Pending, Error> {
         let mut told = ffi::Pending::default();
         let number = unsafe { ffi::kalyubos_go_on(&mut self.handle, slot, &mut told) };
@@ -349,9 +283,9 @@ impl Board {
     /// What is written there is a write of that guest's.
     ///
     /// ```
-    /// # use kalyubos::{Board, Slot};
-    /// let slot = Slot::new(0x8000_0000, 0x1000, 0..1).with_region(0x8000_2000, 0x1000);
-    /// let mut board = Board::new(&[slot], &[0; 512], 1)?;
+    /// # use kalyubos::{Board, Config, Slot};
+    /// let slot = Slot::hosted(0x8000_0000, 0x1000, 1).with_region(0x8000_2000, 0x1000);
+    /// let mut board = Board::create(&Config::new(&[slot]))?;
     /// let memory = board.memory(0, 0x8000_2f00)?;
     /// assert_eq!(memory.len(), 0x100);
     /// memory[..5].copy_from_slice(b"hello");
@@ -391,8 +325,8 @@ impl Board {
     /// Copies bytes into a guest's memory, from address `addr` on.
     ///
     /// ```
-    /// # use kalyubos::{Board, Error, Slot};
-    /// let mut board = Board::new(&[Slot::new(0x8000_0000, 0x1000, 0..1)], &[0; 512], 1)?;
+    /// # use kalyubos::{Board, Config, Error, Slot};
+    /// let mut board = Board::create(&Config::new(&[Slot::hosted(0x8000_0000, 0x1000, 1)]))?;
     /// board.write_memory(0, 0x8000_0ffe, b"ab")?;
     /// let mut seen = [0; 2];
     /// board.read_memory(0, 0x8000_0ffe, &mut seen)?;
@@ -410,8 +344,8 @@ impl Board {
     /// then after the guest's next calls.
     ///
     /// ```
-    /// # use kalyubos::{Board, Slot};
-    /// # let mut board = Board::new(&[Slot::new(0, 0x1000, 0..1)], &[0; 512], 1)?;
+    /// # use kalyubos::{Board, Config, Slot};
+    /// # let mut board = Board::create(&Config::new(&[Slot::hosted(0, 0x1000, 1)]))?;
     /// assert_eq!(board.input(0, b"ls\n")?.0, 3);
     /// assert_eq!(board.input(0, &[b'x'; 5000])?.0, 4093); // a console keeps 4096
     /// # Ok::<(), Box<dyn std::error::Error>>(())
@@ -476,8 +410,8 @@ impl Board {
     /// What the slot's devices did since the board was made. It may be asked at any time, also in a pause.
     ///
     /// ```
-    /// # use kalyubos::{Board, Counters, Slot};
-    /// let mut board = Board::new(&[Slot::new(0, 0x1000, 0..1)], &[0; 512], 1)?;
+    /// # use kalyubos::{Board, Config, Counters, Slot};
+    /// let board = Board::create(&Config::new(&[Slot::hosted(0, 0x1000, 1)]))?;
     /// assert_eq!(board.counters(0)?, Counters::default());
     /// # Ok::<(), Box<dyn std::error::Error>>(())
     /// ```
@@ -487,7 +421,7 @@ impl Board {
         Ok(counters)
     }
 
-    /// The image's length in bytes.
+    /// The image's length in bytes; [`Error::NoImage`] where there is none.
     pub fn image_len(&self) -> Result<usize, Error> {
         let mut len = 0;
         Error::check(unsafe { ffi::kalyubos_image_len(&self.handle, &mut len) })?;
@@ -504,8 +438,9 @@ impl Board {
     /// The whole image as it stands, to save what the guests wrote.
     ///
     /// ```
-    /// # use kalyubos::{Board, Slot};
-    /// let mut board = Board::new(&[Slot::new(0, 0x1000, 0..1)], &[7; 512], 1)?;
+    /// # use kalyubos::{Board, Config, Slot};
+    /// let slots = [Slot::new(0, 0x1000, 0..1)];
+    /// let mut board = Board::create(&Config::new(&slots).with_image(&[7; 512]))?;
     /// assert_eq!(board.image()?, [7; 512]);
     /// # Ok::<(), Box<dyn std::error::Error>>(())
     /// ```

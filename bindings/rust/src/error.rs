@@ -1,8 +1,6 @@
 //! Why a call was refused.
 
 use crate::board::Pending;
-use crate::ffi;
-use crate::slot::Slot;
 use std::error;
 use std::fmt;
 
@@ -17,11 +15,13 @@ pub enum Error {
     /// What the console puts out next doesn't fit behind what waits; see [`Board::write`](crate::Board::write). What came
     /// before it is served: this then waits for the slot.
     NoRoom(Pending),
-    /// A service of the slot is paused; see [`Board::go_on`](crate::Board::go_on). Or the write waits for the slot's disk,
-    /// which the host serves; see [`HostedBoard::write`](crate::HostedBoard::write). So do a save and a restore.
+    /// A service of the slot is paused; see [`Board::go_on`](crate::Board::go_on). Or the write waits for the slot's
+    /// disk, which the host serves; see [`Board::write`](crate::Board::write). So do a save and a restore.
     Busy,
-    /// Nothing of the slot is in flight; see [`HostedBoard::complete`](crate::HostedBoard::complete).
+    /// Nothing of the slot is in flight; see [`Board::complete`](crate::Board::complete).
     Idle,
+    /// The board has no image, or one of no bytes.
+    NoImage,
     /// The snapshot doesn't fit into the buffer; see [`Board::save_into`](crate::Board::save_into).
     ShortBuffer,
     /// A number that this crate doesn't know, of a newer library.
@@ -66,7 +66,7 @@ pub enum CreateError {
     RegionsNotApart,
     /// A slot has more than eight regions.
     TooManyRegions,
-    /// A slot's sectors pass the image's end.
+    /// A slot's sectors pass the image's end, or a disk that the host serves passes 2^64 bytes.
     ExtentOutside,
     /// Two slots share a sector.
     ExtentsOverlap,
@@ -76,12 +76,35 @@ pub enum CreateError {
     BadOutlet,
     /// The lent bytes have another number or length than the regions; see [`Board::over_lent`](crate::Board::over_lent).
     BadLoan,
-    /// The library that is linked has a slot of another size than the crate.
+    /// The library that is linked has a config or a slot of another size than the crate.
     BadSize,
     /// The library that is linked is of another version, this one, than the crate.
     WrongLibrary(u32),
     /// A number that this crate doesn't know, of a newer library.
     Other(u32),
+}
+
+/// What is wrong with a [`Config`](crate::Config), and where.
+#[derive(Clone, Copy, Debug, PartialEq, Eq, Hash)]
+#[non_exhaustive]
+pub struct Fault {
+    /// What [`Board::create`](crate::Board::create) answers.
+    pub why: CreateError,
+    /// The place of the slot that it is about, where it is about one.
+    pub slot: Option<usize>,
+    /// The place of the region of that slot, where it is about one.
+    pub region: Option<usize>,
+}
+
+impl Fault {
+    // One that is about no slot.
+    pub(crate) fn of(why: CreateError) -> Fault {
+        Fault {
+            why,
+            slot: None,
+            region: None,
+        }
+    }
 }
 
 impl Error {
@@ -93,6 +116,7 @@ impl Error {
             4 => Err(Error::BadRange),
             19 => Err(Error::Busy),
             21 => Err(Error::Idle),
+            22 => Err(Error::NoImage),
             26 => Err(Error::ShortBuffer),
             number => Err(Error::Other(number)),
         }
@@ -138,64 +162,6 @@ impl CreateError {
     }
 }
 
-impl CreateError {
-    /// Which slot a [`Board::new`](crate::Board::new) of these slots over this image was refused for, where it is about a slot and
-    /// there is memory to judge them. No board is made.
-    ///
-    /// ```
-    /// use kalyubos::{Board, CreateError, Slot};
-    ///
-    /// let guests = [0..8, 8..16, 16..17].map(|sectors| Slot::new(0x8000_0000, 0x1_0000, sectors));
-    /// let disk = vec![0; 16 * 512];
-    /// let refused = Board::new(&guests, &disk, 8).unwrap_err();
-    /// assert_eq!(refused, CreateError::ExtentOutside);
-    /// assert_eq!(refused.slot(&guests, &disk), Some(2));
-    /// ```
-    #[must_use]
-    pub fn slot(self, slots: &[Slot], image: &[u8]) -> Option<usize> {
-        let sectors = image.len() as u64 / 512;
-        self.place(slots, |slots, slot, region| unsafe {
-            ffi::kalyubos_judge(slots.as_ptr(), slots.len(), sectors, slot, region)
-        })
-    }
-
-    /// Which slot a [`HostedBoard::new`](crate::HostedBoard::new) of these slots was refused for, likewise.
-    ///
-    /// ```
-    /// use kalyubos::{CreateError, HostedBoard, Slot};
-    ///
-    /// let guests = [0x8000_0000, 0x8000_0001].map(|base| Slot::new(base, 0x1_0000, 0..8));
-    /// let refused = HostedBoard::new(&guests).unwrap_err();
-    /// assert_eq!(refused, CreateError::BadMemoryBase);
-    /// assert_eq!(refused.hosted_slot(&guests), Some(1));
-    /// ```
-    #[must_use]
-    pub fn hosted_slot(self, slots: &[Slot]) -> Option<usize> {
-        self.place(slots, |slots, slot, region| unsafe {
-            ffi::kalyubos_judge_hosted(slots.as_ptr(), slots.len(), slot, region)
-        })
-    }
-
-    // The slot by which these are refused so: one that C can't be told of, or else the one that the library tells.
-    fn place(
-        self,
-        slots: &[Slot],
-        judge: impl FnOnce(&[ffi::Slot], &mut usize, &mut usize) -> u32,
-    ) -> Option<usize> {
-        let untold = slots
-            .iter()
-            .position(|slot| slot.in_c().err() == Some(self));
-        if untold.is_some() {
-            return untold;
-        }
-        let slots: Result<Vec<_>, _> = slots.iter().map(Slot::in_c).collect();
-        let slots = slots.ok()?;
-        let (mut slot, mut region) = (slots.len(), 0);
-        let number = judge(&slots, &mut slot, &mut region);
-        (CreateError::check(number) == Err(self) && slot < slots.len()).then_some(slot)
-    }
-}
-
 impl fmt::Display for Error {
     fn fmt(&self, f: &mut fmt::Formatter<'_>) -> fmt::Result {
         match self {
@@ -206,6 +172,7 @@ impl fmt::Display for Error {
             }
             Error::Busy => f.write_str("a service of the slot is paused, or its disk is at work"),
             Error::Idle => f.write_str("nothing of the slot is in flight"),
+            Error::NoImage => f.write_str("the board has no image, or one of no bytes"),
             Error::ShortBuffer => f.write_str("the buffer is shorter than the snapshot"),
             Error::Other(number) => write!(f, "the library answered {number}"),
         }
@@ -240,12 +207,12 @@ impl fmt::Display for CreateError {
             BadMemoryBase => "a region begins at a multiple of 4096 and ends at 2^64 or before",
             RegionsNotApart => "regions stand in ascending order, with a gap between each two",
             TooManyRegions => "a guest's memory has eight regions at most",
-            ExtentOutside => "a slot's sectors pass the image's end",
+            ExtentOutside => "a slot's sectors pass the image's end, or its disk 2^64 bytes",
             ExtentsOverlap => "two slots share a sector",
             BadCache => "a cache keeps 1 to 65536 sectors",
             BadOutlet => "an outlet keeps 2^24 bytes at most",
             BadLoan => "each region of each slot needs lent bytes of its length",
-            BadSize => "the library's slot has another size than the crate's",
+            BadSize => "the library's config or slot has another size than the crate's",
             WrongLibrary(version) => {
                 return write!(
                     f,
@@ -257,6 +224,19 @@ impl fmt::Display for CreateError {
     }
 }
 
+impl fmt::Display for Fault {
+    fn fmt(&self, f: &mut fmt::Formatter<'_>) -> fmt::Result {
+        if let Some(slot) = self.slot {
+            write!(f, "slot {slot}: ")?;
+        }
+        if let Some(region) = self.region {
+            write!(f, "region {region}: ")?;
+        }
+        self.why.fmt(f)
+    }
+}
+
 impl error::Error for Error {}
+impl error::Error for Fault {}
 impl error::Error for RestoreError {}
 impl error::Error for CreateError {}

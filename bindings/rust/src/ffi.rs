@@ -34,6 +34,7 @@ pub struct Slot {
     pub rows: u16,
     pub outlet: u32,
     pub read_only: bool,
+    pub hosted: bool,
     pub identity: [u8; 20],
 }
 
@@ -60,6 +61,19 @@ pub struct Operation {
 /// How many runs an operation has at most.
 pub const RUNS: usize = 256;
 
+/// The last fault of a window.
+#[derive(Default)]
+#[repr(C)]
+pub struct Fault {
+    pub kind: u32,
+    pub queue: u32,
+    pub head: u32,
+    pub place: u32,
+}
+
+/// What `head` is where no head was read.
+pub const NO_HEAD: u32 = u32::MAX;
+
 /// Bytes that the host lends.
 #[repr(C)]
 pub struct Loan {
@@ -67,51 +81,25 @@ pub struct Loan {
     pub len: usize,
 }
 
+/// A board, as the host describes it.
+#[repr(C)]
+pub struct Config {
+    pub size: usize,
+    pub slots: *const Slot,
+    pub slots_len: usize,
+    pub loans: *mut Loan,
+    pub loans_len: usize,
+    pub image: *const u8,
+    pub image_len: usize,
+    pub cache: u32,
+    pub chains: u32,
+    pub bytes: u64,
+}
+
 unsafe extern "C" {
     pub fn kalyubos_version() -> u32;
-    pub fn kalyubos_create(
-        board: *mut Handle,
-        slots: *const Slot,
-        slots_len: usize,
-        image: *const u8,
-        image_len: usize,
-        cache: u32,
-        chains: u32,
-        bytes: u64,
-    ) -> u32;
-    pub fn kalyubos_judge(
-        slots: *const Slot,
-        slots_len: usize,
-        sectors: u64,
-        slot: *mut usize,
-        region: *mut usize,
-    ) -> u32;
-    pub fn kalyubos_judge_hosted(
-        slots: *const Slot,
-        slots_len: usize,
-        slot: *mut usize,
-        region: *mut usize,
-    ) -> u32;
-    pub fn kalyubos_create_hosted(board: *mut Handle, slots: *const Slot, slots_len: usize) -> u32;
-    pub fn kalyubos_create_lent(
-        board: *mut Handle,
-        slots: *const Slot,
-        slots_len: usize,
-        loans: *mut Loan,
-        loans_len: usize,
-        image: *const u8,
-        image_len: usize,
-        cache: u32,
-        chains: u32,
-        bytes: u64,
-    ) -> u32;
-    pub fn kalyubos_create_hosted_lent(
-        board: *mut Handle,
-        slots: *const Slot,
-        slots_len: usize,
-        loans: *mut Loan,
-        loans_len: usize,
-    ) -> u32;
+    pub fn kalyubos_create(board: *mut Handle, config: *mut Config) -> u32;
+    pub fn kalyubos_judge(config: *const Config, slot: *mut usize, region: *mut usize) -> u32;
     pub fn kalyubos_destroy(board: *mut Handle) -> u32;
     pub fn kalyubos_read(
         board: *const Handle,
@@ -195,6 +183,13 @@ unsafe extern "C" {
     ) -> u32;
     pub fn kalyubos_disturbed(board: *const Handle, slot: u8, disturbed: *mut bool) -> u32;
     pub fn kalyubos_counters(board: *const Handle, slot: u8, counters: *mut Counters) -> u32;
+    pub fn kalyubos_last_fault(
+        board: *const Handle,
+        slot: u8,
+        window: u8,
+        fault: *mut Fault,
+    ) -> u32;
+    pub fn kalyubos_keep_pages(board: *mut Handle, slot: u8, bits: Loan) -> u32;
     pub fn kalyubos_saved_len(board: *const Handle, slot: u8, len: *mut usize) -> u32;
     pub fn kalyubos_save(
         board: *const Handle,

@@ -2,19 +2,23 @@
 #![warn(missing_docs)]
 
 mod board;
+mod config;
 mod counters;
+mod disk;
 mod error;
+mod fault;
 mod ffi;
-mod hosted;
 mod identity;
 mod operation;
+mod pages;
 mod saved;
 mod slot;
 
 pub use board::{Board, Budget, Interrupts, Pending, Window};
+pub use config::Config;
 pub use counters::Counters;
-pub use error::{CreateError, Error, RestoreError};
-pub use hosted::{HostedBoard, Served};
+pub use error::{CreateError, Error, Fault, RestoreError};
+pub use fault::{DriverFault, FaultKind};
 pub use identity::{Identity, IdentityTooLong};
 pub use operation::{Kind, Operation, Outcome, Run, Runs};
 pub use slot::{Region, Slot};

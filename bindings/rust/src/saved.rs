@@ -20,22 +20,27 @@ impl Board {
     /// saves the devices, and copies the memory and the disk. [`Error::Busy`] as [`saved_len`](Board::saved_len).
     ///
     /// ```
-    /// use kalyubos::{Board, RestoreError, Slot};
+    /// use kalyubos::{Board, Config, RestoreError, Slot};
     ///
-    /// let slot = Slot::new(0x8000_0000, 0x1_0000, 0..2);
-    /// let mut first = Board::new(&[slot.clone()], &[0; 1024], 1)?;
+    /// let slots = [Slot::new(0x8000_0000, 0x1_0000, 0..2)];
+    /// let mut first = Board::create(&Config::new(&slots).with_image(&[0; 1024]))?;
     /// first.input(0, b"ls")?;
     /// let devices = first.save(0)?;
     /// let (memory, disk) = (first.memory(0, 0x8000_0000)?.to_vec(), first.image()?.to_vec());
     /// drop(first);
     ///
-    /// let mut second = Board::new(&[slot], &disk, 8)?;
+    /// let mut second = Board::create(&Config::new(&slots).with_image(&disk))?;
     /// second.memory(0, 0x8000_0000)?.copy_from_slice(&memory);
     /// let pending = second.restore(0, &devices)?;
     /// assert_eq!(pending.interrupts.console, 0);
     ///
+    /// // A slot takes it whoever has its disk, where that has as many sectors.
+    /// let hosted = [Slot::hosted(0x8000_0000, 0x1_0000, 2)];
+    /// let pending = Board::create(&Config::new(&hosted))?.restore(0, &devices)?;
+    /// assert!(!pending.io);
+    ///
     /// // Another slot's snapshot is refused.
-    /// let mut other = Board::new(&[Slot::new(0, 0x1000, 0..1)], &disk, 8)?;
+    /// let mut other = Board::create(&Config::new(&[Slot::hosted(0, 0x1000, 2)]))?;
     /// assert_eq!(other.restore(0, &devices), Err(RestoreError::OtherSlot));
     /// # Ok::<(), Box<dyn std::error::Error>>(())
     /// ```
@@ -61,8 +66,8 @@ impl Board {
         Ok(written)
     }
 
-    /// Puts a slot's devices into the state of a [snapshot](Board::save) of a slot of the same description, of any board of
-    /// either kind, and tells what then waits. Memory and disk stay.
+    /// Puts a slot's devices into the state of a [snapshot](Board::save) of a slot of the same description, of any
+    /// board, and tells what then waits. Memory and disk stay.
     ///
     /// Before it the host puts back the guest's memory and its disk. Behind it the host moves both lines by what is told,
     /// makes a write again that was [`Error::NoRoom`], and starts the guest's CPUs.

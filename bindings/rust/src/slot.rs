@@ -16,7 +16,7 @@ pub struct Region {
     pub len: u64,
 }
 
-/// One guest: its memory, the sectors of the image that its disk shows, and its console.
+/// One guest: its memory, its disk and its console.
 #[derive(Clone, Debug, PartialEq, Eq)]
 #[must_use = "a slot is there once a board is made of it"]
 pub struct Slot {
@@ -26,12 +26,13 @@ pub struct Slot {
     rows: u16,
     outlet: u32,
     read_only: bool,
+    hosted: bool,
     identity: Identity,
 }
 
 impl Slot {
-    /// A guest with one region of memory, of `len` bytes from `base` on, whose disk shows some sectors of the image, or where the host
-    /// serves it has as many: one that may be written and whose identity is 20 NULs, with a console of 80 by 25 and an outlet of 32 KiB.
+    /// A guest with one region of memory, of `len` bytes from `base` on, whose disk shows some sectors of the image:
+    /// one that may be written and whose identity is 20 NULs, with a console of 80 by 25 and an outlet of 32 KiB.
     ///
     /// ```
     /// use kalyubos::Slot;
@@ -47,7 +48,18 @@ impl Slot {
             rows: 25,
             outlet: 0x8000,
             read_only: false,
+            hosted: false,
             identity: Identity::default(),
+        }
+    }
+
+    /// A guest as [`new`](Slot::new) has it whose disk the host serves: one of so many sectors. The board says what it
+    /// wants of the disk ([`Board::operation`](crate::Board::operation)), the host does it as it likes and says that it
+    /// is done ([`Board::complete`](crate::Board::complete)), and meanwhile the guest runs on.
+    pub fn hosted(base: u64, len: u64, sectors: u64) -> Slot {
+        Slot {
+            hosted: true,
+            ..Slot::new(base, len, 0..sectors)
         }
     }
 
@@ -96,10 +108,16 @@ impl Slot {
         &self.regions
     }
 
-    /// The sectors of the image that its disk shows.
+    /// The sectors of the image that its disk shows, or all of a disk that the host serves.
     #[must_use]
     pub fn sectors(&self) -> Range<u64> {
         self.sectors.clone()
+    }
+
+    /// Whether the host serves its disk.
+    #[must_use]
+    pub fn is_hosted(&self) -> bool {
+        self.hosted
     }
 
     /// The columns and rows of its console.
@@ -144,6 +162,7 @@ impl Slot {
             rows: self.rows,
             outlet: self.outlet,
             read_only: self.read_only,
+            hosted: self.hosted,
             identity: *self.identity.bytes(),
         })
     }

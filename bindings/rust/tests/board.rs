@@ -1,8 +1,8 @@
 //! Each call at its edges: what it answers, and that the next call goes on.
 
 use kalyubos::{
-    Board, Budget, CreateError, Error, Identity, IdentityTooLong, Interrupts, Pending, Region,
-    Slot, Window,
+    Board, Budget, Config, CreateError, Error, Identity, IdentityTooLong, Interrupts, Pending,
+    Region, Slot, Window,
 };
 use std::num::NonZeroU32;
 use std::sync::Mutex;
@@ -13,15 +13,24 @@ const LEN: u64 = 0x1_0000;
 const STATUS: u16 = 0x070;
 const EMERG_WR: u16 = 0x108;
 
+/// A board over an image.
+fn board_of(slots: &[Slot], image: &[u8]) -> Board {
+    Board::create(&Config::new(slots).with_image(image)).expect("a board")
+}
+
 fn one_guest() -> Board {
-    Board::new(&[Slot::new(MEMORY, LEN, 0..2)], &[7; 1024], 4).expect("a board")
+    board_of(&[Slot::new(MEMORY, LEN, 0..2)], &[7; 1024])
 }
 
 #[test]
 fn each_refusal_of_create_is_told() {
     let good = Slot::new(MEMORY, LEN, 0..1);
-    let refused =
-        |slots: &[Slot], image: &[u8], cache| Board::new(slots, image, cache).unwrap_err();
+    let refused = |slots: &[Slot], image: &[u8], cache| {
+        let config = Config::new(slots).with_image(image).with_cache(cache);
+        let refused = Board::create(&config).unwrap_err();
+        assert_eq!(config.judge().map_err(|fault| fault.why), Err(refused));
+        refused
+    };
     let of_one = |slot: Slot| refused(&[slot], &[0; 512], 1);
     let one = [good.clone()];
 
@@ -67,7 +76,7 @@ fn each_refusal_of_create_is_told() {
     for place in 1..8 {
         many = many.with_region(MEMORY + 2 * LEN * place, LEN);
     }
-    assert!(Board::new(&[many.clone()], &[0; 512], 1).is_ok());
+    board_of(&[many.clone()], &[0; 512]);
     assert_eq!(
         of_one(many.with_region(MEMORY + 16 * LEN, LEN)),
         CreateError::TooManyRegions
@@ -85,13 +94,24 @@ fn a_slot_that_is_wrong_is_told_by_its_place() {
         let mut slots: Vec<Slot> = (0..64)
             .map(|at| Slot::new(MEMORY, LEN, at..at + 1))
             .collect();
-        slots[place] = Slot::new(MEMORY, LEN + 1, 0..0);
-        let told = Board::new(&slots, &image, 1).unwrap_err();
-        assert_eq!(told, CreateError::BadMemorySize);
-        assert_eq!(told.slot(&slots, &image), Some(place));
+        slots[place] = Slot::new(MEMORY, LEN, 0..0).with_region(MEMORY + 2 * LEN, LEN + 1);
+        let fault = Config::new(&slots).with_image(&image).judge().unwrap_err();
+        assert_eq!(fault.why, CreateError::BadMemorySize);
+        assert_eq!((fault.slot, fault.region), (Some(place), Some(1)));
     }
-    assert_eq!(CreateError::BadCache.slot(&[], &image), None);
-    assert_eq!(CreateError::BadMemorySize.slot(&[], &image), None);
+    let good = Slot::new(MEMORY, LEN, 0..64);
+    let many = (1..9).fold(good.clone(), |slot, place| {
+        slot.with_region(MEMORY + 2 * LEN * place, LEN)
+    });
+    for (slots, cache, why, slot) in [
+        (vec![good.clone()], 0, CreateError::BadCache, None),
+        (vec![], 1, CreateError::NoSlots, None),
+        (vec![good, many], 1, CreateError::TooManyRegions, Some(1)),
+    ] {
+        let config = Config::new(&slots).with_image(&image).with_cache(cache);
+        let fault = config.judge().unwrap_err();
+        assert_eq!((fault.why, fault.slot, fault.region), (why, slot, None));
+    }
 }
 
 /// A board of two guests, of which the first has two chains of one byte on offer in its transmit queue.
@@ -100,7 +120,10 @@ fn two_chains_on_offer(budget: Budget, outlet: u32) -> Board {
         Slot::new(MEMORY, LEN, 0..1).with_outlet(outlet),
         Slot::new(MEMORY, LEN, 1..2),
     ];
-    let mut board = Board::with_budget(&slots, &[0; 1024], 4, budget).expect("a board");
+    let config = Config::new(&slots)
+        .with_image(&[0; 1024])
+        .with_budget(budget);
+    let mut board = Board::create(&config).expect("a board");
     for (offset, value) in [
         (0x070, 3),
         (0x024, 1),
@@ -178,7 +201,7 @@ fn what_waits_is_told_where_output_finds_no_room() {
             console: 1,
         },
         output: 1,
-        more: false,
+        ..Pending::default()
     };
     let refused = board.write(0, Window::Console, 0x050, 4, 1);
     assert_eq!(refused, Err(Error::NoRoom(told)));
@@ -206,6 +229,9 @@ fn a_slot_tells_what_it_was_made_with() {
     assert_eq!(slot.sectors(), 1..3);
     assert_eq!((slot.console(), slot.outlet()), ((132, 43), 5));
     assert_eq!((slot.is_read_only(), slot.identity()), (true, identity));
+    assert!(!slot.is_hosted());
+    let hosted = Slot::hosted(MEMORY, LEN, 5);
+    assert_eq!((hosted.sectors(), hosted.is_hosted()), (0..5, true));
 }
 
 #[test]
@@ -272,7 +298,7 @@ fn memory_in_place_is_the_guests() {
 fn memory_in_two_regions_has_a_gap() {
     let second = MEMORY + LEN + 0x1000;
     let slot = Slot::new(MEMORY, LEN, 0..2).with_region(second, 0x2000);
-    let mut board = Board::new(&[slot], &[7; 1024], 4).expect("a board");
+    let mut board = board_of(&[slot], &[7; 1024]);
     for (addr, len) in [(MEMORY, LEN), (second, 0x2000), (second + 0x1fff, 1)] {
         assert_eq!(
             board.memory(0, addr).map(|bytes| bytes.len() as u64),
@@ -326,8 +352,7 @@ fn a_resize_raises_the_consoles_line_alone() {
                 block: 0,
                 console: 2
             },
-            output: 0,
-            more: false,
+            ..Pending::default()
         }
     );
     assert_eq!(board.interrupts(0), Ok(told.interrupts));
@@ -358,7 +383,7 @@ fn threads_share_a_board_in_a_lock() {
     let slots: Vec<Slot> = (0..4)
         .map(|at| Slot::new(MEMORY, LEN, at..at + 1))
         .collect();
-    let board = Mutex::new(Board::new(&slots, &[0; 4 * 512], 4).unwrap());
+    let board = Mutex::new(board_of(&slots, &[0; 4 * 512]));
     thread::scope(|cpus| {
         for slot in 0..4 {
             let board = &board;
@@ -430,7 +455,7 @@ fn each_of_64_disks_tells_its_own_identity() {
     let slots: Vec<Slot> = (0..64)
         .map(|number| Slot::new(MEMORY, LEN, 0..0).with_identity(Identity::from([number + 1; 20])))
         .collect();
-    let mut board = Board::new(&slots, &[0; 512], 1).unwrap();
+    let mut board = board_of(&slots, &[0; 512]);
     for number in 0..64 {
         assert_eq!(get_id(&mut board, number), [number + 1; 20]);
     }
@@ -440,7 +465,7 @@ fn each_of_64_disks_tells_its_own_identity() {
 #[test]
 fn an_identity_is_a_text_of_20_bytes_at_most() {
     let slot = |identity| Slot::new(MEMORY, LEN, 0..1).with_identity(identity);
-    let told = |identity| get_id(&mut Board::new(&[slot(identity)], &[0; 512], 1).unwrap(), 0);
+    let told = |identity| get_id(&mut board_of(&[slot(identity)], &[0; 512]), 0);
     assert_eq!(
         told("disk-0".parse().unwrap()),
         *b"disk-0\0\0\0\0\0\0\0\0\0\0\0\0\0\0"
@@ -463,4 +488,9 @@ fn errors_say_what_is_wrong() {
     let shown: Box<dyn std::error::Error> = Error::BadSlot.into();
     assert_eq!(shown.to_string(), "the board has no such slot");
     assert_eq!(CreateError::NoSlots.to_string(), "a board needs a slot");
+    let fault = Config::new(&[Slot::hosted(MEMORY, 1, 0)]).judge();
+    assert_eq!(
+        fault.unwrap_err().to_string(),
+        "slot 0: region 0: a region's length is a multiple of 4096, and a guest has 2^46 bytes at most"
+    );
 }

@@ -1,6 +1,8 @@
 //! What the devices of a guest did: each number is worked out from what its driver asked for.
 
-use kalyubos::{Board, Budget, Counters, Error, HostedBoard, Outcome, Slot, Window};
+use kalyubos::{
+    Board, Budget, Config, Counters, DriverFault, Error, FaultKind, Outcome, Slot, Window,
+};
 use std::num::NonZeroU32;
 
 const MEMORY: u64 = 0x8000_0000;
@@ -65,7 +67,10 @@ fn board(window: Window, queue: u32, budget: Budget, outlet: u32) -> Board {
         Slot::new(MEMORY, LEN, 0..2).with_outlet(outlet),
         Slot::new(MEMORY, LEN, 2..2),
     ];
-    let mut board = Board::with_budget(&slots, &[7; 1024], 4, budget).expect("a board");
+    let config = Config::new(&slots)
+        .with_image(&[7; 1024])
+        .with_budget(budget);
+    let mut board = Board::create(&config).expect("a board");
     for (offset, value) in bring_up(queue) {
         let _ = board.write(0, window, offset, 4, value).expect("a store");
     }
@@ -239,6 +244,19 @@ fn a_fault_is_counted() {
     assert_eq!(board.counters(0), Ok(counted));
     let status = board.read(0, Window::Console, STATUS, 4).unwrap();
     assert_eq!(status & NEEDS_RESET, NEEDS_RESET);
+    let fault = DriverFault {
+        kind: FaultKind::Index,
+        queue: TRANSMITQ,
+        head: Some(8),
+        place: 1,
+    };
+    assert_eq!(board.last_fault(0, Window::Console), Ok(Some(fault)));
+    assert_eq!(
+        fault.to_string(),
+        "queue 1, head 8, place 1: a descriptor's index outside its table"
+    );
+    assert_eq!(board.last_fault(0, Window::Block), Ok(None));
+    assert_eq!(board.last_fault(2, Window::Block), Err(Error::BadSlot));
 
     // more chains are available than the queue has places (2.7.13): the service ends as it opens
     let _ = board.write(0, Window::Console, STATUS, 4, 0).unwrap();
@@ -253,11 +271,47 @@ fn a_fault_is_counted() {
         ..counted
     };
     assert_eq!(board.counters(0), Ok(counted));
+    let fault = DriverFault {
+        kind: FaultKind::Jump,
+        queue: TRANSMITQ,
+        head: None,
+        place: 0,
+    };
+    assert_eq!(board.last_fault(0, Window::Console), Ok(Some(fault)));
+}
+
+/// A read of sector 0 into pages 3 and 5. The used ring and the status are in page 0. What the host writes, and another guest's
+/// pages, aren't marked.
+#[test]
+fn pages_that_a_device_writes_to_are_marked() {
+    let mut board = board(Window::Block, 0, Budget::default(), 0);
+    for slot in [0, 1] {
+        board.keep_pages(slot, 16).expect("a slot");
+    }
+    assert_eq!(board.keep_pages(2, 16), Err(Error::BadSlot));
+    let mut request = REQUEST;
+    (request[1].0, request[2].0) = (0x3800, 0x5a00);
+    offer(board.memory(0, MEMORY).expect("a memory"), &request, &[0]);
+    board.write_memory(0, MEMORY + 0x9000, &[1]).unwrap();
+    assert_eq!(board.pages(0), [0, 0]);
+    let _ = board.write(0, Window::Block, NOTIFY, 4, 0).unwrap();
+    assert_eq!(board.pages(0), [0b10_1001, 0]);
+    assert_eq!(board.pages(1), [0, 0]);
+
+    // they stay until the host clears them, and are kept no longer than it asks
+    let _ = board.write(0, Window::Block, NOTIFY, 4, 0).unwrap();
+    assert_eq!(board.pages(0), [0b10_1001, 0]);
+    board.pages(0).fill(0);
+    let _ = board.write(0, Window::Block, NOTIFY, 4, 0).unwrap();
+    assert_eq!(board.pages(0)[0] & 0b10_1000, 0); // nothing is read; the used ring may be written to
+    board.keep_pages(0, 0).expect("a slot");
+    assert!(board.pages(0).is_empty());
 }
 
 /// A guest whose disk the host serves. These chains were on offer, and its driver has notified.
-fn hosted(buffers: &[Buffer], heads: &[u8]) -> HostedBoard {
-    let mut board = HostedBoard::new(&[Slot::new(MEMORY, LEN, 0..2)]).expect("a board");
+fn hosted(buffers: &[Buffer], heads: &[u8]) -> Board {
+    let slots = [Slot::hosted(MEMORY, LEN, 2)];
+    let mut board = Board::create(&Config::new(&slots)).expect("a board");
     for (offset, value) in bring_up(0) {
         let _ = board.write(0, Window::Block, offset, 4, value).unwrap();
     }
@@ -325,8 +379,8 @@ fn requests_of_a_disk_are_counted_one_by_one() {
 /// What its console puts out is counted beside what its disk does, and so is what finds no room in its outlet.
 #[test]
 fn a_hosted_guest_has_a_console_too() {
-    let slot = Slot::new(MEMORY, LEN, 0..2).with_outlet(3);
-    let mut board = HostedBoard::new(&[slot]).expect("a board");
+    let slots = [Slot::hosted(MEMORY, LEN, 2).with_outlet(3)];
+    let mut board = Board::create(&Config::new(&slots)).expect("a board");
     for (window, queue) in [(Window::Block, 0), (Window::Console, TRANSMITQ)] {
         for (offset, value) in bring_up(queue) {
             let _ = board.write(0, window, offset, 4, value).unwrap();

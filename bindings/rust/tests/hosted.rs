@@ -1,23 +1,27 @@
-//! A board whose disks the host serves: a flight from its write to its completion.
+//! A disk that the host serves: a flight from its write to its completion, also beside a disk of the image.
 
-use kalyubos::{CreateError, Error, HostedBoard, Kind, Outcome, Run, Slot, Window};
-use std::ptr::NonNull;
+use kalyubos::{Board, Budget, Config, CreateError, Error, Kind, Outcome, Run, Slot, Window};
+use std::num::NonZeroU32;
 
 const MEMORY: u64 = 0x8000_0000;
 const LEN: u64 = 0x1_0000;
 const NOTIFY: u16 = 0x050;
 const STATUS: u16 = 0x070;
 
-/// A board of one guest, whose driver has a read of sector 1 on offer: status at 0, header at 0x10, data at 0x400 and 0x500.
-fn one_read_on_offer() -> HostedBoard {
-    let mut board = HostedBoard::new(&[Slot::new(MEMORY, LEN, 0..2)]).expect("a board");
-    let at = MEMORY as u32;
+fn hosted() -> Slot {
+    Slot::hosted(MEMORY, LEN, 2)
+}
+
+/// Brings up a window's queue of four, whose areas lie behind an offset of the memory.
+fn bring_up(board: &mut Board, slot: u8, window: Window, queue: u32, offset: u32) {
+    let at = MEMORY as u32 + offset;
     for (offset, value) in [
         (STATUS, 1),
         (STATUS, 3),
         (0x024, 1),
         (0x020, 1),
         (STATUS, 11),
+        (0x030, queue),
         (0x038, 4),
         (0x080, at + 0x100),
         (0x090, at + 0x200),
@@ -25,12 +29,15 @@ fn one_read_on_offer() -> HostedBoard {
         (0x044, 1),
         (STATUS, 15),
     ] {
-        let served = board
-            .write(0, Window::Block, offset, 4, value)
-            .expect("a store");
-        assert!(!served.io);
+        let pending = board.write(slot, window, offset, 4, value);
+        assert!(!pending.expect("a store").io);
     }
-    let memory = board.memory(0, MEMORY).expect("a memory");
+}
+
+/// The slot's driver puts a read of sector 1 on offer: status at 0, header at 0x10, data at 0x400 and 0x600.
+fn offer_read(board: &mut Board, slot: u8) {
+    bring_up(board, slot, Window::Block, 0, 0);
+    let memory = board.memory(slot, MEMORY).expect("a memory");
     memory[0x18] = 1; // the sector
     for (place, (addr, len, flags, next)) in [
         (0x10, 16, 1, 1u8),
@@ -49,6 +56,12 @@ fn one_read_on_offer() -> HostedBoard {
     }
     memory[0x202] = 1; // one chain on offer
     memory[0] = 0xff;
+}
+
+/// A board of one guest with such a read on offer.
+fn one_read_on_offer() -> Board {
+    let mut board = Board::create(&Config::new(&[hosted()])).expect("a board");
+    offer_read(&mut board, 0);
     board
 }
 
@@ -59,7 +72,7 @@ fn a_request_waits_for_the_host() {
     let served = board
         .write(0, Window::Block, NOTIFY, 4, 0)
         .expect("a store");
-    assert!(served.io && served.pending.interrupts.block == 0);
+    assert!(served.io && served.interrupts.block == 0);
 
     let asked = board.operation(0).expect("a slot").expect("an operation");
     assert_eq!(
@@ -85,7 +98,7 @@ fn a_request_waits_for_the_host() {
         .write_memory(0, runs[1].at, &[7; 0x100])
         .expect("a run");
     let served = board.complete(0, Outcome::Done).expect("a completion");
-    assert!(!served.io && served.pending.interrupts.block == 1);
+    assert!(!served.io && served.interrupts.block == 1);
     let memory = board.memory(0, MEMORY).expect("a memory");
     assert_eq!((memory[0], memory[0x6ff], memory[0x302]), (0, 7, 1));
     assert_eq!(board.operation(0), Ok(None));
@@ -109,7 +122,7 @@ fn an_operation_borrows_no_board() {
     assert_eq!(board.read(0, Window::Block, 0x008, 4), Ok(2));
     assert_eq!(length.join().unwrap(), 512);
     let served = board.complete(0, Outcome::Done).unwrap();
-    assert!(!served.io && served.pending.interrupts.block == 1);
+    assert!(!served.io && served.interrupts.block == 1);
 }
 
 /// A flush has no runs, and an empty list of them is equal to another.
@@ -150,7 +163,7 @@ fn a_failure_is_an_error_of_the_request() {
             .io
     );
     let served = board.complete(0, Outcome::Failed).expect("a completion");
-    assert!(!served.io && served.pending.interrupts.block == 1);
+    assert!(!served.io && served.interrupts.block == 1);
     assert_eq!(board.memory(0, MEMORY).expect("a memory")[0], 1);
 }
 
@@ -159,28 +172,60 @@ fn refusals_are_told() {
     let mut board = one_read_on_offer();
     assert_eq!(board.operation(1), Err(Error::BadSlot));
     assert_eq!(board.complete(1, Outcome::Done), Err(Error::BadSlot));
-    assert_eq!(HostedBoard::new(&[]).unwrap_err(), CreateError::NoSlots);
-    let long = Slot::new(MEMORY, LEN, 0..1 << 55);
-    assert_eq!(
-        HostedBoard::new(&[long]).unwrap_err(),
-        CreateError::ExtentOutside
-    );
+    assert_eq!(board.image_len(), Err(Error::NoImage));
+    assert_eq!(board.image().unwrap_err(), Error::NoImage);
+    let long = [Slot::hosted(MEMORY, LEN, 1 << 55)];
+    let refused = Board::create(&Config::new(&long)).unwrap_err();
+    assert_eq!(refused, CreateError::ExtentOutside);
 }
 
+/// The request of a guest over the image is served while the other's waits for the host; each gets the bytes of its own
+/// disk.
 #[test]
-fn memory_may_be_lent() {
-    let mut bytes = vec![0; LEN as usize];
-    let lent = [NonNull::from(&mut bytes[..])];
-    let slots = [Slot::new(MEMORY, LEN, 0..2)];
-    // SAFETY: nothing else reaches the bytes until the board is dropped.
-    let mut board = unsafe { HostedBoard::over_lent(&slots, &lent) }.expect("a board");
-    board
-        .write_memory(0, MEMORY + LEN - 1, &[7])
-        .expect("a store");
-    drop(board);
-    assert_eq!(bytes.last(), Some(&7));
+fn a_board_has_both_kinds_of_disk() {
+    let slots = [Slot::new(MEMORY, LEN, 1..3), hosted()];
+    let config = Config::new(&slots).with_image(&[7; 3 * 512]);
+    let mut board = Board::create(&config).expect("a board");
+    offer_read(&mut board, 0);
+    offer_read(&mut board, 1);
+    assert!(board.write(1, Window::Block, NOTIFY, 4, 0).unwrap().io);
+    let pending = board.write(0, Window::Block, NOTIFY, 4, 0).unwrap();
+    assert!(!pending.io && pending.interrupts.block == 1);
+    assert_eq!(board.operation(0), Ok(None));
+    assert_eq!(board.complete(0, Outcome::Done), Err(Error::Idle));
+    assert_eq!(board.memory(0, MEMORY + 0x400).unwrap()[0], 7);
 
-    // SAFETY: nothing is lent.
-    let none = unsafe { HostedBoard::over_lent(&slots, &[]) };
-    assert_eq!(none.unwrap_err(), CreateError::BadLoan);
+    let asked = board.operation(1).unwrap().expect("an operation");
+    board.memory(1, asked.runs[0].at).unwrap()[0] = 9;
+    let pending = board.complete(1, Outcome::Done).unwrap();
+    assert!(!pending.io && pending.interrupts.block == 1);
+    assert_eq!(board.memory(1, MEMORY).unwrap()[..1], [0]);
+    assert_eq!(board.memory(1, MEMORY + 0x400).unwrap()[0], 9);
+    assert_eq!(board.image(), Ok(&[7; 3 * 512][..]));
+}
+
+/// Within a budget the console's service pauses while an operation is in flight, which is completed once the service is
+/// done.
+#[test]
+fn a_console_pauses_beside_a_disk_at_work() {
+    let budget = Budget {
+        chains: NonZeroU32::new(1),
+        bytes: None,
+    };
+    let slots = [hosted()];
+    let config = Config::new(&slots).with_budget(budget);
+    let mut board = Board::create(&config).expect("a board");
+    offer_read(&mut board, 0);
+    assert!(board.write(0, Window::Block, NOTIFY, 4, 0).unwrap().io);
+    bring_up(&mut board, 0, Window::Console, 1, 0x2000);
+    let memory = board.memory(0, MEMORY + 0x2000).unwrap();
+    memory[0x100..0x109].copy_from_slice(&[0, 0, 0, 0x80, 0, 0, 0, 0, 1]); // a byte at the memory's front
+    memory[0x202] = 2; // on offer two times
+    let pending = board.write(0, Window::Console, NOTIFY, 4, 1).unwrap();
+    assert!(pending.more && !pending.io && pending.output == 1);
+    assert!(board.operation(0).unwrap().is_some());
+    assert_eq!(board.complete(0, Outcome::Done), Err(Error::Busy));
+    let pending = board.go_on(0).unwrap();
+    assert!(!pending.more && pending.output == 2);
+    assert!(!board.complete(0, Outcome::Done).unwrap().io);
 }

@@ -1,6 +1,6 @@
 //! Memory that the host lends: each guest has its own, region by region, and the host has all of it again.
 
-use kalyubos::{Board, Budget, CreateError, HostedBoard, Slot};
+use kalyubos::{Board, Config, CreateError, Slot};
 use std::ptr::NonNull;
 
 /// Where a guest's first region begins. Its second one is a page behind the end of the first.
@@ -9,11 +9,11 @@ const SECOND: u64 = 0x8000_2000;
 
 const PAGE: usize = 0x1000;
 
-/// Two guests at the same addresses, of two regions of a page each.
+/// Two guests at the same addresses, of two regions of a page each. The host serves the second one's disk.
 fn guests() -> [Slot; 2] {
-    [0, 1].map(|sector| {
-        Slot::new(FIRST, PAGE as u64, sector..sector + 1).with_region(SECOND, PAGE as u64)
-    })
+    let len = PAGE as u64;
+    [Slot::new(FIRST, len, 0..1), Slot::hosted(FIRST, len, 1)]
+        .map(|slot| slot.with_region(SECOND, len))
 }
 
 /// The pages of both guests, of which each byte is the page's number, from 1 on.
@@ -41,7 +41,7 @@ fn each_guest_has_its_own_pages() {
     let mut pages = pages();
     let loans = lent(&mut pages);
     // SAFETY: nothing else reaches the pages until the board is dropped.
-    let made = unsafe { Board::over_lent(&guests(), &loans, &[0; 1024], 1, Budget::default()) };
+    let made = unsafe { Board::over_lent(&Config::new(&guests()).with_image(&[0; 512]), &loans) };
     let mut board = made.unwrap();
     for (slot, bytes) in [(0, [1, 2]), (1, [3, 4])] {
         for (addr, byte) in [FIRST, SECOND].into_iter().zip(bytes) {
@@ -57,32 +57,22 @@ fn each_guest_has_its_own_pages() {
 }
 
 #[test]
-fn each_guest_of_a_hosted_board_has_its_own_pages() {
-    let mut pages = pages();
-    let loans = lent(&mut pages);
-    // SAFETY: nothing else reaches the pages until the board is dropped.
-    let mut board = unsafe { HostedBoard::over_lent(&guests(), &loans) }.unwrap();
-    board
-        .memory(0, FIRST + 0xffe)
-        .unwrap()
-        .copy_from_slice(b"ab");
-    board.write_memory(1, SECOND, b"cd").unwrap();
-    drop(board);
-    assert!(pages == written());
-}
-
-#[test]
 fn other_pages_are_refused_and_left() {
     let mut pages = pages();
     let mut loans = lent(&mut pages);
     let last = loans.pop().unwrap();
+    let guests = guests();
+    let config = Config::new(&guests).with_image(&[0; 512]);
     // SAFETY: nothing else reaches the pages until the boards are refused.
-    let refused = unsafe { Board::over_lent(&guests(), &loans, &[0; 1024], 1, Budget::default()) };
+    let refused = unsafe { Board::over_lent(&config, &loans) };
     assert_eq!(refused.unwrap_err(), CreateError::BadLoan);
     loans.insert(0, last);
     loans.push(last);
     // SAFETY: as above.
-    let refused = unsafe { HostedBoard::over_lent(&guests(), &loans) };
+    let refused = unsafe { Board::over_lent(&config, &loans) };
+    assert_eq!(refused.unwrap_err(), CreateError::BadLoan);
+    // SAFETY: nothing is lent.
+    let refused = unsafe { Board::over_lent(&config, &[]) };
     assert_eq!(refused.unwrap_err(), CreateError::BadLoan);
     assert!(pages == self::pages());
 }

@@ -1,6 +1,6 @@
 //! A guest is saved on one board and goes on on another.
 
-use kalyubos::{Board, Budget, Error, HostedBoard, Outcome, RestoreError, Slot, Window};
+use kalyubos::{Board, Budget, Config, Error, Outcome, RestoreError, Slot, Window};
 use std::num::NonZeroU32;
 
 const MEMORY: u64 = 0x8000_0000;
@@ -10,6 +10,11 @@ const STATUS: u16 = 0x070;
 
 fn slot() -> Slot {
     Slot::new(MEMORY, LEN, 0..2)
+}
+
+/// A board of this guest over an image.
+fn over_image(image: &[u8]) -> Board {
+    Board::create(&Config::new(&[slot()]).with_image(image)).expect("a board")
 }
 
 /// What a driver writes to a window whose queue 0 has 4 places: its table at 0x100, its rings at 0x200 and 0x300.
@@ -44,7 +49,7 @@ fn offer(memory: &mut [u8], chain: &[(u64, u32, u8, u8)], heads: u8) {
 /// A guest types `ls`, its buffer takes one byte, and on another board it finds the other.
 #[test]
 fn a_guest_goes_on_where_it_was_saved() {
-    let mut first = Board::new(&[slot()], &[7; 1024], 1).expect("a board");
+    let mut first = over_image(&[7; 1024]);
     for (offset, value) in BRING_UP {
         let _ = first
             .write(0, Window::Console, offset, 4, value)
@@ -67,7 +72,7 @@ fn a_guest_goes_on_where_it_was_saved() {
     let disk = first.image().expect("an image").to_vec();
     drop(first);
 
-    let mut second = Board::new(&[slot()], &disk, 8).expect("a board");
+    let mut second = over_image(&disk);
     second
         .memory(0, MEMORY)
         .expect("a memory")
@@ -92,7 +97,7 @@ fn a_guest_goes_on_where_it_was_saved() {
 
 #[test]
 fn a_short_buffer_is_left_as_it_was() {
-    let board = Board::new(&[slot()], &[7; 1024], 1).expect("a board");
+    let board = over_image(&[7; 1024]);
     let len = board.saved_len(0).expect("a length");
     let mut buffer = vec![0xaa; len + 1];
     assert_eq!(
@@ -107,7 +112,7 @@ fn a_short_buffer_is_left_as_it_was() {
 
 #[test]
 fn each_refusal_of_a_restore_is_told() {
-    let mut board = Board::new(&[slot()], &[7; 1024], 1).expect("a board");
+    let mut board = over_image(&[7; 1024]);
     let fresh = board.save(0).expect("a snapshot");
     let with = |place: usize, byte: u8| {
         let mut bytes = fresh.clone();
@@ -135,7 +140,11 @@ fn a_paused_service_is_busy() {
         chains: NonZeroU32::new(1),
         bytes: None,
     };
-    let mut board = Board::with_budget(&[slot()], &[7; 1024], 1, budget).expect("a board");
+    let slots = [slot()];
+    let config = Config::new(&slots)
+        .with_image(&[7; 1024])
+        .with_budget(budget);
+    let mut board = Board::create(&config).expect("a board");
     let fresh = board.save(0).expect("a snapshot");
     for (offset, value) in BRING_UP {
         let _ = board
@@ -159,7 +168,8 @@ fn a_paused_service_is_busy() {
 
 #[test]
 fn a_disk_at_work_is_busy() {
-    let mut board = HostedBoard::new(&[slot()]).expect("a board");
+    let hosted = [Slot::hosted(MEMORY, LEN, 2)];
+    let mut board = Board::create(&Config::new(&hosted)).expect("a board");
     let fresh = board.save(0).expect("a snapshot");
     for (offset, value) in BRING_UP {
         let _ = board
@@ -183,7 +193,7 @@ fn a_disk_at_work_is_busy() {
 
     // a slot over an image takes it
     let devices = board.save(0).expect("a snapshot");
-    let mut over_image = Board::new(&[slot()], &[7; 1024], 1).expect("a board");
+    let mut over_image = over_image(&[7; 1024]);
     let pending = over_image.restore(0, &devices).expect("a restore");
     assert_eq!(pending.interrupts.block, 1);
 }

@@ -1,6 +1,6 @@
 //! The host of `host.c`, in Rust: the same guest, on a thread of its own, and the same lines.
 
-use kalyubos::{Board, Budget, Error, Slot, Window};
+use kalyubos::{Board, Budget, Config, Error, Slot, Window};
 use std::error;
 use std::num::NonZeroU32;
 use std::thread;
@@ -171,7 +171,9 @@ fn main() -> Result<(), Box<dyn error::Error>> {
         chains: NonZeroU32::new(1),
         bytes: None,
     };
-    let mut board = Board::with_budget(&[slot], &image, 8, budget)?;
+    let slots = [slot];
+    let config = Config::new(&slots).with_image(&image).with_budget(budget);
+    let mut board = Board::create(&config)?;
     thread::scope(|cpus| {
         cpus.spawn(|| guest(&mut board))
             .join()

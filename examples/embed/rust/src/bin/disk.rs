@@ -2,7 +2,7 @@
 //! a board of its own and a thread of its own, which is its CPU and makes its calls; its disk is a thread that knows the file
 //! and no guest. Guests share nothing, and need no lock.
 
-use kalyubos::{HostedBoard, Kind, Operation, Outcome, Served, Slot, Window};
+use kalyubos::{Board, Config, Kind, Operation, Outcome, Pending, Slot, Window};
 use std::error::Error;
 use std::fs::{self, File};
 use std::io;
@@ -64,7 +64,7 @@ fn serve(file: File, orders: Receiver<Order>, ends: Sender<(Order, Outcome)>) {
 
 struct Guest {
     number: usize,
-    board: HostedBoard,
+    board: Board,
     path: PathBuf,
     orders: Sender<Order>,
     ends: Receiver<(Order, Outcome)>,
@@ -79,13 +79,13 @@ impl Guest {
             std::env::temp_dir().join(format!("kalyubos-disk-{}-{number}", std::process::id()));
         fs::write(&path, vec![b'a' + number as u8; DISK_LEN as usize])?;
         let file = File::options().read(true).write(true).open(&path)?;
-        let slot = Slot::new(MEMORY, MEMORY_LEN, 0..DISK_LEN / SECTOR_LEN as u64);
+        let slot = Slot::hosted(MEMORY, MEMORY_LEN, DISK_LEN / SECTOR_LEN as u64);
         let (orders, taken) = channel();
         let (sent, ends) = channel();
         thread::spawn(move || serve(file, taken, sent));
         Ok(Guest {
             number,
-            board: HostedBoard::new(&[slot])?,
+            board: Board::create(&Config::new(&[slot]))?,
             path,
             orders,
             ends,
@@ -95,9 +95,9 @@ impl Guest {
     }
 
     /// What a call came to: the line, and what the disk is asked for from now on.
-    fn take_in(&mut self, served: Served) -> Result<()> {
-        self.line = served.pending.interrupts.block;
-        if served.io {
+    fn take_in(&mut self, pending: Pending) -> Result<()> {
+        self.line = pending.interrupts.block;
+        if pending.io {
             self.begin()?;
         }
         Ok(())
@@ -131,8 +131,8 @@ impl Guest {
                 rest = behind;
             }
         }
-        let served = self.board.complete(0, outcome)?;
-        self.take_in(served)
+        let pending = self.board.complete(0, outcome)?;
+        self.take_in(pending)
     }
 
     /// A store. One that resets the device, or its queue, waits for what is in flight.
@@ -140,7 +140,7 @@ impl Guest {
         loop {
             match self.board.write(0, window, offset, 4, value) {
                 Err(kalyubos::Error::Busy) => self.wait_for_disk()?,
-                served => return self.take_in(served?),
+                pending => return self.take_in(pending?),
             }
         }
     }
