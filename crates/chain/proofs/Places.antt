@@ -4,7 +4,7 @@ use Rattle.std.specs.Prelude.{All, if◌then◌else◌}
 use Rattle.std.specs.List.{flat_map, range_with_len}
 use mathlib.Core.Bool.{beq}
 use Rattle.std.proofs.lemmas.Bool.{cases_lt, lt-ltb, le-ltb}
-use Rattle.std.proofs.lemmas.List.{take_all, take_more, take-append-drop, drop_more, drop_at, drop-drop, drop-take, drop-append-le, take-append-le, take-take, length-drop, length-take, ext_get_or, get_or-drop, get_or-take}
+use Rattle.std.proofs.lemmas.List.{take_all, take_rest, take_more, take-append-drop, drop_more, drop_at, drop-drop, drop-take, drop-append-le, take-append-le, take-take, length-drop, length-take, ext_get_or, get_or-drop, get_or-take}
 use Rattle.std.proofs.lemmas.List.Elements.{All-head, All-tail}
 use Rattle.std.proofs.lemmas.List.FromFn.{length-range_with_len, get_or-range_with_len}
 use Rattle.std.proofs.lemmas.List.Sums.{sum_by-cons}
@@ -131,6 +131,22 @@ rest_addresses (s ∷ ss) k n h l =
           rw e (ap (take n) (drop_behind p rest s.len k len far)
           ∙ rest_addresses ss (k - s.len) n (behind_size s ss k far h) (rw e at l))
     ]
+
+-- At the last place the list ends in the address of what is left there, which lies in the memory.
+pub last_address : (ss : List Segment) (k : ℕ) → k + 1 ≡ size ss → length (flat_map addresses ss) ≡ size ss
+    → drop k (flat_map addresses ss) ≡ (rest_at ss k).addr ∷ []
+last_address ss k last sized =
+    let there : k < size ss = omega (arith, last) in
+    let one = rest_addresses ss k 1 there (rest_some ss k there) in
+    let all = take_rest (flat_map addresses ss) k in
+    let rest : length (flat_map addresses ss) - k ≡ 1 = omega (arith, last, sized) in
+    sym all ∙ ap (λ n. take n (drop k (flat_map addresses ss))) rest ∙ one
+
+pub last_inside : (m : Memory) (ss : List Segment) (k : ℕ) → k + 1 ≡ size ss → All (InMemory m) ss
+    → Inside m (rest_at ss k).addr 1
+last_inside m ss k last inside =
+    let there : k < size ss = omega (arith, last) in
+    inside_part (rest_inside m ss k inside there) (omega arith) (omega (arith, rest_some ss k there))
 
 -- a buffer of the other direction has no segment here, one of this direction has the first
 segments_of-miss : (w : Bool) (b : Buffer) (bs : List Buffer) → beq b.writable w ≡ false

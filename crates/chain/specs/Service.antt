@@ -26,6 +26,10 @@ pub record Kind (Ring : Type 0) : Type 1 where
   pub used : Memory → Ring → Entry → ℕ → Bool → Memory
   -- the ring behind an entry, and after a fault
   pub past : Ring → Entry → Ring
+  -- the ring behind a chain that stays in flight, and once such a chain's entry is written: chains in flight
+  -- come back in any order
+  pub launched : Ring → Entry → Ring
+  pub landed : Ring → Entry → Ring
   pub stopped : Ring → Ring
   -- the memory with the closing writes, whether a notification is wanted on it, and the ring once it is
   -- closed

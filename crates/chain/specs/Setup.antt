@@ -1,5 +1,5 @@
 -- How a virtqueue is set up, where its areas lie (2.6), and how far it is served.
-use Rattle.std.specs.Prelude.{◌≡◌, ℕ, ◌%◌, Bool, ◌&&◌, ◌==◌}
+use Rattle.std.specs.Prelude.{◌≡◌, ℕ, ◌+◌, ◌-◌, ◌%◌, Bool, ◌&&◌, ◌==◌}
 use Rattle.guest_memory.specs.Memory.{Memory, Inside, is_inside}
 use Rattle.chain.specs.declared.setup.Setup.{Setup}
 use Rattle.chain.specs.declared.setup.Areas.{Areas}
@@ -42,12 +42,16 @@ fits_in m setup areas = is_aligned setup areas && lies_in m setup areas
 
 -- a ring before its first service
 abbrev pub new_ring : Setup → RingState
-new_ring setup = record { setup = setup; place = 0; pending = 0; used_count = 0 }
+new_ring setup = record { setup = setup; place = 0; pending = 0; used_count = 0; ahead = 0 }
 
 -- the ring, served so far
-abbrev pub served_so_far : ℕ → ℕ → ℕ → RingState → RingState
-served_so_far place pending used_count ring =
-    record ring { place = place; pending = pending; used_count = used_count }
+abbrev pub served_so_far : ℕ → ℕ → ℕ → ℕ → RingState → RingState
+served_so_far place pending used_count ahead ring =
+    record ring { place = place; pending = pending; used_count = used_count; ahead = ahead }
+
+-- the ring behind a chain of so many places that stays in flight: it isn't taken again, and not used yet
+abbrev pub launched : ℕ → RingState → RingState
+launched places ring = record ring { pending = ring.pending - places; ahead = ring.ahead + places }
 
 -- the ring after a fault: nothing more is taken in this service
 abbrev pub stopped : RingState → RingState

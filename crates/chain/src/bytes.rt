@@ -1,8 +1,8 @@
 //! The two lists by places: lending what lies in one segment, and copying over as many as it takes.
 
-ghost use Rattle.std.specs.Prelude.{◌≡◌, ℕ, List, ◌+◌, ◌<◌, ◌≤◌, length, take, drop, min, All};
+ghost use Rattle.std.specs.Prelude.{◌≡◌, ℕ, List, [], ◌∷◌, ◌+◌, ◌-◌, ◌<◌, ◌≤◌, length, take, drop, min, All};
 ghost use Rattle.std.specs.Borrow.{sem};
-ghost use Rattle.guest_memory.specs.Memory.{SameRange, part_of, put};
+ghost use Rattle.guest_memory.specs.Memory.{Inside, Memory, SameRange, part_of, put};
 ghost use Rattle.guest_memory.specs.Lending.{LendsPart};
 ghost use Rattle.chain.specs.Buffers.{Within};
 ghost use Rattle.chain.specs.Bytes.{readable_of, readable_rest, scatter, writable_of, writable_rest};
@@ -77,6 +77,15 @@ impl Chain {
             scatter mem.old (drop from (writable_of self.now)) bytes }
     {
         Chain::lend(mem, self, from, most)
+    }
+
+    /// The address of the last byte that the device may write.
+    pub fn last_writable(&self) -> u64
+        requires { 0 < length (writable_of self.now) }
+        ensures value { drop (length (writable_of self.now) - 1) (writable_of self.now) ≡ result ∷ [] }
+        ensures inside { (m : Memory) → All (Within m) self.now → Inside m result 1 }
+    {
+        self.segment_at(true, self.writable_len() - 1).addr
     }
 
     /// Copies the bytes from place `from` of the readable list on into all of `into`.

@@ -18,7 +18,7 @@ pub struct Counts {
 
 impl Counts {
     /// Counts a chain with so many readable bytes that was given back with this used length.
-    pub(crate) fn used(&mut self, readable: u32, written: u32) {
+    pub fn used(&mut self, readable: u32, written: u32) {
         self.chains = self.chains.wrapping_add(1);
         self.bytes_in = self.bytes_in.wrapping_add(u64::from(written));
         self.bytes_out = self.bytes_out.wrapping_add(u64::from(readable));

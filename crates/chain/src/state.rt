@@ -9,12 +9,14 @@ use crate::setup::Setup;
 pub struct RingState {
     /// How it is set up.
     pub setup: Setup,
-    /// The place of the next chain.
+    /// The place of the next used entry.
     pub place: u16,
     /// How much its service may still take: chains of a split ring, places of a packed one.
     pub pending: u16,
     /// How much its service has used.
     pub used_count: u16,
+    /// How many places ahead of that the next chain is: those of the chains in flight, which were taken and aren't used yet.
+    pub ahead: u16,
 }
 
 impl RingState {
@@ -29,18 +31,20 @@ impl RingState {
             place: 0,
             pending: 0,
             used_count: 0,
+            ahead: 0,
         }
     }
 
     /// The ring, served so far.
-    pub fn served_so_far(self, place: u16, pending: u16, used_count: u16) -> RingState
-        ensures { result ≡ served_so_far place pending used_count self }
+    pub fn served_so_far(self, place: u16, pending: u16, used_count: u16, ahead: u16) -> RingState
+        ensures { result ≡ served_so_far place pending used_count ahead self }
     {
         RingState {
             setup: self.setup,
             place,
             pending,
             used_count,
+            ahead,
         }
     }
 

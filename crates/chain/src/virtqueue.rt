@@ -1,4 +1,4 @@
-//! What a virtqueue is to a device: the four calls of a service, whatever its layout.
+//! What a virtqueue is to a device: the calls of a service, whatever its layout.
 
 ghost use Rattle.std.specs.Prelude.{◌≡◌, ℕ, ◌<◌, ◌↔◌, [], true, is_some, IsTrue, IfSome, IfNone, IfOk, IfErr, OnOk, OnErr};
 ghost use Rattle.std.specs.Result.{result_err};
@@ -48,6 +48,9 @@ pub trait Virtqueue {
     // the token names the chain at the queue's place, and the service may still take it
     ghost IsTaken: { Self → Self.Token → Type 0 };
 
+    // the token names a chain in flight
+    ghost IsAhead: { Self → Self.Token → Type 0 };
+
     // how much a service may still take: chains, or places
     ghost left_of: { Self → ℕ };
 
@@ -95,6 +98,27 @@ pub trait Virtqueue {
         ensures used { mem.new ≡ kind.used mem.old self.old (entry_of token) used.len used.wrote }
         ensures past { self.new ≡ kind.past self.old (entry_of token) }
         ensures fewer { left_of self.new < left_of self.old }
+        ensures range { SameRange mem.old mem.new }
+        ensures lies { LiesIn mem.new self.new }
+        ensures made { made_as self.new ≡ made_as self.old };
+
+    /// Leaves the chain that was taken last in flight, and goes on behind it. The driver isn't told of it until `land`
+    /// gives it back by its token.
+    fn launch(&mut self, token: &Self::Token)
+        requires taken { IsTaken self.old token.now }
+        ensures launched { self.new ≡ kind.launched self.old (entry_of token.now) }
+        ensures ahead { IsAhead self.new token.now }
+        ensures fewer { left_of self.new < left_of self.old }
+        ensures lies { (m : Memory) → LiesIn m self.old → LiesIn m self.new }
+        ensures made { made_as self.new ≡ made_as self.old };
+
+    /// Gives a chain in flight back to the driver as used, whichever it is. The service takes no more chains; `close` ends
+    /// it.
+    fn land<A: Allocator>(&mut self, mem: &mut GuestMemory<A>, token: Self::Token, used: Used)
+        requires lies { LiesIn mem.old self.old }
+        requires ahead { IsAhead self.old token }
+        ensures used { mem.new ≡ kind.used mem.old self.old (entry_of token) used.len used.wrote }
+        ensures landed { self.new ≡ kind.landed self.old (entry_of token) }
         ensures range { SameRange mem.old mem.new }
         ensures lies { LiesIn mem.new self.new }
         ensures made { made_as self.new ≡ made_as self.old };

@@ -37,10 +37,10 @@ pub record KeepsDevice (old new : WindowState) : Type 0 where
   pub offered : new.negotiation.offered ≡ old.negotiation.offered
   pub generation : configuration_changes old.kind ≡ false → new.config_generation ≡ old.config_generation
 
-KeepsDevice-self : (w : WindowState) → KeepsDevice w w
+pub KeepsDevice-self : (w : WindowState) → KeepsDevice w w
 KeepsDevice-self w = record { kind = refl; offered = refl; generation = λ never. refl }
 
-KeepsDevice-trans : (a b c : WindowState) → KeepsDevice a b → KeepsDevice b c → KeepsDevice a c
+pub KeepsDevice-trans : (a b c : WindowState) → KeepsDevice a b → KeepsDevice b c → KeepsDevice a c
 KeepsDevice-trans a b c first second = record {
   kind = second.kind ∙ first.kind;
   offered = second.offered ∙ first.offered;

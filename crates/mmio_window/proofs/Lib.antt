@@ -8,6 +8,7 @@ pub mod Services
 pub mod Pieces
 pub mod PiecesExact
 pub mod Stages
+pub mod Ahead
 pub mod Courses
 pub mod Noting
 pub mod Leaving

@@ -13,7 +13,7 @@ use Rattle.mmio_window.specs.declared.interrupts.Interrupts.{Interrupts}
 use Rattle.mmio_window.specs.declared.queue.Queue.{Queue}
 use Rattle.mmio_window.specs.declared.queue_registers.QueueRegisters.{QueueRegisters}
 use Rattle.mmio_window.specs.declared.register.Register.{Register}
-use Rattle.mmio_window.specs.declared.register.Register.TheVariants.{QueueReady}
+use Rattle.mmio_window.specs.declared.register.Register.TheVariants.{QueueNum, QueueReady, QueueDescLow, QueueDescHigh, QueueDriverLow, QueueDriverHigh, QueueDeviceLow, QueueDeviceHigh}
 use Rattle.mmio_window.specs.DeviceKind.{queue_of}
 use Rattle.mmio_window.specs.QueueRegisters.{queue_written, ring_of, set_up}
 use Rattle.mmio_window.specs.Reading.{configuration_offset}
@@ -141,15 +141,48 @@ queue_held : (register : Register) (value : ℕ) (m : Memory) (n : NegotiationSt
 queue_held QueueReady value m n old stops was = cc
 queue_held register value m n old stops was = set_up_stays old (set_up register value old) old.ring was
 
--- kind and live stay, and so does each ready queue
+-- and one that isn't ready doesn't become so
+set_up_ring : (register : Register) (value : ℕ) (old : QueueRegisters)
+    → (set_up register value old).ring ≡ old.ring
+set_up_ring QueueNum value old = refl
+set_up_ring QueueDescLow value old = refl
+set_up_ring QueueDescHigh value old = refl
+set_up_ring QueueDriverLow value old = refl
+set_up_ring QueueDriverHigh value old = refl
+set_up_ring QueueDeviceLow value old = refl
+set_up_ring QueueDeviceHigh value old = refl
+set_up_ring register value old = refl
+
+without_ring : (taken : Bool) (old other : QueueRegisters) → other.ring ≡ old.ring
+    → (cond taken old other).ring ≡ old.ring
+without_ring true old other same = refl
+without_ring false old other same = same
+
+queue_unset : (register : Register) (value : ℕ) (m : Memory) (n : NegotiationState) (old : QueueRegisters)
+    → stops_queues register ≡ false
+    → old.ring ≡ None → (queue_written register value m n old).ring ≡ None
+queue_unset QueueReady value m n old stops was = cc
+queue_unset register value m n old stops was =
+    without_ring (is_some old.ring) old (set_up register value old) (set_up_ring register value old) ∙ was
+
+-- kind and live stay, so does each ready queue, and no other becomes ready
 record Holds (old new : WindowState) : Type 0 where
   kind : new.kind ≡ old.kind
   live : is_live new.negotiation ≡ is_live old.negotiation
   queue_0 : IsSome old.queue_0.ring → new.queue_0 ≡ old.queue_0
   queue_1 : IsSome old.queue_1.ring → new.queue_1 ≡ old.queue_1
+  unset_0 : old.queue_0.ring ≡ None → new.queue_0.ring ≡ None
+  unset_1 : old.queue_1.ring ≡ None → new.queue_1.ring ≡ None
 
 Holds-self : (w : WindowState) → Holds w w
-Holds-self w = record { kind = refl; live = refl; queue_0 = λ was. refl; queue_1 = λ was. refl }
+Holds-self w = record {
+  kind = refl;
+  live = refl;
+  queue_0 = λ was. refl;
+  queue_1 = λ was. refl;
+  unset_0 = λ was. was;
+  unset_1 = λ was. was;
+}
 
 Holds-queue : (register : Register) (value : ℕ) (m : Memory) (w : WindowState) (queue : Option QueueIndex)
     → stops_queues register ≡ false
@@ -161,6 +194,8 @@ Holds-queue register value m w (Some Queue0) stops =
       live = refl;
       queue_0 = queue_held register value m w.negotiation w.queue_0 stops;
       queue_1 = λ was. refl;
+      unset_0 = queue_unset register value m w.negotiation w.queue_0 stops;
+      unset_1 = λ was. was;
     }
 Holds-queue register value m w (Some Queue1) stops =
     record {
@@ -168,6 +203,8 @@ Holds-queue register value m w (Some Queue1) stops =
       live = refl;
       queue_0 = λ was. refl;
       queue_1 = queue_held register value m w.negotiation w.queue_1 stops;
+      unset_0 = λ was. was;
+      unset_1 = queue_unset register value m w.negotiation w.queue_1 stops;
     }
 
 live_by_test : (settled : Bool) (n : NegotiationState) (accepted : ℕ)
@@ -187,9 +224,18 @@ Holds-register_written register value m w =
           (with_feature_word w.driver_features_sel value w.negotiation.accepted);
       queue_0 = λ was. refl;
       queue_1 = λ was. refl;
+      unset_0 = λ was. was;
+      unset_1 = λ was. was;
     })
     (λ (device_sel driver_sel queue_sel shm_sel : ℕ) (interrupts : Interrupts).
-    record { kind = refl; live = refl; queue_0 = λ was. refl; queue_1 = λ was. refl })
+    record {
+      kind = refl;
+      live = refl;
+      queue_0 = λ was. refl;
+      queue_1 = λ was. refl;
+      unset_0 = λ was. was;
+      unset_1 = λ was. was;
+    })
     (Holds-self w) register
 
 Holds-written : (answered : Bool) (register : Option Register) (value : ℕ) (m : Memory) (w : WindowState)
@@ -221,6 +267,14 @@ served_held true (Some Queue0) w w' ring h e =
 served_held true (Some Queue1) w w' ring h e =
     ap (λ (r : QueueRegisters). r.ring) (h.queue_1 (some_ring w.queue_1.ring ring e)) ∙ e
 
+unserved_held : (live : Bool) (queue : Option QueueIndex) (w w' : WindowState) → Holds w w'
+    → cond live (option_and_then (λ registers. registers.ring) (registers_in queue w)) None ≡ None
+    → cond live (option_and_then (λ registers. registers.ring) (registers_in queue w')) None ≡ None
+unserved_held false queue w w' h e = refl
+unserved_held true None w w' h e = refl
+unserved_held true (Some Queue0) w w' h e = h.unset_0 e
+unserved_held true (Some Queue1) w w' h e = h.unset_1 e
+
 pub ready_queue_outlasts : ReadyQueueOutlasts
 ready_queue_outlasts offset width value m w stops =
     let h = Holds-written (nat_lt offset configuration_offset && width == 4)
@@ -230,4 +284,6 @@ ready_queue_outlasts offset width value m w stops =
       ready = λ q registers e is. rw h.kind (ready_held (queue_of w.kind q) w w' registers h e is);
       served = λ q queue e. rw (h.kind, h.live)
           (served_held (is_live w.negotiation) (queue_of w.kind q) w w' queue h e);
+      unserved = λ q e. rw (h.kind, h.live)
+          (unserved_held (is_live w.negotiation) (queue_of w.kind q) w w' h e);
     }

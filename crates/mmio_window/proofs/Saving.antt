@@ -25,25 +25,25 @@ use Rattle.mmio_window.proofs.Rings.{LiesIn-same, is_made}
 -- ---- a ring
 
 -- a ring that is served so far was made as it was
-made_by_test : (of : RingState → Queue) (ring : RingState) (place pending used_count : ℕ)
+made_by_test : (of : RingState → Queue) (ring : RingState) (place pending used_count ahead : ℕ)
     (reached : Bool) (to : Queue)
     → (kept : (r : RingState) → r.setup ≡ ring.setup → made_as (of r) ≡ made_as (of ring))
     → option_map of (cond reached
-    (Some (record ring { place = place; pending = pending; used_count = used_count })) None) ≡ Some to
+    (Some (record ring { place = place; pending = pending; used_count = used_count; ahead = ahead })) None) ≡ Some to
     → made_as to ≡ made_as (of ring)
-made_by_test of ring place pending used_count false to kept e = cc
-made_by_test of ring place pending used_count true to kept e =
-    let served : RingState = record ring { place = place; pending = pending; used_count = used_count } in
+made_by_test of ring place pending used_count ahead false to kept e = cc
+made_by_test of ring place pending used_count ahead true to kept e =
+    let served : RingState = record ring { place = place; pending = pending; used_count = used_count; ahead = ahead } in
     let same : of served ≡ to = cc in
     sym (ap made_as same) ∙ kept served refl
 
 made_as-served_to : (reached : Reached) (ring to : Queue) → served_to reached ring ≡ Some to
     → made_as to ≡ made_as ring
 made_as-served_to reached (Split ring) to e =
-    made_by_test Split ring reached.place reached.pending reached.used_count _ to
+    made_by_test Split ring reached.place reached.pending reached.used_count reached.ahead _ to
     (λ r same. ap (λ (s : Setup). Split (new_ring s)) same) e
 made_as-served_to reached (Packed ring) to e =
-    made_by_test Packed ring reached.place reached.pending reached.used_count _ to
+    made_by_test Packed ring reached.place reached.pending reached.used_count reached.ahead _ to
     (λ r same. ap (λ (s : Setup). Packed (new_ring s)) same) e
 
 -- ---- a queue

@@ -1,5 +1,5 @@
 -- A ready queue as a kind of ring, by cases: what a service of it is. Devices speak of this kind alone.
-use Rattle.std.specs.Prelude.{ℕ, Bool, Option, List}
+use Rattle.std.specs.Prelude.{◌≡◌, ℕ, ◌<◌, ◌≤◌, ⊤, Bool, Option, Some, None, List, sum_by, All}
 use Rattle.guest_memory.specs.Memory.{Memory}
 use Rattle.chain.specs.declared.segment.Buffer.{Buffer}
 use Rattle.chain.specs.declared.fault.Fault.{Fault}
@@ -42,6 +42,42 @@ IsTaken (Split ring) (token.Split taken) = split.IsTaken ring taken
 IsTaken (Packed ring) (token.Packed taken) = packed.IsTaken ring taken
 IsTaken _ _ = ⊥
 
+-- the token is of the queue's kind and names a chain in flight
+abbrev pub IsAhead : Queue → Token → Type 0
+IsAhead (Split ring) (token.Split taken) = split.IsAhead ring taken
+IsAhead (Packed ring) (token.Packed taken) = packed.IsAhead ring taken
+IsAhead _ _ = ⊥
+
+-- the token is of the queue's kind, and its list fits it
+abbrev pub Fits : Queue → Token → Type 0
+Fits (Split ring) (token.Split taken) = Unit {0}
+Fits (Packed ring) (token.Packed taken) = (0 < taken.length) × (taken.length ≤ ring.setup.size)
+Fits _ _ = ⊥
+
+-- how many places further the next chain is: those of the chains in flight
+abbrev pub ahead_of : Queue → ℕ
+ahead_of (Split ring) = ring.ahead
+ahead_of (Packed ring) = ring.ahead
+
+-- ---- chains in flight, each with a tag of its own
+
+abbrev pub TagFits : Queue → Option Token → Type 0
+TagFits queue None = ⊤
+TagFits queue (Some token) = Fits queue token
+
+abbrev pub tag_places : Option Token → ℕ
+tag_places None = 0
+tag_places (Some token) = (entry_of token).places
+
+-- The chains of these tags are in flight: their places lie between the next used entry and the next chain.
+pub record AreAhead (queue : Queue) (tags : List (Option Token)) : Type 0 where
+  pub each : All (TagFits queue) tags
+  pub places : sum_by tag_places tags ≤ ahead_of queue
+
+-- No others are in flight: the next chain is as many places ahead as they have.
+abbrev pub AreAll : Queue → List (Option Token) → Type 0
+AreAll queue tags = sum_by tag_places tags ≡ ahead_of queue
+
 -- ---- the kind, each part by cases
 
 abbrev pub opening_fault : Memory → Queue → Option Fault
@@ -72,6 +108,14 @@ abbrev pub past : Queue → Entry → Queue
 past (Split ring) entry = Split (split_kind.past ring entry)
 past (Packed ring) entry = Packed (packed_kind.past ring entry)
 
+abbrev pub launched : Queue → Entry → Queue
+launched (Split ring) entry = Split (split_kind.launched ring entry)
+launched (Packed ring) entry = Packed (packed_kind.launched ring entry)
+
+abbrev pub landed : Queue → Entry → Queue
+landed (Split ring) entry = Split (split_kind.landed ring entry)
+landed (Packed ring) entry = Packed (packed_kind.landed ring entry)
+
 abbrev pub stopped : Queue → Queue
 stopped (Split ring) = Split (split_kind.stopped ring)
 stopped (Packed ring) = Packed (packed_kind.stopped ring)
@@ -98,6 +142,8 @@ queue_kind = record {
   HasFault = HasFault;
   used = used;
   past = past;
+  launched = launched;
+  landed = landed;
   stopped = stopped;
   closed = closed;
   Wants = Wants;

@@ -1,5 +1,5 @@
 -- What a write leaves of a queue that is ready, and of the configuration's generation.
-use Rattle.std.specs.Prelude.{◌≡◌, ℕ, Bool, true, false, Some, IsSome}
+use Rattle.std.specs.Prelude.{◌≡◌, ℕ, Bool, true, false, None, Some, IsSome}
 use Rattle.std.specs.Option.{option_map_or}
 use Rattle.guest_memory.specs.Memory.{Memory}
 use Rattle.mmio_window.specs.declared.queue.Queue.{Queue}
@@ -22,12 +22,13 @@ stops_queues register = false
 abbrev pub may_stop_queues : ℕ → Bool
 may_stop_queues offset = option_map_or stops_queues (register_at offset) false
 
--- Each queue that was ready is so with the same registers and the same ring, and one that its device may
--- serve stays one.
+-- Each queue that was ready is so with the same registers and the same ring, one that its device may serve stays
+-- one, and no other becomes one.
 pub record KeepsQueues (old new : WindowState) : Type 0 where
   pub ready : (q : ℕ) (registers : QueueRegisters) → registers_of q old ≡ Some registers
       → IsSome registers.ring → registers_of q new ≡ Some registers
   pub served : (q : ℕ) (queue : Queue) → queue_at q old ≡ Some queue → queue_at q new ≡ Some queue
+  pub unserved : (q : ℕ) → queue_at q old ≡ None → queue_at q new ≡ None
 
 -- No write changes the size, an address or the ring of a ready queue: it stays as it is, or it isn't ready
 -- any more.

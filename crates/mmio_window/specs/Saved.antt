@@ -23,15 +23,25 @@ use Rattle.mmio_window.specs.Window.{WindowState}
 
 -- how far it is served
 abbrev pub reached_of : Queue → Reached
-reached_of (Split ring) = record { place = ring.place; pending = ring.pending; used_count = ring.used_count }
-reached_of (Packed ring) = record { place = ring.place; pending = ring.pending; used_count = ring.used_count }
+reached_of (Split ring) = record {
+  place = ring.place;
+  pending = ring.pending;
+  used_count = ring.used_count;
+  ahead = ring.ahead;
+}
+reached_of (Packed ring) = record {
+  place = ring.place;
+  pending = ring.pending;
+  used_count = ring.used_count;
+  ahead = ring.ahead;
+}
 
 -- the queue, served so far, if any service comes so far
 abbrev pub served_to : Reached → Queue → Option Queue
 served_to reached (Split ring) =
-    option_map Split (split.served_to reached.place reached.pending reached.used_count ring)
+    option_map Split (split.served_to reached.place reached.pending reached.used_count reached.ahead ring)
 served_to reached (Packed ring) =
-    option_map Packed (packed.served_to reached.place reached.pending reached.used_count ring)
+    option_map Packed (packed.served_to reached.place reached.pending reached.used_count reached.ahead ring)
 
 -- ---- the registers of a queue
 

@@ -1,8 +1,11 @@
 //! Laws of the definitions. The bodies are empty: each contract is a theorem.
 
-ghost use Rattle.chain.specs.Service.{HasAtMostOneChain, HasSomeChain};
+ghost use Rattle.std.specs.Prelude.{◌≡◌, ℕ, ◌<◌, List, Option, None, Some, get_or, length, set};
+ghost use Rattle.chain.specs.Service.{Entry, HasAtMostOneChain, HasSomeChain};
+ghost use Rattle.mmio_window.specs.declared.queue.Queue.{Queue};
+ghost use Rattle.mmio_window.specs.declared.queue.Token.{Token};
 ghost use Rattle.mmio_window.specs.Notifying.{NextPlaceIsIgnored, NotificationKeepsRegisters};
-ghost use Rattle.mmio_window.specs.Queue.{queue_kind};
+ghost use Rattle.mmio_window.specs.Queue.{AreAhead, AreAll, IsAhead, IsTaken, ahead_of, entry_of, queue_kind};
 ghost use Rattle.mmio_window.specs.Ready.{GenerationStays, ReadyQueueOutlasts, ReadyQueueStays};
 ghost use Rattle.mmio_window.specs.Soundness.{ReadyQueueIsItsRing, ServingKeepsSound, SoundForTheRange};
 
@@ -29,7 +32,7 @@ pub fn ready_queue_stays()
 {}
 
 /// A ready queue outlasts every write but those to Status and QueueReady, and so does what its device has taken from it:
-/// registers and ring stay, and a queue that the device may serve stays one.
+/// registers and ring stay, a queue that the device may serve stays one, and no other becomes one.
 pub fn ready_queue_outlasts()
     ensures { ReadyQueueOutlasts }
 {}
@@ -51,4 +54,28 @@ pub fn one_chain_or_fault_at_a_place()
 pub fn next_place_is_ignored()
     ensures same { NextPlaceIsIgnored }
     ensures keeps { NotificationKeepsRegisters }
+{}
+
+/// Chains in flight, each with a tag of its own, lie between the next used entry and the next chain, and each of them
+/// may land (`each`). It stays so as one is given a free tag (`launched`), as one of them lands, whichever it is
+/// (`landed`), and as a chain is served at once meanwhile (`served`). Where no others are in flight, the next chain is
+/// exactly as many places ahead as they have (`all_launched`, `all_landed`, `none_served`).
+pub fn what_is_in_flight_is_ahead()
+    ensures launched { (queue : Queue) (tags : List (Option Token)) (tag : ℕ) (token : Token) → tag < length tags
+        → AreAhead queue tags → get_or tags tag None ≡ None → IsTaken queue token
+        → AreAhead (queue_kind.launched queue (entry_of token)) (set tags tag (Some token)) }
+    ensures each { (queue : Queue) (tags : List (Option Token)) (tag : ℕ) (token : Token) → tag < length tags
+        → AreAhead queue tags → get_or tags tag None ≡ Some token → IsAhead queue token }
+    ensures landed { (queue : Queue) (tags : List (Option Token)) (tag : ℕ) (token : Token) → tag < length tags
+        → AreAhead queue tags → get_or tags tag None ≡ Some token
+        → AreAhead (queue_kind.landed queue (entry_of token)) (set tags tag None) }
+    ensures served { (queue : Queue) (tags : List (Option Token)) (entry : Entry) → AreAhead queue tags
+        → AreAhead (queue_kind.past queue entry) tags }
+    ensures all_launched { (queue : Queue) (tags : List (Option Token)) (tag : ℕ) (token : Token) → tag < length tags
+        → AreAll queue tags → get_or tags tag None ≡ None → IsTaken queue token
+        → AreAll (queue_kind.launched queue (entry_of token)) (set tags tag (Some token)) }
+    ensures all_landed { (queue : Queue) (tags : List (Option Token)) (tag : ℕ) (token : Token) → tag < length tags
+        → AreAll queue tags → AreAhead queue tags → get_or tags tag None ≡ Some token
+        → AreAll (queue_kind.landed queue (entry_of token)) (set tags tag None) }
+    ensures none_served { (queue : Queue) (entry : Entry) → ahead_of (queue_kind.past queue entry) ≡ ahead_of queue }
 {}

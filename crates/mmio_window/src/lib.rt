@@ -31,7 +31,7 @@ pub use interrupts::Interrupts;
 pub use laws::{
     generation_stays, next_place_is_ignored, one_chain_or_fault_at_a_place,
     ready_queue_is_its_ring, ready_queue_outlasts, ready_queue_stays, serving_keeps_sound,
-    sound_for_the_range,
+    sound_for_the_range, what_is_in_flight_is_ahead,
 };
 pub use queue::{Queue, Token};
 pub use queue_registers::QueueRegisters;

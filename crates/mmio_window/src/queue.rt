@@ -1,6 +1,6 @@
-//! A queue that is ready: a ring of one kind or the other, and the four calls of a service by cases.
+//! A queue that is ready: a ring of one kind or the other, and the calls of a service by cases.
 
-ghost use Rattle.mmio_window.specs.Queue.{IsTaken, LiesIn, entry_of, left_of, made_as, queue_kind};
+ghost use Rattle.mmio_window.specs.Queue.{IsAhead, IsTaken, LiesIn, entry_of, left_of, made_as, queue_kind};
 
 mod reached;
 mod view;
@@ -40,6 +40,8 @@ impl Virtqueue for Queue {
 
     ghost IsTaken = { IsTaken };
 
+    ghost IsAhead = { IsAhead };
+
     ghost left_of = { left_of };
 
     ghost made_as = { made_as };
@@ -76,6 +78,23 @@ impl Virtqueue for Queue {
         match (self, token) {
             (Queue::Split(ring), Token::Split(token)) => ring.give(mem, token, used),
             (Queue::Packed(ring), Token::Packed(token)) => ring.give(mem, token, used),
+            _ => unreachable!(),
+        }
+    }
+
+    fn launch(&mut self, token: &Token) {
+        match (self, token) {
+            (Queue::Split(ring), Token::Split(token)) => ring.launch(token),
+            (Queue::Packed(ring), Token::Packed(token)) => ring.launch(token),
+            _ => unreachable!(),
+        }
+    }
+
+    #[inline(always)]
+    fn land<A: Allocator>(&mut self, mem: &mut GuestMemory<A>, token: Token, used: Used) {
+        match (self, token) {
+            (Queue::Split(ring), Token::Split(token)) => ring.land(mem, token, used),
+            (Queue::Packed(ring), Token::Packed(token)) => ring.land(mem, token, used),
             _ => unreachable!(),
         }
     }

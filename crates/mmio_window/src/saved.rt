@@ -5,12 +5,14 @@ use crate::interrupts::Interrupts;
 /// How far a ready queue is served.
 #[derive(Clone, Copy, Debug, PartialEq, Eq)]
 pub struct Reached {
-    /// Its place.
+    /// The place of its next used entry.
     pub place: u16,
     /// How much its service may still take, where one is paused.
     pub pending: u16,
     /// How much its service has used, where one is paused.
     pub used_count: u16,
+    /// How many places are in flight.
+    pub ahead: u16,
 }
 
 /// The registers of one queue, and how far it is served while it is ready.

@@ -96,6 +96,13 @@ impl Window {
         }
     }
 
+    /// Whether the device may serve the queue.
+    pub fn may_serve(&self, q: u16) -> bool
+        ensures { result ≡ is_some (queue_at q self.now) }
+    {
+        self.served(u32::from(q)).is_some()
+    }
+
     // Which queue of the device has this number, where the window is live and the queue ready (2.1.2).
     fn served(&self, q: u32) -> Option<QueueIndex>
         ensures served { is_some result ≡ is_some (queue_at q self.now) }

@@ -66,15 +66,29 @@ ring_descriptor m desc n position =
 abbrev pub table_of : Memory → RingState → ℕ → Descriptor
 table_of m ring = ring_descriptor m ring.setup.desc ring.setup.size
 
--- the position of the ring's place, where the next list begins
-abbrev pub head_of : RingState → ℕ
-head_of ring = position_of ring.setup.size ring.place
+-- the place of the next list, behind those in flight
+abbrev pub next_taken : RingState → ℕ
+next_taken ring = place_ahead (2 * ring.setup.size) ring.place ring.ahead
 
--- the wrap counter of the ring's place (2.8.1)
+-- the position of the next list's place
+abbrev pub head_of : RingState → ℕ
+head_of ring = position_of ring.setup.size (next_taken ring)
+
+-- the position of the ring's place, where the next used descriptor is written
+abbrev pub used_head : RingState → ℕ
+used_head ring = position_of ring.setup.size ring.place
+
+-- the wrap counter of the ring's place, and of the next list's (2.8.1)
 abbrev pub wrap_counter : RingState → ℕ
 wrap_counter ring = wrap_counter_of ring.setup.size ring.place
 
--- the address of the descriptor at the ring's place
+abbrev pub next_wrap : RingState → ℕ
+next_wrap ring = wrap_counter_of ring.setup.size (next_taken ring)
+
+-- the addresses of the descriptors there
+abbrev pub used_addr : RingState → ℕ
+used_addr ring = descriptor_addr ring.setup.desc (used_head ring)
+
 abbrev pub head_addr : RingState → ℕ
 head_addr ring = descriptor_addr ring.setup.desc (head_of ring)
 
@@ -82,11 +96,11 @@ head_addr ring = descriptor_addr ring.setup.desc (head_of ring)
 abbrev pub bit_of : ℕ → ℕ → ℕ
 bit_of flags flag = if has_flag flags flag then 1 else 0
 
--- the descriptor at the ring's place is available: AVAIL equals the wrap counter, and USED doesn't (2.8.1)
+-- the descriptor at the next list's place is available: AVAIL equals the wrap counter, and USED doesn't (2.8.1)
 abbrev pub is_available : Memory → RingState → Bool
 is_available m ring =
     let flags = flags_of m (head_addr ring) in
-    bit_of flags avail_flag == wrap_counter ring && not (bit_of flags used_flag == wrap_counter ring)
+    bit_of flags avail_flag == next_wrap ring && not (bit_of flags used_flag == next_wrap ring)
 
 -- the place so many steps further
 abbrev pub place_behind : RingState → ℕ → ℕ
@@ -98,9 +112,9 @@ abbrev pub used_flags : ℕ → Bool → ℕ
 used_flags wrap wrote = wrap * avail_flag + wrap * used_flag + (if wrote then write_flag else 0)
 
 -- the memory once a list is used: how many bytes were written, the list's id and its flags stand in the
--- descriptor at the list's first position, whose address field stays (2.8.1, 2.8.4, 2.8.6)
+-- descriptor at the ring's place, whose address field stays (2.8.1, 2.8.4, 2.8.6)
 abbrev pub with_used : Memory → RingState → ℕ → ℕ → Bool → Memory
 with_used m ring id len wrote =
-    let addr = head_addr ring in
+    let addr = used_addr ring in
     put_num (put_num (put_num m (addr + 8) 4 len) (addr + 12) 2 id) (addr + 14) 2
     (used_flags (wrap_counter ring) wrote)

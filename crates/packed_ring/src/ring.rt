@@ -1,11 +1,11 @@
-//! The ring: its areas, its place, and the four calls of a service.
+//! The ring: its areas, its places, and the calls of a service.
 
 ghost use Rattle.std.specs.Prelude.{◌≡◌, ◌*◌, ◌<◌, ◌≤◌, ◌↔◌, if◌then◌else◌, IsTrue, IsSome, IfSome};
 ghost use Rattle.guest_memory.specs.Memory.{SameRange};
 ghost use Rattle.chain.specs.Setup.{IsUsable, new_ring};
-ghost use Rattle.packed_ring.specs.Ring.{IsQueueSize, LiesIn, areas_of, can_set_up, descriptor_addr, head_of, id_of, is_available, is_queue_size, used_flags, with_used, wrap_counter};
+ghost use Rattle.packed_ring.specs.Ring.{IsQueueSize, LiesIn, areas_of, can_set_up, descriptor_addr, head_of, id_of, is_available, is_queue_size, next_taken, next_wrap, used_flags, used_head, with_used, wrap_counter};
 ghost use Rattle.packed_ring.specs.Reached.{served_to};
-ghost use Rattle.packed_ring.specs.Kind.{IsTaken, entry_of, first_passed, packed_kind};
+ghost use Rattle.packed_ring.specs.Kind.{IsAhead, IsTaken, entry_of, first_passed, packed_kind};
 
 mod reached;
 mod view;
@@ -48,15 +48,15 @@ impl Model for PackedRing {
     ghost invariant = { λ r. record {
       number : IsQueueSize r.state.setup.size;
       below : r.state.place < 2 * r.state.setup.size;
-      fewer : r.state.used_count < 2 * r.state.setup.size;
-      most : 0 < r.state.pending → r.state.used_count + r.state.pending ≤ r.state.setup.size;
+      fewer : r.state.used_count + r.state.ahead < 2 * r.state.setup.size;
+      most : 0 < r.state.pending → r.state.used_count + r.state.ahead + r.state.pending ≤ r.state.setup.size;
     } };
 }
 
 /// A chain that was taken and not yet given back.
 #[derive(Debug, PartialEq, Eq, Drop)]
 pub struct Token {
-    /// The ring's place at which the chain was on offer.
+    /// The place at which the chain was on offer.
     pub place: u16,
     /// The buffer id of its list, which is that of the list's last descriptor.
     pub id: u16,
@@ -92,7 +92,7 @@ impl PackedRing {
     /// How it is set up, and how far it is served.
     pub fn state(&self) -> RingState
         ensures value { result ≡ self.now }
-        ensures reached { served_to self.now.place self.now.pending self.now.used_count self.now ≡ Some self.now }
+        ensures reached { served_to self.now.place self.now.pending self.now.used_count self.now.ahead self.now ≡ Some self.now }
     {
         self.state
     }
@@ -106,9 +106,26 @@ impl PackedRing {
         self.state.setup.size as u16
     }
 
-    /// The position of the ring's place.
+    /// The place of the next list.
+    #[inline(always)]
+    fn next_taken(&self) -> u16
+        ensures value { result ≡ next_taken self.now }
+        ensures below { result < 2 * self.now.setup.size }
+    {
+        reduced(self.state.place + self.state.ahead, 2 * self.size())
+    }
+
+    /// The position of the next list's place.
     fn head(&self) -> u16
         ensures value { result ≡ head_of self.now }
+        ensures below { result < self.now.setup.size }
+    {
+        reduced(self.next_taken(), self.size())
+    }
+
+    /// The position of the ring's place.
+    fn used_head(&self) -> u16
+        ensures value { result ≡ used_head self.now }
         ensures below { result < self.now.setup.size }
     {
         reduced(self.state.place, self.size())
@@ -121,8 +138,15 @@ impl PackedRing {
         self.state.place < self.size()
     }
 
+    /// The wrap counter of the next list's place, as whether it is 1 (2.8.1).
+    fn next_wrap(&self) -> bool
+        ensures { next_wrap self.now ≡ (if result then 1 else 0) }
+    {
+        self.next_taken() < self.size()
+    }
+
     #[tactic(auto, using(guest_memory::proofs::Ranges::inside_part, guest_memory::proofs::Ranges::inside_same))]
-    /// Whether the descriptor at the ring's place is available (2.8.1).
+    /// Whether the descriptor at the next list's place is available (2.8.1).
     fn is_available<A: Allocator>(&self, mem: &GuestMemory<A>) -> bool
         requires { LiesIn mem.now self.now.setup }
         ensures { result ≡ is_available mem.now self.now }
@@ -130,7 +154,8 @@ impl PackedRing {
         let offset = 16 * u64::from(self.head());
         mem.fits(self.state.setup.desc, 16 * u64::from(self.state.setup.size));
         let flags = mem.read_u16(self.state.setup.desc + offset + 14);
-        (flags & AVAIL != 0) == self.wrap_counter() && (flags & USED != 0) != self.wrap_counter()
+        let wrap = self.next_wrap();
+        (flags & AVAIL != 0) == wrap && (flags & USED != 0) != wrap
     }
 
     #[tactic(auto, using(guest_memory::proofs::Ranges::inside_part, guest_memory::proofs::Ranges::inside_same))]
@@ -153,7 +178,7 @@ impl PackedRing {
         ensures used { mem.new ≡ with_used mem.old self.now id len wrote }
         ensures range { SameRange mem.old mem.new }
     {
-        let offset = 16 * u64::from(self.head());
+        let offset = 16 * u64::from(self.used_head());
         mem.fits(self.state.setup.desc, 16 * u64::from(self.state.setup.size));
         let descriptor = self.state.setup.desc + offset;
         let flags = flags_of_used(self.wrap_counter(), wrote);
@@ -185,20 +210,22 @@ impl Virtqueue for PackedRing {
 
     ghost IsTaken = { IsTaken };
 
+    ghost IsAhead = { IsAhead };
+
     ghost left_of = { λ ring. ring.pending };
 
     ghost made_as = { λ ring. new_ring ring.setup };
 
-    /// Lists may be taken until as many places are passed as the queue has descriptors, or more. It reads nothing,
-    /// so it never has a fault.
+    /// Lists may be taken until as many places as the queue has descriptors, or more, are passed or in flight. It reads
+    /// nothing, so it never has a fault.
     fn open<A: Allocator>(&mut self, mem: &GuestMemory<A>) -> Result<(), Fault> {
         let _ = mem;
-        self.state.pending = self.size();
+        self.state.pending = self.size().saturating_sub(self.state.ahead);
         self.state.used_count = 0;
         Ok(())
     }
 
-    /// The next chain is the list at the ring's place, where that is available.
+    /// The next chain is the list at the next place, where that is available.
     #[inline(always)]
     fn take<A: Allocator>(
         &mut self,
@@ -216,7 +243,7 @@ impl Virtqueue for PackedRing {
         };
         match append_list(mem, table, self.head(), chain) {
             Ok(end) => Ok(Some(Token {
-                place: self.state.place,
+                place: self.next_taken(),
                 id: self.id(mem, end.last),
                 length: end.count + 1,
             })),
@@ -235,6 +262,21 @@ impl Virtqueue for PackedRing {
         self.state.place = reduced(self.state.place + token.length, 2 * self.size());
         self.state.pending = self.state.pending.saturating_sub(token.length);
         self.state.used_count += token.length;
+    }
+
+    fn launch(&mut self, token: &Token) {
+        self.state.pending = self.state.pending.saturating_sub(token.length);
+        self.state.ahead += token.length;
+    }
+
+    #[inline(always)]
+    fn land<A: Allocator>(&mut self, mem: &mut GuestMemory<A>, token: Token, used: Used) {
+        let Token { id, length, .. } = token;
+        self.put_used(mem, id, used.len, used.wrote);
+        self.state.place = reduced(self.state.place + length, 2 * self.size());
+        self.state.pending = 0;
+        self.state.used_count += length;
+        self.state.ahead -= length;
     }
 
     /// The closing write comes first (2.8.10), then the test.

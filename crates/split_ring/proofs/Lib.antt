@@ -1,5 +1,6 @@
 pub mod Sizes
 pub mod Outcomes
 pub mod Passing
+mod Landing
 mod Masks
 mod Using

@@ -42,17 +42,21 @@ table_of m ring = split_table m ring.setup.desc
 abbrev pub avail_idx : Memory → RingState → ℕ
 avail_idx m ring = num m (ring.setup.driver + 2) 2
 
--- how many heads the driver has put from the ring's place on
+-- the place of the next chain, behind those in flight
+abbrev pub next_taken : RingState → ℕ
+next_taken ring = place_ahead idx_modulus ring.place ring.ahead
+
+-- how many heads the driver has put from there on
 abbrev pub on_offer : Memory → RingState → ℕ
-on_offer m ring = (avail_idx m ring + (idx_modulus - ring.place)) % idx_modulus
+on_offer m ring = (avail_idx m ring + (idx_modulus - next_taken ring)) % idx_modulus
 
 -- the place behind the ring's place, which is what the used idx then tells (2.7.8)
 abbrev pub next_place : RingState → ℕ
 next_place ring = place_ahead idx_modulus ring.place 1
 
--- the head in the available entry of the ring's place: an index into the descriptor table (2.7.6)
+-- the head in the available entry of the next chain's place: an index into the descriptor table (2.7.6)
 abbrev pub head_of : Memory → RingState → ℕ
-head_of m ring = num m (ring.setup.driver + 4 + 2 * (ring.place % ring.setup.size)) 2
+head_of m ring = num m (ring.setup.driver + 4 + 2 * (next_taken ring % ring.setup.size)) 2
 
 -- the address of the used entry of the ring's place (2.7.8)
 abbrev pub used_entry : RingState → ℕ

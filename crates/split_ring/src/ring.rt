@@ -1,11 +1,11 @@
-//! The ring: its areas, its place, and the four calls of a service.
+//! The ring: its areas, its places, and the calls of a service.
 
 ghost use Rattle.std.specs.Prelude.{◌≡◌, ◌%◌, ◌<◌, ◌↔◌, if◌then◌else◌, IsTrue, IsSome, IfSome};
 ghost use Rattle.guest_memory.specs.Memory.{SameRange};
 ghost use Rattle.chain.specs.Setup.{IsUsable, new_ring};
-ghost use Rattle.split_ring.specs.Ring.{IsQueueSize, LiesIn, head_of, areas_of, can_set_up, is_queue_size, next_place, with_used};
+ghost use Rattle.split_ring.specs.Ring.{IsQueueSize, LiesIn, head_of, areas_of, can_set_up, is_queue_size, next_place, next_taken, with_used};
 ghost use Rattle.split_ring.specs.Reached.{served_to};
-ghost use Rattle.split_ring.specs.Kind.{IsTaken, entry_of, split_kind};
+ghost use Rattle.split_ring.specs.Kind.{IsAhead, IsTaken, entry_of, split_kind};
 
 mod reached;
 mod view;
@@ -36,13 +36,16 @@ impl Model for SplitRing {
 
     ghost view = { λ r. r.state };
 
-    ghost invariant = { λ r. record { number : IsQueueSize r.state.setup.size; most : r.state.used_count + r.state.pending ≤ r.state.setup.size } };
+    ghost invariant = { λ r. record {
+      number : IsQueueSize r.state.setup.size;
+      most : r.state.used_count + r.state.pending + r.state.ahead ≤ r.state.setup.size;
+    } };
 }
 
 /// A chain that was taken and not yet given back.
 #[derive(Debug, PartialEq, Eq, Drop)]
 pub struct Token {
-    /// The ring's place at which the chain was on offer.
+    /// The place at which the chain was on offer.
     pub place: u16,
     /// The index of its first descriptor.
     pub head: u16,
@@ -76,7 +79,7 @@ impl SplitRing {
     /// How it is set up, and how far it is served.
     pub fn state(&self) -> RingState
         ensures value { result ≡ self.now }
-        ensures reached { served_to self.now.place self.now.pending self.now.used_count self.now ≡ Some self.now }
+        ensures reached { served_to self.now.place self.now.pending self.now.used_count self.now.ahead self.now ≡ Some self.now }
     {
         self.state
     }
@@ -90,6 +93,14 @@ impl SplitRing {
         self.state.setup.size as u16
     }
 
+    // The place of the next chain.
+    #[inline(always)]
+    fn next_taken(&self) -> u16
+        ensures { result ≡ next_taken self.now }
+    {
+        self.state.place.wrapping_add(self.state.ahead)
+    }
+
     // The entry of a place in the available ring and in the used one.
     fn entry_at(&self, place: u16) -> u64
         ensures value { result ≡ place % self.now.setup.size }
@@ -100,12 +111,12 @@ impl SplitRing {
     }
 
     #[tactic(auto, using(guest_memory::proofs::Ranges::inside_part, guest_memory::proofs::Ranges::inside_same))]
-    /// The head in the available entry of the ring's place (2.7.6).
+    /// The head in the available entry of the next chain's place (2.7.6).
     pub fn head<A: Allocator>(&self, mem: &GuestMemory<A>) -> u16
         requires { LiesIn mem.now self.now.setup }
         ensures { result ≡ head_of mem.now self.now }
     {
-        let entry = 2 * self.entry_at(self.state.place);
+        let entry = 2 * self.entry_at(self.next_taken());
         mem.fits(
             self.state.setup.driver,
             6 + 2 * u64::from(self.state.setup.size),
@@ -144,7 +155,7 @@ impl SplitRing {
         mem.fits(self.state.setup.device, 6 + entries);
         mem.write_u16(self.state.setup.device, 0);
         if self.state.setup.event_idx {
-            mem.write_u16(self.state.setup.device + 4 + entries, self.state.place);
+            mem.write_u16(self.state.setup.device + 4 + entries, self.next_taken());
         }
     }
 }
@@ -160,21 +171,23 @@ impl Virtqueue for SplitRing {
 
     ghost IsTaken = { IsTaken };
 
+    ghost IsAhead = { IsAhead };
+
     ghost left_of = { λ ring. ring.pending };
 
     ghost made_as = { λ ring. new_ring ring.setup };
 
     #[tactic(auto, using(guest_memory::proofs::Ranges::inside_part, guest_memory::proofs::Ranges::inside_same))]
-    /// On offer are the heads that the driver has put into the available ring by now (2.7.13). More than the
-    /// queue has descriptors are a `Jump`.
+    /// On offer are the heads that the driver has put into the available ring by now (2.7.13). More than the queue has
+    /// descriptors, those in flight counted, are a `Jump`.
     fn open<A: Allocator>(&mut self, mem: &GuestMemory<A>) -> Result<(), Fault> {
         // So no address in the area passes 2^64.
         mem.fits(self.state.setup.driver, 6);
         let offered = mem
             .read_u16(self.state.setup.driver + 2)
-            .wrapping_sub(self.state.place);
+            .wrapping_sub(self.next_taken());
         self.state.used_count = 0;
-        if offered > self.size() {
+        if offered > self.size() - self.state.ahead {
             self.state.pending = 0;
             return Err(Fault::Jump);
         }
@@ -182,7 +195,7 @@ impl Virtqueue for SplitRing {
         Ok(())
     }
 
-    /// The next chain is that of the head at the ring's place.
+    /// The next chain is that of the head at its place.
     #[inline(always)]
     fn take<A: Allocator>(
         &mut self,
@@ -201,7 +214,7 @@ impl Virtqueue for SplitRing {
         };
         match append_path(mem, table, head, chain) {
             Ok(()) => Ok(Some(Token {
-                place: self.state.place,
+                place: self.next_taken(),
                 head,
             })),
             Err(fault) => {
@@ -220,6 +233,23 @@ impl Virtqueue for SplitRing {
         self.state.place = next;
         self.state.pending -= 1;
         self.state.used_count += 1;
+    }
+
+    fn launch(&mut self, token: &Token) {
+        let _ = token;
+        self.state.pending -= 1;
+        self.state.ahead += 1;
+    }
+
+    #[inline(always)]
+    fn land<A: Allocator>(&mut self, mem: &mut GuestMemory<A>, token: Token, used: Used) {
+        let Token { head, .. } = token;
+        let next = self.state.place.wrapping_add(1);
+        self.put_used(mem, head, used.len, next);
+        self.state.place = next;
+        self.state.pending = 0;
+        self.state.used_count += 1;
+        self.state.ahead -= 1;
     }
 
     /// The closing writes come first (2.7.10), then the test (2.7.7).

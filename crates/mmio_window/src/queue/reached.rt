@@ -28,11 +28,14 @@ impl Queue {
             place,
             pending,
             used_count,
+            ahead,
         } = reached;
         match self {
-            Queue::Split(ring) => ring.served_to(place, pending, used_count).map(Queue::Split),
+            Queue::Split(ring) => ring
+                .served_to(place, pending, used_count, ahead)
+                .map(Queue::Split),
             Queue::Packed(ring) => ring
-                .served_to(place, pending, used_count)
+                .served_to(place, pending, used_count, ahead)
                 .map(Queue::Packed),
         }
     }
@@ -40,11 +43,12 @@ impl Queue {
 
 /// How far a ring is served in this state.
 fn reached_of(state: RingState) -> Reached
-    ensures { result ≡ record { place = state.place; pending = state.pending; used_count = state.used_count } }
+    ensures { result ≡ record { place = state.place; pending = state.pending; used_count = state.used_count; ahead = state.ahead } }
 {
     Reached {
         place: state.place,
         pending: state.pending,
         used_count: state.used_count,
+        ahead: state.ahead,
     }
 }
