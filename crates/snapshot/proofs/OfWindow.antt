@@ -12,8 +12,8 @@ use Rattle.snapshot.proofs.Exact.{Always, IsBytes, IsBytes-rest, IsField, Takes,
 pub served_field : IsField served_at served ReachedFits
 unfolding served_at
 served_field =
-    made_field (both_field field16 (both_field field16 field16)) _
-    (λ r. (r.place, (r.pending, r.used_count))) (λ x fits. refl) (λ r. refl)
+    made_field (both_field field16 (both_field field16 (both_field field16 field16))) _
+    (λ r. (r.place, (r.pending, (r.used_count, r.ahead)))) (λ x fits. refl) (λ r. refl)
 
 reached_takes : (bytes : List ℕ) (r : Option Reached) (rest : List ℕ) → IsBytes bytes
     → reached_at bytes ≡ Ok (r, rest) → Takes bytes (reached r) rest × MayReach r

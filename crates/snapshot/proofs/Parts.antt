@@ -19,8 +19,8 @@ use Rattle.snapshot.proofs.Single.{byte_read, flag_read, identity_read, interrup
 served_read : IsRead served_at served served_fields ReachedFits
 unfolding served_at
 served_read =
-    made_read (both_read read16 (both_read read16 read16)) _
-    (λ r. (r.place, (r.pending, r.used_count))) (λ x fits. refl) (λ r. refl)
+    made_read (both_read read16 (both_read read16 (both_read read16 read16))) _
+    (λ r. (r.place, (r.pending, (r.used_count, r.ahead)))) (λ x fits. refl) (λ r. refl)
 
 reached_joins : (r : Option Reached) → joined (reached_fields r) ≡ reached r
 reached_joins None = refl

@@ -33,6 +33,7 @@ served_fields r =
     field (to_le_bytes w16 r.place)
     ∷ field (to_le_bytes w16 r.pending)
     ∷ field (to_le_bytes w16 r.used_count)
+    ∷ field (to_le_bytes w16 r.ahead)
     ∷ []
 
 abbrev pub reached_fields : Option Reached → List Field

@@ -88,8 +88,9 @@ interrupts_at (suc (suc (suc (suc b))) ∷ rest) = stop Choice (suc (suc (suc (s
 
 -- how far a queue is served
 unfoldable pub served_at : Reader Reached
-served_at = made (λ x. record { place = x.0; pending = x.1.0; used_count = x.1.1 })
-    (number_at w16 & number_at w16 & number_at w16)
+served_at =
+    made (λ x. record { place = x.0; pending = x.1.0; used_count = x.1.1.0; ahead = x.1.1.1 })
+    (number_at w16 & number_at w16 & number_at w16 & number_at w16)
 
 unfoldable pub reached_at : Reader (Option Reached)
 reached_at [] = stop Short []

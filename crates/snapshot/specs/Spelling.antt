@@ -12,7 +12,9 @@ use Rattle.snapshot.specs.declared.saved.SavedSlot.{SavedSlot}
 -- ---- a queue
 
 abbrev pub served : Reached → List ℕ
-served r = to_le_bytes w16 r.place ++ (to_le_bytes w16 r.pending ++ to_le_bytes w16 r.used_count)
+served r =
+    to_le_bytes w16 r.place
+    ++ (to_le_bytes w16 r.pending ++ (to_le_bytes w16 r.used_count ++ to_le_bytes w16 r.ahead))
 
 -- 0 where the queue isn't ready, and 1 and how far it is served where it is
 abbrev pub reached : Option Reached → List ℕ
@@ -78,7 +80,8 @@ snapshot s pending = opening 1 ++ (slot s ++ input pending)
 -- ---- what has a spelling: each number has the size of its field
 
 abbrev pub ReachedFits : Reached → Type 0
-ReachedFits r = (r.place < 2 ^ 16) × ((r.pending < 2 ^ 16) × (r.used_count < 2 ^ 16))
+ReachedFits r =
+    (r.place < 2 ^ 16) × ((r.pending < 2 ^ 16) × ((r.used_count < 2 ^ 16) × (r.ahead < 2 ^ 16)))
 
 abbrev pub MayReach : Option Reached → Type 0
 MayReach r = IfSome r ReachedFits

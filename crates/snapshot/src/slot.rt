@@ -17,6 +17,7 @@ impl Reader<'_> {
             place: self.u16()?,
             pending: self.u16()?,
             used_count: self.u16()?,
+            ahead: self.u16()?,
         })
     }
 
