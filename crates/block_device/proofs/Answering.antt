@@ -9,7 +9,7 @@ use Rattle.guest_memory.specs.Memory.{Memory}
 use Rattle.chain.specs.declared.segment.Buffer.{Buffer}
 use Rattle.chain.specs.Buffers.{Good}
 use Rattle.chain.specs.Bytes.{readable_of, writable_of, scatter}
-use Rattle.chain.specs.Service.{Given, Does, used_len, wrote}
+use Rattle.chain.specs.Service.{Given, Does, scattered, used_len, wrote}
 use Rattle.chain.proofs.Directions.{length-readable_of, length-addresses_of, len_of-le}
 use Rattle.chain.proofs.Partial.{scattered-run, scattered-then_byte, used_len-run, wrote-append}
 use Rattle.sector_cache.specs.Disk.{Disk, failed, flushed}
@@ -27,6 +27,7 @@ use Rattle.block_device.specs.declared.operation.OperationKind.TheVariants as ki
 use Rattle.block_device.specs.declared.operation.Verdict.{Verdict}
 use Rattle.block_device.specs.declared.operation.Verdict.TheVariants as verdict
 use Rattle.block_device.specs.Device.{block_device, GivesBy}
+use Rattle.block_device.specs.Hosting.{DoesLater}
 use Rattle.block_device.specs.Progress.{IsServable, IsDone, IsWritten}
 use Rattle.block_device.proofs.Endings.{flush_ends, nothing_found}
 use Rattle.block_device.proofs.Extents.{KeepsOutside-same}
@@ -192,6 +193,44 @@ finished_does device m done new buffers disk disk' request room len used status 
     (put ∙ ap (λ k. scatter done (drop k (writable_of buffers)) (code_of status ∷ [])) last)
     (λ whole. uses ∙ used_whole len (length (writable_of buffers)) (omega (arith, whole, all)) ∙ all)
     (λ part. uses ∙ used_part len (length (writable_of buffers)) (omega (arith, part, all))))
+
+-- The same of a chain that is served in two parts: it read what stood in memory as it asked, and what it found
+-- stands there as its status is written.
+pub finished_later : (device : BlockDevice) (asked old new : Memory) (buffers : List Buffer)
+    (disk disk' : Disk) (found : List ℕ) (request : Request) (room len used : ℕ) (status : RequestStatus)
+    → length (writable_of buffers) ≡ room + 1
+    → request ≡ request_of device (readable_of asked buffers) room
+    → Ends device.identity request (payload_of (readable_of asked buffers)) disk
+    (record { disk = disk'; found = found; status = status })
+    → len ≡ length found → scattered old (writable_of buffers) (map Some found) ≡ old
+    → len < length (writable_of buffers)
+    → new ≡ with_status old buffers status → used ≡ used_by len (length (writable_of buffers))
+    → DoesLater (block_device device) asked old new buffers disk disk' used true
+unfolding answer_does
+finished_later device asked old new buffers disk disk' found request room len used status all is ends long
+    stands fits put uses =
+    let w = length (writable_of buffers) in
+    let last : w - 1 ≡ room = omega (arith, all) in
+    let there = scattered asked (writable_of buffers) (map Some found) in
+    let size : length (map Some found) ≡ length found = length-map found Some in
+    let put_there = scatter there (drop room (writable_of buffers)) (code_of status ∷ []) in
+    let one : Does (block_device device) asked put_there buffers disk disk' used true =
+    answer_does device asked there put_there buffers disk disk' request room len used status all is
+    (record { found = found; ends = ends; len_is = long; memory = refl }) (omega (arith, fits, all)) refl
+    (λ whole. uses ∙ used_whole len w (omega (arith, whole, all)) ∙ all)
+    (λ part. uses ∙ used_part len w (omega (arith, part, all))) in
+    record {
+      written = one.written;
+      gives = one.gives;
+      each = one.each;
+      memory =
+          put ∙ ap (λ k. scatter old (drop k (writable_of buffers)) (code_of status ∷ [])) last
+          ∙ ap (λ m. scatter m (drop room (writable_of buffers)) (code_of status ∷ [])) (sym stands)
+          ∙ scattered-then_byte old (writable_of buffers) (map Some found) (code_of status)
+          (room - length found) room (omega (arith, size, long, fits, all));
+      len_is = one.len_is;
+      any_is = one.any_is;
+    }
 
 -- a request that is neither refused nor asks for the identity asks the image
 pub asks_by : (request : Request) → ((status : RequestStatus) → request ≢ Rejected status) → request ≢ GetId

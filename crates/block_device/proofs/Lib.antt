@@ -7,6 +7,7 @@ pub mod Exact
 pub mod Extents
 pub mod Failing
 pub mod Guests
+pub mod Held
 pub mod Judging
 pub mod Keeping
 pub mod OneLook
@@ -17,4 +18,7 @@ pub mod Telling
 pub mod Touching
 pub mod Transfers
 pub mod Unasked
+pub mod Landing
+pub mod Tags
+pub mod WholeLooks
 pub mod Zeroing

@@ -1,7 +1,7 @@
 -- A look at a queue of a disk that the host serves comes out in one way, since no chain that it serves asks
 -- for the disk;
 -- and so does a completion.
-use Rattle.std.proofs.Common.{◌≡◌, inl, inr, ◌↔◌, ℕ, zero, suc, ◌+◌, Bool, true, false, Option, Some, None, List, [], ◌∷◌, length, refl, sym, ap, subst, ◌∙◌, arith}
+use Rattle.std.proofs.Common.{◌≡◌, inl, inr, ◌↔◌, ℕ, zero, suc, ◌+◌, ◌-◌, Bool, true, false, Option, Some, None, List, [], ◌∷◌, length, drop, refl, sym, ap, subst, ◌∙◌, arith}
 use Rattle.std.specs.Prelude.{IsTrue}
 use Rattle.std.proofs.lemmas.Option.{same_Some}
 use Rattle.guest_memory.specs.Memory.{Memory}
@@ -11,14 +11,15 @@ use Rattle.chain.specs.declared.fault.Fault.{Fault}
 use Rattle.chain.specs.declared.segment.Buffer.{Buffer}
 use Rattle.chain.specs.declared.segment.Segment.{Segment}
 use Rattle.chain.specs.Bytes.{readable_of, writable_of}
-use Rattle.chain.specs.Service.{Ending, Entry, Faulted, Given, HasAtMostOneAnswer, IsEnding, IsService, Refused, Served, ServesAll, ServesChain, Site, Spent, Works, after, open_site}
+use Rattle.chain.specs.Service.{Ending, Entry, Faulted, Given, HasAtMostOneAnswer, IsEnding, IsService, Refused, Served, ServesAll, ServesChain, Site, Spent, Works, after, close_site, open_site}
 use Rattle.chain.proofs.Servicing.{at_most_one_service, both, never_refused}
 use Rattle.mmio_window.specs.declared.queue.Queue.{Queue}
 use Rattle.mmio_window.specs.declared.queue.Queue.TheVariants.{Split, Packed}
 use Rattle.mmio_window.specs.declared.queue.Token.{Token}
 use Rattle.mmio_window.specs.declared.queue.Token.TheVariants as token
-use Rattle.mmio_window.specs.declared.stage.Stage.TheVariants.{First}
-use Rattle.mmio_window.specs.Pieces.{BeginsTo, opened_at}
+use Rattle.mmio_window.specs.declared.stage.Stage.{Stage}
+use Rattle.mmio_window.specs.declared.stage.Stage.TheVariants.{First, Next}
+use Rattle.mmio_window.specs.Pieces.{BeginsTo, GoesOnTo, IsFinishedWithin, opened_at}
 use Rattle.mmio_window.specs.Queue.{IsTaken, entry_of, queue_kind}
 use Rattle.mmio_window.specs.Serving.{IsNotified, after_service}
 use Rattle.mmio_window.specs.Window.{WindowState, with_ring}
@@ -36,7 +37,7 @@ use Rattle.block_device.specs.declared.request.Request.TheVariants.{Rejected, Re
 use Rattle.block_device.specs.Asking.{EndsUnasked, IsAsked, asks_image, unasked_device}
 use Rattle.block_device.specs.Device.{GivesBy, given_of}
 use Rattle.block_device.specs.Extent.{extent_disk}
-use Rattle.block_device.specs.Hosting.{AsksAt, AsksIn, CompletesIn, HostsTo, SameLook, StopsAt, wants_stable}
+use Rattle.block_device.specs.Hosting.{AsksAt, AsksIn, CompletesIn, HasStatusAt, HostsTo, SameLook, StopsAt, wants_stable}
 use Rattle.block_device.specs.Operation.{operation_of}
 use Rattle.block_device.specs.Outcome.{Completes, Ends, Fails, Outcome, completed}
 use Rattle.block_device.specs.Request.{request_of, payload_of}
@@ -266,22 +267,32 @@ asked_once device start one m b c s t q r same x y =
           (subst (λ (l : List Buffer). IsAsked device m.memory l q) buffers here.asked) y.asked;
     }
 
-same_flight : (s t : Token) (o p : Operation) → s ≡ t → o ≡ p
-    → ◌≡◌ {A = Flight} (record { token = s; operation = o }) (record { token = t; operation = p })
-same_flight s t o p e f = rw (e, f) refl
+same_flight : (s t : Token) (o p : Operation) (a b n k : ℕ) → s ≡ t → o ≡ p → a ≡ b → n ≡ k
+    → ◌≡◌ {A = Flight} (record { token = s; operation = o; status = a; writable = n })
+    (record { token = t; operation = p; status = b; writable = k })
+same_flight s t o p a b n k e f g h = rw (e, f, g, h) refl
 
-asks_once : (device : BlockDevice) (found : Option Queue) (f g : Flight) (old m n : Memory)
+-- one chain has its status in one place
+same_status : (b : List Buffer) (f g : Flight) → HasStatusAt b f → HasStatusAt b g
+    → (f.status ≡ g.status) × (f.writable ≡ g.writable)
+same_status b f g x y =
+    let writable : f.writable ≡ g.writable = x.writable ∙ sym y.writable in
+    let last : f.status ∷ [] ≡ g.status ∷ [] = sym x.status
+    ∙ ap (λ (n : ℕ). drop (n - 1) (writable_of b)) writable ∙ y.status in
+    (cc last, writable)
+
+asks_once : (device : BlockDevice) (stage : Stage) (found : Option Queue) (f g : Flight) (old m n : Memory)
     (before v w : WindowState) (b c : List Buffer) (r s : List Segment) (disk : Disk)
-    → AsksIn device First found old m before v b r f disk
-    → AsksIn device First found old n before w c s g disk
+    → AsksIn device stage found old m before v b r f disk
+    → AsksIn device stage found old n before w c s g disk
     → SameLook (hosted.Asks f) (hosted.Asks g) m n v w b c r s
-asks_once device found f g old m n before v w b c r s disk x y =
+asks_once device stage found f g old m n before v w b c r s disk x y =
     let queue : y.queue ≡ x.queue = same_Some y.queue x.queue (y.ready ∙ sym x.ready) in
     let start : Site Queue Disk =
-    record (site_of device old x.queue disk) { ring = opened_at First old x.queue } in
-    let there : AsksAt device First (site_of device old x.queue disk) (site_of device n y.last disk) c
+    record (site_of device old x.queue disk) { ring = opened_at stage old x.queue } in
+    let there : AsksAt device stage (site_of device old x.queue disk) (site_of device n y.last disk) c
     g.token y.request =
-    subst (λ (q : Queue). AsksAt device First (site_of device old q disk) (site_of device n y.last disk) c
+    subst (λ (q : Queue). AsksAt device stage (site_of device old q disk) (site_of device n y.last disk) c
     g.token y.request) queue y.asks in
     let one : StopsAt device start (site_of device m x.last disk) b f.token x.request = x.asks.stops in
     let other : StopsAt device start (site_of device n y.last disk) c g.token y.request = there.stops in
@@ -295,11 +306,17 @@ asks_once device found f g old m n before v w b c r s disk x y =
     let memory : m ≡ n = ap (λ (k : Site Queue Disk). k.memory) same in
     let operation : f.operation ≡ g.operation = x.operation
     ∙ ap (λ (q : Request). operation_of (wants_stable before) q) asked.request ∙ sym y.operation in
+    let status = same_status c f g (subst (λ (l : List Buffer). HasStatusAt l f) asked.buffers x.status)
+    y.status in
     record {
       outcome = ap (λ (k : Flight). hosted.Asks k)
-          (same_flight f.token g.token f.operation g.operation asked.token operation);
+          (same_flight f.token g.token f.operation g.operation f.status g.status f.writable g.writable
+          asked.token operation status.0 status.1);
       memory = memory;
-      window = x.window ∙ ap (λ (k : Site Queue Disk). with_ring 0 before k.ring) same ∙ sym y.window;
+      window = x.window
+          ∙ ap (λ (k : Site Queue Disk). with_ring 0 before (queue_kind.launched k.ring (entry_of f.token))) same
+          ∙ ap (λ (t : Token). with_ring 0 before (queue_kind.launched y.last (entry_of t))) asked.token
+          ∙ sym y.window;
       buffers = asked.buffers;
       runs = x.runs_are ∙ rw (asked.request, memory, asked.buffers) refl ∙ sym y.runs_are;
     }
@@ -341,6 +358,102 @@ end_once device (Some queue) old m n before v w disk x y =
           ∙ (ap (λ (b : Bool). after_service y.ending b (with_ring 0 before q.last)) same.wanted
           ∙ sym q.window)));
     }
+
+same_answer : (a b : Bool) (P : Type 0) → IsTrue a ↔ P → IsTrue b ↔ P → a ≡ b
+same_answer true true P x y = refl
+same_answer true false P x y = sym (y.1 (x.0 refl))
+same_answer false true P x y = x.1 (y.0 refl)
+same_answer false false P x y = refl
+
+-- an open queue goes to its end in one way
+ends_alike : (device : BlockDevice) (site : Site Queue Disk) (e f : Ending)
+    → IsEnding queue_kind (unasked_device device) site e → IsEnding queue_kind (unasked_device device) site f
+    → e ≡ f
+ends_alike device site Spent Spent p q = refl
+ends_alike device site Spent (Faulted g) p q = let ready = q.0 in cc (p, ready)
+ends_alike device site (Faulted f) Spent p q = let ready = p.0 in cc (ready, q)
+ends_alike device site (Faulted f) (Faulted g) p q =
+    ap Faulted (has_at_most_one_chain.fault site.memory site.ring f g p.1 q.1)
+ends_alike device site Refused f p q = absurd p.lacks_memory
+ends_alike device site Spent Refused p q = absurd q.lacks_memory
+ends_alike device site (Faulted f) Refused p q = absurd q.lacks_memory
+
+record SameRun (a b : Site Queue Disk) (e f : Ending) : Type 0 where
+  at : a ≡ b
+  ending : e ≡ f
+
+run_once : (device : BlockDevice) (start : Site Queue Disk) (cs ds : List (Served Disk)) (a b : Site Queue Disk)
+    (e f : Ending) → ServesAll queue_kind (unasked_device device) start cs a
+    → IsEnding queue_kind (unasked_device device) a e → ServesAll queue_kind (unasked_device device) start ds b
+    → IsEnding queue_kind (unasked_device device) b f → SameRun a b e f
+run_once device start [] [] a b e f p x q y = record {
+  at = sym p ∙ q;
+  ending = ends_alike device start e f
+      (subst (λ (s : Site Queue Disk). IsEnding queue_kind (unasked_device device) s e) (sym p) x)
+      (subst (λ (s : Site Queue Disk). IsEnding queue_kind (unasked_device device) s f) (sym q) y);
+}
+run_once device start [] (d ∷ ds) a b e f p x q y =
+    absurd (ends_serves device start e d
+    (subst (λ (s : Site Queue Disk). IsEnding queue_kind (unasked_device device) s e) (sym p) x) q.0)
+run_once device start (c ∷ cs) [] a b e f p x q y =
+    absurd (ends_serves device start f c
+    (subst (λ (s : Site Queue Disk). IsEnding queue_kind (unasked_device device) s f) (sym q) y) p.0)
+run_once device start (c ∷ cs) (d ∷ ds) a b e f p x q y =
+    let same = serves_once device start c d p.0 q.0 in
+    run_once device (after queue_kind (unasked_device device) start c) cs ds a b e f p.1 x
+    (subst (λ (d : Served Disk). ServesAll queue_kind (unasked_device device)
+    (after queue_kind (unasked_device device) start d) ds b) (sym same) q.1) y
+
+finish_once : (device : BlockDevice) (budget : Budget) (found : Option Queue) (old m n : Memory)
+    (before v w : WindowState) (disk : Disk)
+    → IsFinishedWithin (unasked_device device) budget 0 found old m before v disk disk
+    → IsFinishedWithin (unasked_device device) budget 0 found old n before w disk disk → SameEnd m n v w
+finish_once device budget None old m n before v w disk x y = record {
+  memory = x.finished.1.memory ∙ sym y.finished.1.memory;
+  window = x.finished.1.window ∙ sym y.finished.1.window;
+}
+finish_once device budget (Some queue) old m n before v w disk x y =
+    let p = x.finished in
+    let q = y.finished in
+    let start : Site Queue Disk = record { memory = old; ring = queue; state = disk } in
+    let one : Site Queue Disk = record { memory = m; ring = p.last; state = disk } in
+    let other : Site Queue Disk = record { memory = n; ring = q.last; state = disk } in
+    let a = p.ends.ends in
+    let b = q.ends.ends in
+    let run = run_once device start a.runs.chains b.runs.chains a.runs.at b.runs.at x.ending y.ending
+    a.runs.serves a.runs.ends b.runs.serves b.runs.ends in
+    let last : a.last ≡ b.last = a.runs.stands
+    ∙ rw (run.at, run.ending) refl ∙ sym b.runs.stands in
+    let same : one ≡ other = a.closed
+    ∙ ap (close_site queue_kind (unasked_device device)) last ∙ sym b.closed in
+    let wanted : p.wanted ≡ q.wanted = same_answer p.wanted q.wanted _ a.wanted_is
+    (rw (← last) at b.wanted_is) in
+    record {
+      memory = ap (λ (k : Site Queue Disk). k.memory) same;
+      window = p.window ∙ (ap (λ (k : Site Queue Disk). after_service x.ending p.wanted
+          (with_ring 0 before k.ring)) same
+          ∙ (ap (λ (e : Ending). after_service e p.wanted (with_ring 0 before q.last)) run.ending
+          ∙ (ap (λ (b : Bool). after_service y.ending b (with_ring 0 before q.last)) wanted
+          ∙ sym q.window)));
+    }
+
+asks_or_finishes : (device : BlockDevice) (budget : Budget) (found : Option Queue) (f : Flight)
+    (old m n : Memory) (before v w : WindowState) (b : List Buffer) (r : List Segment) (disk : Disk)
+    → AsksIn device Next found old m before v b r f disk
+    → IsFinishedWithin (unasked_device device) budget 0 found old n before w (extent_disk device.extent disk)
+    (extent_disk device.extent disk) → ⊥
+asks_or_finishes device budget None f old m n before v w b r disk x y = let none = x.ready in absurd (cc)
+asks_or_finishes device budget (Some queue) f old m n before v w b r disk x y =
+    let same : x.queue ≡ queue = same_Some x.queue queue x.ready in
+    let asks : AsksAt device Next (site_of device old queue disk) (site_of device m x.last disk) b
+    f.token x.request =
+    subst (λ (q : Queue). AsksAt device Next (site_of device old q disk) (site_of device m x.last disk) b
+    f.token x.request) same x.asks in
+    let start : Site Queue Disk = site_of device old queue disk in
+    let run = y.finished.ends.ends.runs in
+    stop_or_end device start asks.stops.course.chains run.chains (site_of device m x.last disk) run.at y.ending
+    asks.stops.course.serves run.serves
+    (asks_here device start (site_of device m x.last disk) b f.token x.request asks.stops) run.ends
 
 runs_or_faults : (device : BlockDevice) (start last at : Site Queue Disk) (fault : Option Fault)
     (ending : Ending) (chains : List (Served Disk)) → fault ≡ None
@@ -398,7 +511,7 @@ pub one_look : (device : BlockDevice) (budget : Budget) (found : Option Queue) (
     → HostsTo device First budget found other old n before w c s disk
     → SameLook one other m n v w b c r s
 one_look device budget found (hosted.Asks f) (hosted.Asks g) old m n before v w b c r s disk chains bytes x
-    y = asks_once device found f g old m n before v w b c r s disk x y
+    y = asks_once device First found f g old m n before v w b c r s disk x y
 one_look device budget found hosted.Done hosted.Done old m n before v w b c r s disk chains bytes x y =
     let d = extent_disk device.extent disk in
     let same = end_once device found old m n before v w d
@@ -423,22 +536,49 @@ one_look device budget found hosted.Done hosted.More old m n before v w b c r s 
     let d = extent_disk device.extent disk in
     absurd (never_more device budget found old n before w d d chains bytes y)
 
+-- ---- and from an open queue on
+
+never_more_next : (device : BlockDevice) (budget : Budget) (found : Option Queue) (old new : Memory)
+    (before after : WindowState) (s t : Disk) → budget.chains ≡ None → budget.bytes ≡ None
+    → GoesOnTo (unasked_device device) budget 0 found progress.More old new before after s t → ⊥
+never_more_next device budget None old new before after s t chains bytes h = h
+never_more_next device budget (Some queue) old new before after s t chains bytes h =
+    elim h.pauses.spent [ inl e ↦ cc | inr e ↦ cc ]
+
+pub one_next_look : (device : BlockDevice) (budget : Budget) (found : Option Queue) (one other : Hosted)
+    (old m n : Memory) (before v w : WindowState) (b c : List Buffer) (r s : List Segment) (disk : Disk)
+    → budget.chains ≡ None → budget.bytes ≡ None
+    → HostsTo device Next budget found one old m before v b r disk
+    → HostsTo device Next budget found other old n before w c s disk
+    → SameLook one other m n v w b c r s
+one_next_look device budget found (hosted.Asks f) (hosted.Asks g) old m n before v w b c r s disk chains bytes x
+    y = asks_once device Next found f g old m n before v w b c r s disk x y
+one_next_look device budget found hosted.Done hosted.Done old m n before v w b c r s disk chains bytes x y =
+    let same = finish_once device budget found old m n before v w (extent_disk device.extent disk) x y in
+    record { outcome = refl; memory = same.memory; window = same.window; buffers = tt; runs = tt }
+one_next_look device budget found (hosted.Asks f) hosted.Done old m n before v w b c r s disk chains bytes x y =
+    absurd (asks_or_finishes device budget found f old m n before v w b r disk x y)
+one_next_look device budget found hosted.Done (hosted.Asks g) old m n before v w b c r s disk chains bytes x y =
+    absurd (asks_or_finishes device budget found g old n m before w v c s disk y x)
+one_next_look device budget found hosted.More other old m n before v w b c r s disk chains bytes x y =
+    let d = extent_disk device.extent disk in
+    absurd (never_more_next device budget found old m before v d d chains bytes x)
+one_next_look device budget found (hosted.Asks f) hosted.More old m n before v w b c r s disk chains bytes x y =
+    let d = extent_disk device.extent disk in
+    absurd (never_more_next device budget found old n before w d d chains bytes y)
+one_next_look device budget found hosted.Done hosted.More old m n before v w b c r s disk chains bytes x y =
+    let d = extent_disk device.extent disk in
+    absurd (never_more_next device budget found old n before w d d chains bytes y)
+
 -- ---- a completion
 
-same_answer : (a b : Bool) (P : Type 0) → IsTrue a ↔ P → IsTrue b ↔ P → a ≡ b
-same_answer true true P x y = refl
-same_answer true false P x y = sym (y.1 (x.0 refl))
-same_answer false true P x y = x.1 (y.0 refl)
-same_answer false false P x y = refl
-
 pub one_completion : (flight : Flight) (answer : Verdict) (old m n : Memory) (before v w : WindowState)
-    (buffers : List Buffer)
-    → CompletesIn flight answer old m before v buffers → CompletesIn flight answer old n before w buffers
+    → CompletesIn flight answer old m before v → CompletesIn flight answer old n before w
     → (m ≡ n) × (v ≡ w)
-one_completion flight answer old m n before v w buffers x y =
+one_completion flight answer old m n before v w x y =
     let queue : x.queue ≡ y.queue = same_Some x.queue y.queue (sym x.ready ∙ y.ready) in
-    let behind : x.behind ≡ y.behind = x.gives.past
-    ∙ ap (λ (q : Queue). queue_kind.past q (entry_of flight.token)) queue ∙ sym y.gives.past in
+    let behind : x.behind ≡ y.behind = x.gives.landed
+    ∙ ap (λ (q : Queue). queue_kind.landed q (entry_of flight.token)) queue ∙ sym y.gives.landed in
     let done : x.gives.done ≡ y.gives.done = x.gives.completed.memory ∙ sym y.gives.completed.memory in
     let len : x.gives.len ≡ y.gives.len = x.gives.completed.len_is ∙ sym y.gives.completed.len_is in
     let given : x.given ≡ y.given = x.gives.used ∙ rw (done, queue, len) refl ∙ sym y.gives.used in

@@ -117,10 +117,3 @@ status_by verdict.Failed = IoError
 abbrev pub found_by : OperationKind → Verdict → ℕ → ℕ
 found_by kind.In verdict.Done room = room
 found_by what answer room = 0
-
--- The request is completed as the host says, on the memory as the host left it.
-pub record IsCompleted (what : OperationKind) (answer : Verdict) (buffers : List Buffer) (old new : Memory)
-    (len : ℕ) : Type 0 where
-  pub memory : new ≡ with_status old buffers (status_by answer)
-  pub len_is : len ≡ used_by (found_by what answer (length (writable_of buffers) - 1))
-      (length (writable_of buffers))

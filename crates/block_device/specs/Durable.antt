@@ -1,5 +1,5 @@
 -- What of a driver's writes stands after a stop, as a loss of power (5.2.6.2).
-use Rattle.std.specs.Prelude.{◌≡◌, ◌⊎◌, ℕ, ◌+◌, Bool, true, false, ◌&&◌, nat_le, nat_lt, ⊤, Option, Some, List, [], ◌∷◌, ◌++◌, length}
+use Rattle.std.specs.Prelude.{◌≡◌, ◌⊎◌, ℕ, ◌+◌, Bool, true, false, not, ◌&&◌, ◌||◌, nat_le, nat_lt, ⊤, Option, Some, List, [], ◌∷◌, ◌++◌, length}
 use Rattle.std.specs.List.{list_any, slice_get}
 use Rattle.guest_memory.specs.Memory.{Memory}
 use Rattle.chain.specs.declared.segment.Segment.{Segment}
@@ -39,11 +39,18 @@ pub record Medium : Type 0 where
   pub held : List ℕ
   pub left : List ℕ
 
--- An operation with its runs, and how it came out. One that a stop cuts short counts as failed.
+-- an operation with its runs
+pub record Asked : Type 0 where
+  pub operation : Operation
+  pub runs : List Segment
+
+-- An operation with its runs, how it came out, and those that were in flight beside it: asked before it was
+-- completed, and not completed before it was asked. One that a stop cuts short counts as failed.
 pub record Completion : Type 0 where
   pub operation : Operation
   pub runs : List Segment
   pub verdict : Verdict
+  pub beside : List Asked
 
 -- the run has this byte
 abbrev pub has_byte : ℕ → Segment → Bool
@@ -60,8 +67,16 @@ writes_by kind.Zeroes operation runs place = list_any (has_byte place) runs
 abbrev pub writes_at : Completion → ℕ → Bool
 writes_at done place = writes_by done.operation.kind done.operation done.runs place
 
+-- whether one that was in flight beside it writes the byte, and whether either may have
+abbrev pub beside_writes : Completion → ℕ → Bool
+beside_writes done place =
+    list_any (λ other. writes_by other.operation.kind other.operation other.runs place) done.beside
+
+abbrev pub may_write : Completion → ℕ → Bool
+may_write done place = writes_at done place || beside_writes done place
+
 -- Whether the host says by this completion that a byte is on the medium: by a FLUSH that was done of each, by
--- a stable write that was done of each that it writes.
+-- a stable write that was done of each that it writes. It speaks of no byte that was being written beside it.
 abbrev pub lasts_by : Verdict → OperationKind → Bool → Bool → Bool
 lasts_by verdict.Failed what stable writes = false
 lasts_by verdict.Done kind.Flush stable writes = true
@@ -70,14 +85,16 @@ lasts_by verdict.Done kind.Out stable writes = stable && writes
 lasts_by verdict.Done kind.Zeroes stable writes = stable && writes
 
 abbrev pub must_last : Completion → ℕ → Bool
-must_last done place = lasts_by done.verdict done.operation.kind done.operation.stable (writes_at done place)
+must_last done place =
+    lasts_by done.verdict done.operation.kind done.operation.stable (writes_at done place)
+    && not (beside_writes done place)
 
 -- The host keeps its word: what it says is on the medium is there. A byte that isn't written is read as
 -- before, and a stop leaves what it would have left, or what is read.
 pub record KeepsWord (done : Completion) (old new : Medium) : Type 0 where
-  pub held : (place : ℕ) → writes_at done place ≡ false → slice_get new.held place ≡ slice_get old.held place
+  pub held : (place : ℕ) → may_write done place ≡ false → slice_get new.held place ≡ slice_get old.held place
   pub left :
-      (place : ℕ) → writes_at done place ≡ false
+      (place : ℕ) → may_write done place ≡ false
       → (slice_get new.left place ≡ slice_get old.left place)
       ⊎ (slice_get new.left place ≡ slice_get new.held place)
   pub lasts : (place : ℕ) → must_last done place ≡ true → slice_get new.left place ≡ slice_get new.held place
@@ -87,7 +104,7 @@ abbrev pub KeepsWordIn : Medium → List Completion → Medium → Type 0
 KeepsWordIn old [] new = new ≡ old
 KeepsWordIn old (done ∷ later) new = (mid : Medium) × KeepsWord done old mid × KeepsWordIn mid later new
 
--- none of these writes this byte
+-- none of these writes this byte, nor does one that was in flight beside them
 abbrev pub IsUnwritten : ℕ → List Completion → Type 0
 IsUnwritten place [] = ⊤
-IsUnwritten place (done ∷ later) = (writes_at done place ≡ false) × IsUnwritten place later
+IsUnwritten place (done ∷ later) = (may_write done place ≡ false) × IsUnwritten place later

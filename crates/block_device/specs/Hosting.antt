@@ -1,15 +1,15 @@
--- A service of a disk that the host serves itself: it stops at each chain that asks for the disk, which is in
--- flight until the host has completed its operation.
-use Rattle.std.specs.Prelude.{◌≡◌, ◌↔◌, ℕ, ◌-◌, ◌<◌, Bool, true, not, IsTrue, List, length, Option, Some, None}
-use Rattle.guest_memory.specs.Memory.{Memory, SameRange}
+-- A service of a disk that the host serves itself: each chain that asks for the disk stays in flight until the
+-- host has completed its operation, in any order, and the service goes on behind it.
+use Rattle.std.specs.Prelude.{◌≡◌, ◌↔◌, ℕ, ◌-◌, ◌<◌, Bool, true, not, IsTrue, List, [], ◌∷◌, length, drop, map, Option, Some, None}
+use Rattle.guest_memory.specs.Memory.{Memory, Inside, SameRange, put}
 use Rattle.chain.specs.declared.budget.Budget.{Budget}
 use Rattle.chain.specs.declared.budget.Progress.{Progress}
 use Rattle.chain.specs.declared.budget.Progress.TheVariants as progress
 use Rattle.chain.specs.declared.segment.Buffer.{Buffer}
 use Rattle.chain.specs.declared.segment.Segment.{Segment}
 use Rattle.chain.specs.Buffers.{Good}
-use Rattle.chain.specs.Bytes.{writable_of}
-use Rattle.chain.specs.Service.{Device, Site, Course, Spent}
+use Rattle.chain.specs.Bytes.{readable_of, writable_of}
+use Rattle.chain.specs.Service.{Device, Site, Course, Spent, scattered, used_len, wrote}
 use Rattle.negotiation.specs.Features.{block_flush}
 use Rattle.negotiation.specs.Negotiation.{negotiated_of}
 use Rattle.negotiation.specs.Sets.{has}
@@ -20,7 +20,7 @@ use Rattle.mmio_window.specs.declared.stage.Stage.{Stage}
 use Rattle.mmio_window.specs.Pieces.{ServesTo, fault_at, opened_at}
 use Rattle.mmio_window.specs.Ready.{KeepsQueues}
 use Rattle.mmio_window.specs.Window.{WindowState, queue_at, with_ring}
-use Rattle.mmio_window.specs.Queue.{IsTaken, entry_of, queue_kind}
+use Rattle.mmio_window.specs.Queue.{IsAhead, IsTaken, entry_of, queue_kind}
 use Rattle.mmio_window.specs.Serving.{after_service}
 use Rattle.block_device.specs.declared.device.BlockDevice.{BlockDevice}
 use Rattle.block_device.specs.declared.hosting.Flight.{Flight}
@@ -28,11 +28,12 @@ use Rattle.block_device.specs.declared.hosting.Hosted.{Hosted}
 use Rattle.block_device.specs.declared.hosting.Hosted.TheVariants as hosted
 use Rattle.block_device.specs.declared.request.Request.{Request}
 use Rattle.block_device.specs.declared.operation.Verdict.{Verdict}
-use Rattle.block_device.specs.Asking.{IsAsked, IsCompleted, found_by, status_by, unasked_device}
+use Rattle.block_device.specs.Asking.{IsAsked, found_by, status_by, unasked_device, used_by}
 use Rattle.block_device.specs.Device.{block_device}
 use Rattle.block_device.specs.Extent.{extent_disk}
 use Rattle.block_device.specs.Operation.{operation_of, runs_for}
-use Rattle.block_device.specs.Progress.{IsDone}
+use Rattle.block_device.specs.Outcome.{Ends}
+use Rattle.block_device.specs.Request.{code_of, payload_of}
 
 -- where a service stands: the guest's memory, the queue, and the device's sectors of this disk
 abbrev pub site_of : BlockDevice → Memory → Queue → Disk → Site Queue Disk
@@ -64,7 +65,7 @@ pub record StopsAt (device : BlockDevice) (start now : Site Queue Disk) (buffers
 
 -- ---- the whole piece, from its opening
 
--- The piece comes to a chain that asks, behind an opening without a fault; the queue stands open.
+-- The piece comes to a chain that asks, behind an opening without a fault.
 pub record AsksAt (device : BlockDevice) (stage : Stage) (old new : Site Queue Disk) (buffers : List Buffer)
     (token : Token) (request : Request) : Type 0 where
   pub opens : fault_at stage old.memory old.ring ≡ None
@@ -76,8 +77,13 @@ pub record AsksAt (device : BlockDevice) (stage : Stage) (old new : Site Queue D
 abbrev pub wants_stable : WindowState → Bool
 wants_stable w = not (has (negotiated_of w.negotiation) block_flush)
 
--- The same as the window shows it, which shows nothing yet of a queue that stands open; and what the host is
--- told.
+-- The chain has its status at this address, the last of its writable list, which is so long (5.2.6).
+pub record HasStatusAt (buffers : List Buffer) (flight : Flight) : Type 0 where
+  pub writable : flight.writable ≡ length (writable_of buffers)
+  pub status : drop (flight.writable - 1) (writable_of buffers) ≡ flight.status ∷ []
+
+-- The same as the window shows it, which shows nothing yet of a queue that stands open: the chain is in flight,
+-- and the queue goes on behind it. And what the host is told.
 pub record AsksIn (device : BlockDevice) (stage : Stage) (found : Option Queue) (old new : Memory)
     (before after : WindowState) (buffers : List Buffer) (runs : List Segment) (flight : Flight)
     (disk : Disk) : Type 0 where
@@ -87,7 +93,8 @@ pub record AsksIn (device : BlockDevice) (stage : Stage) (found : Option Queue) 
   pub request : Request
   pub asks : AsksAt device stage (site_of device old queue disk) (site_of device new last disk) buffers
       flight.token request
-  pub window : after ≡ with_ring 0 before last
+  pub window : after ≡ with_ring 0 before (queue_kind.launched last (entry_of flight.token))
+  pub status : HasStatusAt buffers flight
   pub operation : flight.operation ≡ operation_of (wants_stable before) request
   pub runs_are : runs ≡ runs_for request new buffers
 
@@ -126,55 +133,73 @@ pub record SameLook (one other : Hosted) (m n : Memory) (v w : WindowState) (b c
 
 -- ---- a chain in flight
 
--- The chain of these buffers is in flight: its token is of the queue that the device may serve, its buffers
--- lie in the memory, and it has a place for its status.
-pub record IsInFlight (m : Memory) (w : WindowState) (buffers : List Buffer) (flight : Flight) : Type 0 where
+-- The chain is in flight: its token is of the queue that the device may serve, and its status has a place in
+-- the memory.
+pub record IsInFlight (m : Memory) (w : WindowState) (flight : Flight) : Type 0 where
   pub queue : Queue
   pub ready : queue_at 0 w ≡ Some queue
-  pub taken : IsTaken queue flight.token
-  pub good : Good m buffers
-  pub status : 0 < length (writable_of buffers)
+  pub ahead : IsAhead queue flight.token
+  pub status : Inside m flight.status 1
+  pub some : 0 < flight.writable
 
 -- It outlasts all that leaves the memory's range and the window's queues.
 abbrev pub FlightOutlasts : Type 0
 FlightOutlasts =
-    (old new : Memory) (before after : WindowState) (buffers : List Buffer) (flight : Flight)
-    → IsInFlight old before buffers flight
-    → SameRange old new → KeepsQueues before after → IsInFlight new after buffers flight
+    (old new : Memory) (before after : WindowState) (flight : Flight)
+    → IsInFlight old before flight
+    → SameRange old new → KeepsQueues before after → IsInFlight new after flight
 
--- It is completed as the host says, on the memory as the host left it, and given back.
-pub record IsGivenBack (flight : Flight) (answer : Verdict) (buffers : List Buffer) (old new : Memory)
+-- Its status is written as the host says, on the memory as the host left it, and this is its used length.
+pub record IsCompleted (flight : Flight) (answer : Verdict) (old new : Memory) (len : ℕ) : Type 0 where
+  pub memory : new ≡ put old flight.status (code_of (status_by answer) ∷ [])
+  pub len_is : len ≡ used_by (found_by flight.operation.kind answer (flight.writable - 1)) flight.writable
+
+-- It is completed and given back.
+pub record IsGivenBack (flight : Flight) (answer : Verdict) (old new : Memory)
     (before after : Queue) : Type 0 where
   pub done : Memory
   pub len : ℕ
-  pub completed : IsCompleted flight.operation.kind answer buffers old done len
+  pub completed : IsCompleted flight answer old done len
   pub used : new ≡ queue_kind.used done before (entry_of flight.token) len true
-  pub past : after ≡ queue_kind.past before (entry_of flight.token)
+  pub landed : after ≡ queue_kind.landed before (entry_of flight.token)
 
 -- The same in its window, as an event of its own: the service ends behind it, and its driver is notified
 -- where it wants to be.
-pub record CompletesIn (flight : Flight) (answer : Verdict) (old new : Memory) (before after : WindowState)
-    (buffers : List Buffer) : Type 0 where
+pub record CompletesIn (flight : Flight) (answer : Verdict) (old new : Memory)
+    (before after : WindowState) : Type 0 where
   pub queue : Queue
   pub ready : queue_at 0 before ≡ Some queue
   pub given : Memory
   pub behind : Queue
-  pub gives : IsGivenBack flight answer buffers old given queue behind
+  pub gives : IsGivenBack flight answer old given queue behind
   pub wanted : Bool
   pub closed : new ≡ queue_kind.closed given behind
   pub wanted_is : IsTrue wanted ↔ queue_kind.Wants new behind
   pub window : after ≡ after_service Spent wanted (with_ring 0 before (queue_kind.shut behind))
 
--- Where the host did with the disk what may become of such a request, and memory is that of the asking with the
--- data that was read in it, the chain is served by the device over that disk.
+-- The device serves the chain of these buffers in two parts: it read what stood in memory as the chain asked,
+-- and writes on the memory as it stands at the completion.
+pub record DoesLater (device : Device Disk) (asked old new : Memory) (buffers : List Buffer) (disk disk' : Disk)
+    (len : ℕ) (any : Bool) : Type 0 where
+  pub written : List (Option ℕ)
+  pub gives : device.Gives disk (readable_of asked buffers) (length (writable_of buffers))
+      (record { state = disk'; written = written })
+  pub each : length written ≡ length (writable_of buffers)
+  pub memory : new ≡ scattered old (writable_of buffers) written
+  pub len_is : len ≡ used_len written
+  pub any_is : any ≡ wrote written
+
+-- Where the host did with the disk what may become of such a request, and memory has what was read, the chain
+-- is served by the device over that disk, whatever other chains did meanwhile.
 abbrev pub HonestHostServes : Type 0
 HonestHostServes =
-    (device : BlockDevice) (start : Site Queue Disk) (asked old new : Memory) (before after : Queue)
-    (disk disk' : Disk) (buffers : List Buffer)
-    (flight : Flight) (answer : Verdict) (request : Request) (stable : Bool)
-    → flight.operation ≡ operation_of stable request
-    → StopsAt device start (at_disk asked before disk) buffers flight.token request
-    → IsDone device.identity request buffers asked old disk disk'
-    (found_by flight.operation.kind answer (length (writable_of buffers) - 1)) (status_by answer)
-    → IsGivenBack flight answer buffers old new before after
-    → Course queue_kind (block_device device) start (at_disk new after disk')
+    (device : BlockDevice) (asked old new : Memory) (before after : Queue) (disk disk' : Disk)
+    (buffers : List Buffer) (found : List ℕ) (flight : Flight) (answer : Verdict) (request : Request)
+    → IsAsked device asked buffers request
+    → HasStatusAt buffers flight
+    → Ends device.identity request (payload_of (readable_of asked buffers)) disk
+    (record { disk = disk'; found = found; status = status_by answer })
+    → length found ≡ found_by flight.operation.kind answer (length (writable_of buffers) - 1)
+    → scattered old (writable_of buffers) (map Some found) ≡ old
+    → (back : IsGivenBack flight answer old new before after)
+    → DoesLater (block_device device) asked old back.done buffers disk disk' back.len true

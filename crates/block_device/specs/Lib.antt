@@ -3,6 +3,7 @@ pub mod Config
 pub mod Device
 pub mod Durable
 pub mod Extent
+pub mod Flights
 pub mod Hosting
 pub mod Operation
 pub mod Outcome

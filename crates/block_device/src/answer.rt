@@ -141,11 +141,6 @@ pub(crate) fn finish<M: Allocator>(mem: &mut GuestMemory<M>, chain: &Chain, done
     ensures range { SameRange mem.old mem.new }
 {
     let writable = chain.writable_len();
-    let room = writable - 1;
-    chain.write_at(mem, room, &[done.status.code()]);
-    let len = if done.len == room { writable } else { done.len };
-    Used {
-        len: len as u32,
-        wrote: true,
-    }
+    chain.write_at(mem, writable - 1, &[done.status.code()]);
+    done.used(writable)
 }

@@ -1,6 +1,6 @@
 //! Laws of the definitions. The bodies are empty: each contract is a theorem.
 
-ghost use Rattle.std.specs.Prelude.{◌≡◌, ◌≢◌, ◌⊎◌, ℕ, ◌+◌, ◌≤◌, Bool, Contains, IfSome, true, false, List, ◌∷◌, Option, None, Some, length, map};
+ghost use Rattle.std.specs.Prelude.{◌≡◌, ◌≢◌, ◌⊎◌, ℕ, ◌+◌, ◌<◌, ◌≤◌, Bool, Contains, IfSome, true, false, List, ◌∷◌, Option, None, Some, get_or, length, map};
 ghost use Rattle.std.specs.List.{slice_get};
 ghost use Rattle.guest_memory.specs.Memory.{Memory};
 ghost use Rattle.chain.specs.declared.budget.Budget.{Budget};
@@ -13,8 +13,8 @@ ghost use Rattle.sector_cache.specs.Sector.{sector_of};
 ghost use Rattle.sector_cache.specs.Stop.{BeginsAt, Only, TouchesSectors};
 ghost use Rattle.mmio_window.specs.declared.queue.Queue.{Queue};
 ghost use Rattle.mmio_window.specs.declared.stage.Stage.{Stage};
-ghost use Rattle.mmio_window.specs.Queue.{queue_kind};
-ghost use Rattle.mmio_window.specs.Window.{WindowState};
+ghost use Rattle.mmio_window.specs.Queue.{AreAhead, queue_kind};
+ghost use Rattle.mmio_window.specs.Window.{WindowState, queue_at};
 ghost use Rattle.block_device.specs.declared.device.BlockDevice.{BlockDevice};
 ghost use Rattle.block_device.specs.declared.hosting.Flight.{Flight};
 ghost use Rattle.block_device.specs.declared.hosting.Hosted.{Hosted};
@@ -22,6 +22,7 @@ ghost use Rattle.block_device.specs.declared.operation.Verdict.{Verdict};
 ghost use Rattle.block_device.specs.Device.{GivesBy, HasAnswer, block_device, exact_device};
 ghost use Rattle.block_device.specs.Durable.{Completion, IsCommitted, IsUnwritten, KeepsWordIn, Medium, must_last};
 ghost use Rattle.block_device.specs.Extent.{SameSectors};
+ghost use Rattle.block_device.specs.Flights.{HostedQueue, InFlight, IsLanding, LooksAt, tokens_of};
 ghost use Rattle.block_device.specs.Hosting.{CompletesIn, FlightOutlasts, HonestHostServes, HostsTo, SameLook};
 ghost use Rattle.block_device.specs.Outcome.{Completes, Ends};
 ghost use Rattle.block_device.specs.Touching.{device_over, sectors_of_chains, seen_chain, seen_site};
@@ -83,10 +84,40 @@ pub fn one_look()
         → SameLook one other m n v w b c r s }
 {}
 
+/// So does a whole look at such a queue, with many in flight: the same chains ask, in the same order and with the same tags.
+pub fn one_whole_look()
+    ensures { (device : BlockDevice) (old one other : HostedQueue) (asked others : List InFlight)
+        → LooksAt device old asked one → LooksAt device old others other → (asked ≡ others) × (one ≡ other) }
+{}
+
+/// A look keeps what is in flight between the next used entry and the next chain, and the chains that ask are too.
+pub fn what_asks_is_ahead()
+    ensures { (device : BlockDevice) (old new : HostedQueue) (asked : List InFlight) → LooksAt device old asked new
+        → IfSome (queue_at 0 old.window) (λ queue. AreAhead queue (tokens_of old.tags))
+        → IfSome (queue_at 0 new.window) (λ queue. AreAhead queue (tokens_of new.tags)) }
+{}
+
+/// And what is in flight stays so as one lands, whichever it is.
+pub fn what_stays_is_ahead()
+    ensures { (tag : ℕ) (verdict : Verdict) (old new : HostedQueue) → IsLanding tag verdict old new → tag < length old.tags
+        → IfSome (queue_at 0 old.window) (λ queue. AreAhead queue (tokens_of old.tags))
+        → IfSome (queue_at 0 new.window) (λ queue. AreAhead queue (tokens_of new.tags)) }
+{}
+
+/// A chain that lands is given back once: its tag is free then (`free`), so its completion again finds nothing, and each other
+/// tag stays as it was (`others`).
+#[tactic(auto, using(crate::proofs::Landing::landed_free, crate::proofs::Landing::landed_others))]
+pub fn what_lands_is_gone()
+    ensures free { (tag : ℕ) (verdict : Verdict) (old new : HostedQueue) → IsLanding tag verdict old new
+        → get_or new.tags tag None ≡ None }
+    ensures others { (tag other : ℕ) (verdict : Verdict) (old new : HostedQueue) → IsLanding tag verdict old new
+        → other ≢ tag → get_or new.tags other None ≡ get_or old.tags other None }
+{}
+
 /// And so does a completion by one verdict.
 pub fn one_completion()
-    ensures { (flight : Flight) (verdict : Verdict) (old m n : Memory) (before v w : WindowState) (buffers : List Buffer)
-        → CompletesIn flight verdict old m before v buffers → CompletesIn flight verdict old n before w buffers
+    ensures { (flight : Flight) (verdict : Verdict) (old m n : Memory) (before v w : WindowState)
+        → CompletesIn flight verdict old m before v → CompletesIn flight verdict old n before w
         → (m ≡ n) × (v ≡ w) }
 {}
 
@@ -153,9 +184,9 @@ pub fn a_cut_request_touches_its_own_sectors<I: Image>()
         → IfSome (I.disk answered.given.state).contents (λ bytes. sector_of left sector ≡ sector_of bytes sector) }
 {}
 
-/// A byte that the host of a disk said is on the medium, by a FLUSH or a stable write that was done, is there after a stop
-/// as the host reads it, until an operation writes it again. It restates the word that the host must keep, for a list of
-/// completions: it isn't said that they are those of a board, nor what status the guest reads.
+/// A byte that the host of a disk said is on the medium, by a FLUSH or a stable write that was done while nothing in flight
+/// wrote it, is there after a stop as the host reads it, until an operation that writes it is in flight again. So a FLUSH
+/// covers each write that was completed before it was asked. It rests on a host that keeps its word.
 pub fn a_hosted_flush_lasts()
     ensures { (done : Completion) (later : List Completion) (old new : Medium) (place : ℕ)
         → KeepsWordIn old (done ∷ later) new → must_last done place ≡ true → IsUnwritten place later

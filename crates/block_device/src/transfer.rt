@@ -2,14 +2,14 @@
 //! What is read goes from the cache straight into memory, what is written out of memory straight into the cache, and
 //! through one array where a sector lies in more than one segment. The first call of the image that fails is the last.
 
-ghost use Rattle.std.specs.Prelude.{◌+◌, ◌*◌, ◌^◌, ◌<◌, ◌≤◌, ◌≡◌, length, take, drop, All};
+ghost use Rattle.std.specs.Prelude.{◌+◌, ◌*◌, ◌^◌, ◌<◌, ◌≤◌, ◌≡◌, true, length, take, drop, All};
 ghost use Rattle.std.specs.List.{range_with_len};
 ghost use Rattle.guest_memory.specs.Memory.{SameRange};
 ghost use Rattle.chain.specs.Buffers.{Within};
 ghost use Rattle.chain.specs.Bytes.{readable_of, writable_of};
 ghost use Rattle.sector_cache.specs.Stop.{TouchesNothing, TouchesSectors};
 ghost use Rattle.block_device.specs.declared.request.Request.TheVariants.{Read, Write};
-ghost use Rattle.block_device.specs.Asking.{found_by, status_by};
+ghost use Rattle.block_device.specs.Asking.{found_by, status_by, used_by};
 ghost use Rattle.block_device.specs.Extent.{CallsWithin, IsWithin, extent_disk, sector_len};
 ghost use Rattle.block_device.specs.Request.{is_io_error, payload_of, status_of};
 ghost use Rattle.block_device.specs.Progress.{IsDone, IsWritten};
@@ -22,6 +22,7 @@ use crate::payload::Payload;
 use crate::request::{RequestStatus, SECTOR_LEN};
 use chain::Chain;
 use guest_memory::GuestMemory;
+use mmio_window::Used;
 use sector_cache::{Image, ImageError, SectorCache};
 use std::alloc::Allocator;
 
@@ -70,6 +71,25 @@ impl Done {
                 ..Done::SUCCEEDED
             },
             (Verdict::Done, _) => Done::SUCCEEDED,
+        }
+    }
+
+    /// What the used entry of its chain says, which has so many writable bytes, the status among them.
+    #[inline(always)]
+    pub(crate) fn used(self, writable: u64) -> Used
+        requires room { self.len < writable }
+        requires fits { writable < 2 ^ 32 }
+        ensures len { result.len ≡ used_by self.len writable }
+        ensures wrote { result.wrote ≡ true }
+    {
+        let len = if self.len == writable - 1 {
+            writable
+        } else {
+            self.len
+        };
+        Used {
+            len: len as u32,
+            wrote: true,
         }
     }
 }

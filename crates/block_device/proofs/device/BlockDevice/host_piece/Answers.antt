@@ -1,4 +1,4 @@
-use Rattle.std.proofs.Common.{refl, sym, ap, ◌∙◌, not, arith}
+use Rattle.std.proofs.Common.{sym, ap, ◌∙◌, not, arith}
 use Rattle.negotiation.specs.Features.{block_flush}
 use Rattle.negotiation.specs.Negotiation.{negotiated_of}
 use Rattle.negotiation.specs.Sets.{has}
@@ -7,7 +7,7 @@ use Rattle.block_device.specs.Operation.{operation_of}
 use Rattle.block_device.proofs.Telling.{told_inside}
 use Rattle.block_device.proofs.Unasked.{any_disk}
 use Rattle.mmio_window.proofs.Soundness.{serving_keeps_sound}
-use Rattle.mmio_window.specs.Window.{queue_at}
+use Rattle.mmio_window.specs.Window.{queue_at, with_ring}
 use Rattle.block_device.proofs.Anywhere.{asks_at, hosts_to, none_asks}
 use Rattle.block_device.proofs.device.BlockDevice.host_piece.Goals as goal
 
@@ -18,18 +18,30 @@ tell-operation-requires-clause-asked g c = record {
   asked = c.in-Err.ensures.refuses.left.refuses.asked;
 }
 
+pub of-requires : goal.of-requires
+of-requires g c =
+    let asked = c.in-Err.ensures.refuses.left.refuses.asked in
+    omega (arith, asked.all)
+
+pub launch-requires : goal.launch-requires
+launch-requires g c = record {
+  taken = (asks_at c.args.self.now c.args.stage c.args.budget c.args.mem.now c.serve_queue.new.mem
+      c.in-Some.queue.now c.serve_queue.new.queue c.serve_queue.new.chain c.serve_queue.new.backend
+      c.in-Err.asked c.in-Err.ensures.refuses any_disk).stops.taken;
+}
+
 pub returns-in-Err-clause-served : goal.returns-in-Err-clause-served
 returns-in-Err-clause-served g c disk = record {
   queue = c.in-Some.queue.now;
   ready = c.in-Some.ensures.value;
   last = c.serve_queue.new.queue;
   request = c.in-Err.asked.why;
-  asks = asks_at c.args.self.now c.args.stage c.args.budget c.args.mem.now c.serve_queue.new.mem
-      c.in-Some.queue.now c.serve_queue.new.queue c.serve_queue.new.chain c.serve_queue.new.backend
-      c.in-Err.asked
-      c.in-Err.ensures.refuses disk;
-  window = refl;
-  operation = c.tell-operation.ensures.operation
+  asks = rw c.of.ensures.token (asks_at c.args.self.now c.args.stage c.args.budget c.args.mem.now
+      c.serve_queue.new.mem c.in-Some.queue.now c.serve_queue.new.queue c.serve_queue.new.chain
+      c.serve_queue.new.backend c.in-Err.asked c.in-Err.ensures.refuses disk);
+  window = rw c.of.ensures.token (ap (with_ring 0 c.args.window.now) c.launch.ensures.launched);
+  status = c.of.ensures.status;
+  operation = c.of.ensures.operation ∙ c.tell-operation.ensures.operation
       ∙ ap (λ flushes. operation_of (not flushes) c.in-Err.asked.why)
       (c.contains-stable.ensures tt ∙ ap (λ bits. has bits block_flush) (c.negotiated-negotiated.ensures.value
       ∙ ap negotiated_of c.negotiation.ensures));
@@ -43,12 +55,12 @@ returns-in-Err-clause-flight g c =
     c.in-Err.asked
     c.in-Err.ensures.refuses any_disk in
     record {
-      queue = c.serve_queue.new.queue;
-      ready = queue_stands_open 0 c.args.window.now c.in-Some.queue.now c.serve_queue.new.queue
+      queue = c.launch.new.self;
+      ready = queue_stands_open 0 c.args.window.now c.in-Some.queue.now c.launch.new.self
           (sym c.in-Some.ensures.value);
-      taken = asks.stops.taken;
-      good = asks.good;
-      status = omega (arith, asks.stops.asked.all);
+      ahead = rw c.of.ensures.token c.launch.ensures.ahead;
+      status = c.of.ensures.inside c.serve_queue.new.mem asks.good.inside;
+      some = omega (arith, asks.stops.asked.all, c.of.ensures.status.writable);
     }
 
 pub returns-in-Err-clause-inside : goal.returns-in-Err-clause-inside
@@ -57,16 +69,17 @@ returns-in-Err-clause-inside g c =
     c.in-Some.queue.now c.serve_queue.new.queue c.serve_queue.new.chain c.serve_queue.new.backend
     c.in-Err.asked
     c.in-Err.ensures.refuses any_disk in
-    told_inside c.args.self.now c.serve_queue.new.mem c.serve_queue.new.chain c.in-Err.asked.why
-    (not c.contains-stable.result) c.tell-operation.result c.tell-operation.new.runs
+    rw c.of.ensures.operation (told_inside c.args.self.now c.serve_queue.new.mem c.serve_queue.new.chain
+    c.in-Err.asked.why (not c.contains-stable.result) c.tell-operation.result c.tell-operation.new.runs
     asks.good asks.stops.asked c.tell-operation.ensures.operation
-    (c.tell-operation.ensures.runs c.serve_queue.new.mem c.in-Err.ensures.refuses.left.refuses)
+    (c.tell-operation.ensures.runs c.serve_queue.new.mem c.in-Err.ensures.refuses.left.refuses))
 
 pub returns-in-Err-clause-sound : goal.returns-in-Err-clause-sound
 returns-in-Err-clause-sound g c =
     serving_keeps_sound c.args.mem.now c.serve_queue.new.mem c.args.window.now 0 c.in-Some.queue.now
-    c.serve_queue.new.queue
-    c.requires.sound c.serve_queue.ensures.range (sym c.in-Some.ensures.value) c.serve_queue.ensures.made
+    c.launch.new.self
+    c.requires.sound c.serve_queue.ensures.range (sym c.in-Some.ensures.value)
+    (c.launch.ensures.made ∙ c.serve_queue.ensures.made)
 
 pub returns-in-Ok-clause-served : goal.returns-in-Ok-clause-served
 returns-in-Ok-clause-served g c disk =

@@ -1,0 +1,307 @@
+-- What is in flight lies between the next used entry and the next chain, also once one more chain asks.
+use Rattle.std.proofs.Common.{◌≡◌, ◌∙◌, ℕ, Bool, true, false, cond, suc, ◌<◌, Option, Some, None, List, [], ◌∷◌, length, get_or, set, refl, sym, ap, subst, arith}
+use Rattle.std.specs.Prelude.{IfSome}
+use Rattle.std.specs.Option.{option_map}
+use Rattle.std.proofs.lemmas.List.{get_or-map, length-map, map-set}
+use Rattle.std.proofs.lemmas.List.Elements.{All-weaker}
+use Rattle.guest_memory.specs.Memory.{Memory}
+use Rattle.mmio_window.specs.declared.queue.Queue.{Queue}
+use Rattle.mmio_window.specs.declared.queue.Queue.TheVariants.{Split, Packed}
+use Rattle.mmio_window.specs.declared.queue.Token.{Token}
+use Rattle.mmio_window.specs.declared.queue.Token.TheVariants as token
+use Rattle.mmio_window.specs.declared.stage.Stage.{Stage}
+use Rattle.mmio_window.specs.declared.stage.Stage.TheVariants.{First, Next}
+use Rattle.mmio_window.specs.Pieces.{ServesTo, opened_at}
+use Rattle.chain.specs.declared.budget.Progress.TheVariants.{Done}
+use Rattle.chain.specs.declared.fault.Fault.{Fault}
+use Rattle.chain.specs.Service.{Ending, Faulted, Refused, Runs, Site, Spent, Works, stop}
+use Rattle.sector_cache.specs.Disk.{Disk}
+use Rattle.negotiation.specs.Negotiation.{is_live, with_needs_reset}
+use Rattle.mmio_window.specs.Queue.{AreAhead, Fits, TagFits, ahead_of, entry_of, launched, opened, queue_kind, shut, stopped}
+use Rattle.mmio_window.specs.Serving.{after_service}
+use Rattle.mmio_window.specs.Window.{WindowState, queue_at, ring_at, with_ring}
+use Rattle.mmio_window.proofs.Ahead.{AreAhead-landed, AreAhead-launched, AreAhead-served}
+use Rattle.mmio_window.proofs.Pieces.{queue_stands_open}
+use Rattle.block_device.specs.declared.device.BlockDevice.{BlockDevice}
+use Rattle.block_device.specs.declared.operation.Verdict.{Verdict}
+use Rattle.block_device.specs.Asking.{unasked_device}
+use Rattle.block_device.specs.Flights.{AsksNext, HostedQueue, InFlight, IsLanding, LandsBy, LookEnds, LooksFrom, free_tag, token_in, tokens_of, unlimited}
+use Rattle.block_device.specs.declared.hosting.Hosted.TheVariants as hosted
+use Rattle.block_device.specs.Extent.{extent_disk}
+use Rattle.block_device.specs.Hosting.{HostsTo, site_of}
+use Rattle.block_device.proofs.Unasked.{any_disk}
+
+-- ---- an opening moves none
+
+fits_opened : (m : Memory) (queue : Queue) (t : Token) → Fits queue t → Fits (opened m queue) t
+fits_opened m (Split ring) (token.Split t) f = tt
+fits_opened m (Packed ring) (token.Packed t) f = f
+fits_opened m (Split ring) (token.Packed t) f = absurd f
+fits_opened m (Packed ring) (token.Split t) f = absurd f
+
+tag_opened : (m : Memory) (queue : Queue) (tag : Option Token) → TagFits queue tag → TagFits (opened m queue) tag
+tag_opened m queue None f = tt
+tag_opened m queue (Some t) f = fits_opened m queue t f
+
+ahead_opened : (m : Memory) (queue : Queue) → ahead_of (opened m queue) ≡ ahead_of queue
+ahead_opened m (Split ring) = refl
+ahead_opened m (Packed ring) = refl
+
+AreAhead-opened_at : (stage : Stage) (m : Memory) (queue : Queue) (tags : List (Option Token))
+    → AreAhead queue tags → AreAhead (opened_at stage m queue) tags
+AreAhead-opened_at First m queue tags are = record {
+  each = All-weaker (TagFits queue) (TagFits (opened m queue)) (tag_opened m queue) tags are.each;
+  places = let same = ahead_opened m queue in omega (arith, same, are.places);
+}
+AreAhead-opened_at Next m queue tags are = are
+
+-- ---- the free tag
+
+pub record IsFree (tags : List (Option InFlight)) (i : ℕ) : Type 0 where
+  pub there : i < length tags
+  pub free : get_or tags i None ≡ None
+
+free_later : (tags : List (Option InFlight)) (here : InFlight) (f : Option ℕ) (i : ℕ) → free_tag tags ≡ f
+    → ((j : ℕ) → free_tag tags ≡ Some j → IsFree tags j) → option_map suc f ≡ Some i → IsFree (Some here ∷ tags) i
+free_later tags here None i is rest e = cc e
+free_later tags here (Some j) i is rest e =
+    let at : suc j ≡ i = cc e in
+    let free = rest j is in
+    subst (λ k. IsFree (Some here ∷ tags) k) at (record { there = omega (arith, free.there); free = free.free })
+
+pub is_free : (tags : List (Option InFlight)) (i : ℕ) → free_tag tags ≡ Some i → IsFree tags i
+is_free [] i e = cc e
+is_free (None ∷ tags) i e =
+    let at : 0 ≡ i = cc e in
+    subst (λ k. IsFree (None ∷ tags) k) at (record { there = omega arith; free = refl })
+is_free (Some here ∷ tags) i e = free_later tags here (free_tag tags) i refl (is_free tags) e
+
+-- ---- one more chain asks
+
+pub ahead_asked : (device : BlockDevice) (stage : Stage) (old new : HostedQueue) (here : InFlight)
+    → AsksNext device stage old here new
+    → IfSome (queue_at 0 old.window) (λ queue. AreAhead queue (tokens_of old.tags))
+    → IfSome (queue_at 0 new.window) (λ queue. AreAhead queue (tokens_of new.tags))
+ahead_asked device stage old new here next held =
+    let x = next.asks any_disk in
+    let tokens = tokens_of old.tags in
+    let free = is_free old.tags next.tag next.free in
+    let are : AreAhead x.queue tokens =
+    subst (λ (o : Option Queue). IfSome o (λ queue. AreAhead queue tokens)) (sym x.ready) held in
+    let last : AreAhead x.last tokens = AreAhead-served (unasked_device device)
+    (record (site_of device old.memory x.queue any_disk) { ring = opened_at stage old.memory x.queue })
+    (site_of device new.memory x.last any_disk) x.asks.stops.course.chains tokens x.asks.stops.course.serves
+    (AreAhead-opened_at stage old.memory x.queue tokens are) in
+    let none : get_or tokens next.tag None ≡ None =
+    get_or-map token_in old.tags next.tag None None free.there ∙ ap token_in free.free in
+    let size = length-map old.tags token_in in
+    let there : next.tag < length tokens = omega (arith, size, free.there) in
+    let asked : AreAhead (launched x.last (entry_of here.flight.token)) (set tokens next.tag (Some here.flight.token)) =
+    AreAhead-launched x.last tokens next.tag here.flight.token there last none x.asks.stops.taken in
+    let same : set tokens next.tag (Some here.flight.token) ≡ tokens_of new.tags =
+    sym (ap tokens_of next.tags ∙ map-set token_in old.tags next.tag (Some here)) in
+    let stands : queue_at 0 new.window ≡ Some (launched x.last (entry_of here.flight.token)) =
+    ap (queue_at 0) x.window
+    ∙ queue_stands_open 0 old.window x.queue (launched x.last (entry_of here.flight.token)) (sym x.ready) in
+    subst (λ (o : Option Queue). IfSome o (λ queue. AreAhead queue (tokens_of new.tags))) (sym stands)
+    (subst (λ t. AreAhead (launched x.last (entry_of here.flight.token)) t) same asked)
+
+-- ---- the ends of a service move none
+
+module _ (queue : Queue) where
+  fits_shut : (t : Token) → Fits queue t → Fits (shut queue) t
+  fits_shut t f = go queue t f
+    where
+      go : (queue : Queue) (t : Token) → Fits queue t → Fits (shut queue) t
+      go (Split ring) (token.Split t) f = tt
+      go (Packed ring) (token.Packed t) f = f
+      go (Split ring) (token.Packed t) f = absurd f
+      go (Packed ring) (token.Split t) f = absurd f
+
+  fits_stopped : (t : Token) → Fits queue t → Fits (stopped queue) t
+  fits_stopped t f = go queue t f
+    where
+      go : (queue : Queue) (t : Token) → Fits queue t → Fits (stopped queue) t
+      go (Split ring) (token.Split t) f = tt
+      go (Packed ring) (token.Packed t) f = f
+      go (Split ring) (token.Packed t) f = absurd f
+      go (Packed ring) (token.Split t) f = absurd f
+
+tag_by : (old new : Queue) → ((t : Token) → Fits old t → Fits new t) → (tag : Option Token) → TagFits old tag
+    → TagFits new tag
+tag_by old new keeps None f = tt
+tag_by old new keeps (Some t) f = keeps t f
+
+ahead_shut : (queue : Queue) → ahead_of (shut queue) ≡ ahead_of queue
+ahead_shut (Split ring) = refl
+ahead_shut (Packed ring) = refl
+
+ahead_stopped : (queue : Queue) → ahead_of (stopped queue) ≡ ahead_of queue
+ahead_stopped (Split ring) = refl
+ahead_stopped (Packed ring) = refl
+
+AreAhead-shut : (queue : Queue) (tags : List (Option Token)) → AreAhead queue tags → AreAhead (shut queue) tags
+AreAhead-shut queue tags are = record {
+  each = All-weaker (TagFits queue) (TagFits (shut queue)) (tag_by queue (shut queue) (fits_shut queue)) tags
+      are.each;
+  places = let same = ahead_shut queue in omega (arith, same, are.places);
+}
+
+AreAhead-stopped : (queue : Queue) (tags : List (Option Token)) → AreAhead queue tags
+    → AreAhead (stopped queue) tags
+AreAhead-stopped queue tags are = record {
+  each = All-weaker (TagFits queue) (TagFits (stopped queue))
+      (tag_by queue (stopped queue) (fits_stopped queue)) tags are.each;
+  places = let same = ahead_stopped queue in omega (arith, same, are.places);
+}
+
+-- ---- what a window shows of its end leaves its queue, or the window isn't live
+
+if_live : (live : Bool) (ring : Option Queue) (queue : Queue) → cond live ring None ≡ Some queue → ring ≡ Some queue
+if_live true ring queue e = e
+if_live false ring queue e = cc e
+
+kept_if : (live : Bool) (ring : Option Queue) (queue : Queue) (P : Queue → Type 0) → ring ≡ Some queue → P queue
+    → IfSome (cond live ring None) P
+kept_if true ring queue P e p = subst (λ (o : Option Queue). IfSome o P) (sym e) p
+kept_if false ring queue P e p = tt
+
+shown : (w : WindowState) (queue : Queue) (P : Queue → Type 0) (ending : Ending) (wanted : Bool)
+    → queue_at 0 w ≡ Some queue → P queue → IfSome (queue_at 0 (after_service ending wanted w)) P
+shown w queue P Spent true e p = subst (λ (o : Option Queue). IfSome o P) (sym e) p
+shown w queue P Spent false e p = subst (λ (o : Option Queue). IfSome o P) (sym e) p
+shown w queue P Refused true e p = subst (λ (o : Option Queue). IfSome o P) (sym e) p
+shown w queue P Refused false e p = subst (λ (o : Option Queue). IfSome o P) (sym e) p
+shown w queue P (Faulted fault) true e p =
+    kept_if (is_live (with_needs_reset w.negotiation)) (ring_at 0 w) queue P
+    (if_live (is_live w.negotiation) (ring_at 0 w) queue e) p
+shown w queue P (Faulted fault) false e p =
+    kept_if (is_live (with_needs_reset w.negotiation)) (ring_at 0 w) queue P
+    (if_live (is_live w.negotiation) (ring_at 0 w) queue e) p
+
+-- ---- a chain lands
+
+pub ahead_landed : (tag : ℕ) (verdict : Verdict) (old new : HostedQueue) → IsLanding tag verdict old new
+    → tag < length old.tags
+    → IfSome (queue_at 0 old.window) (λ queue. AreAhead queue (tokens_of old.tags))
+    → IfSome (queue_at 0 new.window) (λ queue. AreAhead queue (tokens_of new.tags))
+ahead_landed tag verdict old new landing below held = go (queue_at 0 old.window) refl landing.lands
+  where
+    go : (o : Option Queue) → queue_at 0 old.window ≡ o → LandsBy o tag landing.here verdict old new
+        → IfSome (queue_at 0 new.window) (λ queue. AreAhead queue (tokens_of new.tags))
+    go None none same =
+        let gone : queue_at 0 new.window ≡ None = ap (λ (h : HostedQueue). queue_at 0 h.window) same ∙ none in
+        subst (λ (o : Option Queue). IfSome o (λ queue. AreAhead queue (tokens_of new.tags))) (sym gone) tt
+    go (Some found) some lands =
+        let x = lands.completes in
+        let tokens = tokens_of old.tags in
+        let t = landing.here.flight.token in
+        let are : AreAhead x.queue tokens =
+        subst (λ (o : Option Queue). IfSome o (λ queue. AreAhead queue tokens)) x.ready held in
+        let size = length-map old.tags token_in in
+        let there : tag < length tokens = omega (arith, size, below) in
+        let is : get_or tokens tag None ≡ Some t =
+        get_or-map token_in old.tags tag None None below ∙ ap token_in landing.there in
+        let landed : AreAhead (queue_kind.landed x.queue (entry_of t)) (set tokens tag None) =
+        AreAhead-landed x.queue tokens tag t there are is in
+        let behind : AreAhead x.behind (set tokens tag None) =
+        subst (λ (q : Queue). AreAhead q (set tokens tag None)) (sym x.gives.landed) landed in
+        let same : set tokens tag None ≡ tokens_of new.tags =
+        sym (ap tokens_of lands.tags ∙ map-set token_in old.tags tag None) in
+        let kept : AreAhead (shut x.behind) (tokens_of new.tags) =
+        AreAhead-shut x.behind (tokens_of new.tags)
+        (subst (λ l. AreAhead x.behind l) same behind) in
+        subst (λ (w : WindowState). IfSome (queue_at 0 w) (λ queue. AreAhead queue (tokens_of new.tags)))
+        (sym x.window)
+        (shown (with_ring 0 old.window (shut x.behind)) (shut x.behind)
+        (λ queue. AreAhead queue (tokens_of new.tags)) Spent x.wanted
+        (queue_stands_open 0 old.window x.queue (shut x.behind) x.ready) kept)
+
+-- ---- a look ends
+
+module _ (device : BlockDevice) (tokens : List (Option Token)) where
+  runs_kept : (start last : Site Queue Disk) (ending : Ending) → Runs queue_kind (unasked_device device) start ending last
+      → AreAhead start.ring tokens → AreAhead last.ring tokens
+  runs_kept start last ending runs are =
+      let at = AreAhead-served (unasked_device device) start runs.at runs.chains tokens runs.serves are in
+      subst (λ (s : Site Queue Disk). AreAhead s.ring tokens) (sym runs.stands) (stop_kept runs.at ending at)
+    where
+      stop_kept : (site : Site Queue Disk) (ending : Ending) → AreAhead site.ring tokens
+          → AreAhead (stop queue_kind (unasked_device device) site ending).ring tokens
+      stop_kept site Spent are = are
+      stop_kept site (Faulted fault) are = AreAhead-stopped site.ring tokens are
+      stop_kept site Refused are = are
+
+  works_kept : (fault : Option Fault) (start last : Site Queue Disk) (ending : Ending)
+      → Works queue_kind (unasked_device device) fault start ending last
+      → AreAhead start.ring tokens → AreAhead last.ring tokens
+  works_kept None start last ending works are = runs_kept start last ending works are
+  works_kept (Some fault) start last ending works are =
+      subst (λ (s : Site Queue Disk). AreAhead s.ring tokens) (sym works.1) are
+
+  ends_kept : (stage : Stage) (found : Option Queue) (old new : Memory) (before after : WindowState) (s : Disk)
+      → found ≡ queue_at 0 before
+      → ServesTo stage (unasked_device device) unlimited 0 found Done old new before after s s
+      → IfSome (queue_at 0 before) (λ queue. AreAhead queue tokens)
+      → IfSome (queue_at 0 after) (λ queue. AreAhead queue tokens)
+  ends_kept First None old new before after s is h held =
+      subst (λ (w : WindowState). IfSome (queue_at 0 w) (λ queue. AreAhead queue tokens))
+      (sym h.notified.1.window) held
+  ends_kept Next None old new before after s is h held =
+      subst (λ (w : WindowState). IfSome (queue_at 0 w) (λ queue. AreAhead queue tokens))
+      (sym h.finished.1.window) held
+  ends_kept First (Some queue) old new before after s is h held =
+      let x = h.notified in
+      let service = x.service.service in
+      let are : AreAhead queue tokens =
+      subst (λ (o : Option Queue). IfSome o (λ queue. AreAhead queue tokens)) (sym is) held in
+      let start : Site Queue Disk = record { memory = old; ring = opened old queue; state = s } in
+      let last : AreAhead service.last.ring tokens =
+      works_kept (queue_kind.opening_fault old queue) start service.last h.ending service.works
+      (AreAhead-opened_at First old queue tokens are) in
+      let shut_is : x.last ≡ shut service.last.ring = ap (λ (k : Site Queue Disk). k.ring) service.closed in
+      subst (λ (w : WindowState). IfSome (queue_at 0 w) (λ queue. AreAhead queue tokens)) (sym x.window)
+      (shown (with_ring 0 before x.last) x.last (λ queue. AreAhead queue tokens) h.ending x.wanted
+      (queue_stands_open 0 before queue x.last (sym is))
+      (subst (λ (q : Queue). AreAhead q tokens) (sym shut_is) (AreAhead-shut service.last.ring tokens last)))
+  ends_kept Next (Some queue) old new before after s is h held =
+      let x = h.finished in
+      let ends = x.ends.ends in
+      let are : AreAhead queue tokens =
+      subst (λ (o : Option Queue). IfSome o (λ queue. AreAhead queue tokens)) (sym is) held in
+      let last : AreAhead ends.last.ring tokens =
+      runs_kept (record { memory = old; ring = queue; state = s }) ends.last h.ending ends.runs are in
+      let shut_is : x.last ≡ shut ends.last.ring = ap (λ (k : Site Queue Disk). k.ring) ends.closed in
+      subst (λ (w : WindowState). IfSome (queue_at 0 w) (λ queue. AreAhead queue tokens)) (sym x.window)
+      (shown (with_ring 0 before x.last) x.last (λ queue. AreAhead queue tokens) h.ending x.wanted
+      (queue_stands_open 0 before queue x.last (sym is))
+      (subst (λ (q : Queue). AreAhead q tokens) (sym shut_is) (AreAhead-shut ends.last.ring tokens last)))
+
+end_kept : (device : BlockDevice) (stage : Stage) (old new : HostedQueue) (free : Option ℕ)
+    → LookEnds free device stage old new
+    → IfSome (queue_at 0 old.window) (λ queue. AreAhead queue (tokens_of old.tags))
+    → IfSome (queue_at 0 new.window) (λ queue. AreAhead queue (tokens_of new.tags))
+end_kept device stage old new None same held =
+    subst (λ (h : HostedQueue). IfSome (queue_at 0 h.window) (λ queue. AreAhead queue (tokens_of h.tags)))
+    (sym same) held
+end_kept device stage old new (Some tag) x held =
+    subst (λ t. IfSome (queue_at 0 new.window) (λ queue. AreAhead queue (tokens_of t))) (sym x.tags)
+    (ends_kept device (tokens_of old.tags) stage (queue_at 0 old.window) old.memory new.memory old.window
+    new.window (extent_disk device.extent any_disk) refl (done_by stage (x.ends any_disk)) held)
+  where
+    done_by : (stage : Stage)
+        → HostsTo device stage unlimited (queue_at 0 old.window) hosted.Done old.memory new.memory old.window
+        new.window [] [] any_disk
+        → ServesTo stage (unasked_device device) unlimited 0 (queue_at 0 old.window) Done old.memory new.memory
+        old.window new.window (extent_disk device.extent any_disk) (extent_disk device.extent any_disk)
+    done_by stage h = h
+
+pub ahead_looked : (device : BlockDevice) (stage : Stage) (old : HostedQueue) (asked : List InFlight)
+    (new : HostedQueue) → LooksFrom device stage old asked new
+    → IfSome (queue_at 0 old.window) (λ queue. AreAhead queue (tokens_of old.tags))
+    → IfSome (queue_at 0 new.window) (λ queue. AreAhead queue (tokens_of new.tags))
+ahead_looked device stage old [] new looks held =
+    end_kept device stage old new (free_tag old.tags) looks held
+ahead_looked device stage old (here ∷ asked) new looks held =
+    ahead_looked device Next looks.0 asked new looks.2
+    (ahead_asked device stage old looks.0 here looks.1 held)

@@ -1,0 +1,162 @@
+-- Operations in flight of one disk that the host serves, each in a tag of its own, and what a look at the queue
+-- and a completion make of them. How many tags there are was chosen as the slot was made.
+use Rattle.std.specs.Prelude.{◌≡◌, ℕ, suc, ◌+◌, ◌*◌, ◌<◌, ⊤, Bool, Option, Some, None, is_some, List, [], ◌∷◌, map, get_or, set, All, IfSome}
+use Rattle.std.specs.List.{list_any}
+use Rattle.std.specs.Option.{option_map}
+use Rattle.guest_memory.specs.Memory.{Memory, Inside}
+use Rattle.chain.specs.declared.budget.Budget.{Budget}
+use Rattle.chain.specs.declared.segment.Buffer.{Buffer}
+use Rattle.chain.specs.declared.segment.Segment.{Segment}
+use Rattle.sector_cache.specs.Disk.{Disk}
+use Rattle.mmio_window.specs.declared.queue.Queue.{Queue}
+use Rattle.mmio_window.specs.declared.queue.Token.{Token}
+use Rattle.mmio_window.specs.declared.stage.Stage.{Stage}
+use Rattle.mmio_window.specs.declared.stage.Stage.TheVariants.{First, Next}
+use Rattle.mmio_window.specs.Queue.{AreAhead}
+use Rattle.mmio_window.specs.Window.{WindowState, queue_at}
+use Rattle.block_device.specs.declared.device.BlockDevice.{BlockDevice}
+use Rattle.block_device.specs.declared.hosting.Flight.{Flight}
+use Rattle.block_device.specs.declared.hosting.Hosted.TheVariants.{Asks, Done}
+use Rattle.block_device.specs.declared.operation.Operation.{Operation}
+use Rattle.block_device.specs.declared.operation.Verdict.{Verdict}
+use Rattle.block_device.specs.Hosting.{CompletesIn, HostsTo}
+use Rattle.block_device.specs.Operation.{LiesInside}
+
+-- a chain in flight, and the runs of its operation
+pub record InFlight : Type 0 where
+  pub flight : Flight
+  pub runs : List Segment
+
+-- the chain in flight, the runs of whose operation stand in its tag's room
+abbrev pub in_room : Option Flight → List Segment → Option InFlight
+in_room None runs = None
+in_room (Some flight) runs = Some (record { flight = flight; runs = runs })
+
+-- where the queue of such a disk stands: the guest's memory, the window, and the tags
+pub record HostedQueue : Type 0 where
+  pub memory : Memory
+  pub window : WindowState
+  pub tags : List (Option InFlight)
+
+-- the first free tag
+abbrev pub free_tag : List (Option InFlight) → Option ℕ
+free_tag [] = None
+free_tag (None ∷ tags) = Some 0
+free_tag (Some here ∷ tags) = option_map suc (free_tag tags)
+
+-- ---- a look at the queue
+
+abbrev pub unlimited : Budget
+unlimited = record { chains = None; bytes = None }
+
+-- Chains are served that ask for nothing, whatever the disk is, and the next one asks: it takes the first free
+-- tag, and the queue stands open behind it.
+pub record AsksNext (device : BlockDevice) (stage : Stage) (old : HostedQueue) (here : InFlight)
+    (new : HostedQueue) : Type 0 where
+  pub tag : ℕ
+  pub free : free_tag old.tags ≡ Some tag
+  pub buffers : List Buffer
+  pub asks :
+      (disk : Disk) → HostsTo device stage unlimited (queue_at 0 old.window) (Asks here.flight)
+      old.memory new.memory old.window new.window buffers here.runs disk
+  pub tags : new.tags ≡ set old.tags tag (Some here)
+
+-- No further chain asks, and the service ends.
+pub record AsksNoMore (device : BlockDevice) (stage : Stage) (old new : HostedQueue) : Type 0 where
+  pub ends :
+      (disk : Disk) → HostsTo device stage unlimited (queue_at 0 old.window) Done
+      old.memory new.memory old.window new.window [] [] disk
+  pub tags : new.tags ≡ old.tags
+
+-- How a look ends, by whether a tag is free: where none is, it goes no further, and the queue is left as it
+-- stands.
+abbrev pub LookEnds : Option ℕ → BlockDevice → Stage → HostedQueue → HostedQueue → Type 0
+LookEnds None device stage old new = new ≡ old
+LookEnds (Some tag) device stage old new = AsksNoMore device stage old new
+
+-- From here on these chains ask, one after another, and then the look ends.
+abbrev pub LooksFrom : BlockDevice → Stage → HostedQueue → List InFlight → HostedQueue → Type 0
+LooksFrom device stage old [] new = LookEnds (free_tag old.tags) device stage old new
+LooksFrom device stage old (here ∷ asked) new =
+    (mid : HostedQueue) × AsksNext device stage old here mid × LooksFrom device Next mid asked new
+
+-- a look, and what it asks for
+abbrev pub LooksAt : BlockDevice → HostedQueue → List InFlight → HostedQueue → Type 0
+LooksAt device = LooksFrom device First
+
+-- from one state of the queue to another, whatever it asks for
+pub record IsLook (device : BlockDevice) (old new : HostedQueue) : Type 0 where
+  pub asked : List InFlight
+  pub looks : LooksAt device old asked new
+
+-- ---- a completion
+
+-- The chain is given back, and its driver is notified where it wants to be; its tag is free again.
+pub record IsGivenIn (tag : ℕ) (here : InFlight) (verdict : Verdict) (old new : HostedQueue) : Type 0 where
+  pub completes : CompletesIn here.flight verdict old.memory new.memory old.window new.window
+  pub tags : new.tags ≡ set old.tags tag None
+
+-- What becomes of the chain in this tag, by whether the device may serve its queue: in a window that asks to
+-- be reset nothing is written, since its driver can't count on what was in flight (2.1.2).
+abbrev pub LandsBy : Option Queue → ℕ → InFlight → Verdict → HostedQueue → HostedQueue → Type 0
+LandsBy None tag here verdict old new = new ≡ record old { tags = set old.tags tag None }
+LandsBy (Some queue) tag here verdict old new = IsGivenIn tag here verdict old new
+
+-- Such a chain is there.
+pub record IsLanding (tag : ℕ) (verdict : Verdict) (old new : HostedQueue) : Type 0 where
+  pub here : InFlight
+  pub there : get_or old.tags tag None ≡ Some here
+  pub lands : LandsBy (queue_at 0 old.window) tag here verdict old new
+
+-- The operation of this tag is completed, and the device looks at its queue again.
+pub record IsCompletion (device : BlockDevice) (tag : ℕ) (verdict : Verdict) (old new : HostedQueue) : Type 0 where
+  pub landed : HostedQueue
+  pub lands : IsLanding tag verdict old landed
+  pub looks : IsLook device landed new
+
+-- ---- what holds between two calls
+
+-- The chain's status has a place in the memory, and nothing that the host is told lies outside the guest's
+-- memory or its disk of so many sectors.
+pub record IsHeld (capacity : ℕ) (m : Memory) (here : InFlight) : Type 0 where
+  pub status : Inside m here.flight.status 1
+  pub some : 0 < here.flight.writable
+  pub inside : LiesInside capacity m here.flight.operation here.runs
+
+abbrev pub TagIsHeld : ℕ → Memory → Option InFlight → Type 0
+TagIsHeld capacity m None = ⊤
+TagIsHeld capacity m (Some here) = IsHeld capacity m here
+
+abbrev pub token_in : Option InFlight → Option Token
+token_in None = None
+token_in (Some here) = Some here.flight.token
+
+abbrev pub tokens_of : List (Option InFlight) → List (Option Token)
+tokens_of tags = map token_in tags
+
+-- What is in flight is held: of a queue that may be served it lies between the next used entry and the next
+-- chain.
+pub record AreHeld (capacity : ℕ) (h : HostedQueue) : Type 0 where
+  pub each : All (TagIsHeld capacity h.memory) h.tags
+  pub ahead : IfSome (queue_at 0 h.window) (λ queue. AreAhead queue (tokens_of h.tags))
+
+-- ---- what a host is told
+
+-- what the host is asked to do by this tag, and where its bytes lie
+abbrev pub operation_in : Option InFlight → Option Operation
+operation_in None = None
+operation_in (Some here) = Some here.flight.operation
+
+abbrev pub runs_in : Option InFlight → List Segment
+runs_in None = []
+runs_in (Some here) = here.runs
+
+-- the tags in flight as a set of bits: bit n is set where tag n is taken
+abbrev pub taken_bits : List (Option InFlight) → ℕ
+taken_bits [] = 0
+taken_bits (None ∷ tags) = 2 * taken_bits tags
+taken_bits (Some here ∷ tags) = 1 + 2 * taken_bits tags
+
+-- whether anything is in flight
+abbrev pub is_any : List (Option InFlight) → Bool
+is_any tags = list_any is_some tags
