@@ -48,7 +48,7 @@ served_by None state what old new outcome given answered stood =
     served_over_image state what old new outcome given answered stood
 served_by {A} (Some disk) state what old new outcome given answered stood = record {
   gives = on_host_as (λ (o : Outcome A). MayGiveOverImage state what old old o)
-      (λ (o : Outcome A). GivesOverImage state what old old o) disk.flight state what outcome
+      (λ (o : Outcome A). GivesOverImage state what old old o) state what outcome
       (λ quiet beside. served_over_image state what old old outcome beside answered refl) given.gives;
   image = given.image;
 }

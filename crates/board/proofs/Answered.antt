@@ -119,7 +119,7 @@ ended_over_image limit (MemWrite addr bytes) budget state new waiting left reply
 ended_over_image limit (Input bytes) budget state new waiting left reply h = tt
 ended_over_image limit (Resize cols rows) budget state new waiting left reply h = tt
 ended_over_image limit (Restore bytes) budget state new waiting left reply h = tt
-ended_over_image limit (Complete verdict) budget state new waiting left reply h = tt
+ended_over_image limit (Complete tag verdict) budget state new waiting left reply h = tt
 
 ended_by : {A : Type 0} (limit : ℕ) (part : Bool) (what : EventKind A) (budget : Budget)
     (state new : SlotState) (waiting left : List ℕ) (reply : Reply A)

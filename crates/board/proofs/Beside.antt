@@ -109,7 +109,7 @@ block_asked (MemWrite addr bytes) state rings = absurd (cc (rings))
 block_asked (Input bytes) state rings = absurd (cc (rings))
 block_asked (Resize cols rows) state rings = absurd (cc (rings))
 block_asked (Restore bytes) state rings = absurd (cc (rings))
-block_asked (Complete verdict) state rings = absurd (cc (rings))
+block_asked (Complete tag verdict) state rings = absurd (cc (rings))
 
 -- what its service leaves to be noted is that of the event
 pub unnoted_behind : (old mid new : BoardSlot) (before after : Disk) (failed : Bool) → mid.extent ≡ old.extent

@@ -79,7 +79,7 @@ read_given state window offset width value health is = inl (record {
 })
 
 -- and a completion: nothing is in flight
-pub completion_given : {A : Type 0} (state : SlotState) (verdict : Verdict) (health : Health)
-    → MayGiveOverImage {A = A} state (Complete verdict) health health (replies state Idle)
-completion_given state verdict health =
+pub completion_given : {A : Type 0} (state : SlotState) (tag : ℕ) (verdict : Verdict) (health : Health)
+    → MayGiveOverImage {A = A} state (Complete tag verdict) health health (replies state Idle)
+completion_given state tag verdict health =
     inl (record { alike = record { alike = refl; image = refl }; answered = λ none. cc; failures = refl })

@@ -2,6 +2,7 @@
 use Rattle.std.proofs.Common.{◌≡◌, ℕ, Bool, Option, Some, None, List, [], ◌∷◌, sym, subst}
 use Rattle.guest_memory.specs.Memory.{Memory}
 use Rattle.chain.specs.declared.fault.Fault.{Fault}
+use Rattle.chain.specs.Pieces.{GoesToEnd}
 use Rattle.chain.specs.Service.{Device, Ending, Faulted, IsService, Refused, Served, ServesAll, ServesChain, Site, Spent, Works, after, open_site, stop}
 use Rattle.mmio_window.specs.declared.queue.Queue.{Queue}
 use Rattle.mmio_window.specs.Queue.{queue_kind}
@@ -45,6 +46,13 @@ module _ {State : Type 0} (device : Device State) (Keeps : Memory → State → 
   kept_by_service each old new ending wanted h keeps =
       subst At (sym h.closed) (each.closed h.last.memory h.last.ring h.last.state
       (kept_by_work each _ (open_site queue_kind device old) h.last ending h.works keeps))
+
+  -- what goes on from an open queue to the end of its service
+  pub kept_by_end : KeptByEach → (now new : Site Queue State) (ending : Ending) (wanted : Bool)
+      → GoesToEnd queue_kind device now new ending wanted → At now → At new
+  kept_by_end each now new ending wanted h keeps =
+      subst At (sym h.closed) (each.closed h.last.memory h.last.ring h.last.state
+      (kept_by_work each None now h.last ending h.runs keeps))
 
   -- and a notification
   pub kept : KeptByEach → (q : ℕ) (queue : Option Queue) (ending : Ending) (old new : Memory)

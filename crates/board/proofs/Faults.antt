@@ -10,7 +10,7 @@ use Rattle.sector_cache.specs.declared.fault.CacheFault.TheVariants.{BadCapacity
 use Rattle.board.specs.declared.fault.BoardFault.{BoardFault}
 use Rattle.board.specs.declared.fault.BoardFault.TheVariants.{NoSlots, TooManySlots, Slot, Cache, NoMemory}
 use Rattle.board.specs.declared.fault.SlotFault.{SlotFault}
-use Rattle.board.specs.declared.fault.SlotFault.TheVariants.{Memory, ExtentOutside, ExtentsOverlap}
+use Rattle.board.specs.declared.fault.SlotFault.TheVariants.{Memory, BadDepth, ExtentOutside, ExtentsOverlap}
 use Rattle.block_device.specs.declared.extent.Extent.{Extent}
 use Rattle.board.specs.declared.spec.SlotSpec.{SlotSpec}
 use Rattle.board.specs.Extent.{IsApart, Overlaps}
@@ -34,6 +34,7 @@ pub faulty_not_good : (sectors : ℕ) (earlier : List SlotSpec) (spec : SlotSpec
     → IsFaultOf sectors earlier spec fault → IsGoodSlot sectors earlier spec → ⊥
 faulty_not_good sectors earlier spec (Memory region fault) is good =
     refused_not_good spec.regions region fault is good.memory
+faulty_not_good sectors earlier spec BadDepth is good = is.depth good.depth
 faulty_not_good sectors earlier spec ExtentOutside is good = absurd (omega (arith, is.outside, good.within))
 faulty_not_good sectors earlier spec ExtentsOverlap is good = shared_not_all earlier spec is.shared good.apart
 
@@ -43,17 +44,26 @@ pub one_of_slot : (sectors : ℕ) (earlier : List SlotSpec) (spec : SlotSpec) (f
 one_of_slot sectors earlier spec (Memory i f) (Memory j g) is also =
     let same = one_refusal spec.regions i j f g is also in
     ap (λ (k : ℕ). Memory k f) same.0 ∙ ap (Memory j) same.1
+one_of_slot sectors earlier spec (Memory i f) BadDepth is also =
+    absurd (refused_not_good spec.regions i f is also.memory)
 one_of_slot sectors earlier spec (Memory i f) ExtentOutside is also =
     absurd (refused_not_good spec.regions i f is also.memory)
 one_of_slot sectors earlier spec (Memory i f) ExtentsOverlap is also =
     absurd (refused_not_good spec.regions i f is also.memory)
+one_of_slot sectors earlier spec BadDepth (Memory j g) is also =
+    absurd (refused_not_good spec.regions j g also is.memory)
+one_of_slot sectors earlier spec BadDepth BadDepth is also = refl
+one_of_slot sectors earlier spec BadDepth ExtentOutside is also = absurd (is.depth also.depth)
+one_of_slot sectors earlier spec BadDepth ExtentsOverlap is also = absurd (is.depth also.depth)
 one_of_slot sectors earlier spec ExtentOutside (Memory j g) is also =
     absurd (refused_not_good spec.regions j g also is.memory)
+one_of_slot sectors earlier spec ExtentOutside BadDepth is also = absurd (also.depth is.depth)
 one_of_slot sectors earlier spec ExtentOutside ExtentOutside is also = refl
 one_of_slot sectors earlier spec ExtentOutside ExtentsOverlap is also =
     absurd (omega (arith, is.outside, also.within))
 one_of_slot sectors earlier spec ExtentsOverlap (Memory j g) is also =
     absurd (refused_not_good spec.regions j g also is.memory)
+one_of_slot sectors earlier spec ExtentsOverlap BadDepth is also = absurd (also.depth is.depth)
 one_of_slot sectors earlier spec ExtentsOverlap ExtentOutside is also =
     absurd (omega (arith, also.outside, is.within))
 one_of_slot sectors earlier spec ExtentsOverlap ExtentsOverlap is also = refl

@@ -1,28 +1,36 @@
--- What is in flight is held: the guest's own events leave the chain at its queue's place.
-use Rattle.std.proofs.Common.{◌≡◌, ℕ, Bool, true, false, List, Option, Some, None, refl, sym, ◌∙◌, ap, subst}
-use Rattle.std.specs.Prelude.{◌&&◌, is_some, IfSome}
+-- What is in flight is held: no event that doesn't wait changes where memory lies, nor which queues may be served.
+use Rattle.std.proofs.Common.{◌≡◌, ℕ, zero, suc, Bool, true, false, List, [], ◌∷◌, Option, Some, None, get_or, replicate, refl, sym, ◌∙◌, ap, subst, arith}
+use Rattle.std.specs.Prelude.{◌&&◌, All, IfSome, sum_by}
+use Rattle.std.proofs.lemmas.List.Elements.{All-cons, All-head, All-nil, All-tail, All-weaker}
 use Rattle.guest_memory.specs.Memory.{Memory, SameRange}
 use Rattle.guest_memory.proofs.Ranges.{inside_same}
 use Rattle.chain.specs.declared.segment.Segment.{Segment}
 use Rattle.mmio_window.specs.declared.device_kind.DeviceKind.TheVariants.{Block, Console}
+use Rattle.mmio_window.specs.declared.queue.Queue.{Queue}
+use Rattle.mmio_window.specs.declared.queue.Token.{Token}
+use Rattle.mmio_window.specs.Queue.{AreAhead, TagFits, tag_places}
 use Rattle.mmio_window.specs.Ready.{KeepsQueues}
-use Rattle.mmio_window.specs.Window.{WindowState}
+use Rattle.mmio_window.specs.Window.{WindowState, queue_at}
 use Rattle.mmio_window.proofs.ReadyLemmas.{ready_queue_outlasts}
 use Rattle.block_device.specs.declared.extent.Extent.{Extent}
 use Rattle.block_device.specs.declared.operation.OperationKind.{OperationKind}
 use Rattle.block_device.specs.declared.operation.OperationKind.TheVariants as kind
+use Rattle.block_device.specs.Flights.{AreHeld, InFlight, TagIsHeld, is_any, tokens_of}
 use Rattle.block_device.specs.Operation.{LieBy, LiesInside}
-use Rattle.block_device.proofs.Unasked.{flight_outlasts}
 use Rattle.board.specs.declared.event.EventKind.{EventKind}
 use Rattle.board.specs.declared.event.EventKind.TheVariants.{Read, Write, MemRead, MemWrite, Input, Resize, Restore, Complete}
-use Rattle.board.specs.Backing.{HostDisk, InFlight, flight_in, sectors_by}
-use Rattle.board.specs.Hosting.{HoldsFlight, IsHeldBy, block_beside, must_wait}
-use Rattle.board.specs.Slot.{BoardSlot, sectors_in}
+use Rattle.board.specs.Backing.{HostDisk, sectors_by, tags_in}
+use Rattle.board.specs.Hosting.{HoldsFlights, block_beside, must_wait, waits_now}
+use Rattle.board.specs.declared.spec.Backing.{Backing}
+use Rattle.board.specs.declared.spec.Backing.TheVariants.{Image, Host}
+use Rattle.board.specs.declared.spec.SlotSpec.{SlotSpec}
+use Rattle.board.specs.Lent.{opened_over}
+use Rattle.board.specs.Slot.{BoardSlot, host_by, sectors_in}
 
 -- ---- an event that doesn't wait
 
 pub keeps_all : (w : WindowState) → KeepsQueues w w
-keeps_all w = record { ready = λ q registers is some. is; served = λ q queue is. is }
+keeps_all w = record { ready = λ q registers is some. is; served = λ q queue is. is; unserved = λ q is. is }
 
 -- it keeps the queues of the block window
 keeps_queues : {A : Type 0} (what : EventKind A) (slot : BoardSlot) → must_wait what ≡ false
@@ -36,7 +44,7 @@ keeps_queues (MemWrite addr bytes) slot free = keeps_all slot.block
 keeps_queues (Input bytes) slot free = keeps_all slot.block
 keeps_queues (Resize cols rows) slot free = keeps_all slot.block
 keeps_queues (Restore bytes) slot free = absurd (cc)
-keeps_queues (Complete verdict) slot free = keeps_all slot.block
+keeps_queues (Complete tag verdict) slot free = keeps_all slot.block
 
 -- what lies in a memory lies in every one of its range
 lie_still : (what : OperationKind) (capacity : ℕ) (m m' : Memory) (runs : List Segment) → SameRange m m'
@@ -46,63 +54,133 @@ lie_still kind.Out capacity m m' runs same lie = λ k d below. inside_same m m' 
 lie_still kind.Flush capacity m m' runs same lie = lie
 lie_still kind.Zeroes capacity m m' runs same lie = lie
 
-held_still : (sectors : ℕ) (m m' : Memory) (w w' : WindowState) (flight : Option InFlight) → SameRange m m'
-    → KeepsQueues w w' → IsHeldBy sectors m w flight → IsHeldBy sectors m' w' flight
-held_still sectors m m' w w' None same keeps held = tt
-held_still sectors m m' w w' (Some here) same keeps held = record {
-  flying = flight_outlasts m m' w w' here.buffers here.flight held.flying same keeps;
+tag_still : (capacity : ℕ) (m m' : Memory) (tag : Option InFlight) → SameRange m m' → TagIsHeld capacity m tag
+    → TagIsHeld capacity m' tag
+tag_still capacity m m' None same held = tt
+tag_still capacity m m' (Some here) same held = record {
+  status = inside_same m m' here.flight.status 1 same held.status;
+  some = held.some;
   inside = record {
     disk = held.inside.disk;
-    lie = lie_still here.flight.operation.kind sectors m m' here.runs same held.inside.lie;
+    lie = lie_still here.flight.operation.kind capacity m m' here.runs same held.inside.lie;
     few = held.inside.few;
   };
 }
 
+ahead_still : (w w' : WindowState) (tokens : List (Option Token)) (found : Option Queue) → KeepsQueues w w'
+    → queue_at 0 w ≡ found → IfSome found (λ queue. AreAhead queue tokens)
+    → IfSome (queue_at 0 w') (λ queue. AreAhead queue tokens)
+ahead_still w w' tokens None keeps is ahead = rw (keeps.unserved 0 is) tt
+ahead_still w w' tokens (Some queue) keeps is ahead = rw (keeps.served 0 queue is) ahead
+
+held_still : (capacity : ℕ) (m m' : Memory) (w w' : WindowState) (tags : List (Option InFlight)) → SameRange m m'
+    → KeepsQueues w w' → AreHeld capacity (record { memory = m; window = w; tags = tags })
+    → AreHeld capacity (record { memory = m'; window = w'; tags = tags })
+held_still capacity m m' w w' tags same keeps held = record {
+  each = All-weaker (TagIsHeld capacity m) (TagIsHeld capacity m')
+      (λ tag. tag_still capacity m m' tag same) tags held.each;
+  ahead = ahead_still w w' (tokens_of tags) (queue_at 0 w) keeps refl held.ahead;
+}
+
 -- A slot that keeps its disk, where its memory lies and its queues holds what it held.
 pub held_by : (slot new : BoardSlot) → new.host ≡ slot.host → new.extent ≡ slot.extent
-    → SameRange slot.memory new.memory → KeepsQueues slot.block new.block → HoldsFlight slot
-    → HoldsFlight new
+    → SameRange slot.memory new.memory → KeepsQueues slot.block new.block → HoldsFlights slot
+    → HoldsFlights new
 held_by slot new host extent same keeps held =
-    subst (λ (h : Option HostDisk). IsHeldBy (sectors_by h new.extent.count) new.memory new.block (flight_in h))
-    (sym host)
-    (subst (λ (e : Extent). IsHeldBy (sectors_by slot.host e.count) new.memory new.block (flight_in slot.host))
-    (sym extent)
-    (held_still (sectors_in slot) slot.memory new.memory slot.block new.block (flight_in slot.host) same keeps
-    held))
+    subst (λ (h : Option HostDisk). AreHeld (sectors_by h new.extent.count)
+    (record { memory = new.memory; window = new.block; tags = tags_in h })) (sym host)
+    (subst (λ (e : Extent). AreHeld (sectors_by slot.host e.count)
+    (record { memory = new.memory; window = new.block; tags = tags_in slot.host })) (sym extent)
+    (held_still (sectors_in slot) slot.memory new.memory slot.block new.block (tags_in slot.host) same keeps held))
 
 pub held_quietly : (slot new : BoardSlot) → new.host ≡ slot.host → new.extent ≡ slot.extent
-    → SameRange slot.memory new.memory → new.block ≡ slot.block → HoldsFlight slot → HoldsFlight new
+    → SameRange slot.memory new.memory → new.block ≡ slot.block → HoldsFlights slot → HoldsFlights new
 held_quietly slot new host extent same block held =
     held_by slot new host extent same
     (subst (λ (w : WindowState). KeepsQueues slot.block w) (sym block) (keeps_all slot.block)) held
 
--- nothing is in flight
-pub held_none : (slot : BoardSlot) → flight_in slot.host ≡ None → HoldsFlight slot
-held_none slot none = rw none tt
+-- ---- nothing is in flight
+
+none_held : (capacity : ℕ) (m : Memory) (tags : List (Option InFlight)) → is_any tags ≡ false
+    → All (TagIsHeld capacity m) tags
+none_held capacity m [] none = All-nil (TagIsHeld capacity m)
+none_held capacity m (None ∷ tags) none =
+    All-cons (TagIsHeld capacity m) None tags tt (none_held capacity m tags none)
+none_held capacity m (Some here ∷ tags) none = absurd (cc none)
+
+none_fit : (queue : Queue) (tags : List (Option InFlight)) → is_any tags ≡ false
+    → All (TagFits queue) (tokens_of tags)
+none_fit queue [] none = All-nil (TagFits queue)
+none_fit queue (None ∷ tags) none = All-cons (TagFits queue) None (tokens_of tags) tt (none_fit queue tags none)
+none_fit queue (Some here ∷ tags) none = absurd (cc none)
+
+no_places : (tags : List (Option InFlight)) → is_any tags ≡ false → sum_by tag_places (tokens_of tags) ≡ 0
+no_places [] none = refl
+no_places (None ∷ tags) none = no_places tags none
+no_places (Some here ∷ tags) none = absurd (cc none)
+
+none_ahead : (found : Option Queue) (tags : List (Option InFlight)) → is_any tags ≡ false
+    → IfSome found (λ queue. AreAhead queue (tokens_of tags))
+none_ahead None tags none = tt
+none_ahead (Some queue) tags none = record {
+  each = none_fit queue tags none;
+  places = let zero = no_places tags none in omega (arith, zero);
+}
+
+pub held_none : (slot : BoardSlot) → is_any (tags_in slot.host) ≡ false → HoldsFlights slot
+held_none slot none = record {
+  each = none_held (sectors_in slot) slot.memory (tags_in slot.host) none;
+  ahead = none_ahead (queue_at 0 slot.block) (tags_in slot.host) none;
+}
+
+-- so it is of a slot that was just opened
+none_taken : (depth : ℕ) → is_any (replicate depth None) ≡ false
+none_taken zero = refl
+none_taken (suc depth) = none_taken depth
+
+opened_none : (backing : Backing) (extent : Extent) → is_any (tags_in (host_by backing extent)) ≡ false
+opened_none Image extent = refl
+opened_none (Host depth) extent = none_taken depth
+
+pub held_opened : (spec : SlotSpec) (memory : Memory) (slot : BoardSlot) → slot ≡ opened_over spec memory
+    → HoldsFlights slot
+held_opened spec memory slot is =
+    held_none slot (ap (λ (s : BoardSlot). is_any (tags_in s.host)) is ∙ opened_none spec.backing spec.extent)
 
 -- An event that doesn't wait leaves what is in flight held.
 pub held_beside : {A : Type 0} (what : EventKind A) (slot new : BoardSlot)
-    → (is_some (flight_in slot.host) && must_wait what) ≡ false
+    → waits_now what slot.host ≡ false
     → (must_wait what ≡ false → new.block ≡ block_beside what slot) → new.host ≡ slot.host
-    → new.extent ≡ slot.extent → SameRange slot.memory new.memory → HoldsFlight slot → HoldsFlight new
+    → new.extent ≡ slot.extent → SameRange slot.memory new.memory → HoldsFlights slot → HoldsFlights new
 held_beside {A} what slot new free block host extent same held =
-    by_flight (flight_in slot.host) refl (must_wait what) refl free
+    by_tags (is_any (tags_in slot.host)) refl (must_wait what) refl free
   where
-    by_flight : (flight : Option InFlight) → flight_in slot.host ≡ flight → (waits : Bool)
-        → must_wait what ≡ waits → (is_some flight && waits) ≡ false → HoldsFlight new
-    by_flight None none waits is free =
-        held_none new (ap flight_in host ∙ none)
-    by_flight (Some here) flies true is free = absurd (cc)
-    by_flight (Some here) flies false is free =
+    by_tags : (any : Bool) → is_any (tags_in slot.host) ≡ any → (waits : Bool)
+        → must_wait what ≡ waits → (any && waits) ≡ false → HoldsFlights new
+    by_tags false none waits is free =
+        held_none new (ap (λ (h : Option HostDisk). is_any (tags_in h)) host ∙ none)
+    by_tags true some true is free = absurd (cc)
+    by_tags true some false is free =
         held_by slot new host extent same
         (subst (λ (w : WindowState). KeepsQueues slot.block w) (sym (block is)) (keeps_queues what slot is))
         held
 
 -- what of a slot is of the image, of a disk of its own
-pub told_inside : (slot : BoardSlot) (flight : Option InFlight) → flight_in slot.host ≡ flight
-    → HoldsFlight slot
-    → IfSome flight (λ here. LiesInside (sectors_in slot) slot.memory here.flight.operation here.runs)
-told_inside slot None is held = tt
-told_inside slot (Some here) is held =
-    let here_held : IsHeldBy (sectors_in slot) slot.memory slot.block (Some here) = rw is at held in
-    here_held.inside
+told_at : (capacity : ℕ) (m : Memory) (found : Option InFlight) → TagIsHeld capacity m found
+    → IfSome found (λ here. LiesInside capacity m here.flight.operation here.runs)
+told_at capacity m None held = tt
+told_at capacity m (Some here) held = held.inside
+
+tag_held : (capacity : ℕ) (m : Memory) (tags : List (Option InFlight)) (tag : ℕ)
+    → All (TagIsHeld capacity m) tags → TagIsHeld capacity m (get_or tags tag None)
+tag_held capacity m [] tag held = tt
+tag_held capacity m (found ∷ tags) zero held = All-head (TagIsHeld capacity m) found tags held
+tag_held capacity m (found ∷ tags) (suc tag) held =
+    tag_held capacity m tags tag (All-tail (TagIsHeld capacity m) found tags held)
+
+pub told_inside : (slot : BoardSlot) (tag : ℕ) → HoldsFlights slot
+    → IfSome (get_or (tags_in slot.host) tag None)
+    (λ here. LiesInside (sectors_in slot) slot.memory here.flight.operation here.runs)
+told_inside slot tag held =
+    told_at (sectors_in slot) slot.memory (get_or (tags_in slot.host) tag None)
+    (tag_held (sectors_in slot) slot.memory (tags_in slot.host) tag held.each)

@@ -1,5 +1,5 @@
 -- A guest that was restored goes on as the one that was saved would have.
-use Rattle.std.proofs.Common.{◌≡◌, ◌∙◌, inl, inr, ℕ, List, [], ◌∷◌, ◌++◌, map, Option, Some, None, refl, sym, ap, subst}
+use Rattle.std.proofs.Common.{◌≡◌, ◌∙◌, inl, inr, ℕ, Bool, true, false, List, [], ◌∷◌, ◌++◌, map, Option, Some, None, refl, sym, ap, subst}
 use Rattle.std.specs.Prelude.{drop, length, take, false, true}
 use Rattle.std.specs.List.{slice_get}
 use Rattle.std.proofs.Math.Seq.{take-append_seam}
@@ -10,8 +10,8 @@ use Rattle.board.specs.declared.event.EventKind.{EventKind}
 use Rattle.board.specs.declared.event.EventKind.TheVariants.{Restore}
 use Rattle.board.specs.declared.reply.Record.{Record}
 use Rattle.board.specs.declared.reply.Reply.TheVariants.{Done}
-use Rattle.board.specs.Backing.{HostDisk, InFlight}
-use Rattle.board.specs.Hosting.{OwnGives}
+use Rattle.board.specs.Backing.{HostDisk}
+use Rattle.board.specs.Hosting.{OwnGives, waits_now}
 use Rattle.board.specs.Image.{Health, sectors_of}
 use Rattle.board.specs.Line.{IsLine, IsQuiet, Move, events_of, own_events, own_records, records_of}
 use Rattle.board.specs.Machine.{IsToldAlone, RunsOnItsOwn}
@@ -41,13 +41,13 @@ done_over_image state bytes before after outcome (inl served) done =
     restoring_done state bytes outcome served.alike.alike done
 done_over_image state bytes before after outcome (inr refused) done = absurd refused
 
-done_beside : {A : Type 0} (flight : Option InFlight) (state : SlotState) (bytes : List ℕ) (health : Health)
+done_beside : {A : Type 0} (waits : Bool) (state : SlotState) (bytes : List ℕ) (health : Health)
     (outcome : Outcome A)
-    → OwnGives (λ o. MayGiveOverImage state (Restore bytes) health health o) flight state (Restore bytes) outcome
+    → OwnGives (λ o. MayGiveOverImage state (Restore bytes) health health o) waits state (Restore bytes) outcome
     → outcome.reply ≡ Done → IsTakenUp state bytes outcome.state
-done_beside None state bytes health outcome gives done =
+done_beside false state bytes health outcome gives done =
     done_over_image state bytes health health outcome gives done
-done_beside {A} (Some here) state bytes health outcome gives done =
+done_beside {A} true state bytes health outcome gives done =
     let told = ap (λ (o : Outcome A). o.reply) gives in absurd (cc)
 
 done_by : {A : Type 0} (host : Option HostDisk) (state : SlotState) (bytes : List ℕ) (before after : Health)
@@ -55,8 +55,8 @@ done_by : {A : Type 0} (host : Option HostDisk) (state : SlotState) (bytes : Lis
     → IsTakenUp state bytes outcome.state
 done_by None state bytes before after outcome given done =
     done_over_image state bytes before after outcome given done
-done_by (Some disk) state bytes before after outcome given done =
-    done_beside disk.flight state bytes before outcome given.gives done
+done_by {A} (Some disk) state bytes before after outcome given done =
+    done_beside (waits_now {A = A} (Restore bytes) state.host) state bytes before outcome given.gives done
 
 -- ---- and it brings the slot into the state in which it was saved
 

@@ -1,6 +1,5 @@
 -- The block window of a slot whose disk the host serves stays that of its device.
-use Rattle.std.proofs.Common.{◌≡◌, ℕ, Bool, true, false, List, Option, Some, None, refl, subst, sym, ap, ◌∙◌}
-use Rattle.std.specs.Prelude.{IsSomeAnd}
+use Rattle.std.proofs.Common.{◌≡◌, ℕ, Bool, true, false, List, [], Option, Some, None, get_or, refl, subst, sym, ap, ◌∙◌}
 use Rattle.std.specs.Bool.{OnTrue, OnFalse}
 use Rattle.guest_memory.specs.Memory.{Memory}
 use Rattle.chain.specs.declared.budget.Budget.{Budget}
@@ -15,8 +14,8 @@ use Rattle.mmio_window.specs.declared.queue_registers.QueueRegisters.{QueueRegis
 use Rattle.mmio_window.specs.declared.stage.Stage.{Stage}
 use Rattle.mmio_window.specs.DeviceKind.{queue_of}
 use Rattle.mmio_window.specs.Serving.{after_service}
-use Rattle.mmio_window.specs.Window.{WindowState, with_registers_in, with_ring}
-use Rattle.mmio_window.proofs.Devices.{KeepsDevice, KeepsDevice-served}
+use Rattle.mmio_window.specs.Window.{WindowState, queue_at, with_registers_in, with_ring}
+use Rattle.mmio_window.proofs.Devices.{KeepsDevice, KeepsDevice-self, KeepsDevice-served, KeepsDevice-trans}
 use Rattle.sector_cache.specs.Disk.{Disk}
 use Rattle.block_device.specs.declared.device.BlockDevice.{BlockDevice}
 use Rattle.block_device.specs.declared.hosting.Flight.{Flight}
@@ -25,11 +24,14 @@ use Rattle.block_device.specs.declared.hosting.Hosted.TheVariants.{Asks, More, D
 use Rattle.block_device.specs.declared.operation.Verdict.{Verdict}
 use Rattle.block_device.specs.declared.extent.Extent.{Extent}
 use Rattle.block_device.specs.Asking.{unasked_device}
+use Rattle.block_device.specs.Flights.{AreHeld, HostedQueue, InFlight, IsCompletion, IsLook, unlimited}
 use Rattle.block_device.specs.Hosting.{CompletesIn, HostsTo}
-use Rattle.board.specs.Backing.{HostDisk, InFlight, sectors_by, with_flight}
-use Rattle.board.specs.Hosting.{Looks, LooksAtQueue, device_at, device_extent, hosted_device}
+use Rattle.block_device.proofs.Unasked.{any_disk}
+use Rattle.board.specs.Backing.{HostDisk, sectors_by, tags_in, with_tags}
+use Rattle.board.specs.Hosting.{CompletesTag, HoldsFlights, LooksAtQueue, device_at, device_extent, hosted_device, hosted_queue, with_queue_of}
 use Rattle.board.specs.Image.{sectors_of}
 use Rattle.board.specs.Slot.{BoardSlot, disk_sectors, state_of}
+use Rattle.board.proofs.Looking.{IsLeftByLandings, IsLeftByLooks, completion_left, look_left}
 
 registers_kept : (kind : DeviceKind) (change : QueueRegisters → QueueRegisters) (w : WindowState)
     → KeepsDevice w (with_registers_in (queue_of kind 0) change w)
@@ -53,37 +55,62 @@ at : (before between after : WindowState) → after ≡ between → KeepsDevice 
 at before between after is keeps = subst (KeepsDevice before) (sym is) keeps
 
 -- after a look at its queue
-pub KeepsDevice-hosts : (device : BlockDevice) (stage : Stage) (budget : Budget) (found : Option Queue)
+KeepsDevice-hosts : (device : BlockDevice) (stage : Stage) (budget : Budget) (found : Option Queue)
     (hosted : Hosted) (old new : Memory) (before after : WindowState) (buffers : List Buffer)
     (runs : List Segment) (disk : Disk)
     → HostsTo device stage budget found hosted old new before after buffers runs disk
     → KeepsDevice before after
 KeepsDevice-hosts device stage budget found (Asks flight) old new before after buffers runs disk h =
-    at before _ after h.window (ring_kept before h.last)
+    at before _ after h.window (ring_kept before _)
 KeepsDevice-hosts device stage budget found More old new before after buffers runs disk h =
     KeepsDevice-served (unasked_device device) budget 0 stage found progress.More old new before after _ _ h
 KeepsDevice-hosts device stage budget found Done old new before after buffers runs disk h =
     KeepsDevice-served (unasked_device device) budget 0 stage found progress.Done old new before after _ _ h
 
 -- after a completion
-pub KeepsDevice-completes : (flight : Flight) (answer : Verdict) (old new : Memory)
-    (before after : WindowState) (buffers : List Buffer)
-    → CompletesIn flight answer old new before after buffers → KeepsDevice before after
-KeepsDevice-completes flight answer old new before after buffers h =
+KeepsDevice-completes : (flight : Flight) (answer : Verdict) (old new : Memory) (before after : WindowState)
+    → CompletesIn flight answer old new before after → KeepsDevice before after
+KeepsDevice-completes flight answer old new before after h =
     at before _ after h.window (spent_kept h.wanted before _)
 
--- and where it may have been of nothing
-pub KeepsDevice-completed : (done : Bool) (found : Option InFlight) (answer : Verdict) (old new : Memory)
-    (before after : WindowState)
-    → OnTrue done (IsSomeAnd found (λ here. CompletesIn here.flight answer old new before after here.buffers))
-    → OnFalse done (after ≡ before) → KeepsDevice before after
-KeepsDevice-completed true None answer old new before after completes same = absurd completes
-KeepsDevice-completed true (Some here) answer old new before after completes same =
-    KeepsDevice-completes here.flight answer old new before after here.buffers completes
-KeepsDevice-completed false found answer old new before after completes same =
-    at before before after same (record { kind = refl; offered = refl; generation = λ never. refl })
+-- ---- with many in flight
 
--- ---- a look, as the slot's guest sees it
+abbrev SameDevice : HostedQueue → HostedQueue → Type 0
+SameDevice old new = KeepsDevice old.window new.window
+
+keeps_device : IsLeftByLooks SameDevice
+keeps_device = record {
+  none = λ q. KeepsDevice-self q.window;
+  both = λ a b c one other. KeepsDevice-trans a.window b.window c.window one other;
+  asks = λ device stage old here new next.
+      KeepsDevice-hosts device stage unlimited (queue_at 0 old.window) (Asks here.flight) old.memory new.memory
+      old.window new.window next.buffers here.runs any_disk (next.asks any_disk);
+  ends = λ device stage old new no_more.
+      KeepsDevice-hosts device stage unlimited (queue_at 0 old.window) Done old.memory new.memory old.window
+      new.window [] [] any_disk (no_more.ends any_disk);
+}
+
+landing_keeps : IsLeftByLandings SameDevice
+landing_keeps = record {
+  gives = λ tag here verdict old new given.
+      KeepsDevice-completes here.flight verdict old.memory new.memory old.window new.window given.completes;
+  frees = λ tag old. KeepsDevice-self old.window;
+}
+
+pub looked_keeps : (device : BlockDevice) (old new : HostedQueue) → IsLook device old new
+    → KeepsDevice old.window new.window
+looked_keeps device old new h = look_left SameDevice keeps_device device old new h
+
+-- and where it may have been of nothing
+pub completed_keeps : (done : Bool) (device : BlockDevice) (tag : ℕ) (verdict : Verdict) (old new : HostedQueue)
+    → OnTrue done (IsCompletion device tag verdict old new) → OnFalse done (new ≡ old)
+    → KeepsDevice old.window new.window
+completed_keeps true device tag verdict old new completes same =
+    completion_left SameDevice keeps_device landing_keeps device tag verdict old new completes
+completed_keeps false device tag verdict old new completes same =
+    at old.window old.window new.window (ap (λ (q : HostedQueue). q.window) same) (KeepsDevice-self old.window)
+
+-- ---- as the slot's guest sees it
 
 hosted_extent : (host : Option HostDisk) (disk : HostDisk) (extent : Extent) (n : ℕ) → host ≡ Some disk
     → device_extent host extent ≡ record { start = 0; count = sectors_by host n }
@@ -95,29 +122,112 @@ with_extent : (e f : Extent) (read_only : Bool) (identity : List ℕ) → e ≡ 
 with_extent e f read_only identity is = rw is refl
 
 same_disk : (one other : HostDisk) → other.sectors ≡ one.sectors
-    → Some other ≡ Some (record { sectors = one.sectors; flight = other.flight })
+    → Some other ≡ Some (record { sectors = one.sectors; tags = other.tags })
 same_disk one other is = rw (← is) refl
 
 flown : (host : Option HostDisk) (disk now : HostDisk) → host ≡ Some disk → now.sectors ≡ disk.sectors
-    → Some now ≡ with_flight now.flight host
+    → Some now ≡ with_tags now.tags host
 flown host disk now is same = rw is (same_disk disk now same)
 
-pub looked : (image : List ℕ) (slot new : BoardSlot) (disk now : HostDisk) (device : BlockDevice)
-    → slot.host ≡ Some disk → device ≡ device_at slot → now.sectors ≡ disk.sectors
-    → Looks device slot.memory new.memory slot.block new.block now.flight
-    → new ≡ record slot { memory = new.memory; block = new.block; host = Some now }
-    → LooksAtQueue (state_of image slot) (state_of image new)
-looked image slot new disk now device hosted is same looks rest =
+abbrev queue_with : BoardSlot → HostDisk → HostedQueue
+queue_with slot disk = record { memory = slot.memory; window = slot.block; tags = disk.tags }
+
+-- what its device did to the queue of its disk
+pub on_host : (Does : BlockDevice → HostedQueue → HostedQueue → Type 0) (image : List ℕ) (slot new : BoardSlot)
+    (disk now : HostDisk) (device : BlockDevice)
+    → slot.host ≡ Some disk → new.host ≡ Some now → device ≡ device_at slot
+    → Does device (queue_with slot disk) (queue_with new now)
+    → Does (hosted_device (state_of image slot)) (hosted_queue (state_of image slot))
+    (hosted_queue (state_of image new))
+on_host Does image slot new disk now device hosted new_is is h =
     let state = state_of image slot in
     let device_is : device ≡ hosted_device state =
     is ∙ with_extent (device_extent slot.host slot.extent) (record { start = 0; count = disk_sectors state })
     slot.read_only slot.identity
     (hosted_extent slot.host disk slot.extent (sectors_of state.extent) hosted) in
-    record {
-      flight = now.flight;
-      looks = subst (λ (d : BlockDevice). Looks d slot.memory new.memory slot.block new.block now.flight)
-          device_is looks;
-      rest = ap (λ (s : BoardSlot). state_of image s) rest
-          ∙ ap (λ (h : Option HostDisk). record state { memory = new.memory; block = new.block; host = h })
-          (flown slot.host disk now hosted same);
-    }
+    let from : Does device (hosted_queue state) (queue_with new now) =
+    subst (λ (t : List (Option InFlight)).
+    Does device (record { memory = slot.memory; window = slot.block; tags = t }) (queue_with new now))
+    (sym (ap tags_in hosted)) h in
+    let to : Does device (hosted_queue state) (hosted_queue (state_of image new)) =
+    subst (λ (t : List (Option InFlight)).
+    Does device (hosted_queue state) (record { memory = new.memory; window = new.block; tags = t }))
+    (sym (ap tags_in new_is)) from in
+    subst (λ (d : BlockDevice). Does d (hosted_queue state) (hosted_queue (state_of image new))) device_is to
+
+-- and the rest of it stays
+pub rest_on_host : (image : List ℕ) (slot new : BoardSlot) (disk now : HostDisk)
+    → slot.host ≡ Some disk → now.sectors ≡ disk.sectors
+    → new ≡ record slot { memory = new.memory; block = new.block; host = Some now }
+    → state_of image new ≡ with_queue_of (state_of image new) (state_of image slot)
+rest_on_host image slot new disk now hosted same rest =
+    let state = state_of image slot in
+    let now_is : new.host ≡ Some now = ap (λ (s : BoardSlot). s.host) rest in
+    let host : Some now ≡ with_tags (tags_in new.host) slot.host =
+    flown slot.host disk now hosted same ∙ ap (λ t. with_tags t slot.host) (sym (ap tags_in now_is)) in
+    ap (state_of image) rest
+    ∙ ap (λ (h : Option HostDisk). record state { memory = new.memory; block = new.block; host = h }) host
+
+-- a look
+pub looked : (image : List ℕ) (slot new : BoardSlot) (disk now : HostDisk) (device : BlockDevice)
+    → slot.host ≡ Some disk → device ≡ device_at slot → now.sectors ≡ disk.sectors
+    → IsLook device (queue_with slot disk) (queue_with new now)
+    → new ≡ record slot { memory = new.memory; block = new.block; host = Some now }
+    → LooksAtQueue (state_of image slot) (state_of image new)
+looked image slot new disk now device hosted is same looks rest = record {
+  looks = on_host IsLook image slot new disk now device hosted (ap (λ (s : BoardSlot). s.host) rest) is looks;
+  rest = rest_on_host image slot new disk now hosted same rest;
+}
+
+-- a completion, where it is one
+pub completed : (done : Bool) (tag : ℕ) (verdict : Verdict) (slot new : BoardSlot) (disk now : HostDisk)
+    (device : BlockDevice) → slot.host ≡ Some disk → device ≡ device_at slot → now.sectors ≡ disk.sectors
+    → OnTrue done (IsCompletion device tag verdict (queue_with slot disk) (queue_with new now))
+    → new ≡ record slot { memory = new.memory; block = new.block; host = Some now }
+    → OnTrue done ((image : List ℕ) → CompletesTag tag verdict (state_of image slot) (state_of image new))
+completed true tag verdict slot new disk now device hosted is same completes rest = λ image. record {
+  completes = on_host (λ (d : BlockDevice) (old later : HostedQueue). IsCompletion d tag verdict old later) image
+      slot new disk now device hosted (ap (λ (s : BoardSlot). s.host) rest) is completes;
+  rest = rest_on_host image slot new disk now hosted same rest;
+}
+completed false tag verdict slot new disk now device hosted is same completes rest = tt
+
+-- and where it isn't, the slot stays
+slot_with : (slot : BoardSlot) (m : Memory) (w : WindowState) (h : Option HostDisk) → m ≡ slot.memory
+    → w ≡ slot.block → h ≡ slot.host → record slot { memory = m; block = w; host = h } ≡ slot
+slot_with slot m w h p q r = rw (p, q, r) refl
+
+same_host : (now disk : HostDisk) → now.sectors ≡ disk.sectors → now.tags ≡ disk.tags → now ≡ disk
+same_host now disk p q = by_parts now.sectors disk.sectors now.tags disk.tags p q
+  where
+    by_parts : (n k : ℕ) (t u : List (Option InFlight)) → n ≡ k → t ≡ u
+        → ◌≡◌ {A = HostDisk} (record { sectors = n; tags = t }) (record { sectors = k; tags = u })
+    by_parts n k t u p q = rw (p, q) refl
+
+pub kept_slot : (done : Bool) (slot new : BoardSlot) (disk now : HostDisk) → slot.host ≡ Some disk
+    → now.sectors ≡ disk.sectors → OnFalse done (queue_with new now ≡ queue_with slot disk)
+    → new ≡ record slot { memory = new.memory; block = new.block; host = Some now }
+    → OnFalse done (new ≡ slot)
+kept_slot true slot new disk now hosted same kept rest = tt
+kept_slot false slot new disk now hosted same kept rest =
+    rest ∙ slot_with slot new.memory new.block (Some now) (ap (λ (q : HostedQueue). q.memory) kept)
+    (ap (λ (q : HostedQueue). q.window) kept)
+    (ap Some (same_host now disk same (ap (λ (q : HostedQueue). q.tags) kept)) ∙ sym hosted)
+
+pub idle_tag : (done : Bool) (slot : BoardSlot) (disk : HostDisk) (tag : ℕ) → slot.host ≡ Some disk
+    → OnFalse done (get_or disk.tags tag None ≡ None) → OnFalse done (get_or (tags_in slot.host) tag None ≡ None)
+idle_tag done slot disk tag hosted idle =
+    subst (λ (t : List (Option InFlight)). OnFalse done (get_or t tag None ≡ None)) (sym (ap tags_in hosted)) idle
+
+-- what its disk holds, the slot does
+pub held_at : (slot : BoardSlot) (disk : HostDisk) → slot.host ≡ Some disk
+    → AreHeld disk.sectors (queue_with slot disk) → HoldsFlights slot
+held_at slot disk hosted held =
+    subst (λ (h : Option HostDisk). AreHeld (sectors_by h slot.extent.count)
+    (record { memory = slot.memory; window = slot.block; tags = tags_in h })) (sym hosted) held
+
+pub held_of : (slot : BoardSlot) (disk : HostDisk) → slot.host ≡ Some disk → HoldsFlights slot
+    → AreHeld disk.sectors (queue_with slot disk)
+held_of slot disk hosted held =
+    subst (λ (h : Option HostDisk). AreHeld (sectors_by h slot.extent.count)
+    (record { memory = slot.memory; window = slot.block; tags = tags_in h })) hosted held

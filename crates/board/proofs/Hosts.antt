@@ -1,8 +1,9 @@
 -- What an event of a slot comes to by who has its disk.
-use Rattle.std.proofs.Common.{◌≡◌, ◌≢◌, ℕ, zero, suc, Bool, true, false, Option, Some, None, List, [], refl, sym, ◌∙◌, subst, append-nil}
+use Rattle.std.proofs.Common.{◌≡◌, ◌≢◌, ℕ, zero, suc, Bool, true, false, Option, Some, None, List, [], get_or, refl, sym, ◌∙◌, subst, append-nil}
 use Rattle.std.specs.Prelude.{◌&&◌, ◌||◌, if◌then◌else◌, IfErr, IsSome, OnErr, OnOk, Ok, Err, Result, is_some}
 use Rattle.chain.specs.declared.budget.Budget.{Budget}
 use Rattle.block_device.specs.declared.operation.Verdict.{Verdict}
+use Rattle.block_device.specs.Flights.{is_any}
 use Rattle.mmio_window.specs.declared.device_kind.DeviceKind.{DeviceKind}
 use Rattle.mmio_window.specs.declared.device_kind.DeviceKind.TheVariants.{Block, Console}
 use Rattle.board.specs.declared.event.EventKind.{EventKind}
@@ -14,8 +15,8 @@ use Rattle.board.specs.declared.pause.Turn.{Turn}
 use Rattle.board.specs.declared.pause.Turn.TheVariants.{Answered}
 use Rattle.board.specs.declared.reply.Reply.{Reply}
 use Rattle.board.specs.declared.reply.Reply.TheVariants.{Busy}
-use Rattle.board.specs.Backing.{HostDisk, InFlight, flight_in}
-use Rattle.board.specs.Hosting.{CompletesOrGives, CompletionGives, LooksAtQueue, OwnGives, has_part, is_block_task, must_wait, notifies_block, verdict_in}
+use Rattle.board.specs.Backing.{HostDisk, tags_in}
+use Rattle.board.specs.Hosting.{CompletesOrGives, CompletionGives, LooksAtQueue, OwnGives, Told, has_part, is_block_task, must_wait, notifies_block, told_in, waits_now}
 use Rattle.board.specs.Image.{Health, sectors_of}
 use Rattle.board.specs.Outcome.{Outcome, does, replies}
 use Rattle.board.specs.Pausing.{Begins, BeginsOverImage, ComesTo, GoesOn, GoesOnBy, ServesTurn, TurnsTo, asked_over_image, is_hosts, readied}
@@ -33,6 +34,7 @@ use Rattle.mmio_window.specs.declared.action.Action.TheVariants as action
 use Rattle.board.specs.Within.{BeginsWithin, BeginsWithinOverImage, TakesWithin, TurnWithin}
 use Rattle.board.specs.World.{MayGive, MayGiveBy, MayGiveOverImage}
 use Rattle.board.proofs.OnHost.{passes_by, turns_as}
+use Rattle.board.proofs.Ways.{must_by}
 
 -- ---- whether the host has a part in it
 
@@ -42,10 +44,10 @@ no_host None what state is = refl
 no_host (Some disk) what state is = absurd (cc)
 
 -- it has in a completion, in what waits, and in a notification of the block device
-pub part_by_verdict : {A : Type 0} (host : Option HostDisk) (what : EventKind A) (state : SlotState)
-    (verdict : Verdict) → IsSome host → verdict_in what ≡ Some verdict → has_part host what state ≡ true
-part_by_verdict None what state verdict hosted is = absurd (cc)
-part_by_verdict (Some disk) what state verdict hosted is = rw is refl
+pub part_by_completion : {A : Type 0} (host : Option HostDisk) (what : EventKind A) (state : SlotState)
+    (told : Told) → IsSome host → told_in what ≡ Some told → has_part host what state ≡ true
+part_by_completion None what state told hosted is = absurd (cc)
+part_by_completion (Some disk) what state told hosted is = rw is refl
 
 waits_by : (v waits rings : Bool) → waits ≡ true → (v || (waits || rings)) ≡ true
 waits_by true waits rings is = refl
@@ -58,20 +60,30 @@ rings_by false true rings is = refl
 rings_by false false true is = refl
 rings_by false false false is = absurd (cc)
 
-pub part_by_wait : {A : Type 0} (host : Option HostDisk) (what : EventKind A) (state : SlotState)
-    → (is_some (flight_in host) && must_wait what) ≡ true → has_part host what state ≡ true
-part_by_wait None what state waits = absurd (cc)
-part_by_wait (Some disk) what state waits =
-    waits_by (is_some (verdict_in what)) (is_some disk.flight && must_wait what) (notifies_block what state) waits
+part_waiting : {A : Type 0} (host : Option HostDisk) (what : EventKind A) (state : SlotState) → IsSome host
+    → waits_now what state.host ≡ true → has_part host what state ≡ true
+part_waiting None what state hosted waits = absurd (cc)
+part_waiting (Some disk) what state hosted waits =
+    waits_by (is_some (told_in what)) (waits_now what state.host) (notifies_block what state) waits
+
+-- only a disk of its own has what is in flight
+pub waits_hosted : {A : Type 0} (what : EventKind A) (host : Option HostDisk) → waits_now what host ≡ true
+    → IsSome host
+waits_hosted what None waits = absurd (cc waits)
+waits_hosted what (Some disk) waits = refl
+
+pub part_by_wait : {A : Type 0} (what : EventKind A) (state : SlotState) → waits_now what state.host ≡ true
+    → has_part state.host what state ≡ true
+part_by_wait what state waits = part_waiting state.host what state (waits_hosted what state.host waits) waits
 
 pub part_by_ring : {A : Type 0} (host : Option HostDisk) (what : EventKind A) (state : SlotState)
     → IsSome host → notifies_block what state ≡ true → has_part host what state ≡ true
 part_by_ring None what state hosted rings = absurd (cc)
 part_by_ring (Some disk) what state hosted rings =
-    rings_by (is_some (verdict_in what)) (is_some disk.flight && must_wait what) (notifies_block what state) rings
+    rings_by (is_some (told_in what)) (waits_now what state.host) (notifies_block what state) rings
 
 pub no_part : {A : Type 0} (host : Option HostDisk) (what : EventKind A) (state : SlotState)
-    → verdict_in what ≡ None → (is_some (flight_in host) && must_wait what) ≡ false
+    → told_in what ≡ None → waits_now what state.host ≡ false
     → notifies_block what state ≡ false → has_part host what state ≡ false
 no_part None what state own free quiet = refl
 no_part (Some disk) what state own free quiet = rw (own, free, quiet) refl
@@ -84,7 +96,7 @@ no_wait false = refl
 pub input_passes : (A : Type 0) (host : Option HostDisk) (bytes : List ℕ) (state : SlotState)
     → has_part {A = A} host (Input bytes) state ≡ false
 input_passes A host bytes state =
-    no_part {A = A} host (Input bytes) state refl (no_wait (is_some (flight_in host))) refl
+    no_part {A = A} host (Input bytes) state refl (no_wait (is_any (tags_in state.host))) refl
 
 -- a service of the console goes on as over an image
 pub goes_on : (host : Option HostDisk) (which : Service) → which ≢ service.Block
@@ -232,7 +244,7 @@ waiting_silent limit state new (MemWrite addr bytes) waiting reply waits = absur
 waiting_silent limit state new (Input bytes) waiting reply waits = absurd (cc)
 waiting_silent limit state new (Resize cols rows) waiting reply waits = absurd (cc)
 waiting_silent limit state new (Restore bytes) waiting reply waits = tt
-waiting_silent limit state new (Complete verdict) waiting reply waits = absurd (cc)
+waiting_silent limit state new (Complete tag verdict) waiting reply waits = absurd (cc)
 
 pub ringing_silent : {A : Type 0} (limit : ℕ) (state new : SlotState) (what : EventKind A)
     (waiting : List ℕ) (reply : Reply A) → notifies_block what state ≡ true
@@ -246,27 +258,27 @@ ringing_silent limit state new (MemWrite addr bytes) waiting reply rings = absur
 ringing_silent limit state new (Input bytes) waiting reply rings = absurd (cc)
 ringing_silent limit state new (Resize cols rows) waiting reply rings = absurd (cc)
 ringing_silent limit state new (Restore bytes) waiting reply rings = absurd (cc)
-ringing_silent limit state new (Complete verdict) waiting reply rings = absurd (cc)
+ringing_silent limit state new (Complete tag verdict) waiting reply rings = absurd (cc)
 
 -- ---- what comes of it
 
 given_at : {A : Type 0} (host : Option HostDisk) (state : SlotState) (what : EventKind A) (health : Health)
     (outcome : Outcome A) → IsSome host
-    → CompletesOrGives (λ (o : Outcome A). MayGiveOverImage state what health health o) (verdict_in what)
-    (flight_in host) state what outcome
+    → CompletesOrGives (λ (o : Outcome A). MayGiveOverImage state what health health o) (told_in what) state what
+    outcome
     → MayGiveBy host state what health health outcome
 given_at None state what health outcome hosted h = absurd (cc)
 given_at (Some disk) state what health outcome hosted h = record { gives = h; image = refl }
 
-pub completion_given : {A : Type 0} (state : SlotState) (verdict : Verdict) (health : Health)
+pub completion_given : {A : Type 0} (state : SlotState) (tag : ℕ) (verdict : Verdict) (health : Health)
     (outcome : Outcome A) → IsSome state.host
-    → CompletionGives (flight_in state.host) state verdict outcome
-    → MayGive state (Complete verdict) health health outcome
-completion_given state verdict health outcome hosted h =
-    given_at state.host state (Complete verdict) health outcome hosted h
+    → CompletionGives (get_or (tags_in state.host) tag None) (record { tag = tag; verdict = verdict }) state outcome
+    → MayGive state (Complete tag verdict) health health outcome
+completion_given state tag verdict health outcome hosted h =
+    given_at state.host state (Complete tag verdict) health outcome hosted h
 
 -- only an own event waits, or notifies the block device
-pub waiting_own : {A : Type 0} (what : EventKind A) → must_wait what ≡ true → verdict_in what ≡ None
+pub waiting_own : {A : Type 0} (what : EventKind A) → must_wait what ≡ true → told_in what ≡ None
 waiting_own (Read window offset width) waits = refl
 waiting_own (Write window offset width value) waits = refl
 waiting_own (MemRead addr len) waits = refl
@@ -274,10 +286,10 @@ waiting_own (MemWrite addr bytes) waits = refl
 waiting_own (Input bytes) waits = refl
 waiting_own (Resize cols rows) waits = refl
 waiting_own (Restore bytes) waits = refl
-waiting_own (Complete verdict) waits = absurd (cc)
+waiting_own (Complete tag verdict) waits = absurd (cc)
 
 pub ringing_own : {A : Type 0} (what : EventKind A) (state : SlotState) → notifies_block what state ≡ true
-    → verdict_in what ≡ None
+    → told_in what ≡ None
 ringing_own (Read window offset width) state rings = refl
 ringing_own (Write window offset width value) state rings = refl
 ringing_own (MemRead addr len) state rings = refl
@@ -285,79 +297,31 @@ ringing_own (MemWrite addr bytes) state rings = refl
 ringing_own (Input bytes) state rings = refl
 ringing_own (Resize cols rows) state rings = refl
 ringing_own (Restore bytes) state rings = refl
-ringing_own (Complete verdict) state rings = absurd (cc)
+ringing_own (Complete tag verdict) state rings = absurd (cc)
 
 own_given : {A : Type 0} (state : SlotState) (what : EventKind A) (health : Health) (outcome : Outcome A)
-    → IsSome state.host → verdict_in what ≡ None
-    → OwnGives (λ (o : Outcome A). MayGiveOverImage state what health health o) (flight_in state.host) state what
-    outcome
+    → IsSome state.host → told_in what ≡ None
+    → OwnGives (λ (o : Outcome A). MayGiveOverImage state what health health o) (waits_now what state.host) state
+    what outcome
     → MayGive state what health health outcome
 own_given {A} state what health outcome hosted own h =
-    given_at state.host state what health outcome hosted
-    (subst (λ (v : Option Verdict). CompletesOrGives
-    (λ (o : Outcome A). MayGiveOverImage state what health health o) v (flight_in state.host) state what outcome)
-    (sym own) h)
-
-hosts_flight : (host : Option HostDisk) → is_some (flight_in host) ≡ true → IsSome host
-hosts_flight None is = absurd (cc)
-hosts_flight (Some disk) is = refl
-
-waits_at : {A : Type 0} (Beside : Outcome A → Type 0) (flight : Option InFlight) (state : SlotState)
-    (what : EventKind A) (waits : Bool) → must_wait what ≡ waits → (is_some flight && waits) ≡ true
-    → OwnGives Beside flight state what (replies state Busy)
-waits_at Beside None state what waits is both = absurd (cc)
-waits_at Beside (Some here) state what true is both = rw is refl
-waits_at Beside (Some here) state what false is both = absurd (cc)
-
-both_true : (a b : Bool) → (a && b) ≡ true → (a ≡ true) × (b ≡ true)
-both_true true true is = (refl, refl)
-both_true true false is = absurd (cc)
-both_true false b is = absurd (cc)
+    given_at state.host state what health outcome hosted (rw own h)
 
 pub busy_given : {A : Type 0} (state : SlotState) (what : EventKind A) (health : Health)
-    → (is_some (flight_in state.host) && must_wait what) ≡ true
-    → MayGive state what health health (replies state Busy)
+    → waits_now what state.host ≡ true → MayGive state what health health (replies state Busy)
 busy_given {A} state what health waits =
-    let both = both_true (is_some (flight_in state.host)) (must_wait what) waits in
-    own_given state what health (replies state Busy) (hosts_flight state.host both.0)
-    (waiting_own what both.1)
-    (waits_at (λ (o : Outcome A). MayGiveOverImage state what health health o) (flight_in state.host) state what
-    (must_wait what) refl waits)
+    own_given state what health (replies state Busy) (waits_hosted what state.host waits)
+    (waiting_own what (must_by (is_any (tags_in state.host)) (must_wait what) waits)) (rw waits refl)
 
-looks_at : {A : Type 0} (Beside : Outcome A → Type 0) (flight : Option InFlight) (state new : SlotState)
-    (what : EventKind A) → flight ≡ None → notifies_block what state ≡ true
-    → LooksAtQueue (readied what state) new → OwnGives Beside flight state what (does new)
-looks_at Beside None state new what none rings h = rw rings (h, refl)
-looks_at Beside (Some here) state new what none rings h = absurd (cc)
-
-pub looks_given : {A : Type 0} (state : SlotState) (what : EventKind A) (health : Health) (new : SlotState)
-    → IsSome state.host → flight_in state.host ≡ None → notifies_block what state ≡ true
+looks_given : {A : Type 0} (state : SlotState) (what : EventKind A) (health : Health) (new : SlotState)
+    → IsSome state.host → waits_now what state.host ≡ false → notifies_block what state ≡ true
     → LooksAtQueue (readied what state) new → MayGive state what health health (does new)
-looks_given {A} state what health new hosted none rings h =
-    own_given state what health (does new) hosted (ringing_own what state rings)
-    (looks_at (λ (o : Outcome A). MayGiveOverImage state what health health o) (flight_in state.host) state new
-    what none rings h)
-
-stands_at : {A : Type 0} (Beside : Outcome A → Type 0) (flight : Option InFlight) (state : SlotState)
-    (what : EventKind A) (waits : Bool) → must_wait what ≡ waits → IsSome flight
-    → (is_some flight && waits) ≡ false → notifies_block what state ≡ true
-    → OwnGives Beside flight state what (does (readied what state))
-stands_at Beside None state what waits is some free rings = absurd (cc)
-stands_at Beside (Some here) state what true is some free rings = absurd (cc)
-stands_at Beside (Some here) state what false is some free rings = rw (is, rings) refl
-
-pub stands_given : {A : Type 0} (state : SlotState) (what : EventKind A) (health : Health)
-    → IsSome state.host → IsSome (flight_in state.host)
-    → (is_some (flight_in state.host) && must_wait what) ≡ false → notifies_block what state ≡ true
-    → MayGive state what health health (does (readied what state))
-stands_given {A} state what health hosted flies free rings =
-    own_given state what health (does (readied what state)) hosted (ringing_own what state rings)
-    (stands_at (λ (o : Outcome A). MayGiveOverImage state what health health o) (flight_in state.host) state what
-    (must_wait what) refl flies free rings)
+looks_given {A} state what health new hosted free rings h =
+    own_given state what health (does new) hosted (ringing_own what state rings) (rw (free, rings) (h, refl))
 
 -- an event that is no completion is the guest's own
-pub own_of : {A : Type 0} (what : EventKind A) → ((verdict : Verdict) → what ≡ Complete verdict → ⊥)
-    → verdict_in what ≡ None
+pub own_of : {A : Type 0} (what : EventKind A)
+    → ((tag : ℕ) (verdict : Verdict) → what ≡ Complete tag verdict → ⊥) → told_in what ≡ None
 own_of (Read window offset width) never = refl
 own_of (Write window offset width value) never = refl
 own_of (MemRead addr len) never = refl
@@ -365,29 +329,16 @@ own_of (MemWrite addr bytes) never = refl
 own_of (Input bytes) never = refl
 own_of (Resize cols rows) never = refl
 own_of (Restore bytes) never = refl
-own_of (Complete verdict) never = absurd (never verdict refl)
+own_of (Complete tag verdict) never = absurd (never tag verdict refl)
 
--- a notification, looked at or not
-notified_by : {A : Type 0} (flight : Option InFlight) (state mid new : SlotState) (what : EventKind A)
-    (health : Health) → flight_in state.host ≡ flight → IsSome state.host
-    → (is_some (flight_in state.host) && must_wait what) ≡ false → notifies_block what state ≡ true
-    → mid ≡ readied what state → (flight ≡ None → LooksAtQueue mid new) → (IsSome flight → new ≡ mid)
-    → MayGive state what health health (does new)
-notified_by None state mid new what health is hosted free rings ready looks stays =
-    looks_given state what health new hosted is rings
-    (subst (λ (s : SlotState). LooksAtQueue s new) ready (looks refl))
-notified_by {A} (Some here) state mid new what health is hosted free rings ready looks stays =
-    subst (λ (s : SlotState). MayGive state what health health (does {A = A} s)) (sym (stays refl ∙ ready))
-    (stands_given state what health hosted
-    (subst (λ (f : Option InFlight). IsSome f) (sym is) refl) free rings)
-
+-- a notification, behind its write
 pub notified_given : {A : Type 0} (state mid new : SlotState) (what : EventKind A) (health : Health)
-    → IsSome state.host → (is_some (flight_in state.host) && must_wait what) ≡ false
-    → notifies_block what state ≡ true → mid ≡ readied what state
-    → (flight_in state.host ≡ None → LooksAtQueue mid new) → (IsSome (flight_in state.host) → new ≡ mid)
+    → IsSome state.host → waits_now what state.host ≡ false
+    → notifies_block what state ≡ true → mid ≡ readied what state → LooksAtQueue mid new
     → MayGive state what health health (does new)
-notified_given state mid new what health hosted free rings ready looks stays =
-    notified_by (flight_in state.host) state mid new what health refl hosted free rings ready looks stays
+notified_given state mid new what health hosted free rings ready looks =
+    looks_given state what health new hosted free rings
+    (subst (λ (s : SlotState). LooksAtQueue s new) ready looks)
 
 -- where the host has no disk
 pub not_hosted : (host : Option HostDisk) → is_some host ≡ false → host ≡ None
@@ -407,7 +358,7 @@ same_reply A (Err why) = refl
 
 pub restore_passes : (A : Type 0) (image : List ℕ) (slot new : BoardSlot) (bytes : List ℕ)
     (r : Result (Unit {0}) RestoreFault) (told : Result (Unit {0}) RestoreRefusal) (health : Health)
-    → is_some (flight_in slot.host) ≡ false → told ≡ refusal_of r
+    → is_any (tags_in slot.host) ≡ false → told ≡ refusal_of r
     → sectors_of (state_of image slot).extent ≡ slot.extent.count
     → OnOk r (IsRestored slot bytes new) → IfErr r (IsCauseOf slot bytes) → OnErr r (new ≡ slot)
     → MayGive {A = A} (state_of image slot) (Restore bytes) health health

@@ -21,13 +21,10 @@ use Rattle.std.proofs.lemmas.Option.{get_or_from_slice_get}
 use Rattle.board.proofs.Replies.{of_read, of_write}
 use Rattle.board.proofs.Restoring.{restored_host, restored_named}
 use Rattle.board.proofs.Refusals.{Failed, Unput, Unread, Unsent, was_refused}
-use Rattle.board.specs.Backing.{HostDisk, InFlight}
-use Rattle.board.specs.Hosting.{LooksAtQueue}
+use Rattle.board.specs.Backing.{HostDisk}
 use Rattle.board.specs.Machine.{GivesOverImage, readied}
 use Rattle.board.specs.World.{MayGiveBy, MayGiveOverImage}
-use Rattle.board.proofs.Ways.{Lands, Looks, Passes, Rests, Stands, Waits, Way, way}
-use Rattle.block_device.specs.declared.operation.Verdict.{Verdict}
-use Rattle.board.specs.Hosting as hosting
+use Rattle.board.proofs.Ways.{Lands, Looks, Passes, Rests, Waits, Way, way}
 
 -- both stay
 pub record Fixed (old new : SlotState) : Type 0 where
@@ -56,7 +53,7 @@ readied_fixed (MemWrite addr bytes) state = both state
 readied_fixed (Input bytes) state = record { identity = refl; host = refl }
 readied_fixed (Resize cols rows) state = both state
 readied_fixed (Restore bytes) state = both state
-readied_fixed (Complete verdict) state = both state
+readied_fixed (Complete tag verdict) state = both state
 
 behind : (a b c : SlotState) → Fixed a b → Fixed b c → Fixed a c
 behind a b c x y = record { identity = y.identity ∙ x.identity; host = y.host ∙ x.host }
@@ -95,7 +92,7 @@ served_fixed state (Restore bytes) old new outcome h = record {
   identity = restored_named state bytes outcome h.alike;
   host = restored_host state bytes outcome h.alike;
 }
-served_fixed state (Complete verdict) old new outcome h = fixed state outcome _ h.alike (both state)
+served_fixed state (Complete tag verdict) old new outcome h = fixed state outcome _ h.alike (both state)
 
 pub given_fixed : {A : Type 0} (state : SlotState) (what : EventKind A) (old new : Health)
     (outcome : Outcome A) → MayGiveOverImage state what old new outcome → Fixed state outcome.state
@@ -110,36 +107,25 @@ given_fixed state what old new outcome (inr h) =
 
 -- ---- a guest whose disk the host serves
 
-looked_named : (old new : SlotState) → LooksAtQueue old new → new.identity ≡ old.identity
-looked_named old new h = ap (λ (s : SlotState). s.identity) h.rest
-
-landed_named : (old new : SlotState) (here : InFlight) (verdict : Verdict) → hosting.Lands old here verdict new
-    → new.identity ≡ old.identity
-landed_named old new here verdict h = ap (λ (s : SlotState). s.identity) h.looks.rest
-
-on_host_named : {A : Type 0} (flight : Option InFlight) (state : SlotState) (what : EventKind A)
-    (old : Health) (outcome : Outcome A)
-    → Way (λ (o : Outcome A). MayGiveOverImage state what old old o) flight state what outcome
+on_host_named : {A : Type 0} (state : SlotState) (what : EventKind A) (old : Health) (outcome : Outcome A)
+    → Way (λ (o : Outcome A). MayGiveOverImage state what old old o) state what outcome
     → outcome.state.identity ≡ state.identity
-on_host_named flight state what old outcome (Waits here flies waits h) = ap (λ o. o.state.identity) h
-on_host_named flight state what old outcome (Passes own free quiet h) =
+on_host_named state what old outcome (Waits waits h) = ap (λ o. o.state.identity) h
+on_host_named state what old outcome (Passes own free quiet h) =
     (given_fixed state what old old outcome h).identity
-on_host_named flight state what old outcome (Looks none rings looks h) =
-    looked_named (readied what state) outcome.state looks ∙ (readied_fixed what state).identity
-on_host_named flight state what old outcome (Stands here flies free rings h) =
-    ap (λ o. o.state.identity) h ∙ (readied_fixed what state).identity
-on_host_named flight state what old outcome (Rests verdict completes none h) =
-    ap (λ o. o.state.identity) h
-on_host_named flight state what old outcome (Lands verdict completes here flies lands h) =
-    landed_named state outcome.state here verdict lands
+on_host_named state what old outcome (Looks rings looks h) =
+    ap (λ (s : SlotState). s.identity) looks.rest ∙ (readied_fixed what state).identity
+on_host_named state what old outcome (Rests told completes none h) = ap (λ o. o.state.identity) h
+on_host_named state what old outcome (Lands told completes here flies lands h) =
+    ap (λ (s : SlotState). s.identity) lands.rest
 
 given_by : {A : Type 0} (host : Option HostDisk) (state : SlotState) (what : EventKind A) (old new : Health)
     (outcome : Outcome A) → MayGiveBy host state what old new outcome
     → outcome.state.identity ≡ state.identity
 given_by None state what old new outcome h = (given_fixed state what old new outcome h).identity
 given_by {A} (Some disk) state what old new outcome h =
-    on_host_named disk.flight state what old outcome
-    (way (λ (o : Outcome A). MayGiveOverImage state what old old o) disk.flight state what outcome h.gives)
+    on_host_named state what old outcome
+    (way (λ (o : Outcome A). MayGiveOverImage state what old old o) state what outcome h.gives)
 
 given_named : {A : Type 0} (state : SlotState) (what : EventKind A) (old new : Health) (outcome : Outcome A)
     → MayGive state what old new outcome → outcome.state.identity ≡ state.identity

@@ -32,6 +32,7 @@ pub mod Answered
 pub mod Belonging
 pub mod GoingOn
 pub mod Flights
+pub mod Looking
 pub mod Beside
 pub mod Hosts
 pub mod OneHosted

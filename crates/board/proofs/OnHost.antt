@@ -1,63 +1,53 @@
 -- An event of a guest whose disk the host serves, and one over an image.
 use Rattle.std.proofs.Common.{◌≡◌, ◌⊎◌, inl, inr, Bool, true, false, ℕ, Option, Some, None, List, refl, sym, ap, subst}
-use Rattle.std.specs.Prelude.{◌&&◌, ◌||◌, is_some}
-use Rattle.block_device.specs.declared.operation.Verdict.{Verdict}
+use Rattle.std.specs.Prelude.{◌||◌, is_some}
 use Rattle.chain.specs.declared.budget.Budget.{Budget}
 use Rattle.board.specs.declared.event.EventKind.{EventKind}
 use Rattle.board.specs.declared.pause.Pause.{Pause}
 use Rattle.board.specs.declared.pause.Turn.{Turn}
 use Rattle.board.specs.declared.pause.Turn.TheVariants.{Answered, More}
 use Rattle.board.specs.declared.reply.Reply.TheVariants.{NoMemory}
-use Rattle.board.specs.Backing.{HostDisk, InFlight}
-use Rattle.board.specs.Hosting.{CompletesOrGives, OwnGives, has_part, must_wait, notifies_block, verdict_in}
+use Rattle.board.specs.Backing.{HostDisk}
+use Rattle.board.specs.Hosting.{CompletesOrGives, Told, has_part, notifies_block, told_in, waits_now}
 use Rattle.board.specs.Image.{Health}
 use Rattle.board.specs.Outcome.{Outcome}
 use Rattle.board.specs.Pausing.{TurnsTo}
 use Rattle.board.specs.Slot.{SlotState}
 use Rattle.board.specs.World.{MayGive, MayGiveBy, MayGiveOverImage}
-use Rattle.board.proofs.Ways.{Lands, Looks, Passes, Rests, Stands, Waits, Way, way}
+use Rattle.board.proofs.Ways.{Lands, Looks, Passes, Rests, Waits, Way, way}
 
 -- ---- an event in which the host has no part
 
 -- it is an own one, waits for nothing, and doesn't notify the block device
-pub record IsBeside {A : Type 0} (flight : Option InFlight) (what : EventKind A) (state : SlotState)
-    : Type 0 where
-  pub own : verdict_in what ≡ None
-  pub free : (is_some flight && must_wait what) ≡ false
+pub record IsBeside {A : Type 0} (what : EventKind A) (state : SlotState) : Type 0 where
+  pub own : told_in what ≡ None
+  pub free : waits_now what state.host ≡ false
   pub quiet : notifies_block what state ≡ false
 
 pub is_beside : {A : Type 0} (disk : HostDisk) (what : EventKind A) (state : SlotState)
-    → has_part (Some disk) what state ≡ false → IsBeside disk.flight what state
-is_beside disk what state free = by_verdict (verdict_in what) refl free
+    → has_part (Some disk) what state ≡ false → IsBeside what state
+is_beside disk what state free = by_told (told_in what) refl free
   where
-    by_rest : (waits rings : Bool) → (is_some disk.flight && must_wait what) ≡ waits
-        → notifies_block what state ≡ rings → verdict_in what ≡ None → (waits || rings) ≡ false
-        → IsBeside disk.flight what state
+    by_rest : (waits rings : Bool) → waits_now what state.host ≡ waits
+        → notifies_block what state ≡ rings → told_in what ≡ None → (waits || rings) ≡ false
+        → IsBeside what state
     by_rest false false waits rings own none = record { own = own; free = waits; quiet = rings }
     by_rest true rings waits is own none = absurd (cc)
     by_rest false true waits rings own none = absurd (cc)
 
-    by_verdict : (v : Option Verdict) → verdict_in what ≡ v
-        → (is_some v || ((is_some disk.flight && must_wait what) || notifies_block what state)) ≡ false
-        → IsBeside disk.flight what state
-    by_verdict None own none =
-        by_rest (is_some disk.flight && must_wait what) (notifies_block what state) refl refl own none
-    by_verdict (Some verdict) own none = absurd (cc)
-
-own_at : {A : Type 0} (Beside : Outcome A → Type 0) (flight : Option InFlight) (state : SlotState)
-    (what : EventKind A) (outcome : Outcome A) (waits : Bool) → must_wait what ≡ waits
-    → (is_some flight && waits) ≡ false → notifies_block what state ≡ false → Beside outcome
-    → OwnGives Beside flight state what outcome
-own_at Beside None state what outcome waits is free quiet h = rw quiet h
-own_at Beside (Some here) state what outcome true is free quiet h = absurd (cc)
-own_at Beside (Some here) state what outcome false is free quiet h = rw (is, quiet) h
+    by_told : (found : Option Told) → told_in what ≡ found
+        → (is_some found || (waits_now what state.host || notifies_block what state)) ≡ false
+        → IsBeside what state
+    by_told None own none =
+        by_rest (waits_now what state.host) (notifies_block what state) refl refl own none
+    by_told (Some told) own none = absurd (cc)
 
 pub passes : {A : Type 0} (Beside : Outcome A → Type 0) (disk : HostDisk) (state : SlotState)
     (what : EventKind A) (outcome : Outcome A) → has_part (Some disk) what state ≡ false → Beside outcome
-    → CompletesOrGives Beside (verdict_in what) disk.flight state what outcome
+    → CompletesOrGives Beside (told_in what) state what outcome
 passes Beside disk state what outcome free h =
     let is = is_beside disk what state free in
-    rw is.own (own_at Beside disk.flight state what outcome (must_wait what) refl is.free is.quiet h)
+    rw (is.own, is.free, is.quiet) h
 
 -- an event that notifies the block device is none
 pub ringing_part : {A : Type 0} (disk : HostDisk) (what : EventKind A) (state : SlotState)
@@ -89,20 +79,18 @@ turns_as May Other more None what budget old before after new output (More pause
 -- ---- and one that isn't served
 
 -- where memory was wanting, it was over an image
-lacking_way : {A : Type 0} (flight : Option InFlight) (state : SlotState) (what : EventKind A)
-    (before : Health) (outcome : Outcome A) → outcome.reply ≡ NoMemory
-    → Way (λ (o : Outcome A). MayGiveOverImage state what before before o) flight state what outcome
+lacking_way : {A : Type 0} (state : SlotState) (what : EventKind A) (before : Health) (outcome : Outcome A)
+    → outcome.reply ≡ NoMemory
+    → Way (λ (o : Outcome A). MayGiveOverImage state what before before o) state what outcome
     → MayGiveOverImage state what before before outcome
-lacking_way flight state what before outcome lacks (Waits here flies waits h) =
+lacking_way state what before outcome lacks (Waits waits h) =
     let busy = ap (λ o. o.reply) h in absurd (cc)
-lacking_way flight state what before outcome lacks (Passes own free quiet h) = h
-lacking_way flight state what before outcome lacks (Looks none rings looks h) =
+lacking_way state what before outcome lacks (Passes own free quiet h) = h
+lacking_way state what before outcome lacks (Looks rings looks h) =
     let done = ap (λ o. o.reply) h in absurd (cc)
-lacking_way flight state what before outcome lacks (Stands here flies free rings h) =
-    let done = ap (λ o. o.reply) h in absurd (cc)
-lacking_way flight state what before outcome lacks (Rests verdict completes none h) =
+lacking_way state what before outcome lacks (Rests told completes none h) =
     let idle = ap (λ o. o.reply) h in absurd (cc)
-lacking_way flight state what before outcome lacks (Lands verdict completes here flies lands h) =
+lacking_way state what before outcome lacks (Lands told completes here flies lands h) =
     let done = ap (λ o. o.reply) h in absurd (cc)
 
 lacking_by : {A : Type 0} (host : Option HostDisk) (state : SlotState) (what : EventKind A)
@@ -111,9 +99,8 @@ lacking_by : {A : Type 0} (host : Option HostDisk) (state : SlotState) (what : E
 lacking_by None state what before after outcome lacks h = h
 lacking_by {A} (Some disk) state what before after outcome lacks h =
     subst (λ (x : Health). MayGiveOverImage state what before x outcome) (sym h.image)
-    (lacking_way disk.flight state what before outcome lacks
-    (way (λ (o : Outcome A). MayGiveOverImage state what before before o) disk.flight state what outcome
-    h.gives))
+    (lacking_way state what before outcome lacks
+    (way (λ (o : Outcome A). MayGiveOverImage state what before before o) state what outcome h.gives))
 
 pub lacking_over_image : {A : Type 0} (state : SlotState) (what : EventKind A) (before after : Health)
     (outcome : Outcome A) → outcome.reply ≡ NoMemory → MayGive state what before after outcome

@@ -21,9 +21,8 @@ use Rattle.board.specs.declared.reply.Reply.{Reply}
 use Rattle.board.specs.declared.reply.Reply.TheVariants.{Done, Took}
 use Rattle.board.specs.declared.reply.Record.{Record}
 use Rattle.board.specs.declared.pause.Service.TheVariants.{Block, Receive, Transmit}
-use Rattle.block_device.specs.declared.operation.Verdict.{Verdict}
-use Rattle.board.specs.Backing.{HostDisk, InFlight}
-use Rattle.board.specs.Hosting.{CompletesOrGives, GivesAtRest, GivesInFlight, OwnGives, WaitsOrGives, is_block_task, must_wait, notifies_block, verdict_in}
+use Rattle.board.specs.Backing.{HostDisk}
+use Rattle.board.specs.Hosting.{CompletesOrGives, LooksOrGives, OwnGives, Told, is_block_task, notifies_block, told_in, waits_now}
 use Rattle.board.specs.Image.{Health, disk_with}
 use Rattle.board.specs.Machine.{task_at, with_write, with_input, Gives, GivesBy, GivesOverImage, IsNext, IsToldAlone, RunsOnItsOwn, record_of, at_rest}
 use Rattle.board.specs.Outcome.{Outcome, replies, does}
@@ -82,7 +81,7 @@ rests_over_image state (Resize cols rows) before after outcome h =
     record { after = at_rest; gives = record { alike = h.alike; image = refl } }
 rests_over_image state (Restore bytes) before after outcome h =
     record { after = at_rest; gives = record { alike = h.alike; image = refl } }
-rests_over_image state (Complete verdict) before after outcome h =
+rests_over_image state (Complete tag verdict) before after outcome h =
     record { after = at_rest; gives = record { alike = h.alike; image = refl } }
 
 -- the same of one that doesn't notify the block device: the image has no part in it
@@ -111,40 +110,28 @@ rests_beside state (Input bytes) health outcome quiet h =
     record { notified = h.notified; is = h.is; image = refl }
 rests_beside state (Resize cols rows) health outcome quiet h = record { alike = h.alike; image = refl }
 rests_beside state (Restore bytes) health outcome quiet h = record { alike = h.alike; image = refl }
-rests_beside state (Complete verdict) health outcome quiet h = record { alike = h.alike; image = refl }
+rests_beside state (Complete tag verdict) health outcome quiet h = record { alike = h.alike; image = refl }
 
 -- an event comes out so where the disk has no part in it, and so of a guest whose disk the host serves
-pub on_host_as : {A : Type 0} (One Other : Outcome A → Type 0) (flight : Option InFlight) (state : SlotState)
-    (what : EventKind A) (outcome : Outcome A)
-    → (notifies_block what state ≡ false → One outcome → Other outcome)
-    → CompletesOrGives One (verdict_in what) flight state what outcome
-    → CompletesOrGives Other (verdict_in what) flight state what outcome
-on_host_as {A} One Other flight state what outcome turn h = by_verdict (verdict_in what) h
+pub on_host_as : {A : Type 0} (One Other : Outcome A → Type 0) (state : SlotState) (what : EventKind A)
+    (outcome : Outcome A) → (notifies_block what state ≡ false → One outcome → Other outcome)
+    → CompletesOrGives One (told_in what) state what outcome
+    → CompletesOrGives Other (told_in what) state what outcome
+on_host_as {A} One Other state what outcome turn h = by_told (told_in what) h
   where
-    by_ring : (rings : Bool) → notifies_block what state ≡ rings → GivesAtRest One rings state what outcome
-        → GivesAtRest Other rings state what outcome
+    by_ring : (rings : Bool) → notifies_block what state ≡ rings → LooksOrGives One rings state what outcome
+        → LooksOrGives Other rings state what outcome
     by_ring true is given = given
     by_ring false is given = turn is given
 
-    flying : (rings : Bool) → notifies_block what state ≡ rings → GivesInFlight One rings state what outcome
-        → GivesInFlight Other rings state what outcome
-    flying true is given = given
-    flying false is given = turn is given
+    by_wait : (waits : Bool) → OwnGives One waits state what outcome → OwnGives Other waits state what outcome
+    by_wait true given = given
+    by_wait false given = by_ring (notifies_block what state) refl given
 
-    waiting : (waits : Bool) → WaitsOrGives One waits state what outcome
-        → WaitsOrGives Other waits state what outcome
-    waiting true given = given
-    waiting false given = flying (notifies_block what state) refl given
-
-    by_flight : (found : Option InFlight) → OwnGives One found state what outcome
-        → OwnGives Other found state what outcome
-    by_flight None given = by_ring (notifies_block what state) refl given
-    by_flight (Some here) given = waiting (must_wait what) given
-
-    by_verdict : (v : Option Verdict) → CompletesOrGives One v flight state what outcome
-        → CompletesOrGives Other v flight state what outcome
-    by_verdict None given = by_flight flight given
-    by_verdict (Some verdict) given = given
+    by_told : (found : Option Told) → CompletesOrGives One found state what outcome
+        → CompletesOrGives Other found state what outcome
+    by_told None given = by_wait (waits_now what state.host) given
+    by_told (Some told) given = given
 
 -- what an event gives is what comes of it for a guest alone
 next_by : {A : Type 0} (host : Option HostDisk) (state : SlotState) (what : EventKind A) (before after : Health)
@@ -162,7 +149,7 @@ next_by {A} (Some disk) state what before after outcome is h =
       after = at_rest;
       gives = subst (λ (k : Option HostDisk). GivesBy k state what at_rest at_rest outcome) (sym is) (record {
         gives = on_host_as (λ (o : Outcome A). GivesOverImage state what before before o)
-            (λ (o : Outcome A). GivesOverImage state what at_rest at_rest o) disk.flight state what outcome
+            (λ (o : Outcome A). GivesOverImage state what at_rest at_rest o) state what outcome
             (λ quiet given. rests_beside state what before outcome quiet given) h.gives;
         image = refl;
       });
@@ -325,7 +312,7 @@ over_image_once state (Input bytes) h k one other a b =
 over_image_once state (Resize cols rows) h k one other a b = a.alike ∙ sym b.alike
 over_image_once state (Restore bytes) h k one other a b =
     restored_once state bytes one other a.alike b.alike
-over_image_once state (Complete verdict) h k one other a b = a.alike ∙ sym b.alike
+over_image_once state (Complete tag verdict) h k one other a b = a.alike ∙ sym b.alike
 
 -- and whoever has the guest's disk
 once_by : {A : Type 0} (host : Option HostDisk) (state : SlotState) (what : EventKind A) (h k : Health)
@@ -333,7 +320,7 @@ once_by : {A : Type 0} (host : Option HostDisk) (state : SlotState) (what : Even
     → one ≡ other
 once_by None state what h k one other a b = over_image_once state what h k one other a b
 once_by {A} (Some disk) state what h k one other a b =
-    hosted_once (λ (o : Outcome A). GivesOverImage state what at_rest at_rest o) disk.flight state what one other
+    hosted_once (λ (o : Outcome A). GivesOverImage state what at_rest at_rest o) state what one other
     (λ x y. over_image_once state what at_rest at_rest one other x y) a.gives b.gives
 
 pub next_once : {A : Type 0} (state : SlotState) (what : EventKind A) (one other : Outcome A)

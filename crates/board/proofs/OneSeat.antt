@@ -167,8 +167,8 @@ left_once limit old one other (Resize cols rows) p q x y =
     quiet_once limit old one other (Resize cols rows) p q (λ h. h) x y
 left_once limit old one other (Restore bytes) p q x y =
     quiet_once limit old one other (Restore bytes) p q (λ h. h) x y
-left_once limit old one other (Complete verdict) p q x y =
-    quiet_once limit old one other (Complete verdict) p q (λ h. h) x y
+left_once limit old one other (Complete tag verdict) p q x y =
+    quiet_once limit old one other (Complete tag verdict) p q (λ h. h) x y
 
 same_seat : (a b : SlotState) (l k : List ℕ) → a ≡ b → l ≡ k
     → ◌≡◌ {A = Seat} (record { state = a; waiting = l }) (record { state = b; waiting = k })

@@ -92,7 +92,7 @@ was_refused state (MemWrite addr bytes) old new outcome h = absurd h
 was_refused state (Input bytes) old new outcome h = absurd h
 was_refused state (Resize cols rows) old new outcome h = absurd h
 was_refused state (Restore bytes) old new outcome h = absurd h
-was_refused state (Complete verdict) old new outcome h = absurd h
+was_refused state (Complete tag verdict) old new outcome h = absurd h
 
 -- only what puts something out finds no memory, and a read
 pub lacking_puts : {A : Type 0} (state : SlotState) (what : EventKind A) (old new : Health) (outcome :

@@ -8,9 +8,9 @@ use Rattle.board.specs.declared.event.EventKind.TheVariants.{Read, Write, MemRea
 use Rattle.board.specs.declared.reply.Reply.{Reply}
 use Rattle.board.specs.declared.reply.Reply.TheVariants.{Value, Done, Bytes, Took, BadRange, BadSlot, BadState, Busy, Idle, NoMemory}
 use Rattle.board.specs.declared.pause.Service.TheVariants.{Block, Receive, Transmit}
-use Rattle.block_device.specs.declared.operation.Verdict.{Verdict}
-use Rattle.board.specs.Backing.{HostDisk, InFlight}
-use Rattle.board.specs.Hosting.{must_wait, notifies_block, verdict_in}
+use Rattle.block_device.specs.Flights.{is_any}
+use Rattle.board.specs.Backing.{HostDisk, tags_in}
+use Rattle.board.specs.Hosting.{Told, must_wait, notifies_block, told_in}
 use Rattle.board.specs.Image.{Health}
 use Rattle.board.specs.Machine.{memory_read, memory_written}
 use Rattle.board.specs.Outcome.{Outcome, does, replies}
@@ -20,7 +20,7 @@ use Rattle.board.specs.Slot.{SlotState}
 use Rattle.board.specs.Task.{Task, Nothing, Serve, PutOut, Finishes}
 use Rattle.board.specs.World.{MayGive, MayGiveBy, MayGiveOverImage}
 use Rattle.board.proofs.Refusals.{Failed, Unput, Unread, Unsent, WasRefused, was_refused}
-use Rattle.board.proofs.Ways.{Lands, Looks, Passes, Rests, Stands, Waits, Way, way}
+use Rattle.board.proofs.Ways.{Lands, Looks, Passes, Rests, Waits, Way, must_by, way}
 
 -- a task that is finished is done
 finished_done : {A : Type 0} (task : Task) (state : SlotState) (before after : Health)
@@ -98,7 +98,7 @@ given_over_image {A} state (Input bytes) old new outcome (inl served) =
 given_over_image state (Resize cols rows) old new outcome (inl served) = rw served.alike.alike tt
 given_over_image state (Restore bytes) old new outcome (inl served) =
     restore_replies state bytes outcome served.alike.alike
-given_over_image state (Complete verdict) old new outcome (inl served) = rw served.alike.alike tt
+given_over_image state (Complete tag verdict) old new outcome (inl served) = rw served.alike.alike tt
 given_over_image state (Read window offset width) old new outcome (inr never) = absurd never
 given_over_image state (Write window offset width value) old new outcome (inr refused) =
     refused_replies window offset width value state old new outcome
@@ -108,7 +108,7 @@ given_over_image state (MemWrite addr bytes) old new outcome (inr never) = absur
 given_over_image state (Input bytes) old new outcome (inr never) = absurd never
 given_over_image state (Resize cols rows) old new outcome (inr never) = absurd never
 given_over_image state (Restore bytes) old new outcome (inr never) = absurd never
-given_over_image state (Complete verdict) old new outcome (inr never) = absurd never
+given_over_image state (Complete tag verdict) old new outcome (inr never) = absurd never
 
 -- over an image no event is told that its slot is busy, and none that it isn't there
 pub never_busy : {A : Type 0} (what : EventKind A) → MayReplyOverImage what Busy → ⊥
@@ -119,7 +119,7 @@ never_busy (MemWrite addr bytes) may = may
 never_busy (Input bytes) may = may
 never_busy (Resize cols rows) may = may
 never_busy (Restore bytes) may = may
-never_busy (Complete verdict) may = may
+never_busy (Complete tag verdict) may = may
 
 pub never_missing : {A : Type 0} (what : EventKind A) → MayReply what BadSlot → ⊥
 never_missing (Read window offset width) may = may
@@ -129,7 +129,7 @@ never_missing (MemWrite addr bytes) may = may
 never_missing (Input bytes) may = may
 never_missing (Resize cols rows) may = may
 never_missing (Restore bytes) may = may
-never_missing (Complete verdict) may = may
+never_missing (Complete tag verdict) may = may
 
 -- a completion alone finds nothing in flight, and the image has no part in it
 pub idle_completes : {A : Type 0} (state : SlotState) (what : EventKind A) (old new : Health)
@@ -142,9 +142,9 @@ idle_completes state (MemWrite addr bytes) old new outcome may h = absurd may
 idle_completes state (Input bytes) old new outcome may h = absurd may
 idle_completes state (Resize cols rows) old new outcome may h = absurd may
 idle_completes state (Restore bytes) old new outcome may h = absurd may
-idle_completes state (Complete verdict) old new outcome may (inl served) =
+idle_completes state (Complete tag verdict) old new outcome may (inl served) =
     (served.alike.alike, served.alike.image)
-idle_completes state (Complete verdict) old new outcome may (inr never) = absurd never
+idle_completes state (Complete tag verdict) old new outcome may (inr never) = absurd never
 
 -- ---- whoever has the disk
 
@@ -176,16 +176,16 @@ any_reply (Restore bytes) BadRange may = may
 any_reply (Restore bytes) BadState may = may
 any_reply (Restore bytes) NoMemory may = may
 any_reply (Restore bytes) Idle may = may
-any_reply (Complete verdict) Done may = tt
-any_reply (Complete verdict) (Value v) may = may
-any_reply (Complete verdict) (Bytes bytes) may = may
-any_reply (Complete verdict) (Took taken) may = may
-any_reply (Complete verdict) BadSlot may = may
-any_reply (Complete verdict) BadRange may = may
-any_reply (Complete verdict) BadState may = may
-any_reply (Complete verdict) NoMemory may = may
-any_reply (Complete verdict) Busy may = may
-any_reply (Complete verdict) Idle may = may
+any_reply (Complete tag verdict) Done may = tt
+any_reply (Complete tag verdict) (Value v) may = may
+any_reply (Complete tag verdict) (Bytes bytes) may = may
+any_reply (Complete tag verdict) (Took taken) may = may
+any_reply (Complete tag verdict) BadSlot may = may
+any_reply (Complete tag verdict) BadRange may = may
+any_reply (Complete tag verdict) BadState may = may
+any_reply (Complete tag verdict) NoMemory may = may
+any_reply (Complete tag verdict) Busy may = may
+any_reply (Complete tag verdict) Idle may = may
 
 as_told : {A : Type 0} (what : EventKind A) (outcome wanted : Outcome A) → outcome ≡ wanted
     → MayReply what wanted.reply → MayReply what outcome.reply
@@ -199,7 +199,7 @@ waiting_reply (MemWrite addr bytes) waits = absurd (cc)
 waiting_reply (Input bytes) waits = absurd (cc)
 waiting_reply (Resize cols rows) waits = absurd (cc)
 waiting_reply (Restore bytes) waits = tt
-waiting_reply (Complete verdict) waits = absurd (cc)
+waiting_reply (Complete tag verdict) waits = absurd (cc)
 
 ringing_reply : {A : Type 0} (what : EventKind A) (state : SlotState) → notifies_block what state ≡ true
     → MayReply what Done
@@ -210,43 +210,41 @@ ringing_reply (MemWrite addr bytes) state rings = absurd (cc)
 ringing_reply (Input bytes) state rings = absurd (cc)
 ringing_reply (Resize cols rows) state rings = absurd (cc)
 ringing_reply (Restore bytes) state rings = absurd (cc)
-ringing_reply (Complete verdict) state rings = absurd (cc)
+ringing_reply (Complete tag verdict) state rings = absurd (cc)
 
-completing_reply : {A : Type 0} (what : EventKind A) (verdict : Verdict) → verdict_in what ≡ Some verdict
+completing_reply : {A : Type 0} (what : EventKind A) (told : Told) → told_in what ≡ Some told
     → MayReply what Done × MayReply what Idle
-completing_reply (Read window offset width) verdict is = absurd (cc)
-completing_reply (Write window offset width value) verdict is = absurd (cc)
-completing_reply (MemRead addr len) verdict is = absurd (cc)
-completing_reply (MemWrite addr bytes) verdict is = absurd (cc)
-completing_reply (Input bytes) verdict is = absurd (cc)
-completing_reply (Resize cols rows) verdict is = absurd (cc)
-completing_reply (Restore bytes) verdict is = absurd (cc)
-completing_reply (Complete told) verdict is = (tt, tt)
+completing_reply (Read window offset width) told is = absurd (cc)
+completing_reply (Write window offset width value) told is = absurd (cc)
+completing_reply (MemRead addr len) told is = absurd (cc)
+completing_reply (MemWrite addr bytes) told is = absurd (cc)
+completing_reply (Input bytes) told is = absurd (cc)
+completing_reply (Resize cols rows) told is = absurd (cc)
+completing_reply (Restore bytes) told is = absurd (cc)
+completing_reply (Complete tag verdict) told is = (tt, tt)
 
-on_host_replies : {A : Type 0} (flight : Option InFlight) (state : SlotState) (what : EventKind A)
-    (old : Health) (outcome : Outcome A)
-    → Way (λ (o : Outcome A). MayGiveOverImage state what old old o) flight state what outcome
+on_host_replies : {A : Type 0} (state : SlotState) (what : EventKind A) (old : Health) (outcome : Outcome A)
+    → Way (λ (o : Outcome A). MayGiveOverImage state what old old o) state what outcome
     → MayReply what outcome.reply
-on_host_replies flight state what old outcome (Waits here flies waits h) =
-    as_told what outcome _ h (waiting_reply what waits)
-on_host_replies flight state what old outcome (Passes own free quiet h) =
+on_host_replies state what old outcome (Waits waits h) =
+    as_told what outcome _ h
+    (waiting_reply what (must_by (is_any (tags_in state.host)) (must_wait what) waits))
+on_host_replies state what old outcome (Passes own free quiet h) =
     any_reply what outcome.reply (given_over_image state what old old outcome h)
-on_host_replies flight state what old outcome (Looks none rings looks h) =
+on_host_replies state what old outcome (Looks rings looks h) =
     as_told what outcome _ h (ringing_reply what state rings)
-on_host_replies flight state what old outcome (Stands here flies free rings h) =
-    as_told what outcome _ h (ringing_reply what state rings)
-on_host_replies flight state what old outcome (Rests verdict completes none h) =
-    as_told what outcome _ h (completing_reply what verdict completes).1
-on_host_replies flight state what old outcome (Lands verdict completes here flies lands h) =
-    as_told what outcome _ h (completing_reply what verdict completes).0
+on_host_replies state what old outcome (Rests told completes none h) =
+    as_told what outcome _ h (completing_reply what told completes).1
+on_host_replies state what old outcome (Lands told completes here flies lands h) =
+    as_told what outcome _ h (completing_reply what told completes).0
 
 replies_by : {A : Type 0} (host : Option HostDisk) (state : SlotState) (what : EventKind A) (old new : Health)
     (outcome : Outcome A) → MayGiveBy host state what old new outcome → MayReply what outcome.reply
 replies_by None state what old new outcome h =
     any_reply what outcome.reply (given_over_image state what old new outcome h)
 replies_by {A} (Some disk) state what old new outcome h =
-    on_host_replies disk.flight state what old outcome
-    (way (λ (o : Outcome A). MayGiveOverImage state what old old o) disk.flight state what outcome h.gives)
+    on_host_replies state what old outcome
+    (way (λ (o : Outcome A). MayGiveOverImage state what old old o) state what outcome h.gives)
 
 pub given_replies : {A : Type 0} (state : SlotState) (what : EventKind A) (old new : Health)
     (outcome : Outcome A) → MayGive state what old new outcome → MayReply what outcome.reply

@@ -11,7 +11,7 @@ use Rattle.board.specs.declared.spec.SlotSpec.{SlotSpec}
 use Rattle.block_device.specs.declared.extent.Extent.{Extent}
 use Rattle.block_device.specs.Extent.{IsWithin}
 use Rattle.board.specs.Extent.{IsApart, AreSound}
-use Rattle.board.specs.Fault.{IsGoodSlot, GoodBelow, AreGood, HasRoom, HasRoomBy, most_sectors, place_by, room_by, share}
+use Rattle.board.specs.Fault.{IsGoodSlot, GoodBelow, AreGood, HasDepthBy, HasRoom, HasRoomBy, most_sectors, place_by, room_by, share}
 use Rattle.board.specs.declared.spec.Backing.{Backing}
 use Rattle.board.specs.declared.spec.Backing.TheVariants.{Image, Host}
 use Rattle.board.specs.Slot.{extent_by, opened}
@@ -21,13 +21,14 @@ use Rattle.board.specs.World.{extents_of}
 share_within : (sectors : ℕ) (backing : Backing) (extent : Extent)
     → IsWithin (room_by backing sectors) (place_by backing extent) → IsWithin sectors (extent_by backing extent)
 share_within sectors Image extent within = within
-share_within sectors Host extent within = omega arith
+share_within sectors (Host depth) extent within = omega arith
 
-room_of : (sectors : ℕ) (backing : Backing) (extent : Extent)
+room_of : (sectors : ℕ) (backing : Backing) (extent : Extent) → HasDepthBy backing
     → IsWithin (room_by backing sectors) (place_by backing extent) → HasRoomBy backing extent
-room_of sectors Image extent within = tt
-room_of sectors Host extent within = let few : extent.count ≤ most_sectors = omega (arith, within) in
-    omega (arith, few)
+room_of sectors Image extent depth within = tt
+room_of sectors (Host depth) extent has within =
+    let few : extent.count ≤ most_sectors = omega (arith, within) in
+    (omega (arith, few), has.1)
 
 -- the slots before a place all lie in the image
 pub within_below : (sectors : ℕ) (slots : List SlotSpec) (n : ℕ) → n ≤ length slots
@@ -73,7 +74,8 @@ memories sectors slots good k d below =
 pub rooms : (sectors : ℕ) (slots : List SlotSpec) → AreGood sectors slots → All HasRoom slots
 rooms sectors slots good k d below =
     let one = get_or slots k d in
-    room_of sectors one.backing one.extent (good.each k one below (slice_get-get_or slots k d below)).within
+    let is = good.each k one below (slice_get-get_or slots k d below) in
+    room_of sectors one.backing one.extent is.depth is.within
 
 pub extents_of-opened : (slots : List SlotSpec)
     → extents_of (map opened slots) ≡ map share slots

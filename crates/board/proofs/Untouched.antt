@@ -12,8 +12,8 @@ use Rattle.board.specs.declared.reply.Reply.{Reply}
 use Rattle.board.specs.declared.reply.Reply.TheVariants.{Value, NoMemory}
 use Rattle.board.specs.declared.saved.RestoreFault.{RestoreFault}
 use Rattle.board.specs.declared.saved.RestoreFault.TheVariants.{Snapshot, OtherSlot, BadBlock, BadConsole}
-use Rattle.board.specs.Backing.{HostDisk, InFlight}
-use Rattle.board.specs.Hosting.{GivesOnHost, IsOwn, OwnGives, WaitsOrGives, is_block_task, must_wait, notifies_block}
+use Rattle.board.specs.Backing.{HostDisk}
+use Rattle.board.specs.Hosting.{GivesOnHost, OwnGives, is_block_task, notifies_block, told_in, waits_now}
 use Rattle.board.specs.Image.{Health}
 use Rattle.board.specs.Machine.{Gives, GivesBy, GivesOverImage, register, resized, task_at, with_write}
 use Rattle.board.specs.Outcome.{IsDetermined, Outcome, does, replies}
@@ -189,7 +189,7 @@ gives_over old (Resize cols rows) m before after outcome none same h =
 gives_over old (Restore bytes) m before after outcome none same h =
     let restoring = restoring_over old m same bytes outcome h.alike in
     (restoring.0, record { alike = restoring.1; image = h.image })
-gives_over old (Complete verdict) m before after outcome none same h = absurd (cc (none))
+gives_over old (Complete tag verdict) m before after outcome none same h = absurd (cc (none))
 
 refused_over : {A : Type 0} (old : SlotState) (what : EventKind A) (m : Memory) (before after : Health)
     (outcome : Outcome A) → touches_memory what old ≡ false → SameRange old.memory m
@@ -234,8 +234,8 @@ quiet : {A : Type 0} (what : EventKind A) (old : SlotState) → touches_memory w
 quiet (Write window offset width value) old none = quiet_task (task_at window offset width value old) none
 quiet what old none = refl
 
-own : {A : Type 0} (what : EventKind A) (old : SlotState) → touches_memory what old ≡ false → IsOwn what
-own (Complete verdict) old none = absurd (cc (none))
+own : {A : Type 0} (what : EventKind A) (old : SlotState) → touches_memory what old ≡ false → told_in what ≡ None
+own (Complete tag verdict) old none = absurd (cc (none))
 own what old none = refl
 
 module _ {A : Type 0} (Here There : Outcome A → Type 0) (old : SlotState) (m : Memory) (what : EventKind A)
@@ -245,27 +245,22 @@ module _ {A : Type 0} (Here There : Outcome A → Type 0) (old : SlotState) (m :
       → Stays (λ (o : Outcome A). o ≡ replies (over_memory m old) reply) old.memory m outcome
   replied_over reply h = (ap (λ (o : Outcome A). o.state.memory) h, ap (outcome_over m) h)
 
-  waiting_over : (waits : Bool) → WaitsOrGives Here waits old what outcome
-      → Stays (WaitsOrGives There waits (over_memory m old) what) old.memory m outcome
-  waiting_over true h = replied_over _ h
-  waiting_over false h = rw silent_too (beside (rw silent at h))
-
-  own_over : (flight : Option InFlight) → OwnGives Here flight old what outcome
-      → Stays (OwnGives There flight (over_memory m old) what) old.memory m outcome
-  own_over None h = rw silent_too (beside (rw silent at h))
-  own_over (Some here) h = waiting_over (must_wait what) h
+  own_over : (waits : Bool) → OwnGives Here waits old what outcome
+      → Stays (OwnGives There waits (over_memory m old) what) old.memory m outcome
+  own_over true h = replied_over _ h
+  own_over false h = rw silent_too (beside (rw silent at h))
 
 -- ---- both kinds of disks
 
 on_host_over : {A : Type 0} (Here There : Outcome A → Type 0) (old : SlotState) (what : EventKind A)
-    (disk : HostDisk) (m : Memory) (before after : Health) (outcome : Outcome A)
+    (m : Memory) (before after : Health) (outcome : Outcome A)
     → touches_memory what old ≡ false → (Here outcome → Stays There old.memory m outcome)
-    → GivesOnHost Here disk.flight old what before after outcome
-    → Stays (GivesOnHost There disk.flight (over_memory m old) what before after) old.memory m outcome
-on_host_over Here There old what disk m before after outcome none beside h =
+    → GivesOnHost Here old what before after outcome
+    → Stays (GivesOnHost There (over_memory m old) what before after) old.memory m outcome
+on_host_over Here There old what m before after outcome none beside h =
     let owns = own what old none in
     let given = own_over Here There old m what outcome beside (quiet what old none)
-    (quiet what (over_memory m old) (touches_over what old m ∙ none)) disk.flight (rw owns at h.gives) in
+    (quiet what (over_memory m old) (touches_over what old m ∙ none)) (waits_now what old.host) (rw owns at h.gives) in
     (given.0, record { gives = rw owns given.1; image = h.image })
 
 module _ {A : Type 0} (what : EventKind A) (before after : Health) where
@@ -275,7 +270,7 @@ module _ {A : Type 0} (what : EventKind A) (before after : Health) where
   given_over None old m outcome none same h = gives_over old what m before after outcome none same h
   given_over (Some disk) old m outcome none same h =
       on_host_over (GivesOverImage old what before before) (GivesOverImage (over_memory m old) what before before)
-      old what disk m before after outcome none (gives_over old what m before before outcome none same) h
+      old what m before after outcome none (gives_over old what m before before outcome none same) h
 
   allowed_over : (host : Option HostDisk) (old : SlotState) (m : Memory) (outcome : Outcome A)
       → touches_memory what old ≡ false → SameRange old.memory m → MayGiveBy host old what before after outcome
@@ -284,7 +279,7 @@ module _ {A : Type 0} (what : EventKind A) (before after : Health) where
   allowed_over (Some disk) old m outcome none same h =
       on_host_over (MayGiveOverImage old what before before)
       (MayGiveOverImage (over_memory m old) what before before)
-      old what disk m before after outcome none (may_over old what m before before outcome none same) h
+      old what m before after outcome none (may_over old what m before before outcome none same) h
 
 -- ---- and back
 

@@ -172,7 +172,7 @@ whole_over_image (Input bytes) budget state before after new output reply h =
     input_whole state bytes budget before after new output reply h
 whole_over_image (Resize cols rows) budget state before after new output reply h = h
 whole_over_image (Restore bytes) budget state before after new output reply h = h
-whole_over_image (Complete verdict) budget state before after new output reply h = h
+whole_over_image (Complete tag verdict) budget state before after new output reply h = h
 
 -- ---- whoever has the guest's disk
 
@@ -248,7 +248,7 @@ hosted_whole disk (Input bytes) budget state before after new output reply free 
     (input_whole state bytes budget before after new output reply h)
 hosted_whole disk (Resize cols rows) budget state before after new output reply free h = h
 hosted_whole disk (Restore bytes) budget state before after new output reply free h = h
-hosted_whole disk (Complete verdict) budget state before after new output reply free h = h
+hosted_whole disk (Complete tag verdict) budget state before after new output reply free h = h
 
 whole_by : {A : Type 0} (host : Option HostDisk) (part : Bool) (what : EventKind A) (budget : Budget)
     (state : SlotState) (before after : Health) (new : SlotState) (output : List ℕ) (reply : Reply A)

@@ -1,44 +1,43 @@
 -- What writes leave of a slot's memory, a service leaves too, and so does each event.
 use Rattle.std.proofs.Common.{◌≡◌, ◌⊎◌, inl, inr, ℕ, Bool, true, false, Option, Some, None, List, [], ◌∷◌, refl, sym, ◌∙◌, ap, subst}
-use Rattle.std.specs.Prelude.{if◌then◌else◌, ◌-◌, drop, length}
+use Rattle.std.specs.Prelude.{get_or, if◌then◌else◌}
 use Rattle.byteorder.specs.Endian.{little_bytes}
 use Rattle.guest_memory.specs.Memory.{Memory, put, put_num}
-use Rattle.chain.specs.Bytes.{scatter, writable_of}
+use Rattle.chain.specs.Bytes.{writable_of}
 use Rattle.chain.specs.Service.{Device, Ending, Entry, Course, Served, ServesChain, Site, after, scattered, used_len, wrote}
-use Rattle.sector_cache.specs.Disk.{Disk}
 use Rattle.mmio_window.specs.declared.device_kind.DeviceKind.{DeviceKind}
 use Rattle.mmio_window.specs.declared.device_kind.DeviceKind.TheVariants.{Block, Console}
 use Rattle.mmio_window.specs.declared.queue.Queue.{Queue}
 use Rattle.mmio_window.specs.declared.queue.Queue.TheVariants.{Split, Packed}
-use Rattle.mmio_window.specs.declared.stage.Stage.TheVariants.{First}
-use Rattle.mmio_window.specs.Pieces.{NotifiedWithin}
+use Rattle.mmio_window.specs.declared.stage.Stage.{Stage}
+use Rattle.mmio_window.specs.declared.stage.Stage.TheVariants.{First, Next}
+use Rattle.mmio_window.specs.Pieces.{FinishesWithin, NotifiedWithin, ServesTo}
 use Rattle.mmio_window.specs.Queue.{queue_kind}
 use Rattle.mmio_window.specs.Serving.{IsNotified, Notified}
 use Rattle.mmio_window.specs.Window.{WindowState, queue_at}
-use Rattle.block_device.specs.declared.device.BlockDevice.{BlockDevice}
-use Rattle.block_device.specs.declared.hosting.Hosted.{Hosted}
-use Rattle.block_device.specs.declared.hosting.Hosted.TheVariants as hosted
 use Rattle.block_device.specs.declared.operation.Verdict.{Verdict}
-use Rattle.chain.specs.declared.segment.Buffer.{Buffer}
-use Rattle.block_device.specs.declared.request.RequestStatus.{RequestStatus}
-use Rattle.block_device.specs.Asking.{status_by, unasked_device, with_status}
+use Rattle.chain.specs.declared.budget.Progress.TheVariants as progress
+use Rattle.block_device.specs.Asking.{status_by, unasked_device}
+use Rattle.block_device.specs.Flights.{HostedQueue, InFlight, unlimited}
 use Rattle.block_device.specs.Request.{code_of}
-use Rattle.block_device.specs.Hosting.{CompletesIn, HostsTo}
+use Rattle.block_device.specs.Hosting.{CompletesIn}
+use Rattle.block_device.proofs.Unasked.{any_disk}
 use Rattle.board.specs.declared.event.EventKind.{EventKind}
 use Rattle.board.specs.declared.event.EventKind.TheVariants.{Read, Write, MemRead, MemWrite, Input, Resize, Restore, Complete}
 use Rattle.board.specs.declared.pause.Service.TheVariants as service
 use Rattle.board.specs.declared.reply.Reply.{Reply}
-use Rattle.board.specs.Backing.{HostDisk, InFlight}
-use Rattle.board.specs.Hosting.{CompletesOrGives, GivesAtRest, GivesInFlight, Lands, Looks, LooksAtQueue, OwnGives, WaitsOrGives, must_wait, notifies_block, unlimited, verdict_in}
-use Rattle.board.specs.Image.{Health, disk_with}
+use Rattle.board.specs.Backing.{HostDisk, tags_in}
+use Rattle.board.specs.Hosting.{CompletesOrGives, CompletesTag, CompletionGives, LooksAtQueue, LooksOrGives, OwnGives, Told, hosted_device, hosted_queue, notifies_block, told_in, waits_now}
+use Rattle.board.specs.Image.{Health}
 use Rattle.board.specs.Marking.{IsForDevices}
-use Rattle.board.specs.Machine.{GivesOverImage, action_at, at_rest, readied, task_at, with_write}
+use Rattle.board.specs.Machine.{GivesOverImage, action_at, readied, task_at, with_write}
 use Rattle.board.specs.Outcome.{Outcome, does, replies}
 use Rattle.board.specs.Restoring.{IsRestoring}
 use Rattle.board.specs.Slot.{BoardSlot, SlotState}
 use Rattle.board.specs.Task.{Finishes, Nothing, PutOut, Serve, Task}
 use Rattle.board.specs.World.{IsCutShort, IsRefused, MayGive, MayGiveBy, MayGiveOverImage}
-use Rattle.board.proofs.Chains.{KeptByEach, kept, kept_by_all}
+use Rattle.board.proofs.Chains.{KeptByEach, kept, kept_by_all, kept_by_end}
+use Rattle.board.proofs.Looking.{IsLeftByLandings, IsLeftByLooks, completion_left, look_left}
 
 -- it holds of what is left as it was, of two steps if of each, and of a write
 pub record IsLeftByWrites (K : Memory → Memory → Type 0) : Type 0 where
@@ -58,13 +57,6 @@ module _ (K : Memory → Memory → Type 0) (left : IsLeftByWrites K) where
       left.both m (put m a (x ∷ [])) (scattered (put m a (x ∷ [])) addrs written) (left.put m a (x ∷ []))
       (scattered_left (put m a (x ∷ [])) addrs written)
 
-  scatter_left : (m : Memory) (addrs bytes : List ℕ) → K m (scatter m addrs bytes)
-  scatter_left m [] bytes = left.none m
-  scatter_left m (a ∷ addrs) [] = left.none m
-  scatter_left m (a ∷ addrs) (x ∷ bytes) =
-      left.both m (put m a (x ∷ [])) (scatter (put m a (x ∷ [])) addrs bytes) (left.put m a (x ∷ []))
-      (scatter_left (put m a (x ∷ [])) addrs bytes)
-
   num_left : (m : Memory) (a k v : ℕ) → K m (put_num m a k v)
   num_left m a k v = left.put m a (little_bytes k v)
 
@@ -82,7 +74,7 @@ module _ (K : Memory → Memory → Type 0) (left : IsLeftByWrites K) where
 
   closed_left : (m : Memory) (queue : Queue) → K m (queue_kind.closed m queue)
   closed_left m (Split ring) =
-      flags_left m _ ring.setup.event_idx _ ring.place (num_left m ring.setup.device 2 0)
+      flags_left m _ ring.setup.event_idx _ _ (num_left m ring.setup.device 2 0)
   closed_left m (Packed ring) = num_left m ring.setup.device 4 0
 
   -- ---- a service of a queue
@@ -123,39 +115,62 @@ module _ (K : Memory → Memory → Type 0) (left : IsLeftByWrites K) where
 
   -- ---- a disk that the host serves
 
-  hosts_left : (device : BlockDevice) (found : Option Queue) (came : Hosted) (old new : Memory)
-      (before after : WindowState) (disk : Disk) → (buffers : List _) (runs : List _)
-      → HostsTo device First unlimited found came old new before after buffers runs disk → K old new
-  hosts_left device found (hosted.Asks flight) old new before after disk buffers runs h =
-      course_left (unasked_device device) _ _ h.asks.stops.course
-  hosts_left device None hosted.More old new before after disk buffers runs h = absurd h
-  hosts_left device (Some queue) hosted.More old new before after disk buffers runs h =
-      course_left (unasked_device device) _ _ h.begins.pauses.course
-  hosts_left device found hosted.Done old new before after disk buffers runs h =
-      within_left (unasked_device device) 0 found h.ending old new before after _ _ h.notified
+  finished_left : {State : Type 0} (device : Device State) (q : ℕ) (queue : Option Queue) (ending : Ending)
+      (old new : Memory) (before after : WindowState) (s t : State)
+      → FinishesWithin device unlimited q queue ending old new before after s t → K old new
+  finished_left device q None ending old new before after s t h = same_left old new h.1.memory
+  finished_left {State} device q (Some queue) ending old new before after s t h =
+      kept_by_end device (λ (m : Memory) (d : State). K old m) (left_by_each device old) _ _ ending h.wanted
+      h.ends.ends (left.none old)
+
+  end_left : {State : Type 0} (device : Device State) (stage : Stage) (queue : Option Queue) (old new : Memory)
+      (before after : WindowState) (s t : State)
+      → ServesTo stage device unlimited 0 queue progress.Done old new before after s t → K old new
+  end_left device First queue old new before after s t h =
+      within_left device 0 queue h.ending old new before after s t h.notified
+  end_left device Next queue old new before after s t h =
+      finished_left device 0 queue h.ending old new before after s t h.finished
+
+  abbrev MemoryLeft : HostedQueue → HostedQueue → Type 0
+  MemoryLeft old new = K old.memory new.memory
+
+  memory_left : IsLeftByLooks MemoryLeft
+  memory_left = record {
+    none = λ q. left.none q.memory;
+    both = λ a b c one other. left.both a.memory b.memory c.memory one other;
+    asks = λ device stage old here new next.
+        course_left (unasked_device device) _ _ (next.asks any_disk).asks.stops.course;
+    ends = λ device stage old new no_more.
+        end_left (unasked_device device) stage (queue_at 0 old.window) old.memory new.memory old.window new.window
+        _ _ (no_more.ends any_disk);
+  }
+
+  given_left : (here : InFlight) (verdict : Verdict) (old new : Memory) (before after : WindowState)
+      → CompletesIn here.flight verdict old new before after → K old new
+  given_left here verdict old new before after h =
+      let back = h.gives in
+      let done : K old back.done =
+      subst (K old) (sym back.completed.memory) (left.put old here.flight.status (code_of (status_by verdict) ∷ [])) in
+      let given : K old h.given =
+      left.both old back.done _ done (subst (K back.done) (sym back.used) (used_left back.done _ _ _ _)) in
+      left.both old h.given _ given (subst (K h.given) (sym h.closed) (closed_left h.given h.behind))
+
+  landings_left : IsLeftByLandings MemoryLeft
+  landings_left = record {
+    gives = λ tag here verdict old new given.
+        given_left here verdict old.memory new.memory old.window new.window given.completes;
+    frees = λ tag old. left.none old.memory;
+  }
 
   looks_left : (old new : SlotState) → LooksAtQueue old new → K old.memory new.memory
   looks_left old new h =
-      hosts_left _ (queue_at 0 old.block) h.looks.hosted old.memory new.memory old.block new.block
-      (disk_with [] at_rest) h.looks.buffers h.looks.runs (h.looks.hosts (disk_with [] at_rest))
+      look_left MemoryLeft memory_left (hosted_device old) (hosted_queue old) (hosted_queue new) h.looks
 
-  status_left : (m : Memory) (buffers : List Buffer) (status : RequestStatus) → K m (with_status m buffers status)
-  status_left m buffers status =
-      scatter_left m (drop (length (writable_of buffers) - 1) (writable_of buffers)) (code_of status ∷ [])
-
-  lands_left : (old : SlotState) (here : InFlight) (verdict : Verdict) (new : SlotState)
-      → Lands old here verdict new → K old.memory new.memory
-  lands_left old here verdict new h =
-      let back = h.completes.gives in
-      let done : K old.memory back.done =
-      subst (K old.memory) (sym back.completed.memory)
-      (status_left old.memory here.buffers (status_by verdict)) in
-      let given : K old.memory h.completes.given =
-      left.both old.memory back.done _ done (subst (K back.done) (sym back.used) (used_left back.done _ _ _ _)) in
-      let closed : K old.memory h.memory =
-      left.both old.memory h.completes.given _ given
-      (subst (K h.completes.given) (sym h.completes.closed) (closed_left h.completes.given h.completes.behind)) in
-      left.both old.memory h.memory new.memory closed (looks_left _ new h.looks)
+  completes_left : (tag : ℕ) (verdict : Verdict) (old new : SlotState) → CompletesTag tag verdict old new
+      → K old.memory new.memory
+  completes_left tag verdict old new h =
+      completion_left MemoryLeft memory_left landings_left (hosted_device old) tag verdict (hosted_queue old)
+      (hosted_queue new) h.completes
 
   -- ---- an event
 
@@ -179,7 +194,7 @@ module _ (K : Memory → Memory → Type 0) (left : IsLeftByWrites K) where
   readied_memory (Input bytes) state = refl
   readied_memory (Resize cols rows) state = refl
   readied_memory (Restore bytes) state = refl
-  readied_memory (Complete verdict) state = refl
+  readied_memory (Complete tag verdict) state = refl
 
   by_inside : {A : Type 0} (inside : Bool) (state : SlotState) (hit : Outcome A) (miss : Reply A)
       → K state.memory hit.state.memory → K state.memory (if inside then hit else replies state miss).state.memory
@@ -223,7 +238,7 @@ module _ (K : Memory → Memory → Type 0) (left : IsLeftByWrites K) where
       state.console outcome.state.console _ _ h.notified.notified
   gives_left state (Resize cols rows) before after outcome own h = state_left state outcome _ h.alike refl
   gives_left state (Restore bytes) before after outcome own h = restoring_left state bytes outcome h.alike
-  gives_left state (Complete verdict) before after outcome own h = state_left state outcome _ h.alike refl
+  gives_left state (Complete tag verdict) before after outcome own h = state_left state outcome _ h.alike refl
 
   cut_left : {A : Type 0} (task : Task) (state : SlotState) (before after : Health) (outcome : Outcome A)
       → IsCutShort task state before after outcome → K state.memory outcome.state.memory
@@ -249,7 +264,7 @@ module _ (K : Memory → Memory → Type 0) (left : IsLeftByWrites K) where
   refused_left state (Input bytes) before after outcome h = absurd h
   refused_left state (Resize cols rows) before after outcome h = absurd h
   refused_left state (Restore bytes) before after outcome h = absurd h
-  refused_left state (Complete verdict) before after outcome h = absurd h
+  refused_left state (Complete tag verdict) before after outcome h = absurd h
 
   over_image_left : {A : Type 0} (state : SlotState) (what : EventKind A) (before after : Health)
       (outcome : Outcome A) → IsForDevices what → MayGiveOverImage state what before after outcome
@@ -262,48 +277,37 @@ module _ (K : Memory → Memory → Type 0) (left : IsLeftByWrites K) where
   -- whoever has the guest's disk
   module _ {A : Type 0} (state : SlotState) (what : EventKind A) (health : Health) (outcome : Outcome A)
       (own : IsForDevices what) where
-    readied_left : outcome ≡ does (readied what state) → K state.memory outcome.state.memory
-    readied_left is = state_left state outcome _ is (readied_memory what state)
-
-    at_rest_left : (rings : Bool)
-        → GivesAtRest (λ o. MayGiveOverImage state what health health o) rings state what outcome
+    looking_left : (rings : Bool)
+        → LooksOrGives (λ o. MayGiveOverImage state what health health o) rings state what outcome
         → K state.memory outcome.state.memory
-    at_rest_left true h =
+    looking_left true h =
         subst (λ (m : Memory). K m outcome.state.memory) (readied_memory what state)
         (looks_left (readied what state) outcome.state h.0)
-    at_rest_left false h = over_image_left state what health health outcome own h
+    looking_left false h = over_image_left state what health health outcome own h
 
-    flying_left : (rings : Bool)
-        → GivesInFlight (λ o. MayGiveOverImage state what health health o) rings state what outcome
+    own_left : (waits : Bool)
+        → OwnGives (λ o. MayGiveOverImage state what health health o) waits state what outcome
         → K state.memory outcome.state.memory
-    flying_left true h = readied_left h
-    flying_left false h = over_image_left state what health health outcome own h
+    own_left true h = state_left state outcome _ h refl
+    own_left false h = looking_left (notifies_block what state) h
 
-    waiting_left : (waits : Bool)
-        → WaitsOrGives (λ o. MayGiveOverImage state what health health o) waits state what outcome
+    completing_left : (found : Option InFlight) (told : Told) → CompletionGives found told state outcome
         → K state.memory outcome.state.memory
-    waiting_left true h = state_left state outcome _ h refl
-    waiting_left false h = flying_left (notifies_block what state) h
+    completing_left None told h = state_left state outcome _ h refl
+    completing_left (Some here) told h = completes_left told.tag told.verdict state outcome.state h.0
 
-    own_left : (flight : Option InFlight)
-        → OwnGives (λ o. MayGiveOverImage state what health health o) flight state what outcome
+    on_host_left : (found : Option Told)
+        → CompletesOrGives (λ o. MayGiveOverImage state what health health o) found state what outcome
         → K state.memory outcome.state.memory
-    own_left None h = at_rest_left (notifies_block what state) h
-    own_left (Some here) h = waiting_left (must_wait what) h
-
-    on_host_left : (v : Option Verdict) (flight : Option InFlight)
-        → CompletesOrGives (λ o. MayGiveOverImage state what health health o) v flight state what outcome
-        → K state.memory outcome.state.memory
-    on_host_left None flight h = own_left flight h
-    on_host_left (Some verdict) None h = state_left state outcome _ h refl
-    on_host_left (Some verdict) (Some here) h = lands_left state here verdict outcome.state h.0
+    on_host_left None h = own_left (waits_now what state.host) h
+    on_host_left (Some told) h = completing_left (get_or (tags_in state.host) told.tag None) told h
 
   by_host_left : {A : Type 0} (host : Option HostDisk) (state : SlotState) (what : EventKind A)
       (before after : Health) (outcome : Outcome A) → IsForDevices what
       → MayGiveBy host state what before after outcome → K state.memory outcome.state.memory
   by_host_left None state what before after outcome own h = over_image_left state what before after outcome own h
   by_host_left (Some disk) state what before after outcome own h =
-      on_host_left state what before outcome own (verdict_in what) disk.flight h.gives
+      on_host_left state what before outcome own (told_in what) h.gives
 
   -- the law
   pub event_left : {A : Type 0} (state : SlotState) (what : EventKind A) (before after : Health)

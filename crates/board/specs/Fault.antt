@@ -10,7 +10,7 @@ use Rattle.sector_cache.specs.declared.fault.CacheFault.TheVariants as cache
 use Rattle.board.specs.declared.fault.BoardFault.{BoardFault}
 use Rattle.board.specs.declared.fault.BoardFault.TheVariants.{NoSlots, TooManySlots, Slot, Cache, NoMemory}
 use Rattle.board.specs.declared.fault.SlotFault.{SlotFault}
-use Rattle.board.specs.declared.fault.SlotFault.TheVariants.{Memory, ExtentOutside, ExtentsOverlap}
+use Rattle.board.specs.declared.fault.SlotFault.TheVariants.{Memory, BadDepth, ExtentOutside, ExtentsOverlap}
 use Rattle.board.specs.declared.spec.Backing.{Backing}
 use Rattle.board.specs.declared.spec.Backing.TheVariants.{Image, Host}
 use Rattle.board.specs.declared.spec.SlotSpec.{SlotSpec}
@@ -27,19 +27,28 @@ most_sectors = (2 ^ 64 - 1) / 512
 -- number of sectors whose bytes are counted so.
 abbrev pub room_by : Backing → ℕ → ℕ
 room_by Image sectors = sectors
-room_by Host sectors = most_sectors
+room_by (Host depth) sectors = most_sectors
 
 abbrev pub place_by : Backing → Extent → Extent
 place_by Image extent = extent
-place_by Host extent = record { start = 0; count = extent.count }
+place_by (Host depth) extent = record { start = 0; count = extent.count }
 
 abbrev pub Fits : ℕ → SlotSpec → Type 0
 Fits sectors spec = IsWithin (room_by spec.backing sectors) (place_by spec.backing spec.extent)
 
--- the bytes of a disk that the host serves are counted in 64 bits
+-- how many operations may be in flight of a disk that the host serves
+abbrev pub HasDepthBy : Backing → Type 0
+HasDepthBy Image = ⊤
+HasDepthBy (Host depth) = (1 ≤ depth) × (depth ≤ 64)
+
+abbrev pub HasDepth : SlotSpec → Type 0
+HasDepth spec = HasDepthBy spec.backing
+
+-- what a disk that the host serves needs to be opened: its bytes are counted in 64 bits, and no more operations
+-- are in flight than there are tags
 abbrev pub HasRoomBy : Backing → Extent → Type 0
 HasRoomBy Image extent = ⊤
-HasRoomBy Host extent = sector_len * extent.count < 2 ^ 64
+HasRoomBy (Host depth) extent = (sector_len * extent.count < 2 ^ 64) × (depth ≤ 64)
 
 abbrev pub HasRoom : SlotSpec → Type 0
 HasRoom spec = HasRoomBy spec.backing spec.extent
@@ -51,6 +60,7 @@ share spec = extent_by spec.backing spec.extent
 -- a slot may be had on an image of that many sectors, beside the slots before it
 pub record IsGoodSlot (sectors : ℕ) (earlier : List SlotSpec) (spec : SlotSpec) : Type 0 where
   pub memory : AreGoodRegions spec.regions
+  pub depth : HasDepth spec
   pub within : Fits sectors spec
   pub apart : All (λ other. IsApart (share other) (share spec)) earlier
 
@@ -66,23 +76,32 @@ pub record AreGood (sectors : ℕ) (slots : List SlotSpec) : Type 0 where
   pub few : length slots ≤ 64
   pub each : GoodBelow sectors slots (length slots)
 
--- an extent that passes the image's end, or a disk that is too large, of a slot whose memory is good
+-- a disk that the host serves with no operation in flight, or with more than there may be, of a slot whose
+-- memory is good
+pub record HasBadDepth (spec : SlotSpec) : Type 0 where
+  pub memory : AreGoodRegions spec.regions
+  pub depth : ¬ HasDepth spec
+
+-- an extent that passes the image's end, or a disk that is too large, of a slot whose memory and depth are good
 pub record HasExtentOutside (sectors : ℕ) (spec : SlotSpec) : Type 0 where
   pub memory : AreGoodRegions spec.regions
+  pub depth : HasDepth spec
   pub outside :
       room_by spec.backing sectors
       < (place_by spec.backing spec.extent).start + (place_by spec.backing spec.extent).count
 
--- an extent inside the image that has a sector of an earlier slot's, of a slot whose memory is good
+-- an extent inside the image that has a sector of an earlier slot's, of a slot whose memory and depth are good
 pub record HasSharedSector (sectors : ℕ) (earlier : List SlotSpec) (spec : SlotSpec) : Type 0 where
   pub memory : AreGoodRegions spec.regions
+  pub depth : HasDepth spec
   pub within : Fits sectors spec
   pub shared : Any (λ other. Overlaps (share other) (share spec)) earlier
 
--- a slot's fault, of which the first counts: its memory's, then its extent's end, then a sector that it
--- shares
+-- a slot's fault, of which the first counts: its memory's, then how many operations may be in flight, then its
+-- extent's end, then a sector that it shares
 abbrev pub IsFaultOf : ℕ → List SlotSpec → SlotSpec → SlotFault → Type 0
 IsFaultOf sectors earlier spec (Memory region fault) = IsRefusedAt spec.regions region fault
+IsFaultOf sectors earlier spec BadDepth = HasBadDepth spec
 IsFaultOf sectors earlier spec ExtentOutside = HasExtentOutside sectors spec
 IsFaultOf sectors earlier spec ExtentsOverlap = HasSharedSector sectors earlier spec
 

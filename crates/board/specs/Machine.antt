@@ -17,7 +17,7 @@ abbrev pub GivesBy : {A : Type 0} → Option HostDisk → SlotState → EventKin
     → Type 0
 GivesBy None state what before after outcome = GivesOverImage state what before after outcome
 GivesBy (Some disk) state what before after outcome =
-    GivesOnHost (GivesOverImage state what before before) disk.flight state what before after outcome
+    GivesOnHost (GivesOverImage state what before before) state what before after outcome
 
 abbrev pub Gives : {A : Type 0} → SlotState → EventKind A → Health → Health → Outcome A → Type 0
 Gives state what before after outcome = GivesBy state.host state what before after outcome

@@ -102,4 +102,4 @@ GivesOverImage state (Input bytes) before after outcome =
 GivesOverImage state (Resize cols rows) before after outcome =
     IsDetermined outcome (does (resized cols rows state)) before after
 GivesOverImage state (Restore bytes) before after outcome = Restores state bytes before after outcome
-GivesOverImage state (Complete verdict) before after outcome = IsDetermined outcome (replies state Idle) before after
+GivesOverImage state (Complete tag verdict) before after outcome = IsDetermined outcome (replies state Idle) before after

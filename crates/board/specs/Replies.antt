@@ -19,12 +19,12 @@ MayReplyOverImage (Input bytes) (Took taken) = ⊤
 MayReplyOverImage (Resize cols rows) Done = ⊤
 MayReplyOverImage (Restore bytes) Done = ⊤
 MayReplyOverImage (Restore bytes) BadState = ⊤
-MayReplyOverImage (Complete verdict) Idle = ⊤
+MayReplyOverImage (Complete tag verdict) Idle = ⊤
 MayReplyOverImage what answer = ⊥
 
 -- and whoever has it: where the host does, writes and restores may wait, and completions are done
 abbrev pub MayReply : {A : Type 0} → EventKind A → Reply A → Type 0
 MayReply (Write window offset width value) Busy = ⊤
 MayReply (Restore bytes) Busy = ⊤
-MayReply (Complete verdict) Done = ⊤
+MayReply (Complete tag verdict) Done = ⊤
 MayReply what answer = MayReplyOverImage what answer

@@ -1,5 +1,5 @@
 -- A slot: what its guest can see, and what the board keeps of it.
-use Rattle.std.specs.Prelude.{◌≡◌, ℕ, ◌+◌, Bool, false, if◌then◌else◌, nat_lt, List, [], length, ◌≤◌, Option, Some, None}
+use Rattle.std.specs.Prelude.{◌≡◌, ℕ, ◌+◌, Bool, false, if◌then◌else◌, nat_lt, List, [], length, ◌≤◌, Option, Some, None, replicate}
 use Rattle.guest_memory.specs.Faults.{zeroed_regions}
 use Rattle.guest_memory.specs.Memory.{Memory, SameRange}
 use Rattle.negotiation.specs.Features.{block_seg_max, block_ro, block_blk_size, block_flush, block_write_zeroes, console_size, console_emerg_write, indirect_desc, event_idx, version_1, ring_packed, notification_data}
@@ -125,12 +125,12 @@ pub record IsSoundSlot (memory : Memory) (read_only : Bool) (block console : Win
 -- The extent of the image that a slot has: none where the host serves its disk.
 abbrev pub extent_by : Backing → Extent → Extent
 extent_by Image extent = extent
-extent_by Host extent = record { start = 0; count = 0 }
+extent_by (Host depth) extent = record { start = 0; count = 0 }
 
--- the disk that the host serves it, which has as many sectors as the extent counts, with nothing in flight
+-- the disk that the host serves it, which has as many sectors as the extent counts, with every tag free
 abbrev pub host_by : Backing → Extent → Option HostDisk
 host_by Image extent = None
-host_by Host extent = Some (record { sectors = extent.count; flight = None })
+host_by (Host depth) extent = Some (record { sectors = extent.count; tags = replicate depth None })
 
 -- a slot of a new board: its memory is all zeros, its windows are as after a reset, nothing is pending or met
 -- a refusal yet, and the rest is as it was asked for

@@ -128,7 +128,7 @@ IsRefused state (MemWrite addr bytes) old new outcome = ⊥
 IsRefused state (Input bytes) old new outcome = ⊥
 IsRefused state (Resize cols rows) old new outcome = ⊥
 IsRefused state (Restore bytes) old new outcome = ⊥
-IsRefused state (Complete verdict) old new outcome = ⊥
+IsRefused state (Complete tag verdict) old new outcome = ⊥
 
 -- what may come of an event of a slot whose disk is of the image, which fared so before and after it
 abbrev pub MayGiveOverImage : {A : Type 0} → SlotState → EventKind A → Health → Health → Outcome A → Type 0
@@ -140,7 +140,7 @@ abbrev pub MayGiveBy : {A : Type 0} → Option HostDisk → SlotState → EventK
     → Type 0
 MayGiveBy None state what old new outcome = MayGiveOverImage state what old new outcome
 MayGiveBy (Some disk) state what old new outcome =
-    GivesOnHost (MayGiveOverImage state what old old) disk.flight state what old new outcome
+    GivesOnHost (MayGiveOverImage state what old old) state what old new outcome
 
 abbrev pub MayGive : {A : Type 0} → SlotState → EventKind A → Health → Health → Outcome A → Type 0
 MayGive state what old new outcome = MayGiveBy state.host state what old new outcome
@@ -255,7 +255,7 @@ MayLackMemory state (MemWrite addr bytes) = ⊥
 MayLackMemory state (Input bytes) = ⊥
 MayLackMemory state (Resize cols rows) = ⊥
 MayLackMemory state (Restore bytes) = ⊥
-MayLackMemory state (Complete verdict) = ⊥
+MayLackMemory state (Complete tag verdict) = ⊥
 
 -- What can be seen of the board stays, but for what is noted of refusals, and nothing was put out.
 pub record KeepsBoard {A : Type 0} (old : World) (written : Record A) (new : World) : Type 0 where

@@ -4,11 +4,11 @@ ghost use Rattle.std.specs.Prelude.{◌≡◌, ◌+◌, ◌<◌, ◌≤◌, ◌^
 ghost use Rattle.std.specs.Bool.{OnTrue, OnFalse};
 ghost use Rattle.block_device.specs.Extent.{IsWithin};
 ghost use Rattle.board.specs.Extent.{IsApart, Overlaps};
-ghost use Rattle.board.specs.Fault.{Fits, IsGoodSlot, AreGood, IsFaultOf, Refuses, share};
+ghost use Rattle.board.specs.Fault.{Fits, HasDepth, IsGoodSlot, AreGood, IsFaultOf, Refuses, share};
 
 use crate::fault::{BoardFault, SlotFault};
 use crate::spec::{Backing, SlotSpec};
-use block_device::Extent;
+use block_device::{Extent, MOST_IN_FLIGHT};
 use guest_memory::{RegionFault, fault_of_regions};
 
 /// How many slots a board may have.
@@ -47,6 +47,9 @@ fn slot(spec: &SlotSpec, earlier: &[SlotSpec], sectors: u64) -> Result<(), SlotF
     if let Some(RegionFault { region, fault }) = fault_of_regions(spec.regions.as_slice()) {
         return Err(SlotFault::Memory { region, fault });
     }
+    if !has_depth(spec) {
+        return Err(SlotFault::BadDepth);
+    }
     if !fits(spec, sectors) {
         return Err(SlotFault::ExtentOutside);
     }
@@ -58,6 +61,16 @@ fn slot(spec: &SlotSpec, earlier: &[SlotSpec], sectors: u64) -> Result<(), SlotF
     Ok(())
 }
 
+// Whether as many operations may be in flight of a slot's disk, where the host serves it, as a disk has tags.
+fn has_depth(spec: &SlotSpec) -> bool
+    ensures { IsTrue result ↔ HasDepth spec.now }
+{
+    match spec.backing {
+        Backing::Image => true,
+        Backing::Host { depth } => depth >= 1 && depth as usize <= MOST_IN_FLIGHT,
+    }
+}
+
 // Whether a slot's disk lies where it must: its extent in an image of that many sectors, or its bytes in 64 bits.
 fn fits(spec: &SlotSpec, sectors: u64) -> bool
     ensures value { IsTrue result ↔ Fits sectors spec.now }
@@ -65,7 +78,7 @@ fn fits(spec: &SlotSpec, sectors: u64) -> bool
 {
     match spec.backing {
         Backing::Image => is_within(spec.extent, sectors),
-        Backing::Host => spec.extent.count <= MOST_SECTORS,
+        Backing::Host { depth: _ } => spec.extent.count <= MOST_SECTORS,
     }
 }
 
@@ -75,7 +88,7 @@ pub(crate) fn share(spec: &SlotSpec) -> Extent
 {
     match spec.backing {
         Backing::Image => spec.extent,
-        Backing::Host => Extent { start: 0, count: 0 },
+        Backing::Host { depth: _ } => Extent { start: 0, count: 0 },
     }
 }
 

@@ -55,8 +55,10 @@ pub enum EventKind<A: Allocator = Global> {
     Restore {
         bytes: Bytes<A>,
     },
-    /// What the host does for the guest's disk is done, or failed. Over an image nothing ever is in flight.
+    /// The operation of this tag, which the host does for the guest's disk, is done, or failed. Over an image nothing ever
+    /// is in flight.
     Complete {
+        tag: u8,
         verdict: Verdict,
     },
 }

@@ -33,6 +33,9 @@ pub enum SlotFault {
     /// Its memory can't be had: the place of the region at fault, 0 where there is none, and why.
     #[error("a guest's memory: {fault}")]
     Memory { region: usize, fault: MemoryFault },
+    /// The host serves its disk, with no operation in flight or with more than 64.
+    #[error("a disk that the host serves has 1 to 64 operations in flight")]
+    BadDepth,
     /// Its extent passes the end of the image.
     #[error("an extent passes the end of the image")]
     ExtentOutside,

@@ -1,17 +1,18 @@
 //! One guest's part of a board: its slot, of which what is in flight is held.
 //!
-//! At most one request is in flight of a disk that the host serves. Meanwhile the guest runs on: two writes of the block window
-//! and a restore wait for the completion, and everything else is done at once. What comes of an event is stated against the
-//! one-slot machine. `access` is what an embedder reaches between events, and `saved` the slot's snapshot.
+//! Of a disk that the host serves as many requests are in flight as it has tags. Meanwhile the guest runs on: two writes of the
+//! block window and a restore wait for the completions, and everything else is done at once. What comes of an event is stated
+//! against the one-slot machine. `access` is what an embedder reaches between events, and `saved` the slot's snapshot.
 
-ghost use Rattle.std.specs.Prelude.{◌≡◌, ◌≢◌, ◌&&◌, ◌||◌, ℕ, List, None, Some, IfOk, IsSome, is_some};
+ghost use Rattle.std.specs.Prelude.{◌≡◌, ◌≢◌, ◌||◌, ℕ, List, None, Some, IfOk, IsSome, get_or};
 ghost use Rattle.guest_memory.specs.Faults.{AreGood as AreGoodRegions};
 ghost use Rattle.block_device.specs.Extent.{IsWithin, TouchesExtent};
+ghost use Rattle.block_device.specs.Flights.{is_any};
 ghost use Rattle.board.specs.declared.pause.Turn.{Turn};
 ghost use Rattle.board.specs.declared.reply.Reply.{Reply};
-ghost use Rattle.board.specs.Backing.{flight_in};
+ghost use Rattle.board.specs.Backing.{tags_in};
 ghost use Rattle.board.specs.Fault.{HasRoom};
-ghost use Rattle.board.specs.Hosting.{CompletionGives, LooksAtQueue, must_wait};
+ghost use Rattle.board.specs.Hosting.{CompletionGives, must_wait, waits_now};
 ghost use Rattle.board.specs.Image.{Health, sectors_of};
 ghost use Rattle.board.specs.Lent.{opened_over};
 ghost use Rattle.board.specs.Outcome.{replies};
@@ -44,14 +45,14 @@ pub(crate) struct Guest<A: Allocator = Global> {
 }
 
 impl<A: Allocator> Model for Guest<A> {
-    ghost use Rattle.board.specs.Hosting.{HoldsFlight};
+    ghost use Rattle.board.specs.Hosting.{HoldsFlights};
     ghost use Rattle.board.specs.Slot.{BoardSlot};
 
     ghost Value = { BoardSlot };
 
     ghost view = { λ guest. guest.slot };
 
-    ghost invariant = { λ guest. HoldsFlight guest.slot };
+    ghost invariant = { λ guest. HoldsFlights guest.slot };
 }
 
 impl<A: Allocator + Copy> Guest<A> {
@@ -181,8 +182,8 @@ impl<A: Allocator + Copy> Guest<A> {
         ensures no_memory { result ≡ Turn.Answered Reply.NoMemory → (image : List ℕ) →
             MayLackMemory (state_of image self.old) what.now }
     {
-        if let EventKind::Complete { verdict } = what {
-            return Turn::Answered(self.complete(*verdict));
+        if let EventKind::Complete { tag, verdict } = what {
+            return Turn::Answered(self.complete(*tag, *verdict));
         }
         if self.holds_up(what) {
             return Turn::Answered(Reply::Busy);
@@ -190,7 +191,7 @@ impl<A: Allocator + Copy> Guest<A> {
         match self.slot.answer_beside_disk(alloc, what, budget, out) {
             Some(turn) => turn,
             None => {
-                self.notified();
+                self.slot.look();
                 Turn::Answered(Reply::Done)
             }
         }
@@ -255,48 +256,34 @@ impl<A: Allocator + Copy> Guest<A> {
 }
 
 impl<A: Allocator> Guest<A> {
-    /// Completes what is in flight by what came of it, and looks at the queue again.
-    fn complete(&mut self, verdict: Verdict) -> Reply<A>
+    /// Completes the operation of this tag by what came of it, and looks at the queue again.
+    fn complete(&mut self, tag: u8, verdict: Verdict) -> Reply<A>
         ensures gives { IsSome self.old.host → (image : List ℕ) →
-            CompletionGives {A = A} (flight_in self.old.host) (state_of image self.old) verdict
-            (replies (state_of image self.new) result) }
+            CompletionGives {A = A} (get_or (tags_in self.old.host) tag None) (record { tag = tag; verdict = verdict })
+            (state_of image self.old) (replies (state_of image self.new) result) }
         ensures extent { self.new.extent ≡ self.old.extent }
         ensures disturbed { self.new.disturbed ≡ self.old.disturbed }
         ensures there { result ≢ Reply.BadSlot }
         ensures in_range { result ≢ Reply.BadRange }
         ensures no_memory { result ≢ Reply.NoMemory }
     {
-        if !self.slot.complete(verdict) {
-            return Reply::Idle;
-        }
-        self.slot.look();
-        Reply::Done
-    }
-
-    // The block device was notified: it looks at its queue, unless something is in flight.
-    fn notified(&mut self)
-        requires hosted { IsSome self.old.host }
-        ensures looks { flight_in self.old.host ≡ None → (image : List ℕ) →
-            LooksAtQueue (state_of image self.old) (state_of image self.new) }
-        ensures stays { IsSome (flight_in self.old.host) → self.new ≡ self.old }
-        ensures extent { self.new.extent ≡ self.old.extent }
-        ensures disturbed { self.new.disturbed ≡ self.old.disturbed }
-    {
-        if !self.is_busy() {
-            self.slot.look();
+        if self.slot.complete(tag, verdict) {
+            Reply::Done
+        } else {
+            Reply::Idle
         }
     }
 
-    // Whether an event waits for the completion.
+    // Whether an event waits for what is in flight.
     fn holds_up(&self, what: &EventKind<A>) -> bool
-        ensures { result ≡ (is_some (flight_in self.now.host) && must_wait what.now) }
+        ensures { result ≡ waits_now what.now self.now.host }
     {
         self.is_busy() && waits(what)
     }
 
-    // Whether something is in flight.
+    // Whether anything is in flight.
     fn is_busy(&self) -> bool
-        ensures { result ≡ is_some (flight_in self.now.host) }
+        ensures { result ≡ is_any (tags_in self.now.host) }
     {
         match self.slot.host() {
             Some(disk) => disk.is_busy(),

@@ -1,58 +1,52 @@
-//! A disk that the host serves, as its slot has it: what is in flight, and the rooms for its buffers and runs.
+//! A disk that the host serves, as its slot has it: how many sectors it has, and what is in flight.
 
-ghost use Rattle.std.specs.Prelude.{◌≡◌, ◌*◌, ◌^◌, ◌<◌, [], None, IfNone, IfSome, IsSomeAnd, is_some};
+ghost use Rattle.std.specs.Prelude.{◌≡◌, ◌*◌, ◌^◌, ◌<◌, ◌≤◌, None, IfOk, get_or, replicate};
 ghost use Rattle.std.specs.Bool.{OnTrue, OnFalse};
 ghost use Rattle.guest_memory.specs.Memory.{SameRange};
 ghost use Rattle.mmio_window.specs.Soundness.{IsSound};
 ghost use Rattle.block_device.specs.Extent.{sector_len};
-ghost use Rattle.block_device.specs.Hosting.{CompletesIn, IsInFlight};
-ghost use Rattle.board.specs.Backing.{operation_in};
-ghost use Rattle.board.specs.Hosting.{IsHeldBy, Looks, flight_by};
+ghost use Rattle.block_device.specs.Flights.{AreHeld, HostedQueue, IsCompletion, IsLook, is_any, operation_in, runs_in, taken_bits};
+ghost use Rattle.board.specs.Backing.{HostDisk};
 
-use block_device::{BlockDevice, Flight, Hosted, Operation, Verdict};
-use chain::{Budget, Chain, Counts, Runs, Segment};
+use block_device::{BlockDevice, Flights, Operation, Verdict};
+use chain::{Chain, Counts, Segment};
 use guest_memory::GuestMemory;
-use mmio_window::{Stage, Window};
-use std::alloc::Allocator;
+use mmio_window::Window;
+use std::alloc::{AllocError, Allocator, Global};
 use std::marker::Model;
 
 /// A disk of so many sectors that the host serves.
 #[derive(Drop)]
-pub(crate) struct HostedDisk {
+pub(crate) struct HostedDisk<A: Allocator = Global> {
     sectors: u64,
-    // What the host works on.
-    flight: Option<Flight>,
-    // The rooms for the buffers of the chain in flight, which the console's services don't touch, and for its runs.
-    room: Chain,
-    runs: Runs,
+    flights: Flights<A>,
 }
 
-impl Model for HostedDisk {
+impl<A: Allocator> Model for HostedDisk<A> {
     ghost use Rattle.std.specs.Prelude.{◌*◌, ◌^◌, ◌<◌};
     ghost use Rattle.block_device.specs.Extent.{sector_len};
-    ghost use Rattle.board.specs.Backing.{HostDisk, in_rooms};
+    ghost use Rattle.board.specs.Backing.{HostDisk};
 
     ghost Value = { HostDisk };
 
-    ghost view = { λ d. record { sectors = d.sectors; flight = in_rooms d.flight d.room d.runs } };
+    ghost view = { λ d. record { sectors = d.sectors; tags = d.flights } };
 
     ghost invariant = { λ d. sector_len * d.sectors < 2 ^ 64 };
 }
 
-impl HostedDisk {
-    /// A disk of which nothing is in flight.
-    pub(crate) fn new(sectors: u64) -> HostedDisk
-        requires { sector_len * sectors < 2 ^ 64 }
-        ensures { result ≡ record { sectors = sectors; flight = None } }
+impl<A: Allocator + Copy> HostedDisk<A> {
+    /// A disk of which so many operations may be in flight, and none is.
+    pub(crate) fn new(alloc: A, sectors: u64, depth: u8) -> Result<HostedDisk<A>, AllocError>
+        requires sectors { sector_len * sectors < 2 ^ 64 }
+        requires depth { depth ≤ 64 }
+        ensures { IfOk result (λ disk. disk ≡ record { sectors = sectors; tags = replicate depth None }) }
     {
-        HostedDisk {
-            sectors,
-            flight: None,
-            room: Chain::new(),
-            runs: Runs::new(),
-        }
+        let flights = Flights::new(alloc, depth as usize)?;
+        Ok(HostedDisk { sectors, flights })
     }
+}
 
+impl<A: Allocator> HostedDisk<A> {
     /// How many sectors it has.
     pub(crate) fn sectors(&self) -> u64
         ensures { result ≡ self.now.sectors }
@@ -60,93 +54,86 @@ impl HostedDisk {
         self.sectors
     }
 
-    /// Whether something is in flight.
+    /// Whether anything is in flight.
     pub(crate) fn is_busy(&self) -> bool
-        ensures { result ≡ is_some self.now.flight }
+        ensures { result ≡ is_any self.now.tags }
     {
-        self.flight.is_some()
+        self.flights.is_busy()
     }
 
-    /// What the host is asked to do.
-    pub(crate) fn operation(&self) -> Option<Operation>
-        ensures { result ≡ operation_in self.now.flight }
+    /// The tags in flight: bit n is set where tag n is taken.
+    pub(crate) fn taken(&self) -> u64
+        ensures { result ≡ taken_bits self.now.tags }
     {
-        match &self.flight {
-            Some(flight) => Some(flight.operation),
-            None => None,
-        }
+        self.flights.taken()
     }
 
-    /// Where the bytes of the operation in flight lie: no runs where nothing is.
-    pub(crate) fn runs(&self) -> &[Segment]
-        ensures runs { IfSome self.now.flight (λ here. result.now ≡ here.runs) }
-        ensures none { IfNone self.now.flight (result.now ≡ []) }
+    /// What the host is asked to do by this tag.
+    pub(crate) fn operation(&self, tag: u8) -> Option<Operation>
+        ensures { result ≡ operation_in (get_or self.now.tags tag None) }
     {
-        match &self.flight {
-            Some(_) => self.runs.as_slice(),
-            None => &[],
-        }
+        self.flights.operation(tag as usize)
+    }
+
+    /// Where the bytes of this tag's operation lie: no runs where it is free.
+    pub(crate) fn runs(&self, tag: u8) -> &[Segment]
+        ensures { result.now ≡ runs_in (get_or self.now.tags tag None) }
+    {
+        self.flights.runs(tag as usize)
     }
 
     /// What the chains that were in flight came to.
     pub(crate) fn counts(&self) -> Counts {
-        self.room.counts()
+        self.flights.counts()
     }
 
-    /// The device looks at its queue, up to a chain that asks the host for something.
-    pub(crate) fn look<A: Allocator>(
+    /// The device looks at its queue: what asks the host for something takes free tags. `room` is for the buffers of each chain.
+    pub(crate) fn look<M: Allocator>(
         &mut self,
         device: BlockDevice,
-        memory: &mut GuestMemory<A>,
+        memory: &mut GuestMemory<M>,
         window: &mut Window,
+        room: &mut Chain,
     )
-        requires rest { self.old.flight ≡ None }
         requires sectors { device.extent.count ≡ self.old.sectors }
         requires sound { IsSound memory.old window.old }
-        ensures looks { Looks device memory.old memory.new window.old window.new self.new.flight }
+        requires held { AreHeld self.old.sectors (record { memory = memory.old; window = window.old; tags = self.old.tags }) }
+        ensures looks { IsLook device (record { memory = memory.old; window = window.old; tags = self.old.tags })
+            (record { memory = memory.new; window = window.new; tags = self.new.tags }) }
         ensures sectors { self.new.sectors ≡ self.old.sectors }
-        ensures held { IsHeldBy self.new.sectors memory.new window.new self.new.flight }
+        ensures held { AreHeld self.new.sectors (record { memory = memory.new; window = window.new; tags = self.new.tags }) }
         ensures range { SameRange memory.old memory.new }
         ensures sound { IsSound memory.new window.new }
     {
-        let (room, runs) = (&mut self.room, &mut self.runs);
-        let hosted = device.host_piece(memory, window, Stage::First, Budget::UNLIMITED, room, runs);
-        self.flight = flight_of(hosted);
+        device.look(memory, window, &mut self.flights, room);
     }
 
-    /// Completes what is in flight by what came of it. False where nothing is: nothing has changed then.
-    pub(crate) fn complete<A: Allocator>(
+    /// Completes the operation of this tag by what came of it, and looks at the queue again. False where no operation has the
+    /// tag: nothing has changed then.
+    pub(crate) fn complete<M: Allocator>(
         &mut self,
-        memory: &mut GuestMemory<A>,
+        device: BlockDevice,
+        memory: &mut GuestMemory<M>,
         window: &mut Window,
+        room: &mut Chain,
+        tag: u8,
         verdict: Verdict,
     ) -> bool
-        requires flying { IfSome self.old.flight (λ here.
-            IsInFlight memory.old window.old here.buffers here.flight) }
+        requires sectors { device.extent.count ≡ self.old.sectors }
         requires sound { IsSound memory.old window.old }
-        ensures test { result ≡ is_some self.old.flight }
-        ensures completes { OnTrue result (IsSomeAnd self.old.flight (λ here.
-            CompletesIn here.flight verdict memory.old memory.new window.old window.new here.buffers)) }
-        ensures rests { self.new ≡ record self.old { flight = None } }
-        ensures memory { OnFalse result (memory.new ≡ memory.old) }
-        ensures window { OnFalse result (window.new ≡ window.old) }
+        requires held { AreHeld self.old.sectors (record { memory = memory.old; window = window.old; tags = self.old.tags }) }
+        ensures completes { OnTrue result (IsCompletion device tag verdict
+            (record { memory = memory.old; window = window.old; tags = self.old.tags })
+            (record { memory = memory.new; window = window.new; tags = self.new.tags })) }
+        ensures idle { OnFalse result (get_or self.old.tags tag None ≡ None) }
+        ensures kept { OnFalse result (◌≡◌ {A = HostedQueue} (record { memory = memory.new; window = window.new; tags = self.new.tags })
+            (record { memory = memory.old; window = window.old; tags = self.old.tags })) }
+        ensures sectors { self.new.sectors ≡ self.old.sectors }
+        ensures held { AreHeld self.new.sectors (record { memory = memory.new; window = window.new; tags = self.new.tags }) }
         ensures range { SameRange memory.old memory.new }
         ensures sound { IsSound memory.new window.new }
     {
-        let Some(flight) = self.flight.take() else {
-            return false;
-        };
-        flight.complete(memory, window, &mut self.room, verdict);
-        true
-    }
-}
-
-// What is in flight once a look came out so.
-fn flight_of(hosted: Hosted) -> Option<Flight>
-    ensures { result ≡ flight_by hosted }
-{
-    match hosted {
-        Hosted::Asks(flight) => Some(flight),
-        Hosted::More | Hosted::Done => None,
+        let tag = tag as usize;
+        device.complete(memory, window, &mut self.flights, room, tag, verdict)
     }
 }

@@ -1,6 +1,6 @@
 //! What holds of every line of events, by itself: no board is made or run here.
 
-ghost use Rattle.std.specs.Prelude.{◌≡◌, ◌≢◌, ℕ, ◌+◌, ◌<◌, ◌≤◌, List, [], ◌∷◌, ◌++◌, Some, true, false, length};
+ghost use Rattle.std.specs.Prelude.{◌≡◌, ◌≢◌, ℕ, ◌+◌, ◌<◌, ◌≤◌, List, [], ◌∷◌, ◌++◌, None, Some, true, false, get_or, length};
 ghost use Rattle.std.specs.List.{slice_get};
 ghost use Rattle.guest_memory.specs.Memory.{Memory, SameRange};
 ghost use Rattle.chain.specs.Service.{Served, ServesAll, Site};
@@ -16,15 +16,16 @@ ghost use Rattle.mmio_window.specs.Registers.{register_at};
 ghost use Rattle.block_device.specs.declared.device.BlockDevice.{BlockDevice};
 ghost use Rattle.block_device.specs.declared.operation.Verdict.{Verdict};
 ghost use Rattle.block_device.specs.Device.{block_device};
+ghost use Rattle.block_device.specs.Flights.{HostedQueue, InFlight};
 ghost use Rattle.board.specs.declared.event.Event.{Event};
 ghost use Rattle.board.specs.declared.event.EventKind.{EventKind};
 ghost use Rattle.board.specs.declared.reply.Reply.{Reply};
 ghost use Rattle.board.specs.declared.reply.Record.{Record};
 ghost use Rattle.board.specs.Durable.{IsLeftAsSeen, TouchesSlot};
 ghost use Rattle.board.specs.Extent.{IsApart};
-ghost use Rattle.board.specs.Backing.{InFlight, flight_in};
+ghost use Rattle.board.specs.Backing.{tags_in};
 ghost use Rattle.board.specs.Honest.{IsFlown, IsHonestlyServed};
-ghost use Rattle.board.specs.Hosting.{IsOwn, must_wait};
+ghost use Rattle.board.specs.Hosting.{must_wait, tag_in};
 ghost use Rattle.board.specs.Image.{Health, Tells, bytes_of};
 ghost use Rattle.board.specs.Line.{Move, IsLine, IsNoted, IsQuiet, IsAlone, IsRun, RunsAsItMay, SeesTheSame, events_of, own_events};
 ghost use Rattle.board.specs.Machine.{Gives, IsNext, RunsOnItsOwn};
@@ -198,14 +199,15 @@ pub fn each_guest_is_alone_whatever_it_meets<A: Allocator>()
         IsLine old moves new → slice_get old.slots g ≡ Some state → RunsAsItMay g state moves new }
 {}
 
-/// What is in flight stays in flight, whatever its guest does: only the completion ends it.
+/// What is in flight stays in flight with its tag, whatever its guest does, and whatever else is completed: only its own
+/// completion ends it.
 pub fn a_flight_outlasts_own_events<A: Allocator>()
-    ensures { (old : SlotState) (here : InFlight) (what : EventKind A) (before after : Health) (outcome : Outcome A) →
-        IsOwn what → flight_in old.host ≡ Some here → MayGive old what before after outcome →
-        flight_in outcome.state.host ≡ Some here }
+    ensures { (old : SlotState) (tag : ℕ) (here : InFlight) (what : EventKind A) (before after : Health)
+        (outcome : Outcome A) → get_or (tags_in old.host) tag None ≡ Some here → tag_in what ≢ Some tag →
+        MayGive old what before after outcome → get_or (tags_in outcome.state.host) tag None ≡ Some here }
 {}
 
-/// An event that waits changes nothing, and only the two writes and a restore may wait; nor does a completion of nothing.
+/// An event that waits changes nothing, and only the two writes and a restore may wait; nor does a completion by a free tag.
 pub fn what_waits_changes_nothing<A: Allocator>()
     ensures busy { (old : SlotState) (what : EventKind A) (before after : Health) (outcome : Outcome A) →
         MayGive old what before after outcome → outcome.reply ≡ Reply.Busy →
@@ -215,12 +217,13 @@ pub fn what_waits_changes_nothing<A: Allocator>()
 {}
 
 /// Where a host did with a guest's disk what may become of the request that was asked for, and says so, the slot's block
-/// device did what the model's does over that disk. At the completion memory must be that of the asking but for the data
-/// that was read: nothing is said of a guest that wrote to memory in between, as one that offered another chain.
+/// device did what the model's does over that disk: it read what stood in memory as the chain asked, and wrote on the memory
+/// as it stood at the completion, where the data that was read must stand. What the guest and the completions of other
+/// operations did in between has no part in it.
 pub fn an_honest_host_serves<A: Allocator>()
-    ensures { (old : SlotState) (here : InFlight) (now : SlotState) (verdict : Verdict) (new : SlotState)
-        (flown : IsFlown A old here now verdict new) (disk : Disk) →
-        IsHonestlyServed old here now verdict new flown disk }
+    ensures { (device : BlockDevice) (began : HostedQueue) (tag : ℕ) (here : InFlight) (now : SlotState) (verdict : Verdict)
+        (new : HostedQueue) (flown : IsFlown A device began tag here now verdict new) →
+        IsHonestlyServed device began tag here now verdict new flown }
 {}
 
 /// An event that touches no memory needs none. Whatever bytes memory has, they stay, and exactly the same comes of the

@@ -29,7 +29,7 @@ pub enum Reply<A: Allocator = Global> {
     NoMemory,
     /// The event waits for what is in flight: make it again behind the completion. Nothing changed.
     Busy,
-    /// Nothing of the slot is in flight. Nothing changed.
+    /// No operation of the slot has the tag. Nothing changed.
     Idle,
 }
 

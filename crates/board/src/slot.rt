@@ -57,7 +57,7 @@ pub(crate) struct Slot<A: Allocator = Global> {
     // Its extent is what the slot has of the image.
     block_device: BlockDevice,
     // The disk that the host serves, in place of one of the image.
-    host: Option<Box<HostedDisk, A>>,
+    host: Option<Box<HostedDisk<A>, A>>,
     block: Window,
     console_device: ConsoleDevice<A>,
     console: Window,
@@ -143,15 +143,15 @@ impl<A: Allocator + Copy> Slot<A> {
 fn host_of<A: Allocator + Copy>(
     alloc: A,
     spec: &SlotSpec,
-) -> Result<Option<Box<HostedDisk, A>>, AllocError>
+) -> Result<Option<Box<HostedDisk<A>, A>>, AllocError>
     requires { HasRoom spec.now }
     ensures { IfOk result (λ host. option_map (λ disk. disk.value) host ≡ host_by spec.now.backing spec.now.extent) }
 {
     match spec.backing {
         Backing::Image => Ok(None),
-        Backing::Host => {
-            let disk = Box::new(alloc, HostedDisk::new(spec.extent.count))?;
-            Ok(Some(disk))
+        Backing::Host { depth } => {
+            let disk = HostedDisk::new(alloc, spec.extent.count, depth)?;
+            Ok(Some(Box::new(alloc, disk)?))
         }
     }
 }

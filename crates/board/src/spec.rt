@@ -9,7 +9,10 @@ pub enum Backing {
     /// The board's image, in the slot's extent.
     Image,
     /// The host, which serves a disk of its own for the slot.
-    Host,
+    Host {
+        /// How many operations of it may be in flight, from 1 to 64.
+        depth: u8,
+    },
 }
 
 /// What a slot is to be.

@@ -1,14 +1,15 @@
 //! What an embedder reaches of a guest between its events.
 
-ghost use Rattle.std.specs.Prelude.{◌≡◌, ◌⊎◌, ℕ, List, [], IfNone, IfSome, length};
+ghost use Rattle.std.specs.Prelude.{◌≡◌, ◌⊎◌, ℕ, List, [], None, IfSome, get_or, length};
 ghost use Rattle.std.specs.Bool.{OnTrue, OnFalse};
 ghost use Rattle.std.specs.Borrow.{sem};
 ghost use Rattle.guest_memory.specs.Memory.{Inside, IsRest, SameRange, is_inside, stored};
 ghost use Rattle.guest_memory.specs.Pages.{bits_of};
+ghost use Rattle.block_device.specs.Flights.{operation_in, runs_in, taken_bits};
 ghost use Rattle.block_device.specs.Operation.{LiesInside};
 ghost use Rattle.board.specs.declared.event.EventKind.{EventKind};
 ghost use Rattle.board.specs.declared.pause.Turn.{Turn};
-ghost use Rattle.board.specs.Backing.{flight_in, operation_in};
+ghost use Rattle.board.specs.Backing.{tags_in};
 ghost use Rattle.board.specs.Image.{Health};
 ghost use Rattle.board.specs.Lending.{LendsBytes, with_page_bits};
 ghost use Rattle.board.specs.Pausing.{Begins, PausesByLimit, input_service, reply_of};
@@ -68,24 +69,33 @@ impl<A: Allocator> Guest<A> {
         self.slot.put_bytes(addr, new)
     }
 
-    /// What the host is asked to do: the operation in flight.
-    pub(crate) fn operation(&self) -> Option<Operation>
-        ensures { result ≡ operation_in (flight_in self.now.host) }
+    /// The tags in flight: bit n is set where tag n is taken.
+    pub(crate) fn in_flight(&self) -> u64
+        ensures { result ≡ taken_bits (tags_in self.now.host) }
     {
-        self.slot.host()?.operation()
+        match self.slot.host() {
+            Some(disk) => disk.taken(),
+            None => 0,
+        }
     }
 
-    /// Where the bytes of the operation in flight lie: no runs where nothing is.
-    pub(crate) fn runs(&self) -> &[Segment]
-        ensures runs { IfSome (flight_in self.now.host) (λ here. result.now ≡ here.runs) }
-        ensures none { IfNone (flight_in self.now.host) (result.now ≡ []) }
+    /// What the host is asked to do by this tag.
+    pub(crate) fn operation(&self, tag: u8) -> Option<Operation>
+        ensures { result ≡ operation_in (get_or (tags_in self.now.host) tag None) }
+    {
+        self.slot.host()?.operation(tag)
+    }
+
+    /// Where the bytes of this tag's operation lie: no runs where no operation has it.
+    pub(crate) fn runs(&self, tag: u8) -> &[Segment]
+        ensures runs { result.now ≡ runs_in (get_or (tags_in self.now.host) tag None) }
 
         // nothing that the host is told lies outside the guest's memory or its disk, whatever the guest has done since
-        ensures inside { IfSome (flight_in self.now.host) (λ here.
+        ensures inside { IfSome (get_or (tags_in self.now.host) tag None) (λ here.
             LiesInside (sectors_in self.now) self.now.memory here.flight.operation here.runs) }
     {
         match self.slot.host() {
-            Some(disk) => disk.runs(),
+            Some(disk) => disk.runs(tag),
             None => &[],
         }
     }

@@ -1,10 +1,11 @@
 //! A guest's snapshot, and a guest that takes one up. While something is in flight neither is done: nothing that is in flight
 //! is part of a snapshot.
 
-ghost use Rattle.std.specs.Prelude.{◌≡◌, ◌↔◌, ◌<◌, ℕ, List, None, IfOk, IsErrOf, IsOk, IsSome, OnErr, length};
+ghost use Rattle.std.specs.Prelude.{◌≡◌, ◌↔◌, ◌<◌, ℕ, List, false, IfOk, IsErrOf, IsOk, IsTrue, OnErr, length};
 ghost use Rattle.board.specs.declared.event.EventKind.{EventKind};
 ghost use Rattle.board.specs.declared.saved.{RestoreFault.{RestoreFault}, RestoreRefusal.{RestoreRefusal}, SaveRefusal.{SaveRefusal}};
-ghost use Rattle.board.specs.Backing.{flight_in};
+ghost use Rattle.block_device.specs.Flights.{is_any};
+ghost use Rattle.board.specs.Backing.{tags_in};
 ghost use Rattle.board.specs.Image.{Health, sectors_of};
 ghost use Rattle.board.specs.Outcome.{replies};
 ghost use Rattle.board.specs.Restoring.{refusal_of, restore_reply};
@@ -21,7 +22,7 @@ impl<A: Allocator> Guest<A> {
     /// How many bytes the slot's snapshot has.
     pub(crate) fn saved_len(&self) -> Result<usize, SaveRefusal>
         ensures value { IfOk result (λ len. len ≡ length (snapshot_of self.now)) }
-        ensures busy { IsErrOf result SaveRefusal.Busy ↔ IsSome (flight_in self.now.host) }
+        ensures busy { IsErrOf result SaveRefusal.Busy ↔ IsTrue (is_any (tags_in self.now.host)) }
         ensures there { ¬ IsErrOf result SaveRefusal.BadSlot }
         ensures not_short { ¬ IsErrOf result SaveRefusal.ShortBuffer }
     {
@@ -34,7 +35,7 @@ impl<A: Allocator> Guest<A> {
     /// Writes the slot's snapshot to the front of a buffer, and answers how many bytes it has.
     pub(crate) fn save(&self, into: &mut [u8]) -> Result<usize, SaveRefusal>
         ensures saved { IfOk result (IsSavedTo self.now into.old into.new) }
-        ensures busy { IsErrOf result SaveRefusal.Busy ↔ IsSome (flight_in self.now.host) }
+        ensures busy { IsErrOf result SaveRefusal.Busy ↔ IsTrue (is_any (tags_in self.now.host)) }
         ensures short { IsErrOf result SaveRefusal.ShortBuffer →
             length into.old < length (snapshot_of self.now) }
         ensures there { ¬ IsErrOf result SaveRefusal.BadSlot }
@@ -57,13 +58,13 @@ impl<A: Allocator> Guest<A> {
             (replies (state_of image self.new) (restore_reply result)) }
         ensures extent { self.new.extent ≡ self.old.extent }
         ensures disturbed { self.new.disturbed ≡ self.old.disturbed }
-        ensures busy { IsErrOf result RestoreRefusal.Busy ↔ IsSome (flight_in self.old.host) }
+        ensures busy { IsErrOf result RestoreRefusal.Busy ↔ IsTrue (is_any (tags_in self.old.host)) }
         ensures there { ¬ IsErrOf result RestoreRefusal.BadSlot }
         ensures fault { (why : RestoreFault) → IsErrOf result (RestoreRefusal.Fault why) →
             IsCauseOf self.old from.now why }
         ensures kept { OnErr result (self.new ≡ self.old) }
         ensures taken { (slot : BoardSlot) → IsSnapshotOf from.now slot → IsLike slot self.old →
-            flight_in self.old.host ≡ None → IsOk result × IsAs slot self.old self.new }
+            is_any (tags_in self.old.host) ≡ false → IsOk result × IsAs slot self.old self.new }
     {
         if self.is_busy() {
             return Err(RestoreRefusal::Busy);

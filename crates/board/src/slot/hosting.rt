@@ -1,19 +1,18 @@
 //! Beside a slot's disk: what comes of its events but for the block device's part, and, of a slot whose disk the host
 //! serves, the block device's looks at its queue.
 
-ghost use Rattle.std.specs.Prelude.{◌≡◌, ◌≢◌, ℕ, List, Some, None, false, is_none, is_some, IfSome, IfNone, IsSome, IsSomeAnd};
+ghost use Rattle.std.specs.Prelude.{◌≡◌, ◌≢◌, ℕ, List, Some, None, false, get_or, is_none, is_some, IfSome, IfNone, IsSome};
 ghost use Rattle.std.specs.Bool.{OnTrue, OnFalse};
 ghost use Rattle.std.specs.Option.{option_map};
 ghost use Rattle.guest_memory.specs.Memory.{SameRange};
 ghost use Rattle.mmio_window.specs.declared.stage.Stage.{Stage};
-ghost use Rattle.block_device.specs.Hosting.{CompletesIn};
-ghost use Rattle.board.specs.Backing.{flight_in, with_flight};
+ghost use Rattle.board.specs.Backing.{tags_in};
 ghost use Rattle.board.specs.declared.event.EventKind.{EventKind};
 ghost use Rattle.board.specs.declared.pause.Pause.{Pause};
 ghost use Rattle.board.specs.declared.pause.Service.{Service};
 ghost use Rattle.board.specs.declared.pause.Turn.{Turn};
 ghost use Rattle.board.specs.declared.reply.Reply.{Reply};
-ghost use Rattle.board.specs.Hosting.{HoldsFlight, LooksAtQueue, block_beside, device_at, must_wait, notifies_block};
+ghost use Rattle.board.specs.Hosting.{CompletesTag, HoldsFlights, LooksAtQueue, block_beside, device_at, must_wait, notifies_block};
 ghost use Rattle.board.specs.Image.{Health, sectors_of};
 ghost use Rattle.board.specs.Pausing.{BeginsOverImage, ComesTo, PausesByLimit, ServesTurn, readied};
 ghost use Rattle.board.specs.Slot.{state_of};
@@ -194,7 +193,7 @@ impl<A: Allocator> Slot<A> {
     }
 
     /// What is in flight, with the disk that it is of, where the host serves it.
-    pub(crate) fn host(&self) -> Option<&HostedDisk>
+    pub(crate) fn host(&self) -> Option<&HostedDisk<A>>
         ensures { option_map (λ disk. disk.now) result ≡ self.now.host }
     {
         match &self.host {
@@ -219,14 +218,13 @@ impl<A: Allocator> Slot<A> {
         }
     }
 
-    /// The block device looks at its queue, up to a chain that asks the host for something. Nothing is done where the disk
-    /// is of the image.
+    /// The block device looks at its queue, whatever is in flight. Nothing is done where the disk is of the image.
     pub(crate) fn look(&mut self)
-        requires rest { flight_in self.old.host ≡ None }
+        requires held { HoldsFlights self.old }
         ensures looks { IsSome self.old.host → (image : List ℕ) →
             LooksAtQueue (state_of image self.old) (state_of image self.new) }
         ensures kept { self.old.host ≡ None → self.new ≡ self.old }
-        ensures held { HoldsFlight self.new }
+        ensures held { HoldsFlights self.new }
         ensures rest { self.new ≡ record self.old {
           memory = self.new.memory;
           block = self.new.block;
@@ -237,26 +235,30 @@ impl<A: Allocator> Slot<A> {
         let Some(disk) = &mut self.host else {
             return;
         };
-        disk.look(device, &mut self.memory, &mut self.block);
+        disk.look(device, &mut self.memory, &mut self.block, &mut self.chain);
     }
 
-    /// Completes what is in flight. False where nothing is: nothing has changed then.
-    pub(crate) fn complete(&mut self, verdict: Verdict) -> bool
-        requires held { HoldsFlight self.old }
-        ensures test { result ≡ is_some (flight_in self.old.host) }
-        ensures completes { OnTrue result (IsSomeAnd (flight_in self.old.host) (λ here.
-            CompletesIn here.flight verdict self.old.memory self.new.memory self.old.block self.new.block here.buffers)) }
+    /// Completes the operation of this tag, and looks at the queue again. False where no operation has the tag: nothing has
+    /// changed then.
+    pub(crate) fn complete(&mut self, tag: u8, verdict: Verdict) -> bool
+        requires held { HoldsFlights self.old }
+        ensures completes { OnTrue result ((image : List ℕ) →
+            CompletesTag tag verdict (state_of image self.old) (state_of image self.new)) }
+        ensures idle { OnFalse result (get_or (tags_in self.old.host) tag None ≡ None) }
+        ensures kept { OnFalse result (self.new ≡ self.old) }
+        ensures held { HoldsFlights self.new }
         ensures rest { self.new ≡ record self.old {
           memory = self.new.memory;
           block = self.new.block;
-          host = with_flight None self.old.host;
+          host = self.new.host;
         } }
-        ensures kept { OnFalse result (self.new ≡ self.old) }
     {
+        let device = self.device();
         let Some(disk) = &mut self.host else {
             return false;
         };
-        let done = disk.complete(&mut self.memory, &mut self.block, verdict);
+        let (memory, window) = (&mut self.memory, &mut self.block);
+        let done = disk.complete(device, memory, window, &mut self.chain, tag, verdict);
         if done {
             self.counters.completed(verdict);
         }

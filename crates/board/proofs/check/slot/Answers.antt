@@ -16,6 +16,7 @@ returns-in-Some-clause-fault c =
 pub returns-clause-ok : goal.returns-clause-ok
 returns-clause-ok c = record {
   memory = subst AreGoodRegions c.as_slice.ensures.same (c.fault_of_regions.ensures.good.0 c.in_default.is);
+  depth = c.has_depth.ensures.0 c.if-not-has_depth.false;
   within = c.fits.ensures.value.0 c.if-not-fits.false;
   apart =
       subst (All (λ other. IsApart (share other) (share c.args.spec.now)))

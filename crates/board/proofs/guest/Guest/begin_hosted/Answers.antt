@@ -1,54 +1,85 @@
 use Rattle.std.proofs.Common.{◌≡◌, List, ℕ, Bool, Option, false, true, sym, ap, subst, ◌∙◌, refl}
-use Rattle.std.specs.Prelude.{◌&&◌, IsSome, is_some}
+use Rattle.std.specs.Prelude.{IsSome}
+use Rattle.board.specs.declared.event.EventKind.{EventKind}
 use Rattle.board.specs.declared.event.EventKind.TheVariants.{Complete}
-use Rattle.board.specs.declared.reply.Reply.TheVariants.{Done}
-use Rattle.board.specs.Backing.{HostDisk, flight_in}
-use Rattle.board.specs.Hosting.{has_part, must_wait, notifies_block}
+use Rattle.board.specs.declared.reply.Reply.TheVariants.{Busy, Done}
+use Rattle.block_device.specs.Flights.{is_any}
+use Rattle.board.specs.Backing.{HostDisk, tags_in}
+use Rattle.board.specs.Hosting.{has_part, must_wait, notifies_block, waits_now}
 use Rattle.board.specs.Outcome.{replies}
 use Rattle.board.specs.Slot.{BoardSlot, state_of}
 use Rattle.board.proofs.Flights.{held_beside}
-use Rattle.board.proofs.Hosts.{completion_given, no_part, notified_given, own_of, part_by_ring, part_by_verdict, ringing_silent, serves_part, serves_passing, within_part, within_passing}
+use Rattle.board.proofs.Hosts.{busy_given, completion_given, no_part, notified_given, own_of, part_by_completion, part_by_ring, part_by_wait, ringing_silent, serves_part, serves_passing, waiting_silent, within_part, within_passing}
+use Rattle.board.proofs.Ways.{must_by}
 use Rattle.board.proofs.guest.Guest.begin_hosted.Goals as goal
 
 pub returns-in-Complete-clause-serves : goal.returns-in-Complete-clause-serves
 returns-in-Complete-clause-serves g c = λ image health filled.
     let state = state_of image c.args.self.now in
+    let tag = c.in-Complete.tag in
     let verdict = c.in-Complete.verdict in
     rw c.in-Complete.is
-    (serves_part (Complete verdict) c.args.budget state health (state_of image c.complete.new.self)
+    (serves_part (Complete tag verdict) c.args.budget state health (state_of image c.complete.new.self)
     c.complete.result (g.O.Outlet.bytes c.args.out.now)
-    (part_by_verdict state.host (Complete verdict) state verdict c.requires.hosted refl)
-    (completion_given state verdict health (replies (state_of image c.complete.new.self) c.complete.result)
+    (part_by_completion state.host (Complete tag verdict) state (record { tag = tag; verdict = verdict })
+    c.requires.hosted refl)
+    (completion_given state tag verdict health (replies (state_of image c.complete.new.self) c.complete.result)
     c.requires.hosted (c.complete.ensures.gives c.requires.hosted image)))
 
 -- the event doesn't wait
-free_of : (slot now : BoardSlot) (waits result : Bool) → slot ≡ now
-    → result ≡ (is_some (flight_in now.host) && waits) → result ≡ false
-    → (is_some (flight_in slot.host) && waits) ≡ false
-free_of slot now waits result same is free =
-    ap (λ (s : BoardSlot). is_some (flight_in s.host) && waits) same ∙ sym is ∙ free
+free_of : {A : Type 0} (what : EventKind A) (slot now : BoardSlot) (result : Bool) → slot ≡ now
+    → result ≡ waits_now what now.host → result ≡ false → waits_now what slot.host ≡ false
+free_of what slot now result same is free =
+    ap (λ (s : BoardSlot). waits_now what s.host) same ∙ sym is ∙ free
 
 pub invariant_of-self : goal.invariant_of-self
 invariant_of-self g c =
     let handled = c.answer_beside_disk.ensures in
     held_beside c.args.what.now c.self.inside.slot c.answer_beside_disk.new.self
-    (free_of c.self.inside.slot c.args.self.now (must_wait c.args.what.now) c.holds_up.result c.self.view_is
+    (free_of c.args.what.now c.self.inside.slot c.args.self.now c.holds_up.result c.self.view_is
     c.holds_up.ensures c.if-holds_up.false)
     handled.block handled.host handled.extent handled.range c.self.invariant
 
-pub invariant_of-self-in-None : goal.invariant_of-self-in-None
-invariant_of-self-in-None g c =
+pub look-requires : goal.look-requires
+look-requires g c =
     let handled = c.answer_beside_disk.ensures in
-    held_beside c.args.what.now c.self.inside.slot c.answer_beside_disk.new.self
-    (free_of c.self.inside.slot c.args.self.now (must_wait c.args.what.now) c.holds_up.result c.self.view_is
-    c.holds_up.ensures c.if-holds_up.false)
-    handled.block handled.host handled.extent handled.range c.self.invariant
+    record {
+      held = held_beside c.args.what.now c.self.inside.slot c.answer_beside_disk.new.self
+          (free_of c.args.what.now c.self.inside.slot c.args.self.now c.holds_up.result c.self.view_is
+          c.holds_up.ensures c.if-holds_up.false)
+          handled.block handled.host handled.extent handled.range c.self.invariant;
+    }
+
+-- and one that does changes nothing
+pub returns-then-holds_up : goal.returns-then-holds_up
+returns-then-holds_up g c =
+    let slot = c.args.self.now in
+    let what = c.args.what.now in
+    let out = g.O.Outlet.bytes c.args.out.now in
+    let waits : waits_now what slot.host ≡ true = sym c.holds_up.ensures ∙ c.if-holds_up.true in
+    record {
+      serves = λ image health filled.
+          serves_part what c.args.budget (state_of image slot) health (state_of image slot) Busy out
+          (part_by_wait what (state_of image slot) waits) (busy_given (state_of image slot) what health waits);
+      within = λ image limit limited.
+          within_part limit what c.args.budget (state_of image slot) (state_of image slot) out out Busy
+          (part_by_wait what (state_of image slot) waits)
+          (waiting_silent limit (state_of image slot) (state_of image slot) what out Busy
+          (must_by (is_any (tags_in slot.host)) (must_wait what) waits));
+      limited = λ next is. absurd (cc);
+      limit = refl;
+      extent = refl;
+      disturbed = refl;
+      there = λ is. cc;
+      bad_range = λ is. absurd (cc);
+      no_memory = λ is. absurd (cc);
+    }
 
 pub returns-in-Some : goal.returns-in-Some
 returns-in-Some g c =
     let handled = c.in-Some.ensures in
     let slot = c.self.inside.slot in
-    let free = free_of slot c.args.self.now (must_wait c.args.what.now) c.holds_up.result c.self.view_is
+    let free = free_of c.args.what.now slot c.args.self.now c.holds_up.result c.self.view_is
     c.holds_up.ensures c.if-holds_up.false in
     let passes : (image : List ℕ) → has_part slot.host c.args.what.now (state_of image slot) ≡ false =
     λ image. no_part slot.host c.args.what.now (state_of image slot)
@@ -79,7 +110,7 @@ returns-in-None g c =
     let mid = c.answer_beside_disk.new.self in
     let hosted : IsSome slot.host =
     subst (λ (s : BoardSlot). IsSome s.host) (sym c.self.view_is) c.requires.hosted in
-    let free = free_of slot c.args.self.now (must_wait c.args.what.now) c.holds_up.result c.self.view_is
+    let free = free_of c.args.what.now slot c.args.self.now c.holds_up.result c.self.view_is
     c.holds_up.ensures c.if-holds_up.false in
     let rings : (image : List ℕ) → notifies_block c.args.what.now (state_of image slot) ≡ true =
     λ image. sym (handled.notified image) in
@@ -90,23 +121,21 @@ returns-in-None g c =
       serves = λ image health filled.
           rw (handled.silent)
           (serves_part c.args.what.now c.args.budget (state_of image slot) health
-          (state_of image c.notified.new.self) Done (g.O.Outlet.bytes c.args.out.now) (part image)
-          (notified_given (state_of image slot) (state_of image mid) (state_of image c.notified.new.self)
+          (state_of image c.look.new.self) Done (g.O.Outlet.bytes c.args.out.now) (part image)
+          (notified_given (state_of image slot) (state_of image mid) (state_of image c.look.new.self)
           c.args.what.now health hosted free (rings image) (handled.readied image)
-          (λ none. c.notified.ensures.looks (ap flight_in handled.host ∙ none) image)
-          (λ some. ap (state_of image) (c.notified.ensures.stays
-          (subst (λ (h : Option HostDisk). IsSome (flight_in h)) (sym handled.host) some)))));
+          (c.look.ensures.looks (subst (λ (h : Option HostDisk). IsSome h) (sym handled.host) hosted) image)));
       within = λ image limit limited.
           rw (handled.silent)
           (within_part limit c.args.what.now c.args.budget (state_of image slot)
-          (state_of image c.notified.new.self) (g.O.Outlet.bytes c.args.out.now)
+          (state_of image c.look.new.self) (g.O.Outlet.bytes c.args.out.now)
           (g.O.Outlet.bytes c.args.out.now) Done (part image)
-          (ringing_silent limit (state_of image slot) (state_of image c.notified.new.self) c.args.what.now
+          (ringing_silent limit (state_of image slot) (state_of image c.look.new.self) c.args.what.now
           (g.O.Outlet.bytes c.args.out.now) Done (rings image)));
       limited = λ next is. absurd (cc);
       limit = handled.limit;
-      extent = c.notified.ensures.extent ∙ handled.extent;
-      disturbed = c.notified.ensures.disturbed ∙ handled.disturbed;
+      extent = ap (λ (s : BoardSlot). s.extent) c.look.ensures.rest ∙ handled.extent;
+      disturbed = ap (λ (s : BoardSlot). s.disturbed) c.look.ensures.rest ∙ handled.disturbed;
       there = λ is. cc;
       bad_range = λ is. absurd (cc);
       no_memory = λ is. absurd (cc);

@@ -50,7 +50,7 @@ returns-clause-serves g c = λ image health filled.
           (silent_answer _ c.args.budget _ _ _ _ _ out refl
           (w.answer_restore-reply.ensures.given image health filled))
       | in-Complete w ↦ rw (w.self-is, w.reply-is, w.in-Complete.is)
-          (silent_answer _ c.args.budget _ _ _ _ _ out refl (completion_given (state_of image slot) _ health))
+          (silent_answer _ c.args.budget _ _ _ _ _ out refl (completion_given (state_of image slot) _ _ health))
     ]
 
 pub returns-clause-device : goal.returns-clause-device
