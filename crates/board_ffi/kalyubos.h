@@ -47,8 +47,8 @@
  * calls.
  *
  * Slot by slot a disk is of one of two kinds. It is an extent of an image in the library's memory, or the host serves
- * it. Then the board says what it wants of the disk, the host does it as it likes, and says that it is done; meanwhile
- * the guest runs on. A board may have disks of both.
+ * it. Then the board says what it wants of the disk, one to sixty-four operations at a time; the host does them as it
+ * likes and says of each that it is done, in any order; meanwhile the guest runs on. A board may have disks of both.
  *
  * kalyubos_create takes all memory that a board needs, and kalyubos_destroy gives it back. kalyubos_judge takes some,
  * and gives it back before it answers. No other call takes or gives any, so no guest can be refused memory for what
@@ -103,8 +103,8 @@ enum {
     KALYUBOS_BAD_SIZE = 17,         /* a struct says another size than this version's */
     KALYUBOS_MORE = 18,             /* the slot's service pauses; see kalyubos_go_on */
     KALYUBOS_BUSY = 19,             /* the slot's service is paused, or this call waits for its disk; nothing changed */
-    KALYUBOS_IO = 20,               /* done, and the slot's disk waits for the host; see kalyubos_operation */
-    KALYUBOS_IDLE = 21,             /* nothing of the slot is in flight; nothing changed */
+    KALYUBOS_IO = 20,               /* done, and operations began; see kalyubos_in_flight */
+    KALYUBOS_IDLE = 21,             /* nothing of the slot is in flight with this tag; nothing changed */
     KALYUBOS_NO_IMAGE = 22,         /* the image has no bytes; nothing changed */
     KALYUBOS_BAD_SNAPSHOT = 23,     /* the bytes are no snapshot; nothing changed */
     KALYUBOS_OTHER_SLOT = 24,       /* the snapshot is of a slot of another description; nothing changed */
@@ -112,7 +112,8 @@ enum {
     KALYUBOS_SHORT_BUFFER = 26,     /* the snapshot doesn't fit into the buffer; nothing is written */
     KALYUBOS_NO_REGIONS = 27,       /* a slot has no region of memory */
     KALYUBOS_REGIONS_NOT_APART = 28, /* a region doesn't begin behind a gap after the one before it */
-    KALYUBOS_BAD_LOAN = 29          /* the loans have another number or length than the regions */
+    KALYUBOS_BAD_LOAN = 29,         /* the loans have another number or length than the regions */
+    KALYUBOS_BAD_DEPTH = 30         /* a disk that the host serves has a depth above 64 */
 };
 
 /* What an answer says, as a sentence for a person. It is never null: a number of a later version has a sentence too. */
@@ -159,6 +160,9 @@ struct kalyubos_region {
     uint64_t len;
 };
 
+/* How many operations of a guest's disk are in flight at most, where the host serves it. */
+enum { KALYUBOS_TAGS = 64 };
+
 /*
  * One guest. Its regions stand in ascending order, with a gap between each two: what follows a region without a gap is
  * part of it. A range that a driver names lies inside where one region holds all of it.
@@ -174,6 +178,8 @@ struct kalyubos_slot {
     bool read_only;       /* whether its disk refuses writes */
     bool hosted;          /* whether the host serves its disk; else it shows an extent of the image */
     uint8_t identity[20]; /* what its disk answers to GET_ID, a shorter text with NULs behind it; Linux's `serial` */
+    uint32_t depth;       /* how many operations may be in flight where the host serves its disk, 1 to KALYUBOS_TAGS; 0
+                             is 1. It isn't looked at where the disk is of the image. */
 };
 
 /* What is wanted of a disk that the host serves. */
@@ -237,7 +243,7 @@ static inline struct kalyubos_config kalyubos_config(const struct kalyubos_slot 
  *  - HAS_BOARD; BAD_SIZE, where the config's `size` or a slot's is another than its sizeof, and nothing behind it is
  *    read; BAD_LOAN, where there are loans; BAD_IMAGE; BAD_OUTLET; NO_SLOTS; TOO_MANY_SLOTS;
  *  - slot by slot NO_REGIONS, then region by region BAD_MEMORY_SIZE, BAD_MEMORY_BASE and REGIONS_NOT_APART, then
- *    EXTENT_OUTSIDE and EXTENTS_OVERLAP;
+ *    BAD_DEPTH, EXTENT_OUTSIDE and EXTENTS_OVERLAP;
  *  - BAD_CACHE.
  * NO_MEMORY may come in the place of one of the numbers from NO_SLOTS on, and over loans in the place of all but
  * HAS_BOARD and BAD_SIZE.
@@ -296,9 +302,10 @@ uint32_t kalyubos_read(const struct kalyubos *board, uint8_t slot, uint8_t windo
  * is put out. Take the output and make the same write again, as long as it is answered NO_ROOM and there was output to
  * take. A driver that waits for its buffer doesn't notify again, and Linux's console spins for ever on it.
  *
- * Of a disk that the host serves: IO says that the write is done, and that with it an operation began; no other answer
- * says so. BUSY: the write, to Status (0x070) or QueueReady (0x044) of the block window, waits for what is in flight.
- * The CPU that made it waits with it; make the same write again after the completion. All else goes on meanwhile.
+ * Of a disk that the host serves: IO says that the write is done, and that operations began with it, one at least; no
+ * other answer says so. BUSY: the write, to Status (0x070) or QueueReady (0x044) of the block window, waits for all
+ * that is in flight. The CPU that made it waits with it; make the same write again once all is completed. All else
+ * goes on meanwhile.
  */
 KALYUBOS_LOOK_AT_IT
 uint32_t kalyubos_write(struct kalyubos *board, uint8_t slot, uint8_t window, uint16_t offset, uint8_t width,
@@ -311,40 +318,60 @@ uint32_t kalyubos_write(struct kalyubos *board, uint8_t slot, uint8_t window, ui
  *
  * From MORE until the end of the service the guest waits as in a long call. Every call for its slot but this one is
  * answered BUSY then and changes nothing, except kalyubos_interrupts, kalyubos_disturbed, kalyubos_counters,
- * kalyubos_last_fault, kalyubos_operation, kalyubos_keep_pages and kalyubos_take_output; kalyubos_completed answers
- * IDLE where nothing is in flight. Calls for other slots may stand in between, and no guest sees that one paused.
+ * kalyubos_last_fault, kalyubos_in_flight, kalyubos_operation, kalyubos_keep_pages and kalyubos_take_output;
+ * kalyubos_completed answers IDLE where nothing is in flight with its tag. Calls for other slots may stand in between,
+ * and no guest sees that one paused.
  */
 KALYUBOS_LOOK_AT_IT
 uint32_t kalyubos_go_on(struct kalyubos *board, uint8_t slot, struct kalyubos_pending *pending);
 
 /*
- * Tells what the slot's disk is asked for: the operation, and its first runs, as many as find room in `runs`. There is
- * room for all in KALYUBOS_RUNS. It tells the same until kalyubos_completed. IDLE where nothing is in flight.
+ * Tells which operations of the slot's disk are in flight. Each has a tag, a number below the slot's `depth`: bit n of
+ * `tags` is set where the operation of tag n is in flight. It is 0 for a slot whose disk is of the image.
+ *
+ * An operation keeps its tag until it is completed; then the tag is free for another. Several may begin with one call,
+ * each with the lowest tag that is free then. The host remembers the tags that it has begun. After IO it asks
+ * kalyubos_operation for each tag that is in flight and not begun, and begins it. It forgets a tag before it calls
+ * kalyubos_completed, which may use it again.
+ */
+uint32_t kalyubos_in_flight(const struct kalyubos *board, uint8_t slot, uint64_t *tags);
+
+/*
+ * Tells what the slot's disk is asked for with a tag: the operation, and its first runs, as many as find room in
+ * `runs`. There is room for all in KALYUBOS_RUNS. It tells the same until kalyubos_completed of this tag, whatever else
+ * begins and is completed. IDLE where nothing is in flight with this tag.
  *
  * Each run lies inside the guest's memory, or of a ZEROES inside its disk, and none is empty; `start` and `len` lie
  * inside the disk. They were judged when the operation began, and nothing is read again from guest memory: a guest that
- * rewrites its rings or its request meanwhile changes nothing of it. The runs of an IN may overlap.
+ * rewrites its rings or its request meanwhile changes nothing of it. The runs of an IN may overlap. Operations in flight
+ * may overlap too, in memory and on the disk. The host does them in any order: a driver that needs one waits for the
+ * first before it asks for the second.
  *
  * Before the host says that it is done:
  *  - IN: the bytes of the disk stand in the runs.
  *  - OUT and ZEROES: each later IN of the guest finds them. With `stable` they are on the medium; else they may be lost
  *    with the host's machine until a FLUSH is done.
- *  - FLUSH: all that was done before it is on the medium, as after fdatasync.
+ *  - FLUSH: all that was completed before it began is on the medium, as after fdatasync. It needs to wait for nothing
+ *    that is in flight beside it.
  * A host that moves bytes between the file and the guest's memory in place keeps the duty above: no transfer touches
- * the memory while one of the six calls runs for this guest. examples/embed/file_disk.c has a buffer of its own, so
- * that the guest's calls go on during a transfer.
+ * the memory while one of the six calls runs for this guest. examples/embed/file_disk.c has buffers of its own, so
+ * that the guest's calls go on during its transfers.
  */
-uint32_t kalyubos_operation(const struct kalyubos *board, uint8_t slot, struct kalyubos_operation *operation,
-                            struct kalyubos_run *runs, size_t runs_len);
+uint32_t kalyubos_operation(const struct kalyubos *board, uint8_t slot, uint8_t tag,
+                            struct kalyubos_operation *operation, struct kalyubos_run *runs, size_t runs_len);
 
 /*
- * Says that the slot's operation is done, or that it failed: then the guest is told IOERR, and what it asked to be read
- * may stand in its memory in part. The guest's request is completed and its queue looked at again, as after a
- * notification: the answer is IO where that began a further operation, else DONE. `pending` is what then waits. IDLE
- * where nothing is in flight.
+ * Says that the slot's operation of a tag is done, or that it failed: then the guest is told IOERR, and what it asked
+ * to be read may stand in its memory in part. Operations are completed in any order. The guest's request is completed,
+ * the tag is free, and the queue is looked at again, as after a notification: the answer is IO where operations began
+ * with that, else DONE. `pending` is what then waits. IDLE where nothing is in flight with this tag.
+ *
+ * In a window that asks for a reset (DEVICE_NEEDS_RESET) a completion only frees its tag: it writes nothing into the
+ * guest's memory, and nothing begins. The answer is DONE.
  */
 KALYUBOS_LOOK_AT_IT
-uint32_t kalyubos_completed(struct kalyubos *board, uint8_t slot, bool failed, struct kalyubos_pending *pending);
+uint32_t kalyubos_completed(struct kalyubos *board, uint8_t slot, uint8_t tag, bool failed,
+                            struct kalyubos_pending *pending);
 
 /*
  * Lends the slot's memory in place, from address `addr` to the end of the region that holds it: `bytes` is where the
@@ -445,7 +472,7 @@ const char *kalyubos_fault_text(uint32_t kind);
 
 /*
  * How many bytes the slot's snapshot has: some 300, and its pending input. It stays so until the next call for the
- * slot. BUSY while a service of the slot is paused, or something of it is in flight.
+ * slot. BUSY while a service of the slot is paused, or an operation of it is in flight.
  */
 uint32_t kalyubos_saved_len(const struct kalyubos *board, uint8_t slot, size_t *len);
 
@@ -456,7 +483,7 @@ uint32_t kalyubos_saved_len(const struct kalyubos *board, uint8_t slot, size_t *
  *
  * A snapshot has neither memory nor disk, nor the output that waits. Before it the host
  *  - stops the guest's CPUs, and keeps a write that was answered NO_ROOM: its CPU makes it again behind the restore;
- *  - brings a paused service to its end by kalyubos_go_on, and completes what is in flight by kalyubos_completed;
+ *  - brings a paused service to its end by kalyubos_go_on, and completes all that is in flight by kalyubos_completed;
  *  - takes the output.
  * Then, with no call for the slot between, it saves the devices, and copies the memory and the disk.
  */

@@ -45,9 +45,9 @@ const char *kalyubos_answer(uint32_t number)
     case KALYUBOS_BUSY:
         return "a service of the slot is paused, or its disk is at work: make the call again later";
     case KALYUBOS_IO:
-        return "done, and the slot's disk waits for the host: kalyubos_operation says for what";
+        return "done, and operations of the slot's disk began: kalyubos_in_flight says which";
     case KALYUBOS_IDLE:
-        return "nothing of the slot is in flight";
+        return "nothing of the slot is in flight with this tag";
     case KALYUBOS_NO_IMAGE:
         return "the board has no image, or one of no bytes";
     case KALYUBOS_BAD_SNAPSHOT:
@@ -64,6 +64,8 @@ const char *kalyubos_answer(uint32_t number)
         return "regions stand in ascending order, with a gap between each two";
     case KALYUBOS_BAD_LOAN:
         return "each region of each slot needs a loan of its length";
+    case KALYUBOS_BAD_DEPTH:
+        return "a disk that the host serves has 1 to 64 operations in flight";
     default:
         return "a number that this version of kalyubos.h doesn't know";
     }

@@ -9,7 +9,7 @@ use Rattle.sector_cache.specs.declared.fault.CacheFault.TheVariants.{BadCapacity
 use Rattle.sector_cache.specs.declared.fault.CacheFault.TheVariants as cache
 use Rattle.board.specs.declared.fault.BoardFault.{BoardFault}
 use Rattle.board.specs.declared.fault.BoardFault.TheVariants.{NoSlots, TooManySlots, Slot, Cache}
-use Rattle.board.specs.declared.fault.SlotFault.TheVariants.{Memory, ExtentOutside, ExtentsOverlap}
+use Rattle.board.specs.declared.fault.SlotFault.TheVariants.{Memory, ExtentOutside, ExtentsOverlap, BadDepth}
 use Rattle.board.specs.declared.spec.SlotSpec.{SlotSpec}
 use Rattle.board.specs.Fault.{IsAccepted, Refuses}
 use Rattle.board.specs.Lent.{AreBytesOf}
@@ -220,6 +220,7 @@ no_want sectors slots (Cache cache.NoMemory) refused want = absurd (cc (refused 
 no_want sectors slots BoardFault.NoMemory refused want = omega (arith, (refused 0).1.0)
 no_want sectors slots (Slot number ExtentOutside) refused want = absurd (cc)
 no_want sectors slots (Slot number ExtentsOverlap) refused want = absurd (cc)
+no_want sectors slots (Slot number BadDepth) refused want = absurd (cc)
 no_want sectors slots (Slot number (Memory place memory.NoRegions)) refused want = absurd (cc)
 no_want sectors slots (Slot number (Memory place memory.BadSize)) refused want = absurd (cc)
 no_want sectors slots (Slot number (Memory place memory.BadBase)) refused want = absurd (cc)

@@ -121,6 +121,7 @@ abbrev pub slot_fault_code : SlotFault → ℕ
 slot_fault_code (slot.Memory region why) = memory_code why
 slot_fault_code slot.ExtentOutside = 12
 slot_fault_code slot.ExtentsOverlap = 13
+slot_fault_code slot.BadDepth = 30
 
 -- a board that was refused
 abbrev pub board_code : BoardFault → ℕ

@@ -1,5 +1,5 @@
 -- What a config describes, and what is wrong with it.
-use Rattle.std.specs.Prelude.{◌≡◌, ◌≢◌, ◌⊎◌, ℕ, ◌/◌, ◌%◌, ◌==◌, nat_lt, if◌then◌else◌, List, [], ◌∷◌, Option, Some, None, All, length, map}
+use Rattle.std.specs.Prelude.{◌≡◌, ◌≢◌, ◌⊎◌, ℕ, ◌/◌, ◌%◌, ◌==◌, nat_lt, if◌then◌else◌, Bool, List, [], ◌∷◌, Option, Some, None, All, length, map, max, min}
 use Rattle.std.specs.List.{take_while}
 use Rattle.chain.specs.declared.budget.Budget.{Budget}
 use Rattle.guest_bytes.specs.declared.loan.Loan.{Loan}
@@ -21,13 +21,17 @@ use Rattle.board_ffi.specs.Codes.{fault_code}
 abbrev pub regions_of : List RegionSpec → List RegionSpec
 regions_of = take_while (λ region. nat_lt 0 region.len)
 
+-- Who has the disk of a slot. A depth of 0 is 1; one that is too large for the board is so as it is told, too.
+abbrev pub backing_of : Bool → ℕ → Backing
+backing_of hosted depth = if hosted then Backing.Host (min (max depth 1) 255) else Backing.Image
+
 -- the guest of a slot that C describes
 abbrev pub guest_of : Slot → GuestSpec
 guest_of slot = record {
   slot = record {
     regions = regions_of slot.regions;
     extent = record { start = slot.start; count = slot.count };
-    backing = if slot.hosted then Backing.Host else Backing.Image;
+    backing = backing_of slot.hosted slot.depth;
     read_only = slot.read_only;
     cols = slot.cols;
     rows = slot.rows;
@@ -38,7 +42,7 @@ guest_of slot = record {
 
 -- how many bytes a slot and a config have that this version describes
 abbrev pub slot_size : ℕ
-slot_size = 184
+slot_size = 192
 
 abbrev pub config_size : ℕ
 config_size = 72

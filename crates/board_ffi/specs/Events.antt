@@ -1,5 +1,5 @@
 -- What a call does to a board.
-use Rattle.std.specs.Prelude.{◌≡◌, ◌⊎◌, ℕ, ◌==◌, ◌||◌, ◌<◌, ◌≤◌, ◌+◌, ◌++◌, ◌↔◌, Bool, List, [], None, Some, IsTrue, IsErrOf, IsSome, IsSomeAnd, if◌then◌else◌, length, min, take, drop, Result}
+use Rattle.std.specs.Prelude.{◌≡◌, ◌⊎◌, ℕ, ◌==◌, ◌||◌, ◌<◌, ◌≤◌, ◌+◌, ◌++◌, ◌↔◌, Bool, false, List, [], None, Some, IsTrue, IsErrOf, IsSome, IsSomeAnd, if◌then◌else◌, length, min, take, drop, Result}
 use Rattle.std.specs.List.{slice_get}
 use Rattle.std.specs.Global.{Global}
 use Rattle.guest_memory.specs.Memory.{Inside, Memory}
@@ -12,7 +12,8 @@ use Rattle.board.specs.declared.reply.Reply.TheVariants as reply
 use Rattle.board.specs.declared.saved.RestoreFault.{RestoreFault}
 use Rattle.board.specs.declared.saved.RestoreRefusal.{RestoreRefusal}
 use Rattle.board.specs.declared.saved.RestoreRefusal.TheVariants.{Fault}
-use Rattle.board.specs.Backing.{flight_in}
+use Rattle.block_device.specs.Flights.{is_any}
+use Rattle.board.specs.Backing.{tags_in}
 use Rattle.board.specs.Lending.{bits_in}
 use Rattle.board.specs.Saved.{IsAs, IsCauseOf, IsLike, IsSnapshotOf}
 use Rattle.board.specs.Slot.{BoardSlot}
@@ -20,7 +21,7 @@ use Rattle.session.specs.Course.{IsTaken}
 use Rattle.session.specs.declared.progress.Progress.{Progress}
 use Rattle.session.specs.declared.refusal.Refusal.{Refusal}
 use Rattle.session.specs.declared.response.Response.{Response}
-use Rattle.session.specs.Operations.{HasAsked, HasFlight, operation_at}
+use Rattle.session.specs.Operations.{HasAsked, HasAskedBeside, HasFlight, operation_at}
 use Rattle.session.specs.Pausing.{IsCall, IsWhole, WentOn, taken_at}
 use Rattle.session.specs.Session.{IsIdle, SessionState, output_of}
 use Rattle.session.specs.Pacing.{Handle, paused_at}
@@ -52,7 +53,7 @@ pub record MayAsk (slot : ℕ) (what : EventKind Global) (Asks : Type 0) (code :
   pub code_is : IsTrue ((code == 20) || is_response code)
   pub asks : IsTrue (is_served code) → ((code ≡ 20) ↔ Asks)
 
--- a guest's write: the disk is asked for something where it wasn't before
+-- a guest's write: the disk is asked for something where operations began with it
 abbrev pub Writes : ℕ → EventKind Global → ℕ → SessionState → SessionState → Type 0
 Writes slot what code old new = MayAsk slot what (HasAsked slot old new) code old new
 
@@ -60,13 +61,13 @@ Writes slot what code old new = MayAsk slot what (HasAsked slot old new) code ol
 abbrev pub verdict_of : Bool → Verdict
 verdict_of failed = if failed then verdict.Failed else verdict.Done
 
--- What is in flight of a slot is completed. Where nothing is, nothing changes.
-pub record Completes (slot : ℕ) (failed : Bool) (code : ℕ) (old new : SessionState) : Type 0 where
+-- What is in flight of a slot with this tag is completed. Where nothing is, nothing changes.
+pub record Completes (slot tag : ℕ) (failed : Bool) (code : ℕ) (old new : SessionState) : Type 0 where
   pub completed :
-      IsSome (operation_at slot old.slots) → MayAsk slot (EventKind.Complete (verdict_of failed))
-      (IsSome (operation_at slot new.slots)) code old new
-  pub code_is : operation_at slot old.slots ≡ None → code ≡ code_at slot (length old.slots) 21
-  pub kept : operation_at slot old.slots ≡ None → new ≡ old
+      IsSome (operation_at slot tag old.slots) → MayAsk slot (EventKind.Complete tag (verdict_of failed))
+      (HasAskedBeside slot tag old new) code old new
+  pub code_is : operation_at slot tag old.slots ≡ None → code ≡ code_at slot (length old.slots) 21
+  pub kept : operation_at slot tag old.slots ≡ None → new ≡ old
 
 -- The service of a slot goes on, and this is told of it.
 pub record GoesOn (slot code : ℕ) (old new : SessionState) : Type 0 where
@@ -156,7 +157,7 @@ pub record Restores (slot : ℕ) (bytes : List ℕ) (code : ℕ) (old new : Sess
   pub taken :
       (saved before after : BoardSlot) → IsSnapshotOf bytes saved → slice_get old.slots slot ≡ Some before →
       slice_get new.slots slot ≡ Some after → IsLike saved before → IsIdle slot old →
-      flight_in before.host ≡ None →
+      is_any (tags_in before.host) ≡ false →
       (code ≡ 0) × IsAs saved before after
   pub missing : (code ≡ 3) ↔ (length old.slots ≤ slot)
   pub busy : (code ≡ 19) ↔ IsAtWork slot old

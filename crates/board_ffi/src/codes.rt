@@ -70,6 +70,8 @@ pub(crate) const REGIONS_NOT_APART: u32 = 28;
 
 pub(crate) const BAD_LOAN: u32 = 29;
 
+pub(crate) const BAD_DEPTH: u32 = 30;
+
 /// The number of a call that was refused.
 pub(crate) fn of_refusal(why: Refusal) -> u32
     ensures { result ≡ refusal_code why }
@@ -216,6 +218,7 @@ fn of_slot_fault(why: SlotFault) -> u32
         SlotFault::Memory { region: _, fault } => of_memory_fault(fault),
         SlotFault::ExtentOutside => EXTENT_OUTSIDE,
         SlotFault::ExtentsOverlap => EXTENTS_OVERLAP,
+        SlotFault::BadDepth => BAD_DEPTH,
     }
 }
 

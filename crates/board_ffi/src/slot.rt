@@ -3,7 +3,7 @@
 ghost use Rattle.std.specs.Prelude.{◌≡◌, ◌↔◌, ◌≤◌, All, IsTrue, IfOk};
 ghost use Rattle.session.specs.Refusing.{AreOutlets};
 ghost use Rattle.board_ffi.specs.Judging.{first_of_large_outlet, first_of_other_size};
-ghost use Rattle.board_ffi.specs.Config.{AreSized, guest_of, guests_of};
+ghost use Rattle.board_ffi.specs.Config.{AreSized, backing_of, guest_of, guests_of};
 
 use crate::region::regions;
 use guest_memory::{MOST_REGIONS, RegionSpec};
@@ -33,9 +33,23 @@ pub struct Slot {
     /// Whether the host serves its disk; else it is of the image.
     pub hosted: bool,
     pub identity: [u8; 20],
+    /// How many operations of its disk may be in flight at once, where the host serves it; 0 is 1.
+    pub depth: u32,
 }
 
 impl Slot {
+    // Who has its disk. A depth that is too large stays so.
+    fn backing(&self) -> Backing
+        ensures { result ≡ backing_of self.now.hosted self.now.depth }
+    {
+        if !self.hosted {
+            return Backing::Image;
+        }
+        Backing::Host {
+            depth: self.depth.clamp(1, 255) as u8,
+        }
+    }
+
     // Its guest.
     fn guest(&self) -> GuestSpec
         ensures { result ≡ guest_of self.now }
@@ -46,11 +60,7 @@ impl Slot {
                 start: self.start,
                 count: self.count,
             },
-            backing: if self.hosted {
-                Backing::Host
-            } else {
-                Backing::Image
-            },
+            backing: self.backing(),
             read_only: self.read_only,
             cols: self.cols,
             rows: self.rows,

@@ -1,14 +1,13 @@
 -- When a call asks the host for something.
 use Rattle.std.proofs.Common.{◌≡◌, ◌≢◌, ◌↔◌, inl, inr, ℕ, zero, suc, Bool, true, false, List, [], ◌∷◌, map, Option, Some, None, refl, sym, ◌∙◌, ap, subst}
-use Rattle.std.specs.Prelude.{◌&&◌, not, IfOk, IsSome, IsTrue, Result, Ok, Err}
+use Rattle.std.specs.Prelude.{◌+◌, ◌^◌, IfOk, IsTrue, Result, Ok, Err}
 use Rattle.std.specs.List.{slice_get}
-use Rattle.std.specs.Option.{option_and_then}
+use Rattle.std.specs.Option.{option_and_then, option_map}
 use Rattle.chain.specs.declared.budget.Budget.{Budget}
 use Rattle.chain.specs.declared.budget.Progress.{Progress as Piece}
 use Rattle.chain.specs.declared.budget.Progress.TheVariants as piece
 use Rattle.mmio_window.specs.declared.stage.Stage.{Stage}
 use Rattle.mmio_window.specs.declared.stage.Stage.TheVariants.{First, Next}
-use Rattle.block_device.specs.declared.operation.Operation.{Operation}
 use Rattle.board.specs.declared.event.Event.{Event}
 use Rattle.board.specs.declared.event.EventKind.{EventKind}
 use Rattle.board.specs.declared.pause.Pause.{Pause}
@@ -17,7 +16,8 @@ use Rattle.board.specs.declared.pause.Service.TheVariants.{Block, Receive, Trans
 use Rattle.board.specs.declared.pause.Turn.{Turn}
 use Rattle.board.specs.declared.pause.Turn.TheVariants as turn
 use Rattle.board.specs.declared.reply.Reply.TheVariants as reply
-use Rattle.board.specs.Backing.{HostDisk, flight_in, operation_in}
+use Rattle.block_device.specs.Flights.{taken_bits}
+use Rattle.board.specs.Backing.{HostDisk, tags_in}
 use Rattle.board.specs.Image.{Health}
 use Rattle.board.specs.Pausing as pausing
 use Rattle.board.specs.Pausing.{Begins, GoesOn, GoesOnBy, IsPiece, TurnsTo, asked, is_hosts, readied}
@@ -31,7 +31,7 @@ use Rattle.session.specs.declared.refusal.Refusal.{Refusal}
 use Rattle.session.specs.declared.response.Response.{Response}
 use Rattle.session.specs.declared.response.Response.TheVariants.{Answered, More, Busy, Idle}
 use Rattle.session.specs.Answering.{went_on_to}
-use Rattle.session.specs.Operations.{HasAsked, operation_at}
+use Rattle.session.specs.Operations.{HasAsked}
 use Rattle.session.specs.Pacing.{GoOn, Handle, response_to}
 use Rattle.session.specs.Pausing.{ComesTo, IsCall, IsTurn, WentOn}
 use Rattle.session.specs.Session.{SessionState, world_of}
@@ -134,25 +134,27 @@ module _ {X : Type 0} (f : Option HostDisk → Option X) where
       (goes_host (is_hosts comes.taken.state.host pause.service) pause old.budget comes.taken.state _ _
       comes.taken.after comes.output comes.turn comes.taken.comes)
 
--- what the host is asked to do
-abbrev asked_of : Option HostDisk → Option Operation
-asked_of host = operation_in (flight_in host)
+-- the tags that are in flight
+abbrev taken_of : Option HostDisk → Option ℕ
+taken_of host = Some (taken_bits (tags_in host))
 
--- where that stays nothing was asked for
-same_asks : (slot : ℕ) (old new : SessionState) → operation_at slot new.slots ≡ operation_at slot old.slots
-    → HasAsked slot old new → ⊥
-same_asks slot old new same asks = is_none (operation_at slot new.slots) (same ∙ asks.0) asks.1
-  where
-    is_none : (o : Option Operation) → o ≡ None → IsSome o → ⊥
-    is_none None is some = absurd (cc (some))
-    is_none (Some one) is some = cc (is)
+taken_said : (o : Option BoardSlot) → option_map (λ (found : BoardSlot). taken_bits (tags_in found.host)) o
+    ≡ option_and_then (λ (found : BoardSlot). taken_of found.host) o
+taken_said None = refl
+taken_said (Some found) = refl
+
+-- where they stay nothing was asked for
+same_asks : (slot : ℕ) (old new : SessionState)
+    → said_at taken_of slot new.slots ≡ said_at taken_of slot old.slots → HasAsked slot old new → ⊥
+same_asks slot old new same asks =
+    asks (taken_said (slice_get new.slots slot) ∙ same ∙ sym (taken_said (slice_get old.slots slot)))
 
 pub pausing_asks : {A : Type 0} (old new : SessionState) (slot : ℕ) (what : EventKind A)
     (response : Response A) → IsCall old (Handle (record { slot = slot; what = what })) response new
     → response ≡ More → HasAsked slot old new → ⊥
 pausing_asks {A} old new slot what response call is asks =
     same_asks slot old new
-    (pausing_keeps asked_of old new (record { slot = slot; what = what }) (slice_get old.paused slot)
+    (pausing_keeps taken_of old new (record { slot = slot; what = what }) (slice_get old.paused slot)
     (subst (λ (r : Response A). IsCall old (Handle (record { slot = slot; what = what })) r new) is call)) asks
 
 -- ---- what a write or a completion is answered
@@ -164,13 +166,15 @@ asks_where response (Ok came) asks P says same never =
     (λ is. same.0 ((says.0 is).0), λ p. says.1 (same.1 p, λ more. never more p))
 asks_where response (Err why) asks P says same never = tt
 
--- nothing was in flight before, and something is now
-pub asked_where : (before after : Bool) (old new : Option Operation) → IsTrue before ↔ IsSome old
-    → IsTrue after ↔ IsSome new → IsTrue (not before && after) ↔ ((old ≡ None) × IsSome new)
-asked_where true after None new was now = let some = was.0 refl in absurd (cc (some))
-asked_where true after (Some one) new was now = (λ is. absurd (cc (is)), λ both. absurd (cc (both.0)))
-asked_where false after None new was now = (λ is. (refl, now.0 is), λ both. now.1 (both.1))
-asked_where false after (Some one) new was now = let is = was.1 refl in absurd (cc (is))
+-- the tags that a call found in flight, and left so, say whether something began
+pub asked_where : (before after old new : Option ℕ) (asks : Bool) → before ≡ old → after ≡ new
+    → IsTrue asks ↔ (after ≢ before) → IsTrue asks ↔ (new ≢ old)
+asked_where before after old new asks was now says = rw (was, now) at says
+
+pub asked_beside : (tag : ℕ) (before after old new : Option ℕ) (asks : Bool) → before ≡ old → after ≡ new
+    → IsTrue asks ↔ (option_map (λ taken. taken + 2 ^ tag) after ≢ before)
+    → IsTrue asks ↔ (option_map (λ taken. taken + 2 ^ tag) new ≢ old)
+asked_beside tag before after old new asks was now says = rw (was, now) at says
 
 -- ---- a service that goes on
 
@@ -196,4 +200,4 @@ going_on_asks {A} old new slot r h =
     subst (λ (x : Result Progress Refusal). IfOk x (λ came. (came ≡ progress.Asks) ↔ HasAsked slot old new))
     (sym h.told)
     (never_asks h.response (HasAsked slot old new) (λ asks. same_asks slot old new
-    (going_on_keeps asked_of old new slot h.response (slice_get old.paused slot) h.call) asks))
+    (going_on_keeps taken_of old new slot h.response (slice_get old.paused slot) h.call) asks))

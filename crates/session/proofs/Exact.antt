@@ -1,5 +1,5 @@
 -- When each refusal of a call comes.
-use Rattle.std.proofs.Common.{◌≡◌, ◌⊎◌, ◌↔◌, inl, inr, ℕ, ◌<◌, ◌≤◌, Bool, true, false, List, length, Option, Some, None, refl, sym, ◌∙◌, ap, subst, arith}
+use Rattle.std.proofs.Common.{◌≡◌, ◌⊎◌, ◌↔◌, inl, inr, ℕ, ◌<◌, ◌≤◌, Bool, true, false, List, length, get_or, Option, Some, None, refl, sym, ◌∙◌, ap, subst, arith}
 use Rattle.std.specs.Prelude.{◌&&◌, ◌||◌, is_some, nat_lt, if◌then◌else◌, IsErrOf, IsSomeAnd, Result, Ok, Err}
 use Rattle.std.specs.List.{slice_get}
 use Rattle.std.specs.Option.{option_and_then}
@@ -16,8 +16,9 @@ use Rattle.board.specs.declared.pause.Turn.TheVariants as turn
 use Rattle.board.specs.declared.reply.Reply.{Reply}
 use Rattle.board.specs.declared.reply.Reply.TheVariants as reply
 use Rattle.board.specs.declared.reply.Record.{Record}
-use Rattle.board.specs.Backing.{HostDisk, InFlight, flight_in}
-use Rattle.board.specs.Hosting.{has_part, must_wait, verdict_in}
+use Rattle.block_device.specs.Flights.{InFlight, is_any}
+use Rattle.board.specs.Backing.{HostDisk, tags_in}
+use Rattle.board.specs.Hosting.{CompletesOrGives, CompletionGives, OwnGives, Told, has_part, must_wait, told_in, waits_now}
 use Rattle.board.specs.Image.{Health}
 use Rattle.board.specs.Outcome.{Outcome}
 use Rattle.board.specs.Pausing.{Begins, asked}
@@ -26,7 +27,6 @@ use Rattle.board.specs.Within.{MayPutOut}
 use Rattle.board.specs.World.{MayGive, MayGiveBy, MayGiveOverImage, MayLackMemory}
 use Rattle.board.proofs.Alone.{slot_step}
 use Rattle.board.proofs.Waiting.{waited}
-use Rattle.board.proofs.Ways.{Lands, Looks, Passes, Rests, Stands, Waits, Way, way}
 use Rattle.session.specs.declared.progress.Progress.{Progress}
 use Rattle.session.specs.declared.progress.Progress.TheVariants as progress
 use Rattle.session.specs.declared.refusal.Refusal.{Refusal}
@@ -35,7 +35,7 @@ use Rattle.session.specs.declared.response.Response.{Response}
 use Rattle.session.specs.declared.response.Response.TheVariants.{Answered, More, Busy, Idle}
 use Rattle.session.specs.declared.typed.Typed.{Typed}
 use Rattle.session.specs.Answering.{Means, RefusalMeans, served_response, typed_by, typed_response}
-use Rattle.session.specs.Operations.{HasNoFlight, HoldsUp}
+use Rattle.session.specs.Operations.{HasFree, HoldsUp}
 use Rattle.session.specs.Pacing.{Handle, response_to}
 use Rattle.session.specs.Pausing.{ComesTo, IsBegun, IsEventCall, IsWhole}
 use Rattle.session.specs.Session.{HasNoRead, IsIdle, IsOutside, IsStep, SessionState, world_of}
@@ -47,92 +47,79 @@ use Rattle.session.proofs.Unchanged.{shown_at}
 
 -- ---- what waits for what is in flight, and what finds nothing in flight
 
-busy_by : {A : Type 0} (host : Option HostDisk) (state : SlotState) (what : EventKind A) (old new : Health)
-    (outcome : Outcome A) → MayGiveBy host state what old new outcome → outcome.reply ≡ reply.Busy
-    → (is_some (flight_in host) && must_wait what) ≡ true
-busy_by host state what old new outcome h is =
-    let found = (waited host state what old new outcome h is).0 in rw (found.flies, found.waits) refl
-
--- a completion waits for nothing
-completion_free : {A : Type 0} (v : Verdict) (what : EventKind A) → verdict_in what ≡ Some v
-    → must_wait what ≡ true → ⊥
-completion_free v (Read window offset width) is waits = cc
-completion_free v (Write window offset width value) is waits = cc
-completion_free v (MemRead addr len) is waits = cc
-completion_free v (MemWrite addr bytes) is waits = cc
-completion_free v (Input bytes) is waits = cc
-completion_free v (Resize cols rows) is waits = cc
-completion_free v (Restore bytes) is waits = cc
-completion_free v (Complete verdict) is waits = cc
-
 both_true : (a b : Bool) → (a && b) ≡ true → (a ≡ true) × (b ≡ true)
 both_true true true is = (refl, refl)
 both_true true false is = absurd (cc)
 both_true false b is = absurd (cc)
 
-waits_way : {A : Type 0} (flight : Option InFlight) (state : SlotState) (what : EventKind A) (health : Health)
-    (outcome : Outcome A) → (is_some flight && must_wait what) ≡ true
-    → Way (λ (o : Outcome A). MayGiveOverImage state what health health o) flight state what outcome
-    → outcome.reply ≡ reply.Busy
-waits_way flight state what health outcome holds (Waits here flies waits h) = ap (λ o. o.reply) h
-waits_way flight state what health outcome holds (Passes own free quiet h) = absurd (cc (holds, free))
-waits_way flight state what health outcome holds (Looks none rings looks h) =
-    let some = (both_true (is_some flight) (must_wait what) holds).0 in
-    let no = ap (λ (f : Option InFlight). is_some f) none in absurd (cc (some, no))
-waits_way flight state what health outcome holds (Stands here flies free rings h) =
-    let waits = (both_true (is_some flight) (must_wait what) holds).1 in absurd (cc (waits, free))
-waits_way flight state what health outcome holds (Rests verdict completes none h) =
-    let some = (both_true (is_some flight) (must_wait what) holds).0 in
-    let no = ap (λ (f : Option InFlight). is_some f) none in absurd (cc (some, no))
-waits_way flight state what health outcome holds (Lands verdict completes here flies lands h) =
-    absurd (completion_free verdict what completes (both_true (is_some flight) (must_wait what) holds).1)
+busy_by : {A : Type 0} (state : SlotState) (what : EventKind A) (old new : Health) (outcome : Outcome A)
+    → MayGive state what old new outcome → outcome.reply ≡ reply.Busy → waits_now what state.host ≡ true
+busy_by state what old new outcome h is = (waited state.host state what old new outcome h is).0.waits
+
+-- a completion waits for nothing
+completion_free : {A : Type 0} (told : Told) (what : EventKind A) → told_in what ≡ Some told
+    → must_wait what ≡ true → ⊥
+completion_free told (Read window offset width) is waits = cc
+completion_free told (Write window offset width value) is waits = cc
+completion_free told (MemRead addr len) is waits = cc
+completion_free told (MemWrite addr bytes) is waits = cc
+completion_free told (Input bytes) is waits = cc
+completion_free told (Resize cols rows) is waits = cc
+completion_free told (Restore bytes) is waits = cc
+completion_free told (Complete tag verdict) is waits = cc
+
+waits_gives : {A : Type 0} (Beside : Outcome A → Type 0) (state : SlotState) (what : EventKind A)
+    (outcome : Outcome A) (told : Option Told) → told_in what ≡ told → waits_now what state.host ≡ true
+    → CompletesOrGives Beside told state what outcome → outcome.reply ≡ reply.Busy
+waits_gives {A} Beside state what outcome None own holds h =
+    ap (λ (o : Outcome A). o.reply)
+    (subst (λ (waits : Bool). OwnGives Beside waits state what outcome) holds h)
+waits_gives Beside state what outcome (Some told) is holds h =
+    absurd (completion_free told what is (both_true (is_any (tags_in state.host)) (must_wait what) holds).1)
 
 waits_by : {A : Type 0} (host : Option HostDisk) (state : SlotState) (what : EventKind A) (old new : Health)
-    (outcome : Outcome A) → (is_some (flight_in host) && must_wait what) ≡ true
+    (outcome : Outcome A) → state.host ≡ host → waits_now what state.host ≡ true
     → MayGiveBy host state what old new outcome → outcome.reply ≡ reply.Busy
-waits_by None state what old new outcome holds h = absurd (cc (holds))
-waits_by {A} (Some disk) state what old new outcome holds h =
-    waits_way disk.flight state what old outcome holds
-    (way (λ (o : Outcome A). MayGiveOverImage state what old old o) disk.flight state what outcome h.gives)
+waits_by {A} None state what old new outcome is holds h =
+    let none : waits_now {A = A} what None ≡ true = ap (waits_now what) (sym is) ∙ holds in absurd (cc (none))
+waits_by {A} (Some disk) state what old new outcome is holds h =
+    waits_gives (λ (o : Outcome A). MayGiveOverImage state what old old o) state what outcome (told_in what) refl
+    holds h.gives
 
 -- and so no service of it begins
 held_part : {A : Type 0} (host : Option HostDisk) (state : SlotState) (what : EventKind A)
-    → (is_some (flight_in host) && must_wait what) ≡ true → has_part host what state ≡ true
-held_part None state what holds = absurd (cc (holds))
-held_part {A} (Some disk) state what holds = rw holds (by_verdict (verdict_in what))
+    → state.host ≡ host → waits_now what state.host ≡ true → has_part host what state ≡ true
+held_part {A} None state what is holds =
+    let none : waits_now {A = A} what None ≡ true = ap (waits_now what) (sym is) ∙ holds in absurd (cc (none))
+held_part {A} (Some disk) state what is holds = rw holds (by_told (told_in what))
   where
-    by_verdict : (v : Option Verdict) → (is_some v || true) ≡ true
-    by_verdict None = refl
-    by_verdict (Some verdict) = refl
+    by_told : (told : Option Told) → (is_some told || true) ≡ true
+    by_told None = refl
+    by_told (Some told) = refl
 
-held_asks : {A : Type 0} (state : SlotState) (what : EventKind A)
-    → (is_some (flight_in state.host) && must_wait what) ≡ true → asked what state ≡ None
-held_asks state what holds = rw (held_part state.host state what holds) refl
+held_asks : {A : Type 0} (state : SlotState) (what : EventKind A) → waits_now what state.host ≡ true
+    → asked what state ≡ None
+held_asks state what holds = rw (held_part state.host state what refl holds) refl
 
 -- what a completion finds
-rests_way : {A : Type 0} (flight : Option InFlight) (state : SlotState) (verdict : Verdict) (health : Health)
-    (outcome : Outcome A)
-    → Way (λ (o : Outcome A). MayGiveOverImage state (Complete verdict) health health o) flight state
-    (Complete verdict) outcome → (outcome.reply ≡ reply.Idle) ↔ (flight ≡ None)
-rests_way flight state verdict health outcome (Waits here flies waits h) = absurd (cc (waits))
-rests_way flight state verdict health outcome (Passes own free quiet h) = absurd (cc (own))
-rests_way flight state verdict health outcome (Looks none rings looks h) = absurd (cc (rings))
-rests_way flight state verdict health outcome (Stands here flies free rings h) = absurd (cc (rings))
-rests_way flight state verdict health outcome (Rests told completes none h) =
-    (λ is. none, λ is. ap (λ o. o.reply) h)
-rests_way flight state verdict health outcome (Lands told completes here flies lands h) =
-    let done = ap (λ o. o.reply) h in (λ is. absurd (cc), λ none. absurd (cc))
+rests_at : {A : Type 0} (state : SlotState) (told : Told) (outcome : Outcome A) (flight : Option InFlight)
+    → CompletionGives flight told state outcome → (outcome.reply ≡ reply.Idle) ↔ (flight ≡ None)
+rests_at {A} state told outcome None h = (λ is. refl, λ is. ap (λ (o : Outcome A). o.reply) h)
+rests_at {A} state told outcome (Some here) h =
+    let done : outcome.reply ≡ reply.Done = ap (λ (o : Outcome A). o.reply) h.1 in
+    (λ is. absurd (cc (done, is)), λ none. absurd (cc (none)))
 
-rests_by : {A : Type 0} (host : Option HostDisk) (state : SlotState) (verdict : Verdict) (old new : Health)
-    (outcome : Outcome A) → MayGiveBy host state (Complete verdict) old new outcome
-    → (outcome.reply ≡ reply.Idle) ↔ (flight_in host ≡ None)
-rests_by {A} None state verdict old new outcome (inl served) =
-    (λ is. refl, λ none. ap (λ (o : Outcome A). o.reply) served.alike.alike)
-rests_by None state verdict old new outcome (inr never) = absurd never
-rests_by {A} (Some disk) state verdict old new outcome h =
-    rests_way disk.flight state verdict old outcome
-    (way (λ (o : Outcome A). MayGiveOverImage state (Complete verdict) old old o) disk.flight state
-    (Complete verdict) outcome h.gives)
+rests_by : {A : Type 0} (host : Option HostDisk) (state : SlotState) (tag : ℕ) (verdict : Verdict)
+    (old new : Health) (outcome : Outcome A) → state.host ≡ host
+    → MayGiveBy host state (Complete tag verdict) old new outcome
+    → (outcome.reply ≡ reply.Idle) ↔ (get_or (tags_in state.host) tag None ≡ None)
+rests_by {A} None state tag verdict old new outcome is (inl served) = (
+  λ idle. ap (λ (host : Option HostDisk). get_or (tags_in host) tag None) is,
+  λ none. ap (λ (o : Outcome A). o.reply) served.alike.alike,
+)
+rests_by None state tag verdict old new outcome is (inr never) = absurd never
+rests_by (Some disk) state tag verdict old new outcome is h =
+    rests_at state (record { tag = tag; verdict = verdict }) outcome (get_or (tags_in state.host) tag None) h.gives
 
 -- ---- the refusal that a response says
 
@@ -291,7 +278,7 @@ module _ {A : Type 0} (old new : SessionState) (event : Event A)
     idle = idle_at old event.slot (Some None) here refl
 
     abbrev Held : Type 0
-    Held = (is_some (flight_in found.host) && must_wait event.what) ≡ true
+    Held = waits_now event.what found.host ≡ true
 
     holds : Held → HoldsUp event.slot event.what old.slots
     holds is = rw there is
@@ -311,13 +298,13 @@ module _ {A : Type 0} (old new : SessionState) (event : Event A)
           );
           busy = (
             λ is.
-                inr (holds (busy_by found.host (state_of old.image found) event.what _ came.after came.outcome
+                inr (holds (busy_by (state_of old.image found) event.what _ came.after came.outcome
                 came.given (came.said ∙ busy_says.0 is))),
             λ either. elim either [
               | inl paused ↦ absurd (paused idle)
               | inr waits ↦ busy_says.1 (sym came.said
                   ∙ waits_by found.host (state_of old.image found) event.what _ came.after came.outcome
-                  (held waits) came.given)
+                  refl (held waits) came.given)
             ],
           );
           no_room = λ is any. puts_at (slice_get old.slots event.slot) old.image event.what any
@@ -372,7 +359,7 @@ module _ {A : Type 0} (old new : SessionState) (event : Event A)
     where
       past_holds : (o : Option BoardSlot) → slice_get old.slots event.slot ≡ o
           → length old.slots ≤ event.slot
-          → IsSomeAnd o (λ s. (is_some (flight_in s.host) && must_wait event.what) ≡ true) → ⊥
+          → IsSomeAnd o (λ s. waits_now event.what s.host ≡ true) → ⊥
       past_holds None is far waits = waits
       past_holds (Some s) is far waits =
           let fits = slice_get_within old.slots event.slot s is in omega (arith, fits, far)
@@ -444,34 +431,34 @@ only_paused old slot what free says = (
 )
   where
     free_holds : (o : Option BoardSlot)
-        → IsSomeAnd o (λ s. (is_some (flight_in s.host) && must_wait what) ≡ true) → ⊥
+        → IsSomeAnd o (λ s. waits_now what s.host ≡ true) → ⊥
     free_holds None waits = waits
     free_holds (Some s) waits =
-        let never = (both_true (is_some (flight_in s.host)) (must_wait what) waits).1 in cc (never, free)
+        let never = (both_true (is_any (tags_in s.host)) (must_wait what) waits).1 in cc (never, free)
 
 -- ---- a completion
 
-module _ {A : Type 0} (old new : SessionState) (slot : ℕ) (verdict : Verdict)
+module _ {A : Type 0} (old new : SessionState) (slot tag : ℕ) (verdict : Verdict)
     (many : length old.paused ≡ length old.slots) where
   abbrev completion : Event A
-  completion = record { slot = slot; what = Complete verdict }
+  completion = record { slot = slot; what = Complete tag verdict }
 
   completed : (here : slice_get old.paused slot ≡ Some None) (answer : Reply A)
       → IsStep old completion answer new
-      → (refusal_of (Answered answer) ≡ Some refusal.Idle) ↔ (IsIdle slot old × HasNoFlight slot old.slots)
+      → (refusal_of (Answered answer) ≡ Some refusal.Idle) ↔ (IsIdle slot old × HasFree slot tag old.slots)
   completed here answer h =
       let slot_there = there old new completion many here in
       let one = found old new completion many here in
       let came = gave old new completion answer one slot_there h in
       let says = says_idle answer in
-      let rests = rests_by one.host (state_of old.image one) verdict _ came.after came.outcome came.given in (
+      let rests = rests_by one.host (state_of old.image one) tag verdict _ came.after came.outcome refl came.given in (
         λ is. (idle old new completion many here, rw slot_there (rests.0 (came.said ∙ says.0 is))),
         λ rest. says.1 (sym came.said ∙ rests.1 (rw slot_there at (rest.1))),
       )
 
   idle_exact_at : (response : Response A) (o : Option (Option Pause)) → slice_get old.paused slot ≡ o
       → ComesTo (Handle completion) o old response new → IsWhole old completion response new
-      → (refusal_of response ≡ Some refusal.Idle) ↔ (IsIdle slot old × HasNoFlight slot old.slots)
+      → (refusal_of response ≡ Some refusal.Idle) ↔ (IsIdle slot old × HasFree slot tag old.slots)
   idle_exact_at response None is comes whole =
       let past : length old.slots ≤ slot = grind (arith, many, slice_get_cases old.paused slot) in
       rw (comes.0) (
@@ -480,7 +467,7 @@ module _ {A : Type 0} (old new : SessionState) (slot : ℕ) (verdict : Verdict)
       )
     where
       past_rests : (o : Option BoardSlot) → slice_get old.slots slot ≡ o → length old.slots ≤ slot
-          → IsSomeAnd o (λ s. flight_in s.host ≡ None) → ⊥
+          → IsSomeAnd o (λ s. get_or (tags_in s.host) tag None ≡ None) → ⊥
       past_rests None is far rests = rests
       past_rests (Some s) is far rests =
           let fits = slice_get_within old.slots slot s is in omega (arith, fits, far)
@@ -492,18 +479,18 @@ module _ {A : Type 0} (old new : SessionState) (slot : ℕ) (verdict : Verdict)
     where
       pauses_never : (state : SlotState) (before after : Health) (last : SlotState) (output : List ℕ)
           (t : Turn A) → More ≡ response_to t
-          → Begins (Complete verdict) old.budget state before after last output t → ⊥
+          → Begins (Complete tag verdict) old.budget state before after last output t → ⊥
       pauses_never state before after last output (turn.Answered reply) told h = cc (told)
       pauses_never state before after last output (turn.More pause) told h =
-          asks_none (Complete verdict) old.budget state before after last output pause refl h
+          asks_none (Complete tag verdict) old.budget state before after last output pause refl h
   idle_exact_at Busy (Some None) is comes whole = absurd (never_busy comes.turn.turn (sym comes.turn.told))
   idle_exact_at Idle (Some None) is comes whole = absurd (never_idle comes.turn.turn (sym comes.turn.told))
 
-pub idle_exact : {A : Type 0} (old new : SessionState) (slot : ℕ) (verdict : Verdict) (response : Response A)
-    → length old.paused ≡ length old.slots → IsEventCall old slot (Complete verdict) response new
-    → (refusal_of response ≡ Some refusal.Idle) ↔ (IsIdle slot old × HasNoFlight slot old.slots)
-idle_exact old new slot verdict response many call =
-    idle_exact_at old new slot verdict many response (slice_get old.paused slot) refl call.turn call.whole
+pub idle_exact : {A : Type 0} (old new : SessionState) (slot tag : ℕ) (verdict : Verdict) (response : Response A)
+    → length old.paused ≡ length old.slots → IsEventCall old slot (Complete tag verdict) response new
+    → (refusal_of response ≡ Some refusal.Idle) ↔ (IsIdle slot old × HasFree slot tag old.slots)
+idle_exact old new slot tag verdict response many call =
+    idle_exact_at old new slot tag verdict many response (slice_get old.paused slot) refl call.turn call.whole
 
 -- ---- a range that doesn't lie in the memory
 

@@ -1,5 +1,5 @@
 -- What waits for what is in flight changes nothing, and what is in flight stays so.
-use Rattle.std.proofs.Common.{◌≡◌, ◌≢◌, inl, inr, ℕ, Bool, true, List, [], ◌++◌, Option, Some, None, refl, sym, ◌∙◌, ap, subst, append-nil}
+use Rattle.std.proofs.Common.{◌≡◌, ◌≢◌, inl, inr, ℕ, Bool, true, List, [], ◌++◌, get_or, Option, Some, None, refl, sym, ◌∙◌, ap, subst, append-nil}
 use Rattle.std.specs.Prelude.{MatchOption, nat_lt, slice_set}
 use Rattle.std.specs.List.{slice_get}
 use Rattle.std.specs.Option.{option_and_then}
@@ -9,8 +9,9 @@ use Rattle.board.specs.declared.pause.Pause.{Pause}
 use Rattle.board.specs.declared.reply.Reply.{Reply}
 use Rattle.board.specs.declared.reply.Reply.TheVariants as reply
 use Rattle.board.specs.declared.reply.Record.{Record}
-use Rattle.board.specs.Backing.{InFlight, flight_in}
-use Rattle.board.specs.Hosting.{IsOwn, must_wait}
+use Rattle.block_device.specs.Flights.{InFlight}
+use Rattle.board.specs.Backing.{HostDisk, tags_in}
+use Rattle.board.specs.Hosting.{must_wait, tag_in}
 use Rattle.board.specs.Image.{Health}
 use Rattle.board.specs.Outcome.{Outcome, replies}
 use Rattle.board.specs.Slot.{BoardSlot, SlotState}
@@ -31,7 +32,7 @@ use Rattle.session.proofs.Places.{set_same}
 use Rattle.session.proofs.PacedCalls.{never_busy, never_idle}
 use Rattle.session.proofs.Waiting.{others_wait, same_outlet}
 
--- ---- an event that waits, and a completion of nothing
+-- ---- an event that waits, and a completion of a free tag
 
 -- an event that is answered so stays where it was
 record Stays {A : Type 0} (state : SlotState) (before after : Health) (outcome : Outcome A) : Type 0 where
@@ -148,62 +149,70 @@ called_others old new (GoOn slot) response (Some None) h =
     λ other differ. ap (λ (s : SessionState). slice_get s.slots other) h.1
 called_others old new (GoOn slot) response (Some (Some pause)) h = h.others
 
+-- what is in flight with a tag
+abbrev flight_of : ℕ → Option HostDisk → Option InFlight
+flight_of tag host = get_or (tags_in host) tag None
+
 -- an event that is answered keeps what is in flight of its slot
-step_flies : {A : Type 0} (old new : SessionState) (event : Event A) (told : Reply A) (here : InFlight)
+step_flies : {A : Type 0} (old new : SessionState) (event : Event A) (told : Reply A) (tag : ℕ) (here : InFlight)
     (o : Option SlotState) (h : IsStep old event told new) → slice_get (world_of old).slots event.slot ≡ o
-    → IsOwn event.what → option_and_then (λ (state : SlotState). flight_in state.host) o ≡ Some here
+    → tag_in event.what ≢ Some tag → option_and_then (λ (state : SlotState). flight_of tag state.host) o ≡ Some here
     → MatchOption o (MissingStep (world_of old) event.slot h.answers.written (world_of new))
     (λ state. SlotStep (world_of old) event.slot state event.what h.answers.written (world_of new))
-    → option_and_then (λ (state : SlotState). flight_in state.host)
+    → option_and_then (λ (state : SlotState). flight_of tag state.host)
     (slice_get (world_of new).slots event.slot) ≡ Some here
-step_flies old new event told here None h there own flies step = absurd (cc (flies))
-step_flies old new event told here (Some state) h there own flies step =
-    ap (λ (o : Option SlotState). option_and_then (λ (s : SlotState). flight_in s.host) o)
+step_flies old new event told tag here None h there other flies step = absurd (cc (flies))
+step_flies old new event told tag here (Some state) h there other flies step =
+    ap (λ (o : Option SlotState). option_and_then (λ (s : SlotState). flight_of tag s.host) o)
     (ap (λ (states : List SlotState). slice_get states event.slot) step.slots
     ∙ get_set (world_of old).slots event.slot state step.outcome.state there)
-    ∙ outlasts state here event.what (world_of old).health (world_of new).health step.outcome own flies
+    ∙ outlasts state tag here event.what (world_of old).health (world_of new).health step.outcome flies other
     step.given
 
-own_flies : {A : Type 0} (old new : SessionState) (event : Event A) (response : Response A)
-    (here : InFlight) (o : Option (Option Pause)) → IsOwn event.what
+own_flies : {A : Type 0} (old new : SessionState) (event : Event A) (response : Response A) (tag : ℕ)
+    (here : InFlight) (o : Option (Option Pause)) → tag_in event.what ≢ Some tag
     → ComesTo (Handle event) o old response new → IsWhole old event response new
-    → flight_at event.slot old.slots ≡ Some here → flight_at event.slot new.slots ≡ Some here
-own_flies old new event (Answered told) here o own comes whole flies =
-    seen_at flight_in new.slots new.image event.slot
-    ∙ step_flies old new event told here (slice_get (world_of old).slots event.slot) whole refl own
-    (sym (seen_at flight_in old.slots old.image event.slot) ∙ flies) whole.answers.step
-own_flies old new event More here o own comes whole flies =
-    pausing_keeps flight_in old new event o comes ∙ flies
-own_flies old new event Busy here None own comes whole flies =
-    ap (λ (s : SessionState). flight_at event.slot s.slots) comes.1 ∙ flies
-own_flies old new event Busy here (Some None) own comes whole flies =
+    → flight_at event.slot tag old.slots ≡ Some here → flight_at event.slot tag new.slots ≡ Some here
+own_flies old new event (Answered told) tag here o other comes whole flies =
+    seen_at (flight_of tag) new.slots new.image event.slot
+    ∙ step_flies old new event told tag here (slice_get (world_of old).slots event.slot) whole refl other
+    (sym (seen_at (flight_of tag) old.slots old.image event.slot) ∙ flies) whole.answers.step
+own_flies old new event More tag here o other comes whole flies =
+    pausing_keeps (flight_of tag) old new event o comes ∙ flies
+own_flies old new event Busy tag here None other comes whole flies =
+    ap (λ (s : SessionState). flight_at event.slot tag s.slots) comes.1 ∙ flies
+own_flies old new event Busy tag here (Some None) other comes whole flies =
     absurd (never_busy comes.turn.turn (sym comes.turn.told))
-own_flies old new event Busy here (Some (Some pause)) own comes whole flies =
-    ap (λ (s : SessionState). flight_at event.slot s.slots) comes.1 ∙ flies
-own_flies old new event Idle here None own comes whole flies =
-    ap (λ (s : SessionState). flight_at event.slot s.slots) comes.1 ∙ flies
-own_flies old new event Idle here (Some None) own comes whole flies =
+own_flies old new event Busy tag here (Some (Some pause)) other comes whole flies =
+    ap (λ (s : SessionState). flight_at event.slot tag s.slots) comes.1 ∙ flies
+own_flies old new event Idle tag here None other comes whole flies =
+    ap (λ (s : SessionState). flight_at event.slot tag s.slots) comes.1 ∙ flies
+own_flies old new event Idle tag here (Some None) other comes whole flies =
     absurd (never_idle comes.turn.turn (sym comes.turn.told))
-own_flies old new event Idle here (Some (Some pause)) own comes whole flies =
-    ap (λ (s : SessionState). flight_at event.slot s.slots) comes.1 ∙ flies
+own_flies old new event Idle tag here (Some (Some pause)) other comes whole flies =
+    ap (λ (s : SessionState). flight_at event.slot tag s.slots) comes.1 ∙ flies
 
-called_flies : {A : Type 0} (old new : SessionState) (call : Call A) (response : Response A)
-    (here : InFlight) → IfEvent call (λ event. IsOwn event.what) → IsCalled old call response new
-    → flight_at (slot_in call) old.slots ≡ Some here → flight_at (slot_in call) new.slots ≡ Some here
-called_flies old new (Handle event) response here own h flies =
-    own_flies old new event response here (slice_get old.paused event.slot) own h.turn h.whole flies
-called_flies old new (GoOn slot) response here own h flies =
-    going_on_keeps flight_in old new slot response (slice_get old.paused slot) h ∙ flies
+-- no completion of this tag of a slot
+abbrev IsOther : {A : Type 0} → ℕ → ℕ → Call A → Type 0
+IsOther slot tag call = IfEvent call (λ event. event.slot ≡ slot → tag_in event.what ≢ Some tag)
 
-pub flies_on : {A : Type 0} (old new : SessionState) (call : Call A) (response : Response A) (slot : ℕ)
-    (here : InFlight) → IfEvent call (λ event. IsOwn event.what) → IsCalled old call response new
-    → flight_at slot old.slots ≡ Some here → flight_at slot new.slots ≡ Some here
-flies_on old new call response slot here own h flies =
+called_flies : {A : Type 0} (old new : SessionState) (call : Call A) (response : Response A) (slot tag : ℕ)
+    (here : InFlight) → slot_in call ≡ slot → IsOther slot tag call → IsCalled old call response new
+    → flight_at (slot_in call) tag old.slots ≡ Some here → flight_at (slot_in call) tag new.slots ≡ Some here
+called_flies old new (Handle event) response slot tag here is other h flies =
+    own_flies old new event response tag here (slice_get old.paused event.slot) (other is) h.turn h.whole flies
+called_flies old new (GoOn own) response slot tag here is other h flies =
+    going_on_keeps (flight_of tag) old new own response (slice_get old.paused own) h ∙ flies
+
+pub flies_on : {A : Type 0} (old new : SessionState) (call : Call A) (response : Response A) (slot tag : ℕ)
+    (here : InFlight) → IsOther slot tag call → IsCalled old call response new
+    → flight_at slot tag old.slots ≡ Some here → flight_at slot tag new.slots ≡ Some here
+flies_on old new call response slot tag here other h flies =
     elim (cases_eq (slot_in call) slot) [
-      | inl is ↦ subst (λ k. flight_at k new.slots ≡ Some here) is
-          (called_flies old new call response here own h
-          (subst (λ k. flight_at k old.slots ≡ Some here) (sym is) flies))
-      | inr other ↦ ap (λ (o : Option BoardSlot). option_and_then (λ (found : BoardSlot). flight_in found.host) o)
+      | inl is ↦ subst (λ k. flight_at k tag new.slots ≡ Some here) is
+          (called_flies old new call response slot tag here is other h
+          (subst (λ k. flight_at k tag old.slots ≡ Some here) (sym is) flies))
+      | inr differs ↦ ap (λ (o : Option BoardSlot). option_and_then (λ (found : BoardSlot). flight_of tag found.host) o)
           (called_others old new call response (slice_get old.paused (slot_in call))
-          (by_pause old call response new h) slot (λ same. other (sym same))) ∙ flies
+          (by_pause old call response new h) slot (λ same. differs (sym same))) ∙ flies
     ]

@@ -41,12 +41,12 @@ front_by : (backing : Backing) (extent : Extent) (image : List ℕ)
     → bytes_by backing (record extent { start = 0 }) (bytes_by backing extent image)
     ≡ bytes_by backing extent image
 front_by Image extent image = front_of_part image extent.start extent.count
-front_by Host extent image = front_of_part image 0 0
+front_by (Host depth) extent image = front_of_part image 0 0
 
 host_of_count : (backing : Backing) (extent : Extent) → host_by backing (record extent { start = 0 })
     ≡ host_by backing extent
 host_of_count Image extent = refl
-host_of_count Host extent = refl
+host_of_count (Host depth) extent = refl
 
 seen_as : (spec : SlotSpec) (bytes bytes' : List ℕ) (host host' : Option HostDisk) → bytes ≡ bytes'
     → host ≡ host'
@@ -142,7 +142,7 @@ fits_by : (backing : Backing) (extent : Extent) (image : List ℕ)
     → IsWithin (room_by backing (length (bytes_by backing extent image) / 512))
     (place_by backing (record extent { start = 0 }))
 fits_by Image extent image fits = has_sectors extent image fits
-fits_by Host extent image fits = fits
+fits_by (Host depth) extent image fits = fits
 
 outlet_at : (guests : List GuestSpec) (g : ℕ) (guest : GuestSpec) → slice_get guests g ≡ Some guest
     → AreOutlets guests → guest.outlet ≤ 2 ^ 24
@@ -166,6 +166,7 @@ good_alone : (guest : GuestSpec) (image : List ℕ) (earlier : List SlotSpec)
 good_alone guest image earlier good =
     record {
       memory = good.memory;
+      depth = good.depth;
       within = fits_by guest.slot.backing guest.slot.extent image good.within;
       apart = λ k d fits. absurd (omega (arith, fits));
     }

@@ -424,7 +424,7 @@ gave {A} (Input bytes) state pause new out asks e =
     }) e
 gave (Resize cols rows) state pause new out asks e = absurd (cc)
 gave (Restore bytes) state pause new out asks e = absurd (cc)
-gave (Complete verdict) state pause new out asks e = absurd (cc)
+gave (Complete tag verdict) state pause new out asks e = absurd (cc)
 
 -- and whoever has the guest's disk
 next_by : {A : Type 0} (host : Option HostDisk) (what : EventKind A) (state : SlotState) (outcome : Outcome A)

@@ -7,8 +7,9 @@ use Rattle.board.specs.declared.event.EventKind.TheVariants.{Read, Write, MemRea
 use Rattle.board.specs.declared.pause.Pause.{Pause}
 use Rattle.board.specs.declared.pause.Service.{Service}
 use Rattle.board.specs.declared.pause.Service.TheVariants.{Block, Receive, Transmit}
-use Rattle.board.specs.Backing.{HostDisk, InFlight}
-use Rattle.board.specs.Hosting.{has_part, is_block_task, must_wait, notifies_block, verdict_in}
+use Rattle.block_device.specs.Flights.{is_any}
+use Rattle.board.specs.Backing.{HostDisk, tags_in}
+use Rattle.board.specs.Hosting.{has_part, is_block_task, must_wait, notifies_block, told_in}
 use Rattle.board.specs.Image.{Health}
 use Rattle.board.specs.Machine.{task_at}
 use Rattle.board.specs.Outcome.{Outcome}
@@ -21,18 +22,18 @@ use Rattle.board.proofs.OnHost.{passes_by, ringing_part}
 
 -- one that is an own one, waits for nothing, and doesn't notify the block device
 no_part : {A : Type 0} (host : Option HostDisk) (what : EventKind A) (state : SlotState)
-    → verdict_in what ≡ None → must_wait what ≡ false → notifies_block what state ≡ false
+    → told_in what ≡ None → must_wait what ≡ false → notifies_block what state ≡ false
     → has_part host what state ≡ false
 no_part None what state own free quiet = refl
-no_part (Some disk) what state own free quiet = rw (own, free, quiet) (at_flight disk.flight)
+no_part (Some disk) what state own free quiet = rw (own, free, quiet) (whatever (is_any (tags_in state.host)))
   where
-    at_flight : (flight : Option InFlight) → ((is_some flight && false) || false) ≡ false
-    at_flight None = refl
-    at_flight (Some here) = refl
+    whatever : (taken : Bool) → ((taken && false) || false) ≡ false
+    whatever true = refl
+    whatever false = refl
 
 -- so what comes of it over an image that stays as it is comes of it
 pub given : {A : Type 0} (state : SlotState) (what : EventKind A) (health : Health) (outcome : Outcome A)
-    → verdict_in what ≡ None → must_wait what ≡ false → notifies_block what state ≡ false
+    → told_in what ≡ None → must_wait what ≡ false → notifies_block what state ≡ false
     → MayGiveOverImage state what health health outcome → MayGive state what health health outcome
 given state what health outcome own free quiet h =
     passes_by state.host state what health outcome (no_part state.host what state own free quiet) h
@@ -86,7 +87,7 @@ block_rings (Input bytes) state pause asks is =
     absurd (cc (other))
 block_rings (Resize cols rows) state pause asks is = absurd (cc (asks))
 block_rings (Restore bytes) state pause asks is = absurd (cc (asks))
-block_rings (Complete verdict) state pause asks is = absurd (cc (asks))
+block_rings (Complete tag verdict) state pause asks is = absurd (cc (asks))
 
 -- so the host has no disk that such a service serves
 pub serves_itself : {A : Type 0} (what : EventKind A) (state : SlotState) (pause : Pause)

@@ -112,7 +112,7 @@ lacks_puts state (MemWrite addr bytes) why h = h
 lacks_puts state (Input bytes) why h = h
 lacks_puts state (Resize cols rows) why h = h
 lacks_puts state (Restore bytes) why h = h
-lacks_puts state (Complete verdict) why h = h
+lacks_puts state (Complete tag verdict) why h = h
 
 lacks_at : {A : Type 0} (o : Option BoardSlot) (image : List ℕ) (slot : BoardSlot) (what : EventKind A)
     → o ≡ Some slot → IsSomeAnd o (λ s. (bytes : List ℕ) → MayLackMemory (state_of bytes s) what)

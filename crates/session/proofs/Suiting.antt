@@ -1,5 +1,5 @@
 -- Which replies an event may get, and what it then puts out.
-use Rattle.std.proofs.Common.{◌≡◌, inl, inr, ℕ, List, [], ◌++◌, Option, Some, None, refl, sym, ◌∙◌, ap, subst, append-nil}
+use Rattle.std.proofs.Common.{◌≡◌, inl, inr, ℕ, Bool, true, false, get_or, List, [], ◌++◌, Option, Some, None, refl, sym, ◌∙◌, ap, subst, append-nil}
 use Rattle.std.specs.Prelude.{MatchOption}
 use Rattle.std.specs.List.{slice_get}
 use Rattle.chain.specs.declared.budget.Budget.{Budget}
@@ -16,12 +16,13 @@ use Rattle.board.specs.declared.reply.Reply.TheVariants as reply
 use Rattle.board.specs.Outcome.{Outcome}
 use Rattle.board.specs.Replies.{MayReply}
 use Rattle.board.specs.declared.pause.Pause.{Pause}
-use Rattle.board.specs.Backing.{HostDisk, InFlight}
+use Rattle.block_device.specs.Flights.{InFlight}
+use Rattle.board.specs.Backing.{HostDisk, tags_in}
+use Rattle.board.specs.Hosting.{CompletesOrGives, CompletionGives, LooksOrGives, OwnGives, Told, notifies_block, told_in, waits_now}
 use Rattle.board.specs.Pausing.{Begins, TurnsTo, asked, asked_over_image}
 use Rattle.board.specs.Slot.{SlotState}
 use Rattle.board.specs.World.{World, Answers, MayGive, MayGiveBy, MayGiveOverImage, MissingStep, SlotStep}
 use Rattle.board.proofs.Replies.{given_replies, of_read, of_write}
-use Rattle.board.proofs.Ways.{Lands, Looks, Passes, Rests, Stands, Waits, Way, way}
 use Rattle.session.specs.declared.response.Response.TheVariants.{More}
 use Rattle.session.specs.Pacing.{response_to}
 use Rattle.session.specs.Answering.{Suits, SuitsCall}
@@ -82,28 +83,35 @@ silent_over_image state (MemWrite addr bytes) old new outcome may (inr never) = 
 silent_over_image state (Input bytes) old new outcome may h = absurd may
 silent_over_image state (Resize cols rows) old new outcome may h = absurd may
 silent_over_image state (Restore bytes) old new outcome may h = absurd may
-silent_over_image state (Complete verdict) old new outcome may h = absurd may
+silent_over_image state (Complete tag verdict) old new outcome may h = absurd may
 
-silent_way : {A : Type 0} (flight : Option InFlight) (state : SlotState) (what : EventKind A) (health : Health)
-    (outcome : Outcome A) → MayReply what BadRange
-    → Way (λ (o : Outcome A). MayGiveOverImage state what health health o) flight state what outcome
-    → outcome.output ≡ []
-silent_way flight state what health outcome may (Waits here flies waits h) = ap (λ o. o.output) h
-silent_way flight state what health outcome may (Passes own free quiet h) =
-    silent_over_image state what health health outcome may h
-silent_way flight state what health outcome may (Looks none rings looks h) = ap (λ o. o.output) h
-silent_way flight state what health outcome may (Stands here flies free rings h) = ap (λ o. o.output) h
-silent_way flight state what health outcome may (Rests verdict completes none h) = ap (λ o. o.output) h
-silent_way flight state what health outcome may (Lands verdict completes here flies lands h) =
-    ap (λ o. o.output) h
+module _ {A : Type 0} (Beside : Outcome A → Type 0) (state : SlotState) (what : EventKind A)
+    (outcome : Outcome A) (silent : Beside outcome → outcome.output ≡ []) where
+  silent_looks : (rings : Bool) → LooksOrGives Beside rings state what outcome → outcome.output ≡ []
+  silent_looks true h = ap (λ (o : Outcome A). o.output) h.1
+  silent_looks false h = silent h
+
+  silent_own : (waits : Bool) → OwnGives Beside waits state what outcome → outcome.output ≡ []
+  silent_own true h = ap (λ (o : Outcome A). o.output) h
+  silent_own false h = silent_looks (notifies_block what state) h
+
+  silent_completion : (flight : Option InFlight) (told : Told) → CompletionGives flight told state outcome
+      → outcome.output ≡ []
+  silent_completion None told h = ap (λ (o : Outcome A). o.output) h
+  silent_completion (Some here) told h = ap (λ (o : Outcome A). o.output) h.1
+
+  silent_on_host : (told : Option Told) → CompletesOrGives Beside told state what outcome
+      → outcome.output ≡ []
+  silent_on_host None h = silent_own (waits_now what state.host) h
+  silent_on_host (Some told) h = silent_completion (get_or (tags_in state.host) told.tag None) told h
 
 silent_by : {A : Type 0} (host : Option HostDisk) (state : SlotState) (what : EventKind A) (old new : Health)
     (outcome : Outcome A) → MayReply what BadRange → MayGiveBy host state what old new outcome
     → outcome.output ≡ []
 silent_by None state what old new outcome may h = silent_over_image state what old new outcome may h
 silent_by {A} (Some disk) state what old new outcome may h =
-    silent_way disk.flight state what old outcome may
-    (way (λ (o : Outcome A). MayGiveOverImage state what old old o) disk.flight state what outcome h.gives)
+    silent_on_host (λ (o : Outcome A). MayGiveOverImage state what old old o) state what outcome
+    (silent_over_image state what old old outcome may) (told_in what) h.gives
 
 given_silent : {A : Type 0} (state : SlotState) (what : EventKind A) (old new : Health) (outcome : Outcome A)
     → MayReply what BadRange → MayGive state what old new outcome → outcome.output ≡ []
@@ -161,5 +169,5 @@ paused_suits (Resize cols rows) budget state before after new output (turn.More 
     asks_none (Resize cols rows) budget state before after new output pause refl h
 paused_suits (Restore bytes) budget state before after new output (turn.More pause) told h =
     asks_none (Restore bytes) budget state before after new output pause refl h
-paused_suits (Complete verdict) budget state before after new output (turn.More pause) told h =
-    asks_none (Complete verdict) budget state before after new output pause refl h
+paused_suits (Complete tag verdict) budget state before after new output (turn.More pause) told h =
+    asks_none (Complete tag verdict) budget state before after new output pause refl h

@@ -1,36 +1,48 @@
--- What the host is asked to do for a slot, and which events wait for it.
-use Rattle.std.specs.Prelude.{◌≡◌, ℕ, ◌&&◌, List, Option, None, IsSome, IsSomeAnd, IsTrue, is_some}
+-- What the host is asked to do for a slot, which events wait for it, and when an operation began.
+use Rattle.std.specs.Prelude.{◌≡◌, ◌≢◌, ℕ, ◌+◌, ◌^◌, List, Option, None, IsSomeAnd, IsTrue, get_or}
 use Rattle.std.specs.List.{slice_get}
-use Rattle.std.specs.Option.{option_and_then}
+use Rattle.std.specs.Option.{option_and_then, option_map}
 use Rattle.block_device.specs.declared.operation.Operation.{Operation}
+use Rattle.block_device.specs.Flights.{InFlight, is_any, operation_in, taken_bits}
 use Rattle.board.specs.declared.event.EventKind.{EventKind}
-use Rattle.board.specs.Backing.{InFlight, flight_in, operation_in}
-use Rattle.board.specs.Hosting.{must_wait}
+use Rattle.board.specs.Backing.{tags_in}
+use Rattle.board.specs.Hosting.{waits_now}
 use Rattle.board.specs.Slot.{BoardSlot}
 use Rattle.session.specs.Session.{SessionState}
 
--- what is in flight of a slot: nothing where its disk is of the image
-abbrev pub flight_at : ℕ → List BoardSlot → Option InFlight
-flight_at slot slots = option_and_then (λ found. flight_in found.host) (slice_get slots slot)
+-- what is in flight of a slot with this tag: nothing where its disk is of the image
+abbrev pub flight_at : ℕ → ℕ → List BoardSlot → Option InFlight
+flight_at slot tag slots = option_and_then (λ found. get_or (tags_in found.host) tag None) (slice_get slots slot)
 
--- what the host is asked to do for a slot: nothing where its disk is of the image
-abbrev pub operation_at : ℕ → List BoardSlot → Option Operation
-operation_at slot slots =
-    option_and_then (λ found. operation_in (flight_in found.host)) (slice_get slots slot)
+-- what the host is asked to do for a slot with this tag
+abbrev pub operation_at : ℕ → ℕ → List BoardSlot → Option Operation
+operation_at slot tag slots =
+    option_and_then (λ found. operation_in (get_or (tags_in found.host) tag None)) (slice_get slots slot)
 
--- a call put an operation in flight: nothing was before it, and something is now
+-- the tags that are in flight of a slot, as a set of bits: bit n is set where tag n is
+abbrev pub in_flight_at : ℕ → List BoardSlot → Option ℕ
+in_flight_at slot slots = option_map (λ found. taken_bits (tags_in found.host)) (slice_get slots slot)
+
+-- An operation began with a call that ends none: other tags are in flight than before it.
 abbrev pub HasAsked : ℕ → SessionState → SessionState → Type 0
-HasAsked slot old new = (operation_at slot old.slots ≡ None) × IsSome (operation_at slot new.slots)
+HasAsked slot old new = in_flight_at slot new.slots ≢ in_flight_at slot old.slots
+
+-- An operation began with the completion of a tag: the tags that are in flight, and this one beside them, are
+-- other than those that were before it.
+abbrev pub HasAskedBeside : ℕ → ℕ → SessionState → SessionState → Type 0
+HasAskedBeside slot tag old new =
+    option_map (λ taken. taken + 2 ^ tag) (in_flight_at slot new.slots) ≢ in_flight_at slot old.slots
 
 -- the slot is there, and something of it is in flight
 abbrev pub HasFlight : ℕ → List BoardSlot → Type 0
-HasFlight slot slots = IsSomeAnd (slice_get slots slot) (λ found. IsSome (flight_in found.host))
+HasFlight slot slots = IsSomeAnd (slice_get slots slot) (λ found. IsTrue (is_any (tags_in found.host)))
 
--- or nothing is
-abbrev pub HasNoFlight : ℕ → List BoardSlot → Type 0
-HasNoFlight slot slots = IsSomeAnd (slice_get slots slot) (λ found. flight_in found.host ≡ None)
+-- or nothing is with this tag
+abbrev pub HasFree : ℕ → ℕ → List BoardSlot → Type 0
+HasFree slot tag slots =
+    IsSomeAnd (slice_get slots slot) (λ found. get_or (tags_in found.host) tag None ≡ None)
 
 -- the slot is there, and an event of it waits for what is in flight
 abbrev pub HoldsUp : {A : Type 0} → ℕ → EventKind A → List BoardSlot → Type 0
 HoldsUp slot what slots =
-    IsSomeAnd (slice_get slots slot) (λ found. IsTrue (is_some (flight_in found.host) && must_wait what))
+    IsSomeAnd (slice_get slots slot) (λ found. IsTrue (waits_now what found.host))

@@ -1,15 +1,15 @@
 //! What holds of every session, by itself. The bodies are empty: each contract is a theorem.
 
-ghost use Rattle.std.specs.Prelude.{◌≡◌, ◌/◌, ℕ, List, [], ◌∷◌, length, Some, true, false};
+ghost use Rattle.std.specs.Prelude.{◌≡◌, ◌≢◌, ◌/◌, ℕ, List, [], ◌∷◌, length, Some, true, false};
 ghost use Rattle.std.specs.List.{slice_get};
 ghost use Rattle.chain.specs.declared.budget.Budget.{Budget};
 ghost use Rattle.guest_memory.specs.Memory.{Inside, Memory, SameRange, stored};
 ghost use Rattle.board.specs.declared.event.Event.{Event};
 ghost use Rattle.board.specs.declared.event.EventKind.{EventKind};
 ghost use Rattle.board.specs.declared.reply.Reply.{Reply};
-ghost use Rattle.board.specs.Backing.{InFlight};
+ghost use Rattle.block_device.specs.Flights.{InFlight};
 ghost use Rattle.board.specs.Fault.{IsAccepted};
-ghost use Rattle.board.specs.Hosting.{IsOwn, must_wait};
+ghost use Rattle.board.specs.Hosting.{must_wait, tag_in};
 ghost use Rattle.board.specs.Pausing.{HasLimit};
 ghost use Rattle.board.specs.Slot.{BoardSlot, SlotState, state_of};
 ghost use Rattle.board.specs.Untouched.{touches_memory};
@@ -127,15 +127,16 @@ pub fn a_write_in_place_is_an_event<A: Allocator>()
         (Response.Answered Reply.Done) (with_slot_bytes slot addr old bytes) }
 {}
 
-/// What is in flight of a slot stays in flight, whatever is called, for its guest or for others: only the completion ends it.
+/// What is in flight of a slot stays in flight, whatever is called, for its guest or for others, and whatever else is
+/// completed: only the completion of its tag ends it.
 pub fn a_flight_outlasts_own_events<A: Allocator>()
-    ensures { (old new : SessionState) (call : Call A) (response : Response A) (slot : ℕ) (here : InFlight) →
-        IfEvent call (λ event. IsOwn event.what) → IsCalled old call response new →
-        flight_at slot old.slots ≡ Some here → flight_at slot new.slots ≡ Some here }
+    ensures { (old new : SessionState) (call : Call A) (response : Response A) (slot tag : ℕ) (here : InFlight) →
+        IfEvent call (λ event. event.slot ≡ slot → tag_in event.what ≢ Some tag) → IsCalled old call response new →
+        flight_at slot tag old.slots ≡ Some here → flight_at slot tag new.slots ≡ Some here }
 {}
 
 /// An event that waits for what is in flight changes nothing, and only two writes and a restore may wait; nor does a
-/// completion of nothing.
+/// completion of a free tag.
 pub fn what_waits_changes_nothing<A: Allocator>()
     ensures busy { (old new : SessionState) (event : Event A) →
         IsStep old event Reply.Busy new → IsKept old new × (must_wait event.what ≡ true) }

@@ -1,6 +1,7 @@
 //! What a call came to.
 
-ghost use Rattle.std.specs.Prelude.{◌≡◌, ◌≢◌, ◌↔◌, ◌&&◌, not, IfOk, IsTrue};
+ghost use Rattle.std.specs.Prelude.{◌≡◌, ◌≢◌, ◌↔◌, ◌+◌, ◌^◌, IfOk, IsTrue};
+ghost use Rattle.std.specs.Option.{option_map};
 ghost use Rattle.session.specs.declared.progress.Progress.{Progress};
 ghost use Rattle.session.specs.declared.response.Response.{Response};
 ghost use Rattle.session.specs.Answering.{IsServing, Means, served_response};
@@ -17,11 +18,12 @@ pub enum Progress {
     Done,
     /// The service is paused: `go_on` goes on with it.
     More,
-    /// It is done, and put an operation in flight, which is told this once: `operation` says what the host is asked.
+    /// It is done, and operations began with it, which is told this once: `in_flight` says which tags are in flight, and
+    /// `operation` what the host is asked.
     Asks,
 }
 
-/// What a write or a completion is answered, by whether it put an operation in flight.
+/// What a write or a completion is answered, by whether an operation began with it.
 #[inline(always)]
 pub(crate) fn served<A: Allocator>(response: Response<A>, asks: bool) -> Result<Progress, Refusal>
     requires { IsServing response }
@@ -36,15 +38,35 @@ pub(crate) fn served<A: Allocator>(response: Response<A>, asks: bool) -> Result<
     }
 }
 
-/// Whether a call asked the host for something, by whether something was in flight before it and is behind it.
+/// Whether an operation began with a call that ends none, by the tags in flight before and after it.
 #[inline(always)]
-pub(crate) fn has_asked(before: bool, after: bool) -> bool
-    ensures { result ≡ (not before && after) }
+pub(crate) fn has_asked(before: Option<u64>, after: Option<u64>) -> bool
+    ensures { IsTrue result ↔ (after ≢ before) }
 {
-    !before && after
+    after != before
 }
 
-// What a call that is done came to, by whether it put an operation in flight.
+/// Whether an operation began with the completion of a tag, by the tags in flight before and after it.
+#[inline(always)]
+pub(crate) fn has_asked_beside(tag: u8, before: Option<u64>, after: Option<u64>) -> bool
+    ensures { IsTrue result ↔ (option_map (λ taken. taken + 2 ^ tag) after ≢ before) }
+{
+    match (before, after) {
+        (Some(before), Some(after)) => !is_with(after, tag, before),
+        (None, None) => false,
+        _ => true,
+    }
+}
+
+// Whether these tags and one more are those.
+#[inline(always)]
+fn is_with(taken: u64, tag: u8, all: u64) -> bool
+    ensures { IsTrue result ↔ (taken + 2 ^ tag ≡ all) }
+{
+    tag < 64 && all.checked_sub(1 << tag) == Some(taken)
+}
+
+// What a call that is done came to, by whether an operation began with it.
 #[inline(always)]
 fn ended(asks: bool) -> Progress
     ensures asks { (result ≡ Progress.Asks) ↔ IsTrue asks }

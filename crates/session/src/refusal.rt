@@ -24,8 +24,8 @@ pub enum Refusal {
     /// A service of the slot is paused, or the event waits for what is in flight of it. Nothing has changed.
     #[error("a service of the guest is paused, or its disk is at work")]
     Busy,
-    /// Nothing of the slot is in flight. Nothing has changed.
-    #[error("nothing that the host does for the guest is in flight")]
+    /// Nothing of the slot is in flight with this tag. Nothing has changed.
+    #[error("nothing that the host does for the guest is in flight with this tag")]
     Idle,
 }
 

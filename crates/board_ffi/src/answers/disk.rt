@@ -1,7 +1,7 @@
 //! What a guest's disk is asked for, and what came of it.
 
 ghost use Rattle.std.specs.Prelude.{◌≡◌, ◌≢◌};
-ghost use Rattle.board_ffi.specs.Calls.{Completes, IsAskedFor, IsAtRest, TellsOf};
+ghost use Rattle.board_ffi.specs.Calls.{Completes, HasInFlight, IsAskedFor, IsAtRest, IsMissing, TellsOf};
 ghost use Rattle.board_ffi.specs.Codes.{code_at};
 ghost use Rattle.board_ffi.specs.Events.{verdict_of};
 
@@ -10,18 +10,32 @@ use crate::operation::{Operation, Run, tell_runs};
 use crate::pending::Pending;
 use session::{Session, Told, Verdict};
 
-/// Tells what is in flight of a slot: the operation, and the first of its runs, as many as find room.
+/// Tells which tags of a slot are in flight.
+pub(crate) fn in_flight(session: &Session, slot: u8, tags: &mut u64) -> u32
+    ensures told { result ≡ 0 → HasInFlight slot tags.new session.now session.now }
+    ensures missing { result ≢ 0 → IsMissing slot result session.now session.now }
+    ensures kept { result ≢ 0 → tags.new ≡ tags.old }
+{
+    let Some(taken) = session.in_flight(slot) else {
+        return BAD_SLOT;
+    };
+    *tags = taken;
+    DONE
+}
+
+/// Tells what is in flight of a slot with this tag: the operation, and the first of its runs, as many as find room.
 pub(crate) fn operation(
     session: &Session,
     slot: u8,
+    tag: u8,
     operation: &mut Operation,
     runs: &mut [Run],
 ) -> u32
-    ensures told { result ≡ 0 → IsAskedFor slot operation.new runs.old runs.new session.now session.now }
-    ensures rests { result ≢ 0 → IsAtRest slot result session.now session.now }
+    ensures told { result ≡ 0 → IsAskedFor slot tag operation.new runs.old runs.new session.now session.now }
+    ensures rests { result ≢ 0 → IsAtRest slot tag result session.now session.now }
     ensures kept { result ≢ 0 → (operation.new ≡ operation.old) × (runs.new ≡ runs.old) }
 {
-    let (Some(asked), Some(found)) = (session.operation(slot), session.runs(slot)) else {
+    let (Some(asked), Some(found)) = (session.operation(slot, tag), session.runs(slot, tag)) else {
         return idle(slot, session.slots());
     };
     *operation = Operation::of(asked, found);
@@ -29,22 +43,28 @@ pub(crate) fn operation(
     DONE
 }
 
-/// Completes what is in flight of a slot, which was done or failed.
+/// Completes what is in flight of a slot with this tag, which was done or failed.
 #[tactic(auto, using(crate::proofs::Telling::tells))]
-pub(crate) fn completed(session: &mut Session, slot: u8, failed: bool, pending: &mut Pending) -> u32
-    ensures completes { Completes slot failed result session.old session.new }
+pub(crate) fn completed(
+    session: &mut Session,
+    slot: u8,
+    tag: u8,
+    failed: bool,
+    pending: &mut Pending,
+) -> u32
+    ensures completes { Completes slot tag failed result session.old session.new }
     ensures pending { TellsOf slot session.new pending.old pending.new }
 {
-    if session.operation(slot).is_none() {
+    if session.operation(slot, tag).is_none() {
         pending.tell(session, slot);
         return idle(slot, session.slots());
     }
-    let Told { answer, waits } = session.completed(slot, verdict(failed));
+    let Told { answer, waits } = session.completed(slot, tag, verdict(failed));
     pending.tell_waits(waits);
     of_served(answer)
 }
 
-// What is answered of a slot, of so many, of which nothing is in flight.
+// What is answered of a slot, of so many, of which nothing is in flight with a tag.
 fn idle(slot: u8, slots: usize) -> u32
     ensures { result ≡ code_at slot slots 21 }
 {

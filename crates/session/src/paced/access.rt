@@ -4,12 +4,13 @@
 ghost use Rattle.guest_memory.specs.Memory.{Inside, IsRest};
 ghost use Rattle.guest_memory.specs.Pages.{bits_of};
 ghost use Rattle.board.specs.Lending.{with_slot_bits};
-ghost use Rattle.std.specs.Prelude.{◌≡◌, ◌≢◌, ◌⊎◌, ◌↔◌, ◌<◌, ◌≤◌, length, [], None, Some, IfOk, IsErrOf, IsOk, IsSomeAnd, IsTrue, OnErr};
+ghost use Rattle.std.specs.Prelude.{◌≡◌, ◌≢◌, ◌⊎◌, ◌↔◌, ◌<◌, ◌≤◌, length, [], None, Some, IfOk, IsErrOf, IsOk, IsSomeAnd, IsTrue, OnErr, false};
 ghost use Rattle.std.specs.Borrow.{sem, u8, Array, Lends};
 ghost use Rattle.std.specs.List.{slice_get};
 ghost use Rattle.board.specs.declared.event.EventKind.{EventKind};
 ghost use Rattle.board.specs.declared.reply.Reply.{Reply};
-ghost use Rattle.board.specs.Backing.{flight_in};
+ghost use Rattle.block_device.specs.Flights.{is_any};
+ghost use Rattle.board.specs.Backing.{tags_in};
 ghost use Rattle.board.specs.Image.{Tells};
 ghost use Rattle.board.specs.declared.saved.RestoreFault.{RestoreFault};
 ghost use Rattle.board.specs.Pausing.{HasLimit};
@@ -169,7 +170,7 @@ impl<I: Image, A: Allocator> Paced<I, A> {
         // what was saved of a slot is taken by every slot of its description at rest, and brings it to its state
         ensures taken { (saved old new : BoardSlot) → IsSnapshotOf from.now saved →
             slice_get self.old.board.slots slot ≡ Some old → slice_get self.new.board.slots slot ≡ Some new →
-            IsLike saved old → paused_at self.old.paused slot ≡ None → flight_in old.host ≡ None →
+            IsLike saved old → paused_at self.old.paused slot ≡ None → is_any (tags_in old.host) ≡ false →
             IsOk result × IsAs saved old new }
         ensures kept { OnErr result (self.new ≡ self.old) }
         ensures missing { IsErrOf result RestoreRefusal.BadSlot ↔ (length self.old.board.slots ≤ slot) }

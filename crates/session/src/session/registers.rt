@@ -47,8 +47,8 @@ impl<A: Allocator + Copy> Session<A> {
     }
 
     /// A guest's write. What it notifies is served to its end, or until the budget is spent: then more is to come, and
-    /// `go_on` goes on with it. A disk that the host serves goes up to a request that asks for something; while that is in
-    /// flight a write of the block window's Status or QueueReady is busy. Where what the guest's console puts out doesn't fit
+    /// `go_on` goes on with it. A disk that the host serves goes on while a tag is free for each request that asks
+    /// for something; while one is taken a write of the block window's Status or QueueReady is busy. Where what the guest's console puts out doesn't fit
     /// behind what waits the write is refused: the chain stays on offer, those before it are served, and the same write goes
     /// on with it once there is room.
     pub fn write(
@@ -76,9 +76,9 @@ impl<A: Allocator + Copy> Session<A> {
             width,
             value,
         };
-        let before = self.is_asking(slot);
+        let before = self.in_flight(slot);
         let Turned { response, waits } = self.turn(slot, TurnKind::Begin(&what));
-        let after = self.is_asking(slot);
+        let after = self.in_flight(slot);
         let asks = has_asked(before, after);
         Told {
             answer: served(response, asks),

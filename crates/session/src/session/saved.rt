@@ -1,12 +1,13 @@
 //! A guest's devices, saved to a snapshot and brought back from one. Nothing here takes memory.
 
-ghost use Rattle.std.specs.Prelude.{◌≡◌, ◌⊎◌, ◌↔◌, ◌<◌, ◌≤◌, None, Some, IfOk, IsErrOf, IsOk, IsSomeAnd, OnErr, length};
+ghost use Rattle.std.specs.Prelude.{◌≡◌, ◌⊎◌, ◌↔◌, ◌<◌, ◌≤◌, Some, IfOk, IsErrOf, IsOk, IsSomeAnd, OnErr, false, length};
 ghost use Rattle.std.specs.List.{slice_get};
 ghost use Rattle.board.specs.declared.event.EventKind.{EventKind};
 ghost use Rattle.board.specs.declared.saved.RestoreFault.{RestoreFault};
 ghost use Rattle.board.specs.declared.saved.RestoreRefusal.{RestoreRefusal};
 ghost use Rattle.board.specs.declared.saved.SaveRefusal.{SaveRefusal};
-ghost use Rattle.board.specs.Backing.{flight_in};
+ghost use Rattle.block_device.specs.Flights.{is_any};
+ghost use Rattle.board.specs.Backing.{tags_in};
 ghost use Rattle.board.specs.Saved.{IsAs, IsCauseOf, IsLike, IsSavedTo, IsSnapshotOf, snapshot_of};
 ghost use Rattle.board.specs.Slot.{BoardSlot};
 ghost use Rattle.session.specs.Operations.{HasFlight};
@@ -59,7 +60,7 @@ impl<A: Allocator> Session<A> {
         // what was saved of a slot is taken by every slot of its description at rest, and brings it to its state
         ensures taken { (saved old new : BoardSlot) → IsSnapshotOf from.now saved →
             slice_get self.old.slots slot ≡ Some old → slice_get self.new.slots slot ≡ Some new → IsLike saved old →
-            IsIdle slot self.old → flight_in old.host ≡ None → IsOk result × IsAs saved old new }
+            IsIdle slot self.old → is_any (tags_in old.host) ≡ false → IsOk result × IsAs saved old new }
         ensures kept { OnErr result (self.new ≡ self.old) }
         ensures missing { IsErrOf result RestoreRefusal.BadSlot ↔ (length self.old.slots ≤ slot) }
         ensures busy { IsErrOf result RestoreRefusal.Busy ↔

@@ -1,7 +1,7 @@
 -- When a write is refused, and when it asks the host for something.
 use Rattle.board.specs.declared.event.EventKind.TheVariants.{Write}
 use Rattle.session.specs.Answering.{served_response}
-use Rattle.session.specs.Operations.{HasAsked, operation_at}
+use Rattle.session.specs.Operations.{HasAsked, in_flight_at}
 use Rattle.session.proofs.Asking.{asked_where, asks_where, pausing_asks}
 use Rattle.session.proofs.Exact.{refuses, served_pure}
 use Rattle.session.proofs.session.Session.write.Goals as goal
@@ -13,9 +13,9 @@ returns-clause-asks g c =
     let new = turn.new.self in
     asks_where turn.result.response c.served.result c.has_asked-asks.result (HasAsked c.args.slot old new)
     c.served.ensures.asks
-    (rw (c.has_asked-asks.ensures) (asked_where c.is_asking-before.result c.is_asking-after.result
-    (operation_at c.args.slot old.slots) (operation_at c.args.slot new.slots) c.is_asking-before.ensures
-    c.is_asking-after.ensures))
+    (asked_where c.in_flight-before.result c.in_flight-after.result (in_flight_at c.args.slot old.slots)
+    (in_flight_at c.args.slot new.slots) c.has_asked-asks.result c.in_flight-before.ensures
+    c.in_flight-after.ensures c.has_asked-asks.ensures)
     (pausing_asks old new c.args.slot
     (Write c.args.window c.args.offset c.args.width c.args.value) turn.result.response turn.ensures.call)
 
