@@ -19,7 +19,7 @@ pub fn example_of(format: Format, word: Word) -> (&'static str, &'static str)
         Word::Input => ("in", "0 6c730a"),
         Word::Resize => ("sz", "0 50 19"),
         Word::Restore => ("st", "0 4b414c59"),
-        Word::Complete => ("io", "0 done"),
+        Word::Complete => ("io", "0 0 done"),
     }
 }
 
@@ -59,6 +59,7 @@ pub fn spelling_of(field: Field) -> Spelling {
         Field::Slot => Number("a slot", 8),
         Field::Address => Number("an address", 64),
         Field::Length => Number("a length", 32),
+        Field::Tag => Number("an operation's tag", 8),
         Field::Regions => Other(
             "a memory is one to eight regions by base and length, as 80000000+1000 or 0+1000,80000000+1000",
         ),
@@ -66,7 +67,7 @@ pub fn spelling_of(field: Field) -> Spelling {
         Field::Value => Other(
             "a value is two lower case hexadecimal digits for each byte of its width, as 0000000f of width 4",
         ),
-        Field::Disk => Other("a slot's disk is image or host"),
+        Field::Disk => Other("a slot's disk is image, or host:1 to host:40"),
         Field::Window => Other("a window is b or c"),
         Field::Width => Other("a width is 1, 2 or 4"),
         Field::Mode => Other("a slot is rw or ro"),

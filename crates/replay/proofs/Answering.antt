@@ -4,23 +4,21 @@ use Rattle.std.proofs.Math.Seq.{map-set}
 use Rattle.std.proofs.lemmas.Bool.{cases_Bool}
 use Rattle.std.proofs.lemmas.Option.{slice_get_cases, slice_get-map}
 use Rattle.std.specs.List.{slice_get}
-use Rattle.std.specs.Option.{option_and_then, option_map}
+use Rattle.std.specs.Option.{option_map}
 use Rattle.std.specs.Prelude.{IsSomeAnd, MatchOption, if◌then◌else◌, is_none, is_some, slice_set}
 use Rattle.guest_memory.specs.Memory.{Inside, Memory, is_inside, stored}
 use Rattle.guest_memory.proofs.Ranges.{is_inside-tells}
 use Rattle.mmio_window.specs.declared.device_kind.DeviceKind.{DeviceKind}
 use Rattle.sector_cache.specs.Disk.{Disk}
-use Rattle.chain.specs.declared.segment.Segment.{Segment}
-use Rattle.block_device.specs.declared.operation.Operation.{Operation}
-use Rattle.block_device.specs.declared.operation.Verdict.{Verdict}
+use Rattle.block_device.specs.Flights.{InFlight, is_any, taken_bits}
 use Rattle.board.specs.declared.event.Event.{Event}
 use Rattle.board.specs.declared.event.EventKind.{EventKind}
 use Rattle.board.specs.declared.event.EventKind.TheVariants.{MemRead, MemWrite, Read}
 use Rattle.board.specs.declared.reply.Reply.{Reply}
 use Rattle.board.specs.declared.reply.Reply.TheVariants.{BadRange, BadSlot, Bytes, Done, Value}
 use Rattle.board.specs.declared.reply.Record.{Record}
-use Rattle.board.specs.Backing.{HostDisk, InFlight, flight_in, operation_in}
-use Rattle.board.specs.Hosting.{has_part, must_wait, notifies_block, verdict_in}
+use Rattle.board.specs.Backing.{HostDisk, tags_in}
+use Rattle.board.specs.Hosting.{has_part, must_wait, notifies_block, tag_in, told_in}
 use Rattle.board.specs.Image.{Health, Tells, bytes_of, health_of}
 use Rattle.board.specs.Line.{Move}
 use Rattle.board.specs.Machine.{block_irq, console_irq, record_of, register}
@@ -31,16 +29,17 @@ use Rattle.board.proofs.OnHost.{passes_by}
 use Rattle.board.proofs.Runs.{answered}
 use Rattle.board.proofs.Alone.{get_set}
 use Rattle.board.proofs.Seats.{extents_of-set, handles_missing, noted_none, set_same, step_there}
-use Rattle.trace.specs.Asked.{asked_field, asked_line}
+use Rattle.trace.specs.Asked.{Begun, asked_field, asked_line, none_mark}
 use Rattle.trace.specs.Records.{entry_of, read_line, record_fields, record_line}
-use Rattle.replay.specs.Running.{AnswersEvent, AnswersParsed, IsPart, RunsParsed, flight_of, words_of}
-use Rattle.replay.specs.Telling.{LineTelling, SendsRun, Told, asked_between, asked_by, begins, flight_at, told_line, told_of, told_of_flight, told_text}
+use Rattle.replay.specs.Running.{AnswersEvent, AnswersParsed, IsPart, RunsParsed, tags_of, words_of}
+use Rattle.replay.specs.Telling.{LineTelling, SendsRun, Told, begun_at, begun_between, begun_from, staying, tags_at, tags_of_state, told_line, told_of, told_text}
 use Rattle.trace.specs.declared.read.parsed_event.ParsedEvent.{ParsedEvent}
 use Rattle.trace.specs.ParsedEvent.{IsFineParsed}
 use Rattle.trace.specs.Sends.{Sends}
 use Rattle.trace.specs.Text.{ended, joined, line}
 use Rattle.trace.proofs.Passing.{sends_more, sends_same}
 use Rattle.trace.proofs.RecordLines.{asked_is}
+use Rattle.replay.proofs.Begun.{nothing_begins}
 
 -- ---- what is refused
 
@@ -62,17 +61,17 @@ past_slots board slot past =
 -- An event that is no completion, never waits, and notifies nobody: what comes of it over an image comes of it
 -- whoever has the disk.
 no_part : {A : Type 0} (host : Option HostDisk) (what : EventKind A) (state : SlotState)
-    → verdict_in what ≡ None → must_wait what ≡ false → notifies_block what state ≡ false
+    → told_in what ≡ None → must_wait what ≡ false → notifies_block what state ≡ false
     → has_part host what state ≡ false
 no_part None what state own free still = refl
-no_part (Some disk) what state own free still = by_flight (is_some disk.flight) refl
+no_part (Some disk) what state own free still = by_flight (is_any (tags_in state.host)) refl
   where
-    by_flight : (busy : Bool) → is_some disk.flight ≡ busy → has_part (Some disk) what state ≡ false
+    by_flight : (busy : Bool) → is_any (tags_in state.host) ≡ busy → has_part (Some disk) what state ≡ false
     by_flight true is = rw (own, free, still, is) refl
     by_flight false is = rw (own, free, still, is) refl
 
 beside : {A : Type 0} (state : SlotState) (what : EventKind A) (health : Health) (outcome : Outcome A)
-    → verdict_in what ≡ None → must_wait what ≡ false → notifies_block what state ≡ false
+    → told_in what ≡ None → must_wait what ≡ false → notifies_block what state ≡ false
     → MayGiveOverImage state what health health outcome → MayGive state what health health outcome
 beside state what health outcome own free still given =
     passes_by state.host state what health outcome (no_part state.host what state own free still) given
@@ -311,45 +310,22 @@ answered_alone {A} {old} {new} {event} {reply} {out = out} none h =
 
 -- ---- what began
 
--- whether something is in flight, as the board tells it
-one_told : (f : Option InFlight) → is_none (operation_in f) ≡ is_none f
-one_told None = refl
-one_told (Some here) = refl
-
-none_told : (o : Option BoardSlot)
-    → is_none (option_and_then (λ (s : BoardSlot). operation_in (flight_in s.host)) o) ≡ is_none (flight_of o)
-none_told None = refl
-none_told (Some slot) = one_told (flight_in slot.host)
-
-pub begins_by : (verdict : Option Verdict) (slot : Option BoardSlot) (found : Option Operation) (none : Bool)
-    → verdict ≡ None → found ≡ option_and_then (λ (s : BoardSlot). operation_in (flight_in s.host)) slot
-    → none ≡ is_none found → none ≡ begins verdict (flight_of slot)
-begins_by None slot found none is told test = test ∙ ap is_none told ∙ none_told slot
-begins_by (Some v) slot found none is told test = absurd cc
-
--- nothing that was in flight begins with a read of memory
-pub nothing_begins : (f : Option InFlight) → asked_between None f f ≡ None
-nothing_begins None = refl
-nothing_begins (Some here) = refl
-
 -- what is in flight is seen
-seen_at : (bytes : List ℕ) (o : Option BoardSlot)
-    → option_and_then (λ (s : SlotState). flight_in s.host) (option_map (state_of bytes) o) ≡ flight_of o
+seen_at : (bytes : List ℕ) (o : Option BoardSlot) → tags_of_state (option_map (state_of bytes) o) ≡ tags_of o
 seen_at bytes None = refl
 seen_at bytes (Some slot) = refl
 
-flight_seen : (slots : List BoardSlot) (disk : Disk) (h : ℕ)
-    → flight_at (seen slots disk).slots h ≡ flight_of (slice_get slots h)
-flight_seen slots disk h =
-    ap (λ (o : Option SlotState). option_and_then (λ (s : SlotState). flight_in s.host) o)
-    (slice_get-map (state_of (bytes_of disk)) slots h)
+tags_seen : (slots : List BoardSlot) (disk : Disk) (h : ℕ)
+    → tags_at (seen slots disk).slots h ≡ tags_of (slice_get slots h)
+tags_seen slots disk h =
+    ap tags_of_state (slice_get-map (state_of (bytes_of disk)) slots h)
     ∙ seen_at (bytes_of disk) (slice_get slots h)
 
--- the operation that began with an event of a board
-abbrev asked_on : {A I : Type 0} → Event A → BoardState I → BoardState I → Option (Operation × List Segment)
-asked_on event old new =
-    asked_between (verdict_in event.what) (flight_of (slice_get old.slots event.slot))
-    (flight_of (slice_get new.slots event.slot))
+-- the operations that began with an event of a board
+abbrev begun_on : {A I : Type 0} → Event A → BoardState I → BoardState I → List Begun
+begun_on event old new =
+    begun_between (tag_in event.what) (tags_of (slice_get old.slots event.slot))
+    (tags_of (slice_get new.slots event.slot))
 
 -- ---- one event
 
@@ -363,10 +339,10 @@ event_run : {A I : Type 0} (hosted : Bool) (disk : I → Disk) (old new : BoardS
     (reply : Reply A) (out : List ℕ) (words : ℕ × ℕ) (a b s t : Option (List ℕ))
     → AnswersEvent disk old event reply out new
     → (Tells (disk old.image) → words ≡ words_of (slice_get new.slots event.slot))
-    → Sends a b s (ended (told_line hosted (told_of event.slot reply out words (asked_on event old new)))) t
+    → Sends a b s (ended (told_line hosted (told_of event.slot reply out words (begun_on event old new)))) t
     → SendsRun hosted disk old new (event ∷ []) a b s t
 event_run {A} {I} hosted disk old new event reply out words a b s t it is sent =
-    let told : Told A = told_of event.slot reply out words (asked_on event old new) in
+    let told : Told A = told_of event.slot reply out words (begun_on event old new) in
     record {
       told = told ∷ [];
       run = line;
@@ -376,18 +352,18 @@ event_run {A} {I} hosted disk old new event reply out words a b s t it is sent =
     }
   where
     line : Tells (disk old.image) → LineTelling (world_of disk old) (world_of disk new) (event ∷ [])
-        (told_of event.slot reply out words (asked_on event old new) ∷ [])
+        (told_of event.slot reply out words (begun_on event old new) ∷ [])
     line tells =
         let answers = it.answers tells in
         let move : Move A = record { event = event; written = answers.written; after = world_of disk new } in
         let same : entry_of event.slot reply out words ≡ answers.written =
         ap (λ ws. entry_of event.slot reply out ws) (is tells)
         ∙ sym (entry_told disk old new event reply out answers) in
-        let began : asked_on event old new
-        ≡ asked_by event.slot event.what (world_of disk old).slots (world_of disk new).slots =
+        let began : begun_on event old new
+        ≡ begun_at event.slot event.what (world_of disk old).slots (world_of disk new).slots =
         rw (
-          flight_seen old.slots (disk old.image) event.slot,
-          flight_seen new.slots (disk new.image) event.slot,
+          tags_seen old.slots (disk old.image) event.slot,
+          tags_seen new.slots (disk new.image) event.slot,
         ) refl in
         record {
           moves = move ∷ [];
@@ -397,7 +373,7 @@ event_run {A} {I} hosted disk old new event reply out words a b s t it is sent =
         }
 
 -- its record and what began go out one after the other
-asking_sent : {A : Type 0} (entry : Record A) (asked : Option (Operation × List Segment))
+asking_sent : {A : Type 0} (entry : Record A) (asked : List Begun)
     (a b c s t u : Option (List ℕ)) → Sends a b s (line (record_fields entry) ++ 32 ∷ []) t
     → Sends b c t (asked_field asked ++ 10 ∷ []) u → Sends a c s (ended (asked_line entry asked)) u
 asking_sent entry asked a b c s t u front last =
@@ -420,27 +396,29 @@ parsed_run disk parsed old new reply out words a b s t it is sent = record {
 
 -- in a hosted one its record and what began go out one after the other
 pub parsed_asking : {A I : Type 0} (disk : I → Disk) (parsed : ParsedEvent A) (old new : BoardState I)
-    (reply : Reply A) (out : List ℕ) (words : ℕ × ℕ) (next : Bool) (asked : Option (Operation × List Segment))
+    (reply : Reply A) (out : List ℕ) (words : ℕ × ℕ) (stayed : ℕ)
     (a b c s t u : Option (List ℕ)) → AnswersParsed disk parsed old reply out new
     → (Tells (disk old.image) → words ≡ words_of (slice_get new.slots parsed.event.slot))
-    → next ≡ begins (verdict_in parsed.event.what) (flight_of (slice_get old.slots parsed.event.slot))
-    → asked ≡ told_of_flight (if next then flight_of (slice_get new.slots parsed.event.slot) else None)
+    → stayed ≡ taken_bits (staying (tag_in parsed.event.what) (tags_of (slice_get old.slots parsed.event.slot)))
     → Sends a b s (line (record_fields (entry_of parsed.event.slot reply out words)) ++ 32 ∷ []) t
-    → Sends b c t (asked_field asked ++ 10 ∷ []) u
+    → ((before : List (Option InFlight)) → stayed ≡ taken_bits before → Sends b c t
+    (asked_field (begun_from 0 before (tags_of (slice_get new.slots parsed.event.slot))) ++ 10 ∷ []) u)
     → RunsParsed parsed (λ event. SendsRun true disk old new (event ∷ []) a c s u)
-parsed_asking disk parsed old new reply out words next asked a b c s t u it is test begun front last =
+parsed_asking disk parsed old new reply out words stayed a b c s t u it is test front last =
     let event = it.event in
-    let asks : asked ≡ asked_on event old new = begun ∙ rw (it.slot, it.verdict, test) refl in
-    let whole = asking_sent (entry_of parsed.event.slot reply out words) asked a b c s t u front last in
+    let began = begun_between (tag_in parsed.event.what) (tags_of (slice_get old.slots parsed.event.slot))
+    (tags_of (slice_get new.slots parsed.event.slot)) in
+    let same : began ≡ begun_on event old new = rw (it.slot, it.tag) refl in
+    let whole = asking_sent (entry_of parsed.event.slot reply out words) began a b c s t u front (last _ test) in
     record {
       event = event;
       fields = it.fields;
       fine = it.fine;
       run = event_run true disk old new event reply out words a c s u it.answered (rw it.slot is)
           (subst (λ (n : ℕ). Sends a c s (ended (asked_line (entry_of n reply out words)
-          (asked_on event old new))) u) (sym it.slot)
-          (subst (λ (o : Option (Operation × List Segment)). Sends a c s
-          (ended (asked_line (entry_of parsed.event.slot reply out words) o)) u) asks whole));
+          (begun_on event old new))) u) (sym it.slot)
+          (subst (λ (o : List Begun). Sends a c s
+          (ended (asked_line (entry_of parsed.event.slot reply out words) o)) u) same whole));
     }
 
 -- a read of memory, with which nothing begins
@@ -448,13 +426,13 @@ pub read_run : {A I : Type 0} (hosted : Bool) (disk : I → Disk) (parsed : Pars
     (addr len : ℕ) (part : List ℕ) (words : ℕ × ℕ) (a b s t : Option (List ℕ)) → IsFineParsed parsed
     → parsed.event.what ≡ MemRead addr len → IsPart board parsed.event.slot addr len part
     → words ≡ words_of (slice_get board.slots parsed.event.slot)
-    → Sends a b s (ended (told_line {A = A} hosted (told_of parsed.event.slot (Bytes part) [] words None))) t
+    → Sends a b s (ended (told_line {A = A} hosted (told_of parsed.event.slot (Bytes part) [] words []))) t
     → RunsParsed parsed (λ event. SendsRun hosted disk board board (event ∷ []) a b s t)
 read_run {A} hosted disk parsed board addr len part words a b s t fine is it same sent =
     let event : Event A = record { slot = parsed.event.slot; what = MemRead addr len } in
     let plain = rw is at fine.what in
-    let none : asked_on event board board ≡ None =
-    nothing_begins (flight_of (slice_get board.slots parsed.event.slot)) in
+    let none : begun_on event board board ≡ [] =
+    nothing_begins (tags_of (slice_get board.slots parsed.event.slot)) in
     record {
       event = event;
       fields = rw is refl;
@@ -466,14 +444,14 @@ read_run {A} hosted disk parsed board addr len part words a b s t fine is it sam
 -- its line is put as a line of bytes
 pub part_sent : (A : Type 0) (slot : ℕ) (part : List ℕ) (words : ℕ × ℕ) (a b s t : Option (List ℕ))
     → Sends a b s (ended (read_line slot part words)) t
-    → Sends a b s (ended (told_line {A = A} false (told_of slot (Bytes part) [] words None))) t
+    → Sends a b s (ended (told_line {A = A} false (told_of slot (Bytes part) [] words []))) t
 unfolding read_line record_line
 part_sent A slot part words a b s t sent = sent
 
 pub part_asking : (A : Type 0) (slot : ℕ) (part : List ℕ) (words : ℕ × ℕ) (a b c s t u : Option (List ℕ))
-    → Sends a b s (read_line slot part words ++ 32 ∷ []) t → Sends b c t (asked_field None ++ 10 ∷ []) u
-    → Sends a c s (ended (told_line {A = A} true (told_of slot (Bytes part) [] words None))) u
+    → Sends a b s (read_line slot part words ++ 32 ∷ []) t → Sends b c t (none_mark true ++ 10 ∷ []) u
+    → Sends a c s (ended (told_line {A = A} true (told_of slot (Bytes part) [] words []))) u
 unfolding read_line
 part_asking A slot part words a b c s t u front last =
     let entry : Record A = entry_of slot (Bytes part) [] words in
-    asking_sent entry None a b c s t u front last
+    asking_sent entry [] a b c s t u front last

@@ -9,3 +9,4 @@ pub mod RunLemmas
 pub mod Telling
 pub mod Answering
 pub mod Lines
+pub mod Begun

@@ -1,5 +1,5 @@
 -- A board whose disks the host has leaves the image's bytes.
-use Rattle.std.proofs.Common.{◌≡◌, ℕ, suc, ◌+◌, ◌/◌, false, All, List, [], ◌∷◌, map, refl, sym, ap, ◌∙◌, arith}
+use Rattle.std.proofs.Common.{◌≡◌, ℕ, suc, ◌+◌, ◌/◌, true, false, All, List, [], ◌∷◌, map, refl, sym, ap, ◌∙◌, arith}
 use Rattle.std.proofs.lemmas.Bool.Decides.{nat_tests}
 use Rattle.std.specs.List.{list_any}
 use Rattle.block_device.specs.declared.extent.Extent.{Extent}
@@ -9,14 +9,15 @@ use Rattle.board.specs.declared.spec.SlotSpec.{SlotSpec}
 use Rattle.board.specs.Extent.{has_sector, outside_from, outside_of}
 use Rattle.board.specs.Slot.{BoardSlot, extent_by, opened}
 use Rattle.board.specs.World.{extents_of}
+use Rattle.trace.specs.Asked.{is_host}
 
 -- whatever the host has lies in no sector
-no_sector : (backing : Backing) (extent : Extent) (sector : ℕ) → backing ≡ Host
+no_sector : (backing : Backing) (extent : Extent) (sector : ℕ) → is_host backing ≡ true
     → has_sector (extent_by backing extent) sector ≡ false
-no_sector Host extent sector is = grind (arith, nat_tests)
+no_sector (Host depth) extent sector is = grind (arith, nat_tests)
 no_sector Image extent sector is = absurd cc
 
-no_sectors : (slots : List SlotSpec) (sector : ℕ) → All (λ spec. spec.backing ≡ Host) slots
+no_sectors : (slots : List SlotSpec) (sector : ℕ) → All (λ spec. is_host spec.backing ≡ true) slots
     → list_any (λ extent. has_sector extent sector) (extents_of (map opened slots)) ≡ false
 no_sectors [] sector all = refl
 no_sectors (spec ∷ slots) sector all =
@@ -25,7 +26,7 @@ no_sectors (spec ∷ slots) sector all =
       no_sectors slots sector (λ k d lt. all (suc k) d (omega (arith, lt))),
     ) refl
 
-all_outside : (slots : List SlotSpec) (i : ℕ) (bytes : List ℕ) → All (λ spec. spec.backing ≡ Host) slots
+all_outside : (slots : List SlotSpec) (i : ℕ) (bytes : List ℕ) → All (λ spec. is_host spec.backing ≡ true) slots
     → outside_from (extents_of (map opened slots)) i bytes ≡ bytes
 all_outside slots i [] all = refl
 all_outside slots i (byte ∷ bytes) all =
@@ -35,7 +36,7 @@ all_outside slots i (byte ∷ bytes) all =
 pub untouched : (slots : List SlotSpec) (last : List BoardSlot) (old new : List ℕ)
     → extents_of last ≡ extents_of (map opened slots)
     → outside_of (extents_of last) new ≡ outside_of (extents_of (map opened slots)) old
-    → All (λ spec. spec.backing ≡ Host) slots → new ≡ old
+    → All (λ spec. is_host spec.backing ≡ true) slots → new ≡ old
 untouched slots last old new extents stayed all =
     sym (all_outside slots 0 new all) ∙ ap (λ es. outside_of es new) (sym extents) ∙ stayed
     ∙ all_outside slots 0 old all

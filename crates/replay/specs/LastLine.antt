@@ -54,6 +54,7 @@ board_ending (board.Slot number (slot.Memory region memory.BadSize)) = board_ref
 board_ending (board.Slot number (slot.Memory region memory.BadBase)) = board_refused (codes "BadBase")
 board_ending (board.Slot number (slot.Memory region memory.NotApart)) = board_refused (codes "NotApart")
 board_ending (board.Slot number (slot.Memory region memory.NoMemory)) = memory_ending
+board_ending (board.Slot number slot.BadDepth) = board_refused (codes "BadDepth")
 board_ending (board.Slot number slot.ExtentOutside) = board_refused (codes "ExtentOutside")
 board_ending (board.Slot number slot.ExtentsOverlap) = board_refused (codes "ExtentsOverlap")
 board_ending (board.Cache cache.BadCapacity) = board_refused (codes "BadCapacity")

@@ -3,4 +3,5 @@ pub mod LastLine
 pub mod OneSlot
 pub mod Telling
 pub mod Replay
+pub mod Asking
 pub mod Running

@@ -1,11 +1,10 @@
 -- What a replay comes to: the trace that it read, the run on that trace's board, and what it wrote.
-use Rattle.std.specs.Prelude.{◌≡◌, ◌≢◌, ◌⊎◌, ℕ, ◌<◌, ⊤, All, List, [], ◌∷◌, length, map, take, Option, IfSome, Result, Ok, Err}
+use Rattle.std.specs.Prelude.{◌≡◌, ◌≢◌, ◌⊎◌, ℕ, ◌<◌, ⊤, true, All, List, [], ◌∷◌, length, map, take, Option, IfSome, Result, Ok, Err}
 use Rattle.std.specs.Io.KnownBytes.{Appends, IsAtEnd, Keeps}
 use Rattle.sector_cache.specs.Disk.{Disk}
 use Rattle.board.specs.declared.event.Event.{Event}
 use Rattle.board.specs.declared.fault.BoardFault.{BoardFault}
 use Rattle.board.specs.declared.fault.BoardFault.TheVariants.{TooManySlots}
-use Rattle.board.specs.declared.spec.Backing.TheVariants.{Host}
 use Rattle.board.specs.declared.spec.SlotSpec.{SlotSpec}
 use Rattle.board.specs.Fault.{IsAccepted, Refuses}
 use Rattle.board.specs.Image.{Tells, bytes_of}
@@ -19,7 +18,7 @@ use Rattle.trace.specs.declared.fault.FaultKind.TheVariants as kind
 use Rattle.trace.specs.declared.fault.TraceFault.{TraceFault}
 use Rattle.replay.specs.declared.fault.ReplayFault.{ReplayFault}
 use Rattle.replay.specs.declared.fault.ReplayFault.TheVariants.{Read, Trace, Board, Run, Write, NoMemory}
-use Rattle.trace.specs.Asked.{is_hosted}
+use Rattle.trace.specs.Asked.{is_host, is_hosted}
 use Rattle.trace.specs.Sends.{AppendsFront}
 use Rattle.replay.specs.Limits.{IsSmallMemory, asked_of_board}
 use Rattle.replay.specs.OneSlot.{IsMachine}
@@ -37,7 +36,7 @@ pub record RunsOn {A : Type 0} (slots : List SlotSpec) (old new : Disk) (events 
   pub telling : LineTelling (seen (map opened slots) old) (seen last new) events told
   pub extents : extents_of last ≡ extents_of (map opened slots)
   pub tells : Tells new
-  pub kept : All (λ spec. spec.backing ≡ Host) slots → bytes_of new ≡ bytes_of old
+  pub kept : All (λ spec. is_host spec.backing ≡ true) slots → bytes_of new ≡ bytes_of old
   pub one : (spec : SlotSpec) → slots ≡ spec ∷ [] → new.failures ≡ old.failures
       → HadMemory 0 (records_in told)
       → IsMachine spec (bytes_of old) (bytes_of new) events (records_in told)

@@ -2,13 +2,13 @@
 use Rattle.std.specs.Prelude.{◌≡◌, ◌≤◌, ℕ, Bool, List, [], Option, None, Some, Result, Ok, Err}
 use Rattle.std.specs.Io.KnownBytes.{Keeps}
 use Rattle.std.specs.List.{slice_get}
-use Rattle.std.specs.Option.{option_and_then}
 use Rattle.guest_memory.specs.Memory.{Inside, part_of}
 use Rattle.sector_cache.specs.Disk.{Disk}
 use Rattle.board.specs.declared.event.Event.{Event}
 use Rattle.board.specs.declared.reply.Reply.{Reply}
-use Rattle.board.specs.Backing.{InFlight, flight_in}
-use Rattle.board.specs.Hosting.{verdict_in}
+use Rattle.block_device.specs.Flights.{InFlight}
+use Rattle.board.specs.Backing.{tags_in}
+use Rattle.board.specs.Hosting.{tag_in}
 use Rattle.board.specs.Image.{Tells}
 use Rattle.board.specs.Slot.{BoardSlot, interrupt_words}
 use Rattle.board.specs.World.{Answers, BoardState, extents_of, world_of}
@@ -34,9 +34,10 @@ abbrev pub words_of : Option BoardSlot → ℕ × ℕ
 words_of None = (0, 0)
 words_of (Some slot) = interrupt_words slot
 
--- what is in flight of a slot, where it is there
-abbrev pub flight_of : Option BoardSlot → Option InFlight
-flight_of slot = option_and_then (λ found. flight_in found.host) slot
+-- what is in flight of a slot by its tags, where it is there
+abbrev pub tags_of : Option BoardSlot → List (Option InFlight)
+tags_of None = []
+tags_of (Some slot) = tags_in slot.host
 
 -- what goes on of a board and its image while an event is handled
 pub record KeepsTelling {I : Type 0} (disk : I → Disk) (old new : BoardState I) : Type 0 where
@@ -56,7 +57,7 @@ pub record AnswersParsed {A I : Type 0} (disk : I → Disk) (parsed : ParsedEven
   pub slot : event.slot ≡ parsed.event.slot
   pub fields : event_fields event ≡ parsed_fields parsed
   pub fine : IsFine event
-  pub verdict : verdict_in event.what ≡ verdict_in parsed.event.what
+  pub tag : tag_in event.what ≡ tag_in parsed.event.what
   pub answered : AnswersEvent disk old event reply out new
 
 -- the event that was said was run, of which this holds

@@ -1,69 +1,80 @@
 -- What the guests of a trace are told, as text: a record for each event, and in a hosted trace what the host is
 -- then asked to do.
-use Rattle.std.specs.Prelude.{◌≡◌, ℕ, Bool, false, true, is_none, if◌then◌else◌, Option, None, Some, List, [], ◌∷◌, map}
+use Rattle.std.specs.Prelude.{◌≡◌, ℕ, suc, Bool, false, true, Option, None, Some, List, [], ◌∷◌, ◌++◌, get_or, map, set}
 use Rattle.std.specs.List.{slice_get}
-use Rattle.std.specs.Option.{option_and_then}
-use Rattle.chain.specs.declared.segment.Segment.{Segment}
 use Rattle.sector_cache.specs.Disk.{Disk}
-use Rattle.block_device.specs.declared.operation.Operation.{Operation}
-use Rattle.block_device.specs.declared.operation.Verdict.{Verdict}
+use Rattle.block_device.specs.Flights.{InFlight}
 use Rattle.board.specs.declared.event.Event.{Event}
 use Rattle.board.specs.declared.event.EventKind.{EventKind}
 use Rattle.board.specs.declared.reply.Record.{Record}
 use Rattle.board.specs.declared.reply.Reply.{Reply}
-use Rattle.board.specs.Backing.{InFlight, flight_in}
-use Rattle.board.specs.Hosting.{verdict_in}
+use Rattle.board.specs.Backing.{tags_in}
+use Rattle.board.specs.Hosting.{tag_in}
 use Rattle.board.specs.Image.{Tells}
 use Rattle.board.specs.Line.{IsLine, Move, events_of}
 use Rattle.board.specs.Slot.{SlotState}
 use Rattle.board.specs.World.{BoardState, World, extents_of, world_of}
-use Rattle.trace.specs.Asked.{asked_line}
+use Rattle.trace.specs.Asked.{Begun, asked_line}
 use Rattle.trace.specs.Records.{entry_of, record_line}
 use Rattle.trace.specs.Sends.{Sends}
 use Rattle.trace.specs.Text.{joined}
 
 -- ---- what began
 
--- what is in flight of a slot, where it is there
-abbrev pub flight_at : List SlotState → ℕ → Option InFlight
-flight_at slots h = option_and_then (λ state. flight_in state.host) (slice_get slots h)
+-- what is in flight of a slot by its tags, where it is there
+abbrev pub tags_of_state : Option SlotState → List (Option InFlight)
+tags_of_state None = []
+tags_of_state (Some state) = tags_in state.host
 
--- What is in flight behind an event began with it where nothing was in flight before it, or where it
--- completed that.
-abbrev pub begins : Option Verdict → Option InFlight → Bool
-begins (Some verdict) before = true
-begins None before = is_none before
+abbrev pub tags_at : List SlotState → ℕ → List (Option InFlight)
+tags_at slots h = tags_of_state (slice_get slots h)
 
--- what the host is told of a chain in flight
-abbrev pub told_of_flight : Option InFlight → Option (Operation × List Segment)
-told_of_flight None = None
-told_of_flight (Some here) = Some (here.flight.operation, here.runs)
+-- the tags that stay taken while an event is handled: all but the one that it completes
+abbrev pub staying : Option ℕ → List (Option InFlight) → List (Option InFlight)
+staying None tags = tags
+staying (Some tag) tags = set tags tag None
 
--- the same of one that began, from what is in flight before the event and behind it
-abbrev pub asked_between : Option Verdict → Option InFlight → Option InFlight → Option (Operation × List Segment)
-asked_between verdict before behind = told_of_flight (if begins verdict before then behind else None)
+-- what the host is told of what is in a tag
+abbrev pub told_by_tag : ℕ → Option InFlight → List Begun
+told_by_tag tag None = []
+told_by_tag tag (Some here) =
+    record { tag = tag; operation = here.flight.operation; runs = here.runs } ∷ []
 
--- the operation that began with an event of slot h, from the states before it and after it
-abbrev pub asked_by : {A : Type 0} → ℕ → EventKind A → List SlotState → List SlotState
-    → Option (Operation × List Segment)
-asked_by h what old new = asked_between (verdict_in what) (flight_at old h) (flight_at new h)
+-- What is in a tag behind an event began with it where the tag did not stay taken.
+abbrev pub begun_by_tag : ℕ → Option InFlight → Option InFlight → List Begun
+begun_by_tag tag (Some stayed) behind = []
+begun_by_tag tag None behind = told_by_tag tag behind
+
+-- those of the tags from this one on, beside what stayed in all tags
+abbrev pub begun_from : ℕ → List (Option InFlight) → List (Option InFlight) → List Begun
+begun_from tag stayed [] = []
+begun_from tag stayed (behind ∷ others) =
+    begun_by_tag tag (get_or stayed tag None) behind ++ begun_from (suc tag) stayed others
+
+-- what began with an event that completed this tag or none, from what is in flight before it and behind it
+abbrev pub begun_between : Option ℕ → List (Option InFlight) → List (Option InFlight) → List Begun
+begun_between completed before behind = begun_from 0 (staying completed before) behind
+
+-- the operations that began with an event of slot h, from the states before it and after it
+abbrev pub begun_at : {A : Type 0} → ℕ → EventKind A → List SlotState → List SlotState → List Begun
+begun_at h what old new = begun_between (tag_in what) (tags_at old h) (tags_at new h)
 
 -- ---- what is told
 
--- what an event came to: its record, and the operation that began with it
+-- what an event came to: its record, and the operations that began with it
 pub record Told (A : Type 0) : Type 0 where
   pub written : Record A
-  pub asked : Option (Operation × List Segment)
+  pub asked : List Begun
 
 -- by its parts, of which the words are the block window's and the console's
-abbrev pub told_of : {A : Type 0} → ℕ → Reply A → List ℕ → ℕ × ℕ → Option (Operation × List Segment) → Told A
+abbrev pub told_of : {A : Type 0} → ℕ → Reply A → List ℕ → ℕ × ℕ → List Begun → Told A
 told_of slot reply output words asked =
     record { written = entry_of slot reply output words; asked = asked }
 
 abbrev pub told_by : {A : Type 0} → World → Move A → Told A
 told_by old move = record {
   written = move.written;
-  asked = asked_by move.event.slot move.event.what old.slots move.after.slots;
+  asked = begun_at move.event.slot move.event.what old.slots move.after.slots;
 }
 
 -- what the moves of a line came to, from this world on

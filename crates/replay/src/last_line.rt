@@ -132,6 +132,7 @@ fn slot_line(fault: &SlotFault) -> &'static str
             MemoryFault::NotApart => "fault board NotApart\n",
             MemoryFault::NoMemory => MEMORY,
         },
+        SlotFault::BadDepth => "fault board BadDepth\n",
         SlotFault::ExtentOutside => "fault board ExtentOutside\n",
         SlotFault::ExtentsOverlap => "fault board ExtentsOverlap\n",
     }

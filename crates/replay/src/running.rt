@@ -2,31 +2,28 @@
 //!
 //! Memory that is read is printed where it lies.
 
-ghost use Rattle.std.specs.Prelude.{◌≡◌, ◌≤◌, ◌∷◌, ◌/◌, [], true, if◌then◌else◌, None, IfSome, length};
+ghost use Rattle.std.specs.Prelude.{◌≡◌, ◌≤◌, ◌∷◌, ◌/◌, [], true, IfSome, length};
 ghost use Rattle.std.specs.List.{slice_get};
-ghost use Rattle.std.specs.Option.{option_map};
 ghost use Rattle.board.specs.declared.event.EventKind.{EventKind};
 ghost use Rattle.board.specs.declared.reply.Reply.{Reply};
-ghost use Rattle.board.specs.Hosting.{verdict_in};
 ghost use Rattle.board.specs.Image.{Tells};
 ghost use Rattle.board.specs.Slot.{AreInterruptWords};
 ghost use Rattle.trace.specs.Sends.{Sends, waiting};
 ghost use Rattle.trace.specs.Text.{ended};
 ghost use Rattle.trace.specs.Validating.{parsed_len};
-ghost use Rattle.replay.specs.Running.{AnswersEvent, AnswersParsed, IsPart, RunsParsed, flight_of, words_of};
-ghost use Rattle.replay.specs.Telling.{SendsRun, begins, told_line, told_of, told_of_flight};
+ghost use Rattle.replay.specs.Running.{AnswersEvent, AnswersParsed, IsPart, RunsParsed, words_of};
+ghost use Rattle.replay.specs.Telling.{SendsRun, told_line, told_of};
 ghost use Rattle.trace.specs.ParsedEvent.{IsFineParsed};
 ghost use Rattle.hexadecimal.specs.Fields.{IsBytesField};
 ghost use Rattle.trace.specs.Words.{Says, Bytes as ByBytes};
 
-use block_device::Operation;
+use crate::asking::{put_asked, staying};
 use board::{Board, DeviceKind, Event, EventKind, Handled, Reply, RestoreRefusal};
-use chain::Segment;
 use sector_cache::Image;
 use std::alloc::Allocator;
 use std::io::Write;
 use trace::{
-    Buffer, ParsedEvent, put_asked, put_fields, put_line, put_read, read_bytes, spelled_len,
+    Buffer, ParsedEvent, put_asked_end, put_fields, put_line, put_read, read_bytes, spelled_len,
 };
 
 /// Runs an event, and sends the text of its record. What the console puts out waits in `output` meanwhile.
@@ -53,7 +50,7 @@ pub(crate) fn run_event<W: Write, I: Image, A: Allocator + Copy>(
             return;
         }
     }
-    let is_next = begins_next(board, hosted, &parsed.event);
+    let stayed = staying(board, hosted, &parsed.event);
     let Handled {
         reply,
         block_irq,
@@ -65,7 +62,7 @@ pub(crate) fn run_event<W: Write, I: Image, A: Allocator + Copy>(
         return;
     }
     put_fields(text, writer, slot, &reply, output.as_slice(), words, b' ');
-    put_asked(text, writer, begun(board, slot, is_next));
+    put_asked(text, writer, board, slot, stayed);
 }
 
 // Puts the line of a read of memory that gave these bytes. No operation begins with one.
@@ -81,44 +78,14 @@ fn put_part<W: Write, A: Allocator>(
     requires block { words.0 ≤ 3 }
     requires console { words.1 ≤ 3 }
     ensures { Sends (W.contents writer.old) (W.contents writer.new) (waiting text.old)
-        (ended (told_line {A = A} hosted (told_of slot (Reply.Bytes part.now) [] words None))) (waiting text.new) }
+        (ended (told_line {A = A} hosted (told_of slot (Reply.Bytes part.now) [] words []))) (waiting text.new) }
 {
     if !hosted {
         put_read(text, writer, slot, part, words, b'\n');
         return;
     }
     put_read(text, writer, slot, part, words, b' ');
-    put_asked(text, writer, None);
-}
-
-// Whether what is in flight behind the event begins with it, which a hosted trace alone tells.
-#[inline(always)]
-fn begins_next<I: Image, A: Allocator>(board: &Board<I, A>, hosted: bool, event: &Event<A>) -> bool
-    ensures { hosted ≡ true → result ≡ begins (verdict_in event.now.what) (flight_of (slice_get board.now.slots event.now.slot)) }
-{
-    match event.what {
-        _ if !hosted => false,
-        EventKind::Complete { .. } => true,
-        _ => board.operation(event.slot).is_none(),
-    }
-}
-
-// What is in flight of a slot, where it began with the last event.
-#[inline(always)]
-fn begun<I: Image, A: Allocator>(
-    board: &Board<I, A>,
-    slot: u8,
-    is_next: bool,
-) -> Option<(Operation, &[Segment])>
-    ensures { option_map (λ asked. (asked.0, asked.1.now)) result ≡
-        told_of_flight (if is_next then flight_of (slice_get board.now.slots slot) else None) }
-{
-    if !is_next {
-        return None;
-    }
-    let operation = board.operation(slot)?;
-    let runs = board.runs(slot)?;
-    Some((operation, runs))
+    put_asked_end(text, writer, true);
 }
 
 // The bytes of a slot's memory from an address on, where they lie.

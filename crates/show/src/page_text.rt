@@ -61,8 +61,9 @@ const PLACES=["block","console","memory","disk","devices"];
 const FAULTS=/^ {2}ends: (a fault|Jump|Index|Loop|TooMany|Table|Nested|Joined|NoIndirect|Range|TooLong)\b/;
 // ---- the events of the text, by places in it
 const at=[],ends=[],guest=[],place=[],kind=[],number=[],said=new Map(),board=[],mistakes=[];
-// of each event the one that asked for what is in flight of its guest, or -1; of each guest that one; and each flight from its asking on
+// of each event whether anything is in flight of its guest; what is, by guest and tag; and each flight: guest, asking, completion, tag
 const flight=[],asked=new Map(),flights=[];
+const tags=g=>{let m=asked.get(g);if(!m)asked.set(g,m=new Map());return m};
 let guests=0,summary="";
 function keyOf(line){const m=/^ {2}state (\w+) (status|features|generation|queue \d( descriptor \d+| used \d+| on offer)?)/.exec(line);return m?m[1]+" "+m[2]:null}
 function read(){
@@ -74,11 +75,11 @@ function read(){
       const line=raw.slice(p,Math.min(q,p+96)),m=/^(\d+) guest (\d+) (block|console|memory|disk|devices): (\w+)/.exec(line);
       if(m){
         e=at.length;at.push(p);ends.push(q);number.push(+m[1]);const g=+m[2];guest.push(g);if(g>=guests)guests=g+1;
-        place.push(PLACES.indexOf(m[3]));flight.push(asked.has(g)?asked.get(g):-1);
+        place.push(PLACES.indexOf(m[3]));flight.push(tags(g).size>0);
         let k=m[3]==="memory"?2:m[4]==="reads"?0:m[4]==="types"||m[4]==="is"?4:1;
         const whole=raw.slice(p,q);
         if(/ -> (outside memory|no |busy|idle)/.test(whole))k=5;
-        else if(m[3]==="disk"&&asked.delete(g))flights.push([g,flight[e],e]);
+        else if(m[3]==="disk"){const tag=/: tag (\d+)/.exec(line)[1],from=tags(g).get(tag);if(tags(g).delete(tag))flights.push([g,from,e,tag])}
         kind.push(k);
       }else board.push(raw.slice(p,q));
     }else if(c===32&&e>=0&&!over){
@@ -89,15 +90,16 @@ function read(){
       else if(d===109){kind[e]=Math.max(kind[e],6)}
       else if(d===101){
         const line=raw.slice(p,q);kind[e]=Math.max(kind[e],FAULTS.test(line)?7:3);
-        if(line==="  ends: a request is in flight"){asked.set(guest[e],e);if(flight[e]<0)flight[e]=e}
       }
+      else if(d===32){const m=/: asks the host by tag (\d+) /.exec(raw.slice(p,q));if(m){tags(guest[e]).set(m[1],e);flight[e]=true}}
     }else if(c===101){summary=raw.slice(p,q);over=true}
     else if(over){const line=raw.slice(p,q),m=/^ {2}line (\d+),/.exec(line);if(m)mistakes.push([+m[1],line.trim()])}
     p=q+1;
   }
 }
 read();
-for(const [g,e] of asked)flights.push([g,e,at.length-1]);
+for(const [g,m] of asked)for(const [tag,e] of m)flights.push([g,e,at.length-1,tag]);
+flights.sort((a,b)=>a[1]-b[1]||a[3]-b[3]);
 const count=at.length,trouble=e=>kind[e]>=5;
 const lineOf=e=>{let q=raw.indexOf("\n",at[e]);return raw.slice(at[e],q<0?raw.length:q)};
 // ---- what is shown
@@ -119,7 +121,7 @@ function draw(){
 }
 function el(tag,cls,text){const x=document.createElement(tag);if(cls)x.className=cls;if(text!==undefined)x.textContent=text;return x}
 function rowFor(e){
-  const r=el("div","row"+(e===cur?" on":"")+(flight[e]<0?"":" flight"));r.dataset.e=e;r.style.borderLeftColor="var(--"+KINDS[kind[e]]+")";
+  const r=el("div","row"+(e===cur?" on":"")+(flight[e]?" flight":""));r.dataset.e=e;r.style.borderLeftColor="var(--"+KINDS[kind[e]]+")";
   const line=plain(lineOf(e)),gap=line.indexOf(" "),tab=line.indexOf("\t");
   r.append(el("span","n",line.slice(0,gap)),line.slice(gap+1,tab<0?undefined:tab));
   if(kind[e]>=6)r.append(" ",el("em","",KINDS[kind[e]]));
@@ -162,7 +164,11 @@ function side(){
   s.append(el("h2","","Line "+number[e]));
   const first=el("pre","",head.slice(head.indexOf(" ")+1,tab<0?undefined:tab));first.id="what";s.append(first);
   const rec=el("pre","key",tab<0?"":"record  "+head.slice(tab+1));rec.id="record";s.append(rec);
-  if(flight[e]>=0&&flight[e]!==e){const x=el("div","item link","in flight since line "+number[flight[e]]);x.id="flight";x.onclick=()=>pick(flight[e]);s.append(x)}
+  const flown=el("div");flown.id="flight";s.append(flown);
+  if(flight[e])for(const [g,a,b,tag] of flights){
+    if(g!==guest[e]||a>=e||e>b)continue;
+    const x=el("div","item link","tag "+tag+" in flight since line "+number[a]);x.onclick=()=>pick(a);flown.append(x);
+  }
   const came=text.slice(1).filter(l=>!l.startsWith("  state"));
   if(came.length){s.append(el("h2","","What came of it"));for(const l of came)s.append(el("pre",/^ {2}(mistake|ends: [A-Z])/.test(l)?"bad":"",l.slice(2)))}
   const st=stateAt(guest[e],e);

@@ -1,7 +1,9 @@
 //! Going along with a replay: each event is handled by a board of one's own, and said.
 
 use crate::guest::{SlotQueue, ring_of};
+use crate::look::look;
 use crate::seen::Guest;
+use crate::served::Service;
 use crate::service::serve;
 use crate::watched::Watched;
 use crate::weave::Text;
@@ -123,21 +125,16 @@ impl Watcher {
         let mut is_packed = false;
         let reply = match served_of(&self.board, event) {
             Some(served) => {
-                let service = serve(
-                    &mut self.board,
-                    served,
-                    &event.what,
-                    &mut self.chain,
-                    &mut self.output,
-                    self.alloc,
-                    tail,
-                );
+                let service = self.served(served, &event.what, tail);
                 fault = service.fault;
                 mistake = service.mistake;
                 is_packed = is_packed_queue(&self.board, served);
                 service.reply
             }
-            None => self.board.step(event, &mut self.output),
+            None => {
+                say_lost(&mut self.board, event, tail);
+                self.board.step(event, &mut self.output)
+            }
         };
         self.say_answer(slot, &reply, words, head);
         if fault.is_some() {
@@ -151,6 +148,17 @@ impl Watcher {
         self.note(line, slot, fault_mistake(fault, is_packed), tail);
     }
 
+    // An event that serves a queue.
+    fn served(&mut self, served: SlotQueue, what: &EventKind, tail: &mut Text) -> Service {
+        let (board, alloc) = (&mut self.board, self.alloc);
+        let (chain, output) = (&mut self.chain, &mut self.output);
+        if board.is_hosted(served) {
+            look(board, served, what, chain, output, alloc, tail)
+        } else {
+            serve(board, served, what, chain, output, alloc, tail)
+        }
+    }
+
     // Says the answer of an event, the interrupts that it raised and what the console put out.
     fn say_answer(&mut self, slot: u8, reply: &Reply, words: (u8, u8), head: &mut Text) {
         match reply {
@@ -160,8 +168,8 @@ impl Watcher {
             }
             Reply::BadRange => head.say(" -> outside memory"),
             Reply::BadState => head.say(" -> no such snapshot"),
-            Reply::Busy => head.say(" -> busy, until the request in flight is done"),
-            Reply::Idle => head.say(" -> idle, nothing is in flight"),
+            Reply::Busy => head.say(" -> busy, until nothing is in flight"),
+            Reply::Idle => head.say(" -> idle, no chain has this tag"),
             Reply::NoMemory => head.say(" -> no memory"),
             Reply::BadSlot => head.say(" -> no such guest"),
             _ => {}
@@ -258,7 +266,10 @@ fn say_slot(text: &mut Text, number: u64, slot: &SlotSpec) {
             text.say(" from ");
             text.count(slot.extent.start);
         }
-        Backing::Host => text.say(" that the host serves"),
+        Backing::Host { depth } => {
+            text.say(" that the host serves by ");
+            text.counted(u64::from(depth), "tag");
+        }
     }
     text.say(if slot.read_only {
         ", read-only"
@@ -284,8 +295,7 @@ fn say_regions(text: &mut Text, regions: &[RegionSpec]) {
     }
 }
 
-// The queue that an event serves, where it may serve one. That of a block device whose chain is in flight is served by the
-// completion alone.
+// The queue that an event serves, where it may serve one. Where no tag of a disk is free, a completion alone serves its queue.
 fn served_of(board: &Watched, event: &Event) -> Option<SlotQueue> {
     let slot = event.slot;
     let (kind, queue) = match &event.what {
@@ -302,12 +312,26 @@ fn served_of(board: &Watched, event: &Event) -> Option<SlotQueue> {
     let window = board.window(slot, kind)?;
     let registers = window.registers(queue)?;
     let at = SlotQueue { slot, kind, queue };
-    let completes = matches!(&event.what, EventKind::Complete { .. });
-    let looks = completes == board.is_in_flight(at);
+    let looks = match &event.what {
+        EventKind::Complete { tag, .. } => board.is_taken(slot, *tag),
+        _ => !board.is_full(at),
+    };
     if looks && window.negotiation().live() && registers.ring.is_some() {
         Some(at)
     } else {
         None
+    }
+}
+
+// Says that a chain in flight isn't given back which is completed on a queue that isn't served.
+fn say_lost(board: &mut Watched, event: &Event, text: &mut Text) {
+    let EventKind::Complete { tag, .. } = &event.what else {
+        return;
+    };
+    if board.take_flight(event.slot, *tag).is_some() {
+        text.say("  the chain of tag ");
+        text.count(u64::from(*tag));
+        text.say(" isn't given back: the device asks to be reset\n");
     }
 }
 

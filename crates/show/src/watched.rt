@@ -1,20 +1,21 @@
 //! The board that goes along with a replay, over a copy of the image.
 
 use crate::guest::SlotQueue;
-use crate::wording::Ahead;
+use crate::wording::ChainSeen;
 use block_device::{BlockDevice, Operation};
 use board::{
-    Board, Budget, DeviceKind, Event, EventKind, GuestMemory, Pause, Reply, SlotSpec, Turn, Work,
+    Backing, Board, Budget, DeviceKind, Event, EventKind, GuestMemory, Pause, Reply, SlotSpec,
+    Turn, Work,
 };
 use mmio_window::Window;
 use sector_cache::MemoryImage;
-use std::alloc::Global;
+use std::alloc::{AllocError, Global};
 
-/// Such a board, with the chain of each slot that was in flight when it was said last.
+/// Such a board, with the chains of each slot that are in flight as they were said, each at its tag.
 #[derive(Drop)]
 pub struct Watched {
     board: Board<MemoryImage>,
-    flights: Vec<Option<Ahead>>,
+    flights: Vec<Vec<Option<ChainSeen>>>,
 }
 
 impl Watched {
@@ -27,8 +28,8 @@ impl Watched {
     ) -> Option<Watched> {
         let board = Board::new(alloc, slots, before, cache).ok()?;
         let mut flights = Vec::with_capacity(alloc, slots.len()).ok()?;
-        for _ in slots {
-            flights.push(None).ok()?;
+        for slot in slots {
+            flights.push(free_tags_of(alloc, slot.backing).ok()?).ok()?;
         }
         Some(Watched { board, flights })
     }
@@ -69,6 +70,19 @@ impl Watched {
         }
     }
 
+    /// A byte of a slot's memory, where there is one.
+    pub fn byte(&self, slot: u8, addr: u64) -> Option<u8> {
+        match self.memory(slot)?.part(addr, 1) {
+            Some([byte]) => Some(*byte),
+            _ => None,
+        }
+    }
+
+    /// Writes a byte of a slot's memory, where there is one.
+    pub fn put(&mut self, slot: u8, addr: u64, byte: u8) {
+        self.board.write_memory(slot, addr, &[byte]);
+    }
+
     /// Handles an event. `output` gets what the console puts out.
     pub fn step(&mut self, event: &Event, output: &mut Vec<u8>) -> Reply {
         self.board.step(event, output)
@@ -90,30 +104,86 @@ impl Watched {
         self.board.turn(slot, work, budget, output).turn
     }
 
-    /// What the host is asked of a slot's disk, and of how many runs, where something is in flight.
-    pub fn operation(&self, slot: u8) -> Option<(Operation, usize)> {
-        let operation = self.board.operation(slot)?;
-        let runs = self.board.runs(slot)?;
+    /// What the host is asked of a slot's disk by a tag, and of how many runs, where the tag is taken.
+    pub fn operation(&self, slot: u8, tag: u8) -> Option<(Operation, usize)> {
+        let operation = self.board.operation(slot, tag)?;
+        let runs = self.board.runs(slot, tag)?;
         Some((operation, runs.len()))
     }
 
-    /// Whether a chain of a queue is in flight.
-    pub fn is_in_flight(&self, at: SlotQueue) -> bool {
-        matches!(at.kind, DeviceKind::Block) && self.operation(at.slot).is_some()
+    /// Whether a chain has this tag of a slot.
+    pub fn is_taken(&self, slot: u8, tag: u8) -> bool {
+        self.board.operation(slot, tag).is_some()
     }
 
-    /// Keeps the chain that is in flight of a slot, as it was said.
-    pub fn keep_flight(&mut self, slot: u8, ahead: Ahead) {
-        if let Some(flight) = self.flights.get_mut(usize::from(slot)) {
-            *flight = Some(ahead);
+    /// Whether the host serves the disk of a queue's device.
+    pub fn is_hosted(&self, at: SlotQueue) -> bool {
+        matches!(at.kind, DeviceKind::Block) && !self.tags(at.slot).is_empty()
+    }
+
+    /// Whether the host serves the disk of a queue's device, and all its tags are taken.
+    pub fn is_full(&self, at: SlotQueue) -> bool {
+        self.is_hosted(at) && self.free_tags(at.slot) == 0
+    }
+
+    /// How many tags of a slot have no chain that was kept.
+    pub fn free_tags(&self, slot: u8) -> usize {
+        let mut free: usize = 0;
+        for flight in self.tags(slot) {
+            if flight.is_none() {
+                free = free.saturating_add(1);
+            }
+        }
+        free
+    }
+
+    /// The lowest tag of a slot that is taken by a chain which wasn't kept yet.
+    pub fn new_tag(&self, slot: u8) -> Option<u8> {
+        let mut tag: u8 = 0;
+        for flight in self.tags(slot) {
+            if flight.is_none() && self.is_taken(slot, tag) {
+                return Some(tag);
+            }
+            tag = tag.wrapping_add(1);
+        }
+        None
+    }
+
+    /// Keeps the chain that has a tag of a slot, as it was said.
+    pub fn keep_flight(&mut self, slot: u8, tag: u8, seen: ChainSeen) {
+        if let Some(tags) = self.flights.get_mut(usize::from(slot)) {
+            if let Some(flight) = tags.get_mut(usize::from(tag)) {
+                *flight = Some(seen);
+            }
         }
     }
 
-    /// Takes the chain that is in flight of a queue, as it was said.
-    pub fn take_flight(&mut self, at: SlotQueue) -> Option<Ahead> {
-        match at.kind {
-            DeviceKind::Block => self.flights.get_mut(usize::from(at.slot))?.take(),
-            DeviceKind::Console => None,
+    /// Takes the chain that has a tag of a slot, as it was said.
+    pub fn take_flight(&mut self, slot: u8, tag: u8) -> Option<ChainSeen> {
+        self.flights
+            .get_mut(usize::from(slot))?
+            .get_mut(usize::from(tag))?
+            .take()
+    }
+
+    // The chains of a slot that are in flight, each at its tag.
+    fn tags(&self, slot: u8) -> &[Option<ChainSeen>] {
+        match self.flights.get(usize::from(slot)) {
+            Some(tags) => tags.as_slice(),
+            None => &[],
         }
     }
+}
+
+// As many free tags as a slot's disk has.
+fn free_tags_of(alloc: Global, backing: Backing) -> Result<Vec<Option<ChainSeen>>, AllocError> {
+    let depth = match backing {
+        Backing::Image => 0,
+        Backing::Host { depth } => depth,
+    };
+    let mut tags = Vec::with_capacity(alloc, usize::from(depth))?;
+    for _ in 0..depth {
+        tags.push(None)?;
+    }
+    Ok(tags)
 }

@@ -18,13 +18,13 @@ mod state;
 mod tables;
 mod used;
 
-pub use chains::{Ahead, look_ahead};
+pub use chains::{Ahead, ChainSeen, Lookout};
 pub use event::{SHOWN, say_event, say_place, say_value};
 pub use fault_site::say_site;
 pub use mistakes::{Mistake, read_mistake, write_mistake};
 pub use names::{fault_name, say_interrupts};
 pub use notification::say_notification;
-pub use places::{next_place, size_of};
+pub use places::{next_place, place_behind, size_of, used_place};
 pub use request::{RequestSeen, say_asked, say_request};
 pub use state::{
     NEW_WINDOW, QueueSeen, RingSeen, WindowSeen, say_changes, say_queue_head, window_seen,

@@ -1,6 +1,6 @@
 -- The line of a slot, of an event and of the cache: its word, and fields that say what they have to.
 use Rattle.std.proofs.Common.{◌≡◌, ◌≢◌, ℕ, suc, ◌+◌, ◌*◌, ◌^◌, ◌<◌, ◌≤◌, Bool, true, false, cond, eqb, length, List, [], ◌∷◌, ◌++◌, All, drop, get_or, map, refl, sym, ap, subst, ◌∙◌, arith, MatchBool}
-use Rattle.std.specs.Prelude.{⊤}
+use Rattle.std.specs.Prelude.{⊤, codes}
 use Rattle.block_device.specs.declared.operation.Verdict.{Verdict}
 use Rattle.block_device.specs.declared.operation.Verdict.TheVariants.{Done, Failed}
 use Rattle.mmio_window.specs.declared.device_kind.DeviceKind.{DeviceKind}
@@ -29,7 +29,7 @@ use Rattle.trace.specs.Spelling.{window, disk, mode, verdict, width_digit, regio
 use Rattle.trace.specs.Text.{line, cache_fields, cache_line, disk_fields, memory_fields, slot_fields, slot_line, event_fields, event_line, what_fields, word_for}
 use Rattle.trace.specs.Format.{unless_version_1}
 use Rattle.hexadecimal.specs.Fields.{IsBytesField, IsFixed}
-use Rattle.trace.specs.Words.{RegionInRange, Shape, Num, Disk as ByDisk, Offset, Window, Width, Value, Mode, Verdict as ByVerdict, Bytes, Identity as ByIdentity, Says, behind_disk, disk_in, memory_in, shape_of, shapes, spelled, width_among, IsWidth, IsWordOf}
+use Rattle.trace.specs.Words.{RegionInRange, Shape, Num, Disk as ByDisk, Offset, Window, Width, Value, Mode, Verdict as ByVerdict, Bytes, Identity as ByIdentity, DiskInRange, Says, behind_disk, disk_in, memory_in, shape_of, shapes, spelled, width_among, IsWidth, IsWordOf}
 use Rattle.hexadecimal.proofs.ByteFields.{AreBytes}
 use Rattle.trace.proofs.Signs.{bytes_digits}
 use Rattle.trace.proofs.Signs.{Above, AllAbove, above_append, above_tested, above_num, above_fixed, fields_of-line, above_line}
@@ -121,9 +121,12 @@ above_regions (r ∷ (s ∷ rs)) =
     above_append 32 (region_text r) (44 ∷ regions_text (s ∷ rs)) (above_region r)
     (omega arith, above_regions (s ∷ rs))
 
-a_disk : (backing : Backing) → Stands ByDisk (disk backing)
-a_disk Image = ((Image, refl), above_tested 32 (disk Image) refl)
-a_disk Host = ((Host, refl), above_tested 32 (disk Host) refl)
+a_disk : (backing : Backing) → DiskInRange backing → Stands ByDisk (disk backing)
+a_disk Image fits = ((Image, record { fits = tt; spelled = refl }), above_tested 32 (disk Image) refl)
+a_disk (Host depth) fits = (
+  (Host depth, record { fits = fits; spelled = refl }),
+  above_append 32 (codes "host:") (num depth) (above_tested 32 (codes "host:") refl) (above_num depth),
+)
 
 a_mode : (b : Bool) → Stands Mode (mode b)
 a_mode false = ((false, refl), above_tested 32 (mode false) refl)
@@ -231,10 +234,10 @@ memory_stands (Plain version) width (r ∷ []) fits few one = let h = fits 0 r (
 memory_stands (Plain version) width (r ∷ (s ∷ rs)) fits few one = absurd (omega (arith, one))
 
 -- who has its disk, where a format says so
-disk_stands : (format : Format) (width : List ℕ) (backing : Backing)
+disk_stands : (format : Format) (width : List ℕ) (backing : Backing) → DiskInRange backing
     → EachStands (map (shape_of width) (disk_in format)) (disk_fields format backing)
-disk_stands (Plain version) width backing = tt
-disk_stands Extended width backing = (a_disk backing, tt)
+disk_stands (Plain version) width backing fits = tt
+disk_stands Extended width backing fits = (a_disk backing fits, tt)
 
 -- what stands behind that
 abbrev pub behind : Format → SlotSpec → List (List ℕ)
@@ -253,7 +256,7 @@ slot_stands format s h =
     (memory_fields format s.regions) (disk_fields format s.backing ++ behind format s)
     (memory_stands format width s.regions fits.regions fits.few h.printable.memory)
     (stand_both (shape_of width) (disk_in format) (behind_disk format) (disk_fields format s.backing)
-    (behind format s) (disk_stands format width s.backing) (
+    (behind format s) (disk_stands format width s.backing fits.disk) (
       a_number 64 s.extent.start fits.start,
       (
         a_number 64 s.extent.count fits.count,
@@ -331,8 +334,8 @@ event_stands format slot (what.Resize cols rows) lt range fine =
     (a_number 8 slot lt, (a_number 16 cols range.across, (a_number 16 rows range.down, tt)))
 event_stands format slot (what.Restore bs) lt range fine =
     (a_number 8 slot lt, (some_bytes bs range.each, tt))
-event_stands format slot (what.Complete came) lt range fine =
-    (a_number 8 slot lt, (a_verdict came, tt))
+event_stands format slot (what.Complete tag came) lt range fine =
+    (a_number 8 slot lt, (a_number 8 tag range.small, (a_verdict came, tt)))
 
 pub entered_event : {A : Type 0} (format : Format) (e : Event A) → IsFine e
     → IsWordOf format (word_for e.what) → EnteredEvent format (event_line e)

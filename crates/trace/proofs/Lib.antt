@@ -1,4 +1,5 @@
 pub mod Formats
+pub mod Disks
 pub mod Cutting
 pub mod RegionFields
 pub mod Signs

@@ -4,10 +4,9 @@ use Rattle.hex.specs.Hex.{encode_lower}
 use Rattle.std.specs.List.{flat_map}
 use Rattle.std.proofs.lemmas.List.{append-nil, take_all}
 use Rattle.chain.specs.declared.segment.Segment.{Segment}
-use Rattle.block_device.specs.declared.operation.Operation.{Operation}
 use Rattle.board.specs.declared.reply.Record.{Record}
 use Rattle.board.specs.declared.reply.Reply.{Reply}
-use Rattle.trace.specs.Asked.{asked_field, asked_line, other_run, run_field, runs_field}
+use Rattle.trace.specs.Asked.{Begun, asked_field, asked_line, other_run, run_field, runs_field}
 use Rattle.trace.specs.Records.{entry_of, quiet_line, record_fields, record_line, reply_field}
 use Rattle.trace.specs.Sends.{Sends}
 use Rattle.hexadecimal.specs.Spelling.{bytes, digit, fixed, num}
@@ -144,7 +143,7 @@ line_put i j k l m s t u v w a b c x y z p q r e =
     (sends_more k l m u v w (32 ∷ c) (32 ∷ x ∷ 32 ∷ y ∷ z ∷ []) r e)))
 
 -- a record with one field more behind it
-pub asked_is : {A : Type 0} (entry : Record A) (asked : Option (Operation × List Segment))
+pub asked_is : {A : Type 0} (entry : Record A) (asked : List Begun)
     → (line (record_fields entry) ++ 32 ∷ [])
     ++ (asked_field asked ++ 10 ∷ []) ≡ ended (asked_line entry asked)
 unfolding asked_line

@@ -160,8 +160,8 @@ equally_long (Plain version) (r ∷ []) (s ∷ []) hr hs = refl
 -- who has the disks of slots of one format, and what stands behind that
 same_backing : (b c : Backing) → disk b ≡ disk c → b ≡ c
 same_backing Image Image e = refl
-same_backing Host Host e = refl
-same_backing b c e = absurd (omega (arith, ap length e))
+same_backing (Host depth) (Host other) e = ap Host (same_num depth other (ap (drop 5) e))
+same_backing b c e = absurd (omega (arith, ap (λ (xs : List ℕ). get_or xs 0 0) e))
 
 same_disk : (format : Format) (s t : SlotSpec) → IsFineSlot format s → IsFineSlot format t
     → disk_fields format s.backing ++ behind format s ≡ disk_fields format t.backing ++ behind format t
@@ -253,8 +253,10 @@ same_what m n (what.Resize a l) (what.Resize b k) rv rw' fv fw e =
     (same_num m n (same_at e 1), cc)
 same_what m n (what.Restore xs) (what.Restore ys) rv rw' fv fw e =
     (same_num m n (same_at e 1), ap what.Restore (same_bytes xs ys rv.each rw'.each (same_at e 2)))
-same_what m n (what.Complete a) (what.Complete b) rv rw' fv fw e =
-    (same_num m n (same_at e 1), ap what.Complete (same_verdict a b (same_at e 2)))
+same_what m n (what.Complete t a) (what.Complete u b) rv rw' fv fw e =
+    let tag = same_num t u (same_at e 2) in
+    let came = same_verdict a b (same_at e 3) in
+    (same_num m n (same_at e 1), cc)
 same_what m n v w rv rw' fv fw e = absurd (omega (arith, ap sign e))
 
 pub same_event_fields : {A : Type 0} (d e : Event A) → IsFine d → IsFine e

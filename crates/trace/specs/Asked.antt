@@ -1,5 +1,5 @@
--- The records of a hosted trace: each has a sixth field, the operation that began with its event.
-use Rattle.std.specs.Prelude.{ℕ, Bool, true, false, Option, None, Some, List, [], ◌∷◌, ◌++◌, codes}
+-- The records of a hosted trace: each has a sixth field, the operations that began with its event.
+use Rattle.std.specs.Prelude.{ℕ, Bool, true, false, List, [], ◌∷◌, ◌++◌, codes}
 use Rattle.std.specs.List.{flat_map, list_any}
 use Rattle.chain.specs.declared.segment.Segment.{Segment}
 use Rattle.block_device.specs.declared.operation.Operation.{Operation}
@@ -16,7 +16,7 @@ use Rattle.trace.specs.Text.{line}
 -- a trace is hosted where some slot's disk is the host's
 abbrev pub is_host : Backing → Bool
 is_host Image = false
-is_host Host = true
+is_host (Host depth) = true
 
 abbrev pub is_hosted : List SlotSpec → Bool
 is_hosted slots = list_any (λ slot. is_host slot.backing) slots
@@ -51,11 +51,34 @@ operation_field o runs =
     kind_field o.kind ++ (stable_mark o.stable
     ++ 58 ∷ (num o.start ++ 58 ∷ (num o.len ++ 58 ∷ runs_field runs)))
 
--- the operation that began with an event, or none
-abbrev pub asked_field : Option (Operation × List Segment) → List ℕ
-asked_field None = codes "-"
-asked_field (Some asked) = operation_field asked.0 asked.1
+-- an operation that began, its tag, and where its bytes lie
+pub record Begun : Type 0 where
+  pub tag : ℕ
+  pub operation : Operation
+  pub runs : List Segment
 
--- a record with it
-unfoldable pub asked_line : {A : Type 0} → Record A → Option (Operation × List Segment) → List ℕ
+-- the tag and the operation, with `=` (61) between them
+abbrev pub begun_field : Begun → List ℕ
+begun_field one = num one.tag ++ 61 ∷ operation_field one.operation one.runs
+
+-- what stands before it: behind another one a `;` (59)
+abbrev pub sign_before : Bool → List ℕ
+sign_before true = []
+sign_before false = 59 ∷ []
+
+abbrev pub other_begun : Begun → List ℕ
+other_begun one = sign_before false ++ begun_field one
+
+-- the operations that began with an event, or none
+abbrev pub asked_field : List Begun → List ℕ
+asked_field [] = codes "-"
+asked_field (one ∷ others) = begun_field one ++ flat_map other_begun others
+
+-- what stands at its end: a `-` where none began
+abbrev pub none_mark : Bool → List ℕ
+none_mark true = codes "-"
+none_mark false = []
+
+-- a record with them
+unfoldable pub asked_line : {A : Type 0} → Record A → List Begun → List ℕ
 asked_line entry asked = line (record_fields entry ++ asked_field asked ∷ [])

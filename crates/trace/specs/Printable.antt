@@ -11,7 +11,7 @@ use Rattle.trace.specs.declared.format.Format.TheVariants.{Plain, Extended}
 use Rattle.trace.specs.declared.format.Version.TheVariants.{One}
 use Rattle.trace.specs.Text.{Content, word_for}
 use Rattle.trace.specs.Format.{identity_in_version_1}
-use Rattle.trace.specs.Words.{IsWidth, IsWordOf, RegionInRange}
+use Rattle.trace.specs.Words.{DiskInRange, IsWidth, IsWordOf, RegionInRange}
 
 -- an access to a register that has a spelling: its offset has three digits, and its width is 1, 2 or 4
 pub record IsAccess (offset width : ℕ) : Type 0 where
@@ -32,7 +32,7 @@ IsPrintableKind (MemWrite addr bs) = ⊤
 IsPrintableKind (Input bs) = ⊤
 IsPrintableKind (Resize cols rows) = ⊤
 IsPrintableKind (Restore bs) = ⊤
-IsPrintableKind (Complete verdict) = ⊤
+IsPrintableKind (Complete tag verdict) = ⊤
 
 -- a memory of so many regions that has a spelling in a format: in a plain one there is one
 abbrev pub IsPrintableMemory : Format → ℕ → Type 0
@@ -63,6 +63,7 @@ pub record SlotInRange (s : SlotSpec) : Type 0 where
   pub few : length s.regions ≤ 8
   pub start : s.extent.start < 2 ^ 64
   pub count : s.extent.count < 2 ^ 64
+  pub disk : DiskInRange s.backing
   pub cols : s.cols < 2 ^ 16
   pub rows : s.rows < 2 ^ 16
   pub identity : All (λ b. b < 2 ^ 8) s.identity
@@ -83,6 +84,9 @@ pub record SizeInRange (cols rows : ℕ) : Type 0 where
   pub across : cols < 2 ^ 16
   pub down : rows < 2 ^ 16
 
+pub record TagInRange (tag : ℕ) : Type 0 where
+  pub small : tag < 2 ^ 8
+
 abbrev pub KindInRange : {A : Type 0} → EventKind A → Type 0
 KindInRange (Read kind offset width) = ⊤
 KindInRange (Write kind offset width value) = ⊤
@@ -91,7 +95,7 @@ KindInRange (MemWrite addr bs) = BytesInRange addr bs
 KindInRange (Input bs) = EachInRange bs
 KindInRange (Resize cols rows) = SizeInRange cols rows
 KindInRange (Restore bs) = EachInRange bs
-KindInRange (Complete verdict) = ⊤
+KindInRange (Complete tag verdict) = TagInRange tag
 
 pub record EventInRange {A : Type 0} (e : Event A) : Type 0 where
   pub slot : e.slot < 2 ^ 8

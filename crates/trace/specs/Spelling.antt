@@ -28,10 +28,10 @@ abbrev pub window : DeviceKind → List ℕ
 window Block = codes "b"
 window Console = codes "c"
 
--- who has a slot's disk
+-- who has a slot's disk; of a disk that the host serves, how many operations may be in flight
 abbrev pub disk : Backing → List ℕ
 disk Image = codes "image"
-disk Host = codes "host"
+disk (Host depth) = codes "host:" ++ num depth
 
 -- whether a slot is read-only
 abbrev pub mode : Bool → List ℕ
@@ -81,4 +81,5 @@ field_text says field.Value = fixed (2 * says.width) says.value
 field_text says field.Address = num says.address
 field_text says field.Length = num says.length
 field_text says field.Bytes = bytes says.bytes.now
+field_text says field.Tag = num says.tag
 field_text says field.Verdict = verdict says.verdict

@@ -89,9 +89,9 @@ resize_fields slot cols rows = spelled Resize ∷ num slot ∷ num cols ∷ num 
 abbrev pub restore_fields : ℕ → List ℕ → List (List ℕ)
 restore_fields slot bs = spelled Restore ∷ num slot ∷ bytes bs ∷ []
 
--- what was in flight of a slot's disk came to its end
-abbrev pub complete_fields : ℕ → Verdict → List (List ℕ)
-complete_fields slot came = spelled Complete ∷ num slot ∷ verdict came ∷ []
+-- an operation in flight of a slot's disk, by its tag, came to its end
+abbrev pub complete_fields : ℕ → ℕ → Verdict → List (List ℕ)
+complete_fields slot tag came = spelled Complete ∷ num slot ∷ num tag ∷ verdict came ∷ []
 
 -- the word of what a slot does
 abbrev pub word_for : {A : Type 0} → EventKind A → Word
@@ -102,7 +102,7 @@ word_for (what.MemWrite addr bs) = MemWrite
 word_for (what.Input bs) = Input
 word_for (what.Resize cols rows) = Resize
 word_for (what.Restore bs) = Restore
-word_for (what.Complete came) = Complete
+word_for (what.Complete tag came) = Complete
 
 -- the fields of what a slot does
 abbrev pub what_fields : {A : Type 0} → ℕ → EventKind A → List (List ℕ)
@@ -113,7 +113,7 @@ what_fields slot (what.MemWrite addr bs) = mem_write_fields slot addr bs
 what_fields slot (what.Input bs) = input_fields slot bs
 what_fields slot (what.Resize cols rows) = resize_fields slot cols rows
 what_fields slot (what.Restore bs) = restore_fields slot bs
-what_fields slot (what.Complete came) = complete_fields slot came
+what_fields slot (what.Complete tag came) = complete_fields slot tag came
 
 abbrev pub event_fields : {A : Type 0} → Event A → List (List ℕ)
 event_fields e = what_fields e.slot e.what

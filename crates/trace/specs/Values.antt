@@ -7,13 +7,13 @@ use Rattle.mmio_window.specs.declared.device_kind.DeviceKind.{DeviceKind}
 use Rattle.trace.specs.declared.value.FieldValue.{FieldValue}
 use Rattle.trace.specs.declared.value.FieldValue.TheVariants as value
 use Rattle.trace.specs.Spelling.{value_text}
-use Rattle.trace.specs.Words.{Shape, Num, Regions, Disk, Offset, Window, Width, Value, Mode, Verdict, Bytes, Identity, IsIdentityField, IsWidth, IsWidthField, Says}
+use Rattle.trace.specs.Words.{Shape, Num, Regions, Disk, Offset, Window, Width, Value, Mode, Verdict, Bytes, Identity, DiskInRange, IsIdentityField, IsWidth, IsWidthField, Says}
 
 -- the value is one of a shape; where there is no width to read it by, any is
 abbrev pub IsOf : Shape → FieldValue → Type 0
 IsOf (Num bits) v = (n : ℕ) × ((v ≡ value.Number n) × (n < 2 ^ bits))
 IsOf Regions v = (field : Bor (List ℕ)) × ((v ≡ value.Spelled field) × Says Regions field.now)
-IsOf Disk v = (backing : Backing) × (v ≡ value.Disk backing)
+IsOf Disk v = (backing : Backing) × ((v ≡ value.Disk backing) × DiskInRange backing)
 IsOf Offset v = (n : ℕ) × ((v ≡ value.Offset n) × (n < 16 ^ 3))
 IsOf Window v = (kind : DeviceKind) × (v ≡ value.Window kind)
 IsOf Width v = (width : ℕ) × ((v ≡ value.Width width) × IsWidth width)

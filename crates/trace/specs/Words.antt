@@ -2,6 +2,7 @@
 use Rattle.std.specs.Prelude.{◌≡◌, ℕ, ◌*◌, ◌^◌, ◌<◌, ◌≤◌, ◌⊎◌, ⊤, All, Bool, List, [], ◌∷◌, ◌++◌, codes, length, map, slice_index_or}
 use Rattle.guest_memory.specs.declared.spec.RegionSpec.{RegionSpec}
 use Rattle.board.specs.declared.spec.Backing.{Backing}
+use Rattle.board.specs.declared.spec.Backing.TheVariants.{Image, Host}
 use Rattle.mmio_window.specs.declared.device_kind.DeviceKind.{DeviceKind}
 use Rattle.block_device.specs.declared.operation.Verdict as operation
 use Rattle.trace.specs.declared.format.Format.{Format}
@@ -45,6 +46,16 @@ pub record IsRegionsField (field : List ℕ) (regions : List RegionSpec) : Type 
   pub fits : All RegionInRange regions
   pub spelled : field ≡ regions_text regions
 
+-- a disk whose depth, where the host serves it, has 8 bits
+abbrev pub DiskInRange : Backing → Type 0
+DiskInRange Image = ⊤
+DiskInRange (Host depth) = depth < 2 ^ 8
+
+-- the field is who has a disk
+pub record IsDiskField (field : List ℕ) (backing : Backing) : Type 0 where
+  pub fits : DiskInRange backing
+  pub spelled : field ≡ disk backing
+
 -- The shapes of fields. A value is read by the width that another field of its line says.
 pub data Shape : Type 0 where
   Num : (bits : ℕ) → Shape
@@ -64,7 +75,7 @@ pub data Shape : Type 0 where
 abbrev pub Says : Shape → List ℕ → Type 0
 Says (Num bits) field = SpellsNumber bits field
 Says Regions field = (regions : List RegionSpec) × IsRegionsField field regions
-Says Disk field = (backing : Backing) × (field ≡ disk backing)
+Says Disk field = (backing : Backing) × IsDiskField field backing
 Says Offset field = (n : ℕ) × IsFixed 3 field n
 Says Window field = (kind : DeviceKind) × (field ≡ window kind)
 Says Width field = (width : ℕ) × IsWidthField field width
@@ -124,7 +135,7 @@ fields_in format MemWrite = field.Slot ∷ field.Address ∷ field.Bytes ∷ []
 fields_in format Input = field.Slot ∷ field.Bytes ∷ []
 fields_in format Resize = field.Slot ∷ field.Columns ∷ field.Rows ∷ []
 fields_in format Restore = field.Slot ∷ field.Bytes ∷ []
-fields_in format Complete = field.Slot ∷ field.Verdict ∷ []
+fields_in format Complete = field.Slot ∷ field.Tag ∷ field.Verdict ∷ []
 
 -- of the fields of a line, the one by which a value is read
 abbrev pub width_among : List (List ℕ) → List ℕ
@@ -151,6 +162,7 @@ shape_of width field.Value = Value width
 shape_of width field.Address = Num 64
 shape_of width field.Length = Num 32
 shape_of width field.Bytes = Bytes
+shape_of width field.Tag = Num 8
 shape_of width field.Verdict = Verdict
 
 -- the shapes of the fields after a word, in a format, where these are the fields

@@ -27,8 +27,8 @@ pub use hosted::is_hosted;
 pub use laws::{a_trace_has_no_fault, lines_begin_with_an_event, one_fault, one_trace};
 pub use no_memory::NoMemory;
 pub use print::{
-    Buffer, is_printable, print_records, print_trace, put_asked, put_fields, put_line, put_read,
-    write_whole,
+    Buffer, is_printable, print_records, print_trace, put_asked_end, put_begun, put_fields,
+    put_line, put_read, write_whole,
 };
 pub use read::{
     ParsedEvent, Validated, event_of_line, field_at_fault, first_word, line_of, read_bytes,

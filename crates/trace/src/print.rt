@@ -19,7 +19,7 @@ mod write;
 
 use crate::format::{Format, Version, header_of, identity_in_version_1};
 use crate::no_memory::NoMemory;
-pub use crate::print::asked::put_asked;
+pub use crate::print::asked::{put_asked_end, put_begun};
 pub use crate::print::buffer::Buffer;
 use crate::print::line::{LineFields, push_line};
 use crate::print::range::in_range;
@@ -286,8 +286,8 @@ fn event_says<A: Allocator>(event: &Event<A>) -> (Word, LineFields<'_>)
             fields.bytes = bytes.as_slice();
             (Word::Restore, fields)
         }
-        EventKind::Complete { verdict } => {
-            fields.verdict = *verdict;
+        EventKind::Complete { tag, verdict } => {
+            (fields.tag, fields.verdict) = (*tag, *verdict);
             (Word::Complete, fields)
         }
     }

@@ -36,7 +36,9 @@ pub enum Field {
     Address,
     Length,
     Bytes,
-    /// How an operation of a slot came out.
+    /// Which operation of a slot in flight.
+    Tag,
+    /// How it came out.
     Verdict,
 }
 
@@ -61,6 +63,6 @@ pub fn fields_after(format: Format, word: Word) -> &'static [Field]
         Word::Input => &[Slot, Bytes],
         Word::Resize => &[Slot, Columns, Rows],
         Word::Restore => &[Slot, Bytes],
-        Word::Complete => &[Slot, Verdict],
+        Word::Complete => &[Slot, Tag, Verdict],
     }
 }

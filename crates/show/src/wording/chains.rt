@@ -6,7 +6,7 @@ ghost use Rattle.chain.specs.Buffers.{Good};
 use crate::weave::Text;
 use crate::wording::chain_mistakes::chain_mistake;
 use crate::wording::mistakes::Mistake;
-use crate::wording::places::{next_place, size_of};
+use crate::wording::places::{place_behind, places_ahead, size_of, used_place};
 use crate::wording::request::{RequestSeen, request_seen};
 use block_device::BlockDevice;
 use chain::{Buffer, Chain, Fault, Virtqueue};
@@ -16,85 +16,133 @@ use mmio_window::{Queue, QueueRegisters, Token};
 use packed_ring::PackedRing;
 use split_ring::SplitRing;
 
-/// What stands before a service at its ring's place.
+/// What stands before a service where its ring's next chain is taken.
 #[derive(Clone, Copy)]
 pub enum Ahead {
-    /// A chain at a place, the place behind it, what it asks of a block device, and what it has that the standard forbids a
-    /// driver.
-    Chain {
-        place: u16,
-        next: u16,
-        request: Option<RequestSeen>,
-        mistake: Option<Mistake>,
-    },
+    /// A chain.
+    Chain(ChainSeen),
     /// What can't be served.
     Fault(Fault),
     /// No chain.
     Nothing,
 }
 
-/// Asks a copy of a queue's ring what a service takes next, which opens where `opens`. The chain is
-/// left in `chain`, and said.
-pub fn look_ahead(
-    mem: &GuestMemory,
-    registers: &QueueRegisters,
-    device: Option<&BlockDevice>,
-    opens: bool,
-    chain: &mut Chain,
-    text: &mut Text,
-) -> Ahead {
-    chain.clear();
-    let Some(queue) = &registers.ring else {
-        return Ahead::Nothing;
-    };
-    if !queue.lies_in(mem) {
-        return Ahead::Nothing;
-    }
-    let mut copy = queue.copied();
-    if opens {
-        if let Err(fault) = copy.open(mem) {
-            return Ahead::Fault(fault);
+/// A chain that a service takes.
+#[derive(Clone, Copy)]
+pub struct ChainSeen {
+    /// Its head, or its buffer id.
+    pub id: u16,
+    /// How many places it has.
+    pub places: u16,
+    /// How many bytes the device may write.
+    pub writable: u64,
+    /// What it asks of a block device.
+    pub request: Option<RequestSeen>,
+    /// What it has that the standard forbids a driver.
+    pub mistake: Option<Mistake>,
+}
+
+impl ChainSeen {
+    /// Whether it asks the host of a disk.
+    pub fn asks_host(&self) -> bool {
+        match &self.request {
+            Some(request) => request.asks_host(),
+            None => false,
         }
     }
-    match copy.take(mem, chain) {
-        Ok(Some(token)) => {
-            let request = match device {
-                Some(device) => Some(request_seen(device, mem, chain)),
-                None => None,
-            };
-            say_chain(text, mem, queue, &token, chain);
-            let (place, _) = parts_of(&token);
-            Ahead::Chain {
-                place,
-                next: behind(&token, size_of(registers)),
-                request,
-                mistake: chain_mistake(mem, queue, size_of(registers), &token, chain),
+}
+
+/// A copy of a queue's ring, which is asked what a service takes. It writes nothing: each chain is left in flight.
+#[derive(Drop)]
+pub struct Lookout {
+    ring: Queue,
+    size: u16,
+}
+
+impl Lookout {
+    /// That of a queue that is ready.
+    pub fn new(registers: &QueueRegisters) -> Option<Lookout> {
+        let ring = registers.ring.as_ref()?;
+        Some(Lookout {
+            ring: ring.copied(),
+            size: size_of(registers),
+        })
+    }
+
+    /// The same once a chain in flight of so many places has been used.
+    pub fn landed(self, places: u16) -> Option<Lookout> {
+        let size = self.size;
+        let place = place_behind(&self.ring, used_place(&self.ring), places, size);
+        let ahead = places_ahead(&self.ring).checked_sub(places)?;
+        let ring = match self.ring {
+            Queue::Split(ring) => Queue::Split(ring.served_to(place, 0, 0, ahead)?),
+            Queue::Packed(ring) => Queue::Packed(ring.served_to(place, 0, 0, ahead)?),
+        };
+        Some(Lookout { ring, size })
+    }
+
+    /// Opens a service, and answers what is wrong with what is on offer.
+    pub fn open(&mut self, mem: &GuestMemory) -> Option<Fault> {
+        if !self.ring.lies_in(mem) {
+            return None;
+        }
+        self.ring.open(mem).err()
+    }
+
+    /// What the service takes next. The chain is left in `chain`, and said.
+    pub fn next(
+        &mut self,
+        mem: &GuestMemory,
+        device: Option<&BlockDevice>,
+        chain: &mut Chain,
+        text: &mut Text,
+    ) -> Ahead {
+        chain.clear();
+        if !self.ring.lies_in(mem) {
+            return Ahead::Nothing;
+        }
+        match self.ring.take(mem, chain) {
+            Ok(Some(token)) => {
+                let request = match device {
+                    Some(device) => Some(request_seen(device, mem, chain)),
+                    None => None,
+                };
+                say_chain(text, mem, &self.ring, &token, chain);
+                let mistake = chain_mistake(mem, &self.ring, self.size, &token, chain);
+                self.ring.launch(&token);
+                Ahead::Chain(ChainSeen {
+                    id: head_of(&token),
+                    places: places_of(&token),
+                    writable: chain.writable_len(),
+                    request,
+                    mistake,
+                })
             }
+            Ok(None) => Ahead::Nothing,
+            Err(fault) => Ahead::Fault(fault),
         }
-        Ok(None) => Ahead::Nothing,
-        Err(fault) => Ahead::Fault(fault),
     }
 }
 
-// The place of a token, and the head or the buffer id.
-fn parts_of(token: &Token) -> (u16, u16) {
+// The head or the buffer id of a token.
+fn head_of(token: &Token) -> u16 {
     match token {
-        Token::Split(token) => (token.place, token.head),
-        Token::Packed(token) => (token.place, token.id),
+        Token::Split(token) => token.head,
+        Token::Packed(token) => token.id,
     }
 }
 
-// The place behind the chain of a token, in a queue of this size.
-fn behind(token: &Token, size: u16) -> u16 {
+// How many places the chain of a token has.
+fn places_of(token: &Token) -> u16 {
     match token {
-        Token::Split(token) => token.place.wrapping_add(1),
-        Token::Packed(token) => next_place(token.place, token.length, size),
+        Token::Split(_) => 1,
+        Token::Packed(token) => token.length,
     }
 }
 
 // Says a chain with its buffers, and which descriptor each of them came from.
 fn say_chain(text: &mut Text, mem: &GuestMemory, queue: &Queue, token: &Token, chain: &Chain) {
-    let (_, head) = parts_of(token);
+    let head = head_of(token);
     text.say("  chain ");
     text.count(u64::from(head));
     text.say(":");

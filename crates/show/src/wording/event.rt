@@ -65,10 +65,14 @@ pub fn say_event(text: &mut Text, what: &EventKind) {
             text.say("are restored from ");
             text.counted(bytes.as_slice().len() as u64, "byte");
         }
-        EventKind::Complete { verdict } => text.say(match verdict {
-            Verdict::Done => "done",
-            Verdict::Failed => "failed",
-        }),
+        EventKind::Complete { tag, verdict } => {
+            text.say("tag ");
+            text.count(u64::from(*tag));
+            text.say(match verdict {
+                Verdict::Done => " done",
+                Verdict::Failed => " failed",
+            });
+        }
     }
 }
 

@@ -52,7 +52,18 @@ fn say_jump(text: &mut Text, mem: &GuestMemory, ring: &SplitRing, size: u16)
     text.count(u64::from(ring.available_idx(mem)));
     text.say(" where ");
     text.count(u64::from(ring.state().place));
-    text.say(" were used, of a queue of ");
+    text.say(" were used");
+    let ahead = ring.state().ahead;
+    if ahead > 0 {
+        text.say(" and ");
+        text.count(u64::from(ahead));
+        text.say(if ahead == 1 {
+            " is in flight"
+        } else {
+            " are in flight"
+        });
+    }
+    text.say(", of a queue of ");
     text.count(u64::from(size));
 }
 

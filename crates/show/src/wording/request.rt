@@ -18,6 +18,16 @@ pub struct RequestSeen {
     pub status_at: Option<u64>,
 }
 
+impl RequestSeen {
+    /// Whether the host is asked for it, where the host serves the disk.
+    pub fn asks_host(&self) -> bool {
+        match self.request {
+            Request::Rejected(_) | Request::GetId => false,
+            _ => self.status_at.is_some(),
+        }
+    }
+}
+
 /// What a chain asks of a device, as the device itself reads it.
 pub fn request_seen(device: &BlockDevice, mem: &GuestMemory, chain: &Chain) -> RequestSeen
     requires { All (Within mem.now) chain.now }
@@ -67,10 +77,12 @@ pub fn say_request(text: &mut Text, mem: &GuestMemory, seen: &RequestSeen) {
     text.say("\n");
 }
 
-/// Says a request, and what the host is asked for it, with so many runs.
-pub fn say_asked(text: &mut Text, seen: &RequestSeen, operation: Operation, runs: usize) {
+/// Says a request, and what the host is asked for it by a tag, with so many runs.
+pub fn say_asked(text: &mut Text, seen: &RequestSeen, tag: u8, operation: Operation, runs: usize) {
     say_what(text, seen);
-    text.say("asks the host to ");
+    text.say("asks the host by tag ");
+    text.count(u64::from(tag));
+    text.say(" to ");
     let runs = runs as u64;
     match operation.kind {
         OperationKind::In => say_transfer(text, "read ", operation, " into ", runs),

@@ -148,18 +148,19 @@ fn ring_seen(mem: &GuestMemory, queue: &Queue, size: u16) -> Option<RingSeen> {
     }
 }
 
-// The first place of a packed ring of this size that isn't available.
+// The first place of a packed ring of this size that isn't available, behind the chains in flight.
 fn available_place(mem: &GuestMemory, ring: &PackedRing, size: u16) -> u16
     requires { LiesIn mem.now ring.now.setup }
 {
+    let first = next_place(ring.state().place, ring.state().ahead, size);
     for step in 0..size {
-        let place = next_place(ring.state().place, step, size);
+        let place = next_place(first, step, size);
         match ring.descriptor_of(mem, place) {
             Some((_, _, flags)) if is_available(flags, place < size) => {}
             _ => return place,
         }
     }
-    next_place(ring.state().place, size, size)
+    next_place(first, size, size)
 }
 
 /// Says what of a window isn't as it was, a line each.

@@ -85,12 +85,12 @@ impl Table {
         change
     }
 
-    // How many descriptors of a packed ring of a size were available from its place on, when they were said last.
+    // How many descriptors of a packed ring of a size were in flight or available from its place on, when they were said last.
     fn available_len(&self, queue: &Queue, size: u16) -> u16 {
         let Queue::Packed(ring) = queue else {
             return 0;
         };
-        for step in 0..size {
+        for step in ring.state().ahead..size {
             let place = next_place(ring.state().place, step, size);
             let number = place.checked_rem(size).unwrap_or(0);
             let at = usize::from(number) * DESCRIPTOR_LEN + 14;
@@ -122,8 +122,9 @@ impl Table {
 fn ahead_of(queue: &Queue, size: u16, number: u16) -> u16 {
     match queue {
         Queue::Packed(ring) => {
+            let first = ring.state().place.checked_rem(size).unwrap_or(0);
             let ahead = u32::from(number) + u32::from(size);
-            let ahead = ahead.saturating_sub(u32::from(ring.position()));
+            let ahead = ahead.saturating_sub(u32::from(first));
             ahead.checked_rem(u32::from(size)).unwrap_or(0) as u16
         }
         Queue::Split(_) => number,
@@ -207,9 +208,10 @@ pub fn say_on_offer(
 fn say_heads(text: &mut Text, mem: &GuestMemory, ring: &SplitRing, driver_area: u64, size: u16)
     requires { LiesIn mem.now ring.now.setup }
 {
-    let offered = ring.available_idx(mem).wrapping_sub(ring.state().place);
+    let next = ring.state().place.wrapping_add(ring.state().ahead);
+    let offered = ring.available_idx(mem).wrapping_sub(next);
     for step in 0..offered.min(MOST_LISTED) {
-        let entry = entry_of(ring.state().place.wrapping_add(step), size);
+        let entry = entry_of(next.wrapping_add(step), size);
         if let Some(head) = mem.get_u16(driver_area.wrapping_add(entry)) {
             text.say(" ");
             text.count(u64::from(head));
@@ -225,8 +227,9 @@ fn say_lists(text: &mut Text, mem: &GuestMemory, ring: &PackedRing, size: u16)
     requires { PackedLiesIn mem.now ring.now.setup }
 {
     let mut begins = true;
+    let first = next_place(ring.state().place, ring.state().ahead, size);
     for step in 0..size {
-        let place = next_place(ring.state().place, step, size);
+        let place = next_place(first, step, size);
         let Some((_, _, flags)) = ring.descriptor_of(mem, place) else {
             return;
         };

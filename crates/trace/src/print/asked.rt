@@ -1,9 +1,10 @@
-//! The last field of a record where the host serves the disks: what it is asked to do.
+//! The last field of a record where the host serves a disk: what it is asked to do.
+//!
+//! It is put operation by operation, in the order of their tags.
 
 ghost use Rattle.std.specs.Prelude.{◌≡◌, ◌++◌, ◌∷◌, []};
 ghost use Rattle.std.specs.List.{flat_map};
-ghost use Rattle.std.specs.Option.{option_map};
-ghost use Rattle.trace.specs.Asked.{asked_field, kind_field, operation_field, other_run, run_field, runs_field, stable_mark};
+ghost use Rattle.trace.specs.Asked.{begun_field, kind_field, none_mark, operation_field, other_run, run_field, runs_field, sign_before, stable_mark};
 ghost use Rattle.trace.specs.Sends.{Sends, waiting};
 
 use crate::print::buffer::Buffer;
@@ -13,20 +14,37 @@ use chain::Segment;
 use std::alloc::Allocator;
 use std::io::Write;
 
-/// Puts the operation that began with an event, with the runs where its bytes lie, and the line's end.
-pub fn put_asked<W: Write, B: Allocator>(
+/// Puts an operation that began with an event, by its tag, with the runs where its bytes lie.
+pub fn put_begun<W: Write, B: Allocator>(
     buffer: &mut Buffer<B>,
     out: &mut W,
-    asked: Option<(Operation, &[Segment])>,
+    is_first: bool,
+    tag: u8,
+    operation: Operation,
+    runs: &[Segment],
 )
-    ensures { Sends (W.contents out.old) (W.contents out.new) (waiting buffer.old) (asked_field (option_map (λ a. (a.0, a.1.now)) asked.entry) ++ 10 ∷ []) (waiting buffer.new) }
+    ensures { Sends (W.contents out.old) (W.contents out.new) (waiting buffer.old)
+        (sign_before is_first ++ begun_field (record { tag = tag; operation = operation; runs = runs.now })) (waiting buffer.new) }
 {
-    let Some((operation, runs)) = asked else {
-        buffer.put(out, b"-\n");
-        return;
-    };
+    buffer.put(out, sign_before(is_first));
+    put_num(buffer, out, u64::from(tag));
+    buffer.put(out, b"=");
     put_operation(buffer, out, operation, runs);
-    buffer.put(out, b"\n");
+}
+
+/// Puts the end of the line, where no operation began a `-` before it.
+pub fn put_asked_end<W: Write, B: Allocator>(buffer: &mut Buffer<B>, out: &mut W, is_none: bool)
+    ensures { Sends (W.contents out.old) (W.contents out.new) (waiting buffer.old) (none_mark is_none ++ 10 ∷ []) (waiting buffer.new) }
+{
+    let end: &[u8] = if is_none { b"-\n" } else { b"\n" };
+    buffer.put(out, end);
+}
+
+// What stands before an operation.
+fn sign_before(is_first: bool) -> &'static [u8]
+    ensures { result.now ≡ sign_before is_first }
+{
+    if is_first { b"" } else { b";" }
 }
 
 // Puts an operation and its runs.

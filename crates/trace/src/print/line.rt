@@ -1,7 +1,7 @@
 //! The line of a trace: a word, and the fields after it in the table's order.
 
 ghost use Rattle.std.specs.Prelude.{◌≡◌, ◌++◌, ◌∷◌, OnOk, map};
-ghost use Rattle.trace.specs.Spelling.{field_text};
+ghost use Rattle.trace.specs.Spelling.{disk, field_text};
 ghost use Rattle.trace.specs.Text.{ended, line};
 ghost use Rattle.trace.specs.Words.{fields_in, spelled};
 
@@ -37,6 +37,7 @@ pub(crate) struct LineFields<'a> {
     pub address: u64,
     pub length: u32,
     pub bytes: &'a [u8],
+    pub tag: u8,
     pub verdict: Verdict,
 }
 
@@ -62,6 +63,7 @@ impl Default for LineFields<'_> {
             address: 0,
             length: 0,
             bytes: &[],
+            tag: 0,
             verdict: Verdict::Done,
         }
     }
@@ -99,10 +101,7 @@ fn push_field<A: Allocator>(
         Field::Base => push_num(out, fields.base),
         Field::Size => push_num(out, fields.size),
         Field::Regions => push_regions(out, fields.regions),
-        Field::Disk => match fields.backing {
-            Backing::Image => out.extend_from_slice(b"image"),
-            Backing::Host => out.extend_from_slice(b"host"),
-        },
+        Field::Disk => push_disk(out, fields.backing),
         Field::Start => push_num(out, fields.start),
         Field::Count => push_num(out, fields.count),
         Field::Mode if fields.read_only => out.extend_from_slice(b"ro"),
@@ -121,9 +120,23 @@ fn push_field<A: Allocator>(
         Field::Address => push_num(out, fields.address),
         Field::Length => push_num(out, u64::from(fields.length)),
         Field::Bytes => push_bytes(out, fields.bytes),
+        Field::Tag => push_num(out, u64::from(fields.tag)),
         Field::Verdict => match fields.verdict {
             Verdict::Done => out.extend_from_slice(b"done"),
             Verdict::Failed => out.extend_from_slice(b"failed"),
         },
+    }
+}
+
+// Appends who has a disk.
+fn push_disk<A: Allocator>(out: &mut Vec<u8, A>, backing: Backing) -> Result<(), AllocError>
+    ensures { OnOk result (out.new.items ≡ out.old.items ++ disk backing) }
+{
+    match backing {
+        Backing::Image => out.extend_from_slice(b"image"),
+        Backing::Host { depth } => {
+            out.extend_from_slice(b"host:")?;
+            push_num(out, u64::from(depth))
+        }
     }
 }

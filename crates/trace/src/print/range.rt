@@ -6,10 +6,10 @@
 ghost use Rattle.std.specs.Prelude.{All, ◌^◌, ◌<◌};
 ghost use Rattle.trace.specs.Printable.{EventInRange, InRange, KindInRange, SlotInRange};
 ghost use Rattle.trace.specs.Text.{content};
-ghost use Rattle.trace.specs.Words.{RegionInRange};
+ghost use Rattle.trace.specs.Words.{DiskInRange, RegionInRange};
 
 use crate::trace::Trace;
-use board::{Event, EventKind, SlotSpec};
+use board::{Backing, Event, EventKind, SlotSpec};
 use guest_memory::RegionSpec;
 use std::alloc::Allocator;
 
@@ -34,6 +34,7 @@ fn slot_in_range(slot: &SlotSpec)
     }
     let _start = slot.extent.start;
     let _count = slot.extent.count;
+    disk_in_range(slot.backing);
     let _cols = slot.cols;
     let _rows = slot.rows;
     bytes_in_range(&slot.identity);
@@ -44,6 +45,14 @@ fn region_in_range(region: &RegionSpec)
 {
     let _base = region.base;
     let _len = region.len;
+}
+
+fn disk_in_range(backing: Backing)
+    ensures { DiskInRange backing }
+{
+    if let Backing::Host { depth } = backing {
+        let _depth = depth;
+    }
 }
 
 fn event_in_range<A: Allocator>(event: &Event<A>)
@@ -70,6 +79,9 @@ fn kind_in_range<A: Allocator>(what: &EventKind<A>)
         EventKind::Resize { cols, rows } => {
             let _cols = *cols;
             let _rows = *rows;
+        }
+        EventKind::Complete { tag, .. } => {
+            let _tag = *tag;
         }
         _ => {}
     }

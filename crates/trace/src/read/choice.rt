@@ -1,10 +1,12 @@
 //! Fields that choose one of a few values.
 
-ghost use Rattle.std.specs.Prelude.{◌≡◌, IfSome, IfNone, OnSome};
-ghost use Rattle.trace.specs.Spelling.{disk, window, mode, verdict};
-ghost use Rattle.trace.specs.Words.{IsWidthField, Says, Disk, Window, Width, Mode, Verdict as ByVerdict};
+ghost use Rattle.std.specs.Prelude.{◌≡◌, ℕ, IfSome, IfNone, OnSome};
+ghost use Rattle.board.specs.declared.spec.Backing.{Backing};
+ghost use Rattle.trace.specs.Spelling.{window, mode, verdict};
+ghost use Rattle.trace.specs.Words.{IsDiskField, IsWidthField, Says, Disk, Window, Width, Mode, Verdict as ByVerdict};
 
 use board::{Backing, DeviceKind, Verdict};
+use hexadecimal::number_u8;
 
 /// The kind of device whose window a field names.
 pub(crate) fn window_of(field: &[u8]) -> Option<DeviceKind>
@@ -33,17 +35,29 @@ pub(crate) fn width_of(field: &[u8]) -> Option<u8>
     }
 }
 
-/// Who has a slot's disk.
+/// Who has a slot's disk, and how many operations may be in flight where that is the host.
 pub(crate) fn backing_of(field: &[u8]) -> Option<Backing>
-    ensures some { IfSome result (λ backing. field.now ≡ disk backing) }
+    ensures some { IfSome result (λ backing. IsDiskField field.now backing) }
     ensures parsed { OnSome result (Says Disk field.now) }
     ensures none { IfNone result (¬ Says Disk field.now) }
 {
     match field {
         b"image" => Some(Backing::Image),
-        b"host" => Some(Backing::Host),
-        _ => None,
+        _ => host_of(field),
     }
+}
+
+// The disk that the host serves, by how many operations may be in flight.
+fn host_of(field: &[u8]) -> Option<Backing>
+    ensures some { IfSome result (λ backing. IsDiskField field.now backing) }
+    ensures parsed { OnSome result (Says Disk field.now) }
+    ensures none { IfNone result ((depth : ℕ) → ¬ IsDiskField field.now (Backing.Host depth)) }
+{
+    let [b'h', b'o', b's', b't', b':', digits @ ..] = field else {
+        return None;
+    };
+    let depth = number_u8(digits)?;
+    Some(Backing::Host { depth })
 }
 
 /// Whether a slot is read-only.

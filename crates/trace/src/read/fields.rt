@@ -15,7 +15,7 @@ ghost use Rattle.trace.specs.Text.{cache_fields, disk_fields, memory_fields, slo
 ghost use Rattle.trace.specs.Values.{AreOf};
 ghost use Rattle.trace.specs.declared.format.Format.{Format};
 ghost use Rattle.trace.specs.Format.{identity_in_version_1, if_extended, unless_version_1};
-ghost use Rattle.trace.specs.Words.{AreRight, Disk as ByDisk, Identity as ByIdentity, Mode as ByMode, Num, RegionInRange, shapes, spelled};
+ghost use Rattle.trace.specs.Words.{AreRight, Disk as ByDisk, DiskInRange, Identity as ByIdentity, Mode as ByMode, Num, RegionInRange, shapes, spelled};
 
 use crate::format::{Format, Version, identity_in_version_1};
 use crate::read::parsed_event::ParsedEvent;
@@ -109,10 +109,11 @@ fn parsed_of<'a, A: Allocator>(
             ParsedEvent::new(slot as u8, EventKind::Restore { bytes: none }, bytes)
         }
         Word::Complete => {
-            let &[Number(slot), Verdict(verdict)] = values else {
+            let &[Number(slot), Number(tag), Verdict(verdict)] = values else {
                 unreachable!()
             };
-            ParsedEvent::plain(slot as u8, EventKind::Complete { verdict })
+            let tag = tag as u8;
+            ParsedEvent::plain(slot as u8, EventKind::Complete { tag, verdict })
         }
         Word::Cache | Word::Slot => unreachable!(),
     }
@@ -225,6 +226,7 @@ fn disk_of<'a, 'b>(format: Format, values: &'b [FieldValue<'a>]) -> (Backing, &'
     requires { AreOf (if_extended format (ByDisk ∷ []) ++ (Num 64 ∷ Num 64 ∷ ByMode ∷ Num 16 ∷ Num 16 ∷ unless_version_1 format (ByIdentity ∷ []))) values.now }
     ensures fields { map value_text values.now ≡ disk_fields format result.0 ++ map value_text result.1.now }
     ensures others { AreOf (Num 64 ∷ Num 64 ∷ ByMode ∷ Num 16 ∷ Num 16 ∷ unless_version_1 format (ByIdentity ∷ [])) result.1.now }
+    ensures fits { DiskInRange result.0 }
     ensures printable { IsPrintableDisk format result.0 }
 {
     match (format, values) {

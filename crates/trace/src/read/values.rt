@@ -78,7 +78,7 @@ fn value_of<'a>(field: Field, width: &[u8], bytes: &'a [u8]) -> Option<FieldValu
         }
         Field::Sectors | Field::Length => Some(Number(u64::from(number_u32(bytes)?))),
         Field::Columns | Field::Rows => Some(Number(u64::from(number_u16(bytes)?))),
-        Field::Slot => Some(Number(u64::from(number_u8(bytes)?))),
+        Field::Slot | Field::Tag => Some(Number(u64::from(number_u8(bytes)?))),
         Field::Offset => Some(Offset(offset_of(bytes)?)),
         Field::Value => written_value(width, bytes),
         Field::Window => Some(Window(window_of(bytes)?)),

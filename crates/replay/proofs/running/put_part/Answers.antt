@@ -8,4 +8,4 @@ returns-then-not-hosted g c =
 pub returns : goal.returns
 returns g c =
     rw c.if-not-hosted.false (part_asking _ c.args.slot c.args.part.now c.args.words _ _ _ _ _ _ c.put_read-2.ensures
-    c.put_asked.ensures)
+    c.put_asked_end.ensures)
