@@ -70,13 +70,17 @@ class Guest:
         self.dice, self.slot, self.wildness = dice, slot, wildness
         self.places = random.Random(f"places {slot}")
         self.events, self.expected, self.disk = [], {}, None
-        # whether the host serves its disk
-        self.is_hosted = False
+        # whether the host serves its disk, and how many of its operations may be in flight
+        self.is_hosted, self.depth = False, 1
         # what the suite's small model says that it is told, where the model made its events
         self.told = None
         # of each block request: the event that reads its status, its type, whether it is refused, and runs of sectors with
         # what it writes to them
         self.looked = []
+
+    def disk_field(self):
+        """Who has its disk, as a slot line says it."""
+        return f"host:{self.depth:x}" if self.is_hosted else "image"
 
     def do(self, word, fields, reply=None, output="-"):
         """Writes an event down, and the reply that the guest relies on, where it does."""

@@ -1,7 +1,7 @@
 """The host of a guest's disk: what it does stands among the guest's events.
 
-The suite's small model says which operations there are. When the host does one, how much of it, and whether it fails come of
-dice: what it reads into memory are `mw` lines, and a completion is an `io` line.
+The suite's small model says which operations there are. When the host does one, which one of those in flight, how much of it, and
+whether it fails come of dice: what it reads into memory are `mw` lines, and a completion is an `io` line.
 """
 import os
 import sys
@@ -15,33 +15,41 @@ NOTIFY = "b 050 "
 
 
 class Host:
-    """Serves one guest's disk: at once and always well, or late and not always well."""
+    """Serves one guest's disk: at once, in the order of asking and always well, or late, in any order and not always well."""
 
     def __init__(self, guest, disk, dice, is_late):
-        self.board = model.board_of([guest.slot.fields("host")], 1, model.Image(b"", ()), (), largest=2**32)
+        self.board = model.board_of([guest.slot.fields(guest.disk_field())], 1, model.Image(b"", ()), (), largest=2**32)
         self.guest, self.disk, self.dice, self.is_late, self.due = guest, bytearray(disk), dice, is_late, 0
-        self.events, self.told = [], []
+        # How often it does all that is in flight before a notify.
+        self.patience = 0.7 if guest.depth == 1 or not is_late else 0.3
+        self.events, self.told, self.asked = [], [], []
 
-    def flight(self):
-        return self.board[0].flight
+    def flights(self):
+        """The tags with something in flight, in the order of asking."""
+        tags = self.board[0].tags
+        self.asked = [one for one in self.asked if any(one is asked for asked in tags)]
+        self.asked += [asked for asked in tags if asked and not any(asked is one for one in self.asked)]
+        return [next(tag for tag, asked in enumerate(tags) if asked is one) for one in self.asked]
 
     def serve(self):
         """The guest's events with the host's among them, and the model's records of them. A guest whose host is late relies on
         nothing."""
         expected = {}
         for number, (word, fields) in enumerate(self.guest.events):
-            if word == "w" and fields.startswith(NOTIFY) and self.dice.random() < 0.7:
+            if word == "w" and fields.startswith(NOTIFY) and self.dice.random() < self.patience:
                 self.complete_all()
             if number in self.guest.expected and not self.is_late:
                 expected[len(self.events)] = self.guest.expected[number]
             if self.do(word, fields).startswith("busy ") and self.dice.random() < 0.9:
                 self.complete_all()
                 self.do(word, fields)
-            while self.flight() and self.due == 0:
+            while self.flights() and self.due == 0:
                 self.complete()
+                if self.is_late and self.dice.random() < 0.3:
+                    self.due = self.dice.choice(DELAYS)
             self.due = max(0, self.due - 1)
             if self.is_late and self.dice.random() < 0.01:
-                self.do("io", self.dice.choice(["done", "failed"]))
+                self.do("io", f"{self.dice.randrange(self.guest.depth + 2):x} {self.dice.choice(['done', 'failed'])}")
         self.guest.events, self.guest.told, self.guest.expected = self.events, self.told, expected
 
     def do(self, word, fields):
@@ -54,15 +62,17 @@ class Host:
         return record
 
     def complete_all(self):
-        while self.flight():
+        while self.flights():
             self.complete()
 
     def complete(self):
-        """Does what is in flight and says so, or a part of it and that it failed."""
-        asked, fails = self.flight(), self.is_late and self.dice.random() < 0.25
+        """Does an operation in flight and says so, or a part of it and that it failed."""
+        tags = self.flights()
+        tag = self.dice.choice(tags) if self.is_late else tags[0]
+        asked, fails = self.board[0].tags[tag], self.is_late and self.dice.random() < 0.25
         runs = asked.runs[:self.dice.randrange(len(asked.runs) + 1)] if fails else asked.runs
         self.WAYS[asked.kind.partition("-")[0]](self, asked.start, runs)
-        self.do("io", "failed" if fails else "done")
+        self.do("io", f"{tag:x} {'failed' if fails else 'done'}")
 
     # --- what is done, by its kind
 
@@ -92,7 +102,7 @@ def complete_nothing(guest, dice):
     for number, event in enumerate(guest.events):
         if dice.random() < 0.02:
             expected[len(events)] = "idle -"
-            events.append(("io", dice.choice(["done", "failed"])))
+            events.append(("io", f"{dice.choice([0, 0, 1, 63, 255]):x} {dice.choice(['done', 'failed'])}"))
         if number in guest.expected:
             expected[len(events)] = guest.expected[number]
         events.append(event)

@@ -18,7 +18,7 @@ LINES = {
     "in": [8, "bytes"],
     "sz": [8, 16, 16],
     "st": [8, "bytes"],
-    "io": [8, "verdict"],
+    "io": [8, 8, "verdict"],
 }
 
 # The first line of each kind of trace: the two versions of a plain one, and an extended one.
@@ -32,7 +32,7 @@ IN_EXTENDED = {"slot": ["regions", "disk", 64, 64, "mode", 16, 16]}
 ADDED = {"slot": ["identity"]}
 EXTENDED_WORDS = ["st", "io"]
 
-CHOICES = {"win": ["b", "c"], "wid": ["1", "2", "4"], "mode": ["rw", "ro"], "disk": ["image", "host"], "verdict": ["done", "failed"]}
+CHOICES = {"win": ["b", "c"], "wid": ["1", "2", "4"], "mode": ["rw", "ro"], "verdict": ["done", "failed"]}
 
 
 def fault_of(text):
@@ -73,6 +73,10 @@ def fault_of_field(text, kind, width):
     """The kind of fault of one field, or none. `width` is how the width is spelled in its line."""
     if kind in CHOICES:
         return None if text in CHOICES[kind] else "Choice"
+    if kind == "disk":
+        who, mark, depth = text.partition(":")
+        is_hosted = who + mark == "host:" and not fault_of_field(depth, 8, None)
+        return None if text == "image" or is_hosted else "Choice"
     if kind == "bytes":
         return None if text == "-" or re.fullmatch("([0-9a-f]{2})+", text) else "Bytes"
     if kind == "identity":

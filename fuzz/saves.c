@@ -76,7 +76,7 @@ void save_by_chance(struct seat *seat)
     size_t again_len;
     if (thrown(ONE_IN) != 0)
         return;
-    if (seat->disk != NULL && seat->disk->is_asked) {
+    if (seat->disk != NULL && seat->disk->begun != 0) {
         check_no_save(seat);
         return;
     }

@@ -19,6 +19,9 @@ GAPS = [0x1000, 0x1000, 0x3000, 0x100000, 0x10000000]
 # often the host of a guest is late.
 HOSTED, BOTH, LATE = 1 / 3, 1 / 2, 0.7
 
+# How many operations of a hosted disk may be in flight.
+DEPTHS = [1, 1, 2, 3, 8, 64]
+
 
 class Scene:
     """Two to four guests on one board, each with a run of the image's sectors for its disk. A disk that the host serves begins with
@@ -44,6 +47,7 @@ class Scene:
             slot = slot._replace(others=self.others(slot, random.Random(f"regions {seed} {len(self.guests)}")))
             self.guests.append(Guest(dice, slot, dice.choice(WILDNESS)))
             self.guests[-1].is_hosted = self.is_hosted and not (is_both and kinds.random() < 0.5)
+            self.guests[-1].depth = kinds.choice(DEPTHS)
             start += count + dice.choice([0, 0, 1, 2])
         self.image = dice.randbytes(SECTOR * (start + dice.randrange(2)))
         for guest in self.guests:
@@ -100,7 +104,7 @@ class Scene:
         return self.text(self.first_line, self.cache, [guest], [self.event(guest, number, 0) for number in range(count)])
 
     def text(self, first_line, cache, guests, events):
-        slots = [slot_line(guest.slot, first_line, "host" if guest.is_hosted else "image") for guest in map(self.guests.__getitem__, guests)]
+        slots = [slot_line(guest.slot, first_line, guest.disk_field()) for guest in map(self.guests.__getitem__, guests)]
         return "\n".join([first_line, f"cache {cache:x}"] + slots + events) + "\n"
 
     def event(self, guest, number, slot):

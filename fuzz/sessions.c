@@ -2,7 +2,8 @@
  * Replays a trace over the C library, and compares what each guest is told on a board of all guests, whose outlets are small,
  * with what it is told on a board of its own, without a budget. All are on a board once for each of BOARDS:
  *  - others' events are served between the pieces of a service;
- *  - where the host serves a disk, its operations are completed at random moments, and some fail (flights.c). The
+ *  - where the host serves a disk, up to 64 operations are in flight; they are completed at random moments and in any
+ *    order, and some fail (flights.c). The
  *    boards of one such guest are called by a thread each, all at once and without a lock.
  *
  *     sessions TRACE IMAGE SEED    prints what was counted, or ends with 1 and the first event that was answered otherwise
@@ -26,6 +27,9 @@
 
 enum { SECTOR = 512, TAKEN_AT_ONCE = 1 << 16 };
 static const uint32_t OUTLETS[] = { 1 << 16, 300, 4095, 1, 1000, 0 };
+
+/* The depths of disks that the host serves. */
+static const uint32_t DEPTHS[] = { 1, 8, 2, 64, 5 };
 
 /* The boards of all guests: whether the host serves the disks of the even and of the odd ones, and a call's budget. */
 static const struct {
@@ -124,7 +128,7 @@ static bool goes_again(struct seat *seat, uint32_t answer)
     if (seat->disk != NULL)
         take_answer(seat, answer);
     if (answer == KALYUBOS_BUSY) {
-        need(seat->disk != NULL && seat->disk->is_asked, "a write is busy", seat->slot);
+        need(seat->disk != NULL && seat->disk->begun != 0, "a write is busy", seat->slot);
         seat->counts.waits++;
         complete(seat);
         return true;
@@ -252,13 +256,18 @@ static struct seat seat_of(struct kalyubos *board, uint8_t slot, size_t guest)
     return seat;
 }
 
+static uint32_t depth_of(size_t guest)
+{
+    return DEPTHS[(seed + guest) % (sizeof DEPTHS / sizeof *DEPTHS)];
+}
+
 static struct kalyubos_slot slot_of(size_t guest, uint64_t start)
 {
     const struct guest *it = &trace.guests[guest];
     struct kalyubos_slot slot = {
         .size = sizeof slot, .start = start, .count = it->count, .cols = it->cols, .rows = it->rows,
         .outlet = OUTLETS[(seed / MOST_GUESTS + guest) % (sizeof OUTLETS / sizeof *OUTLETS)], .read_only = it->read_only,
-        .identity = { 'g', (uint8_t)guest },
+        .identity = { 'g', (uint8_t)guest }, .depth = depth_of(guest),
     };
     for (size_t i = 0; i < it->regions_len; i++)
         slot.regions[i] = (struct kalyubos_region){ it->regions[i].base, it->regions[i].len };
@@ -328,7 +337,7 @@ static void act_alone(struct seat *seat)
 static void give_disk(struct seat *seat, struct file image)
 {
     size_t guest = (size_t)(seat->guest - trace.guests);
-    open_disk(seat, image.at + seat->guest->start * SECTOR, (seed + guest) % 2 == 0);
+    open_disk(seat, image.at + seat->guest->start * SECTOR, depth_of(guest), (seed + guest) % 2 == 0);
 }
 
 static void run_together(size_t board, struct file image)

@@ -23,7 +23,7 @@ static const uint64_t MEMORY = 0x80000000;
 
 /* Where the fields of a snapshot stand (crates/snapshot/README.md): in the whole, in a window, and in a queue. */
 enum { VERSION = 8, READ_ONLY = 36, DESCRIPTION = 61, BLOCK_WINDOW = DESCRIPTION };
-enum { STATUS_AT = 8, ACCEPTED = 9, QUEUES = 33, AREAS = 4, READY = 28, PLACE = 29, QUEUE_LEN = 29, SERVED_LEN = 6 };
+enum { STATUS_AT = 8, ACCEPTED = 9, QUEUES = 33, AREAS = 4, READY = 28, PLACE = 29, AHEAD = 35, QUEUE_LEN = 29, SERVED_LEN = 8 };
 
 /* The registers that a driver uses (4.2.2). */
 enum {
@@ -137,15 +137,30 @@ static void take_output(struct guest *guest)
     need(kalyubos_take_output(guest->board, guest->slot, out, OUTLET, &taken) == KALYUBOS_DONE, "take_output", 0);
 }
 
+/* Completes one of the operations in flight, by chance done or failed; false where there is none. */
+static bool complete_one(struct guest *guest)
+{
+    struct kalyubos_pending pending;
+    uint64_t tags = 0;
+    need(kalyubos_in_flight(guest->board, guest->slot, &tags) == KALYUBOS_DONE, "in_flight", tried);
+    if (tags == 0)
+        return false;
+    for (uint64_t others = chance((uint64_t)__builtin_popcountll(tags)); others > 0; others--)
+        tags &= tags - 1;
+    uint32_t answer = kalyubos_completed(guest->board, guest->slot, (uint8_t)__builtin_ctzll(tags), chance(4) == 0, &pending);
+    need(answer == KALYUBOS_DONE || answer == KALYUBOS_IO, "completed", answer);
+    return true;
+}
+
 /* Brings what is paused or in flight to its end. An IN leaves the guest's memory as it is, and some operations fail. */
 static void settle(struct guest *guest)
 {
     struct kalyubos_pending pending;
-    uint32_t answer = KALYUBOS_MORE;
-    for (int turns = 0; answer == KALYUBOS_MORE || answer == KALYUBOS_IO; turns++) {
+    bool goes_on = true;
+    for (int turns = 0; goes_on; turns++) {
         need(turns < 1 << 20, "a service doesn't end", tried);
-        answer = guest->is_hosted ? kalyubos_completed(guest->board, guest->slot, chance(4) == 0, &pending)
-                                  : kalyubos_go_on(guest->board, guest->slot, &pending);
+        goes_on = guest->is_hosted ? complete_one(guest)
+                                   : kalyubos_go_on(guest->board, guest->slot, &pending) == KALYUBOS_MORE;
         take_output(guest);
     }
 }
@@ -197,7 +212,7 @@ static void fill_descriptor(uint8_t *at, int queue, uint64_t place, uint64_t num
 static void fill_queue(struct guest *guest, int which, const uint8_t *queue, bool is_packed)
 {
     uint64_t number = get(queue, 4), table = get(queue + AREAS, 8) - MEMORY, ring = get(queue + AREAS + 8, 8) - MEMORY;
-    uint64_t place = queue[READY] == 1 ? get(queue + PLACE, 2) : 0;
+    uint64_t place = queue[READY] == 1 ? get(queue + PLACE, 2) + get(queue + AHEAD, 2) : 0;
     bool is_sane = chance(2);
     for (uint64_t i = 0; i < number && i < 16 && table < MEMORY_LEN && table + 16 * i + 16 <= MEMORY_LEN; i++)
         fill_descriptor(guest->memory + table + 16 * i, which, i, number, is_sane, is_packed);
@@ -398,8 +413,10 @@ static void make_boards(struct kalyubos *boards, struct guest guests[][GUESTS])
     struct kalyubos_config config = over_image(slots, GUESTS, image, sizeof image);
     config.chains = 2;
     make(&boards[0], config);
-    for (size_t i = 0; i < GUESTS; i++)
+    for (size_t i = 0; i < GUESTS; i++) {
         slots[i].hosted = true;
+        slots[i].depth = 3;
+    }
     make(&boards[1], kalyubos_config(slots, GUESTS));
     for (uint8_t i = 0; i < 2 * GUESTS; i++) {
         struct guest *guest = &guests[i / GUESTS][i % GUESTS];

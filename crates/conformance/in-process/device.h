@@ -25,7 +25,8 @@ struct guest {
     struct region regions[MOST_REGIONS];
     size_t regions_len;
     uint64_t start, count;
-    bool hosted; /* the trace serves the disk, which has `count` sectors; its start says nothing */
+    bool hosted;   /* the trace serves the disk, which has `count` sectors; its start says nothing, */
+    uint8_t depth; /* and up to so many operations of it may be in flight; 0 and more than 64 are BadDepth */
     bool read_only;
     uint16_t cols, rows;
     uint8_t identity[20];
@@ -82,10 +83,12 @@ struct hosting {
     bool beside_extents;
     /* As `write` of a device. False, and nothing changed: it waits for what is in flight. */
     bool (*write)(unsigned guest, unsigned window, unsigned offset, unsigned width, uint32_t value);
-    /* Says of what is in flight of a guest that it was done or that it failed. False: nothing is. */
-    bool (*complete)(unsigned guest, bool failed);
-    /* The operation that began with the guest's last write or completion. False: none did. */
-    bool (*asked)(unsigned guest, struct operation *operation);
+    /* Says of the operation of a tag that it was done or that it failed. False: nothing is in flight of the guest with it. */
+    bool (*complete)(unsigned guest, unsigned tag, bool failed);
+    /* The operations that began with the guest's last write or completion: bit n is set for the one of tag n. */
+    uint64_t (*began)(unsigned guest);
+    /* The operation of such a tag. */
+    void (*asked)(unsigned guest, unsigned tag, struct operation *operation);
 };
 
 /* The device. What a write or an input notifies is served before the call returns. */

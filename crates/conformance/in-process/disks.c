@@ -112,7 +112,7 @@ struct asked {
 
 static void ask(unsigned guest, struct asked *asked)
 {
-    need(kalyubos_operation(board, (uint8_t)guest, &asked->operation, asked->runs, KALYUBOS_RUNS) == KALYUBOS_DONE,
+    need(kalyubos_operation(board, (uint8_t)guest, 0, &asked->operation, asked->runs, KALYUBOS_RUNS) == KALYUBOS_DONE,
          "nothing is in flight");
 }
 
@@ -130,7 +130,7 @@ static void check(unsigned guest, const struct asked *asked)
     const struct guest *its = &setup.guests[guest];
     const struct kalyubos_operation *operation = &asked->operation;
     bool is_of_disk = operation->kind == KALYUBOS_ZEROES;
-    uint64_t len = 0;
+    uint64_t len = 0, tags = 0;
     ask(guest, &again);
     need(is_same(&again, asked), "the operation is told otherwise when it is asked for again");
     need(operation->kind <= KALYUBOS_ZEROES && operation->runs <= KALYUBOS_RUNS, "no operation");
@@ -141,6 +141,7 @@ static void check(unsigned guest, const struct asked *asked)
                         : is_in_memory(its, run->at, run->len), "a run lies outside");
         len += is_of_disk ? 0 : run->len;
     }
+    need(kalyubos_in_flight(board, (uint8_t)guest, &tags) == KALYUBOS_DONE && tags == 1, "other tags");
     need(operation->len == len && is_inside(operation->start, len, 0, its->count * SECTOR), "the bytes lie outside the disk");
 }
 
@@ -206,7 +207,7 @@ uint32_t serve_disk(unsigned guest, uint32_t answer, struct kalyubos_pending *pe
         ask(guest, &asked);
         check(guest, &asked);
         bool done = perform(guest, &asked);
-        answer = kalyubos_completed(board, (uint8_t)guest, !done, pending);
+        answer = kalyubos_completed(board, (uint8_t)guest, 0, !done, pending);
     }
     return answer;
 }

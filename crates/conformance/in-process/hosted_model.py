@@ -15,8 +15,9 @@ from model import SECTOR
 class ServedSlot(model.HostedSlot):
     def serve(self, window, index):
         output = super().serve(window, index)
-        while self.flight:
-            self.complete(self.is_done(self.flight))
+        while any(self.tags):
+            tag = next(tag for tag, asked in enumerate(self.tags) if asked)
+            self.complete(tag, self.is_done(self.tags[tag]))
         return output
 
     def is_done(self, asked):

@@ -25,8 +25,8 @@ static struct kalyubos board;
 static uint8_t *image;
 static size_t image_len;
 
-/* Whether the last write or completion of a guest began an operation. */
-static bool began;
+/* The tags of what is in flight of each guest, and of what began with the last write or completion. */
+static uint64_t begun[MOST_SLOTS], fresh;
 
 /* Ends the program where a call doesn't answer what it must. */
 static void must(uint32_t answer)
@@ -50,6 +50,7 @@ static const char *name_of(uint32_t answer)
     case KALYUBOS_EXTENT_OUTSIDE: return "ExtentOutside";
     case KALYUBOS_EXTENTS_OVERLAP: return "ExtentsOverlap";
     case KALYUBOS_BAD_CACHE: return "BadCapacity";
+    case KALYUBOS_BAD_DEPTH: return "BadDepth";
     default: return "memory";
     }
 }
@@ -79,11 +80,13 @@ static const char *make(const struct setup *setup)
             .size = sizeof *slots, .start = guest->start, .count = guest->count, .cols = guest->cols,
             .rows = guest->rows, .outlet = MOST_WAITING, .read_only = guest->read_only,
             .hosted = guest->hosted || HOSTED,
+            .depth = guest->hosted && guest->depth == 0 ? UINT32_MAX : guest->depth, /* of C's slots 0 is 1 */
         };
         for (size_t j = 0; j < guest->regions_len; j++)
             slots[i].regions[j] = (struct kalyubos_region){guest->regions[j].base, guest->regions[j].len};
         memcpy(slots[i].identity, guest->identity, sizeof slots[i].identity);
     }
+    memset(begun, 0, sizeof begun);
     image = setup->image;
     image_len = HOSTED ? 0 : setup->image_len; /* disks.c has the image itself */
     config.image = image;
@@ -171,44 +174,62 @@ static const char *restore(unsigned guest, const uint8_t *bytes, size_t len)
 
 /* --- a trace that serves the disks */
 
+/* What a write or a completion began. */
+static void note_begun(unsigned guest, uint32_t answer)
+{
+    uint64_t tags = 0;
+    must(kalyubos_in_flight(&board, (uint8_t)guest, &tags));
+    fresh = tags & ~begun[guest];
+    begun[guest] = tags;
+    if ((answer == KALYUBOS_IO) != (fresh != 0)) {
+        fprintf(stderr, "the library answers %u, and %llx began\n", (unsigned)answer, (unsigned long long)fresh);
+        exit(3);
+    }
+    must(answer == KALYUBOS_IO ? KALYUBOS_DONE : answer);
+}
+
 static bool write_hosted(unsigned guest, unsigned window, unsigned offset, unsigned width, uint32_t value)
 {
     struct kalyubos_pending pending;
     uint32_t answer = kalyubos_write(&board, (uint8_t)guest, (uint8_t)window, (uint16_t)offset, (uint8_t)width, value, &pending);
-    began = answer == KALYUBOS_IO;
     take_output(guest);
+    fresh = 0;
     if (answer == KALYUBOS_BUSY)
         return false;
-    must(began ? KALYUBOS_DONE : answer);
+    note_begun(guest, answer);
     return true;
 }
 
-static bool complete(unsigned guest, bool failed)
+static bool complete(unsigned guest, unsigned tag, bool failed)
 {
     struct kalyubos_pending pending;
-    uint32_t answer = kalyubos_completed(&board, (uint8_t)guest, failed, &pending);
-    began = answer == KALYUBOS_IO;
+    uint32_t answer = kalyubos_completed(&board, (uint8_t)guest, (uint8_t)tag, failed, &pending);
+    fresh = 0;
     if (answer == KALYUBOS_IDLE)
         return false;
-    must(began ? KALYUBOS_DONE : answer);
+    begun[guest] &= ~((uint64_t)1 << tag); /* it may be used again */
+    note_begun(guest, answer);
     return true;
 }
 
-static bool asked(unsigned guest, struct operation *operation)
+static uint64_t began(unsigned guest)
+{
+    (void)guest;
+    return fresh;
+}
+
+static void asked(unsigned guest, unsigned tag, struct operation *operation)
 {
     struct kalyubos_operation found;
     struct kalyubos_run runs[KALYUBOS_RUNS];
-    if (!began)
-        return false;
-    must(kalyubos_operation(&board, (uint8_t)guest, &found, runs, KALYUBOS_RUNS));
+    must(kalyubos_operation(&board, (uint8_t)guest, (uint8_t)tag, &found, runs, KALYUBOS_RUNS));
     *operation = (struct operation){.stable = found.stable, .start = found.start, .len = found.len, .runs_len = found.runs};
     operation->kind = found.kind == KALYUBOS_IN ? IN : found.kind == KALYUBOS_OUT ? OUT : found.kind == KALYUBOS_FLUSH ? FLUSH : ZEROES;
     for (size_t i = 0; i < found.runs; i++)
         operation->runs[i] = (struct run){runs[i].at, runs[i].len};
-    return true;
 }
 
-static const struct hosting hosting = {true, write_hosted, complete, asked};
+static const struct hosting hosting = {true, write_hosted, complete, began, asked};
 
 #ifdef OURS
 extern const struct device kalyubos;

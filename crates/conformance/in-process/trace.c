@@ -142,11 +142,17 @@ static bool read_regions(struct field field, struct guest *guest)
     return false;
 }
 
-/* Who has the disk, in an extended trace. */
+/* Who has the disk, in an extended trace: `image`, or `host:` and how many operations may be in flight. */
 static bool read_disk(struct field field, struct guest *guest)
 {
-    guest->hosted = is(field, "host");
-    return guest->hosted || is(field, "image");
+    static const char word[] = "host:";
+    size_t len = strlen(word);
+    uint64_t depth;
+    if (field.len < len || memcmp(field.at, word, len))
+        return is(field, "image");
+    guest->hosted = number((struct field){field.at + len, field.len - len}, 0xff, &depth);
+    guest->depth = guest->hosted ? (uint8_t)depth : 0;
+    return guest->hosted;
 }
 
 /* Line 2: the cache's capacity. */
@@ -266,10 +272,11 @@ static bool read_fields(const struct field *fields, size_t count, struct event *
         event->kind = RESTORE;
         return read_bytes(fields[2], event);
     }
-    if (is(fields[0], "io") && count == 3 && (is(fields[2], "done") || is(fields[2], "failed"))) {
+    if (is(fields[0], "io") && count == 4 && number(fields[2], 0xff, &value)) {
         event->kind = COMPLETE;
-        event->failed = is(fields[2], "failed");
-        return true;
+        event->tag = (unsigned)value;
+        event->failed = is(fields[3], "failed");
+        return event->failed || is(fields[3], "done");
     }
     return false;
 }
@@ -339,7 +346,7 @@ static void reply(const struct device *device, const struct trace *trace, const 
         strcpy(word, device->restore(event->guest, event->bytes, event->len));
         break;
     case COMPLETE:
-        if (!trace->guests[event->guest].hosted || !device->hosting->complete(event->guest, event->failed))
+        if (!trace->guests[event->guest].hosted || !device->hosting->complete(event->guest, event->tag, event->failed))
             strcpy(word, "idle");
         break;
     case MEMORY_READ:
@@ -359,24 +366,36 @@ static void reply(const struct device *device, const struct trace *trace, const 
     append_word(record, word);
 }
 
-/* The operation that began with the event, or that none did. */
-static void append_asked(const struct device *device, bool hosted, const struct event *event, struct text *record)
+static void append_operation(const struct device *device, unsigned guest, unsigned tag, struct text *record)
 {
     static const char *const kinds[] = {"in", "out", "flush", "zeroes"};
     static struct operation operation;
     char word[64];
-    bool may_ask = hosted && (event->kind == WRITE || event->kind == COMPLETE);
-    if (!may_ask || !device->hosting->asked(event->guest, &operation)) {
-        append_word(record, " -");
-        return;
-    }
-    snprintf(word, sizeof word, " %s%s:%llx:%llx:%s", kinds[operation.kind], operation.stable ? "-stable" : "",
+    device->hosting->asked(guest, tag, &operation);
+    snprintf(word, sizeof word, "%x=%s%s:%llx:%llx:%s", tag, kinds[operation.kind], operation.stable ? "-stable" : "",
              (unsigned long long)operation.start, (unsigned long long)operation.len, operation.runs_len ? "" : "-");
     append_word(record, word);
     for (size_t i = 0; i < operation.runs_len; i++) {
         snprintf(word, sizeof word, "%s%llx+%llx", i ? "," : "", (unsigned long long)operation.runs[i].at,
                  (unsigned long long)operation.runs[i].len);
         append_word(record, word);
+    }
+}
+
+/* The operations that began with the event, in the order of their tags, or that none did. */
+static void append_asked(const struct device *device, bool hosted, const struct event *event, struct text *record)
+{
+    bool may_ask = hosted && (event->kind == WRITE || event->kind == COMPLETE);
+    uint64_t began = may_ask ? device->hosting->began(event->guest) : 0;
+    const char *before = " ";
+    if (!began)
+        append_word(record, " -");
+    for (unsigned tag = 0; tag < 64; tag++) {
+        if (!(began >> tag & 1))
+            continue;
+        append_word(record, before);
+        append_operation(device, event->guest, tag, record);
+        before = ";";
     }
 }
 

@@ -19,7 +19,7 @@ struct trace {
 struct event {
     enum { READ, WRITE, MEMORY_READ, MEMORY_WRITE, INPUT, RESIZE, RESTORE, COMPLETE } kind;
     bool failed;
-    unsigned guest, window, offset, width;
+    unsigned guest, window, offset, width, tag;
     uint64_t address;
     uint32_t value;
     uint16_t cols, rows;

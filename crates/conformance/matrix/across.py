@@ -116,7 +116,7 @@ def asked(kind, power):
                 chain = [Buffer(at if content[0] else data, len(content)), Buffer(data if content[0] else at, SECTOR, WRITE), Buffer(done, 1, WRITE)]
                 guest.offer("b", 0, chain, before % 2 == 0)
                 guest.notify("b", 0)
-                guest.do("io", "done")
+                guest.do("io", "0 done")
                 guest.look(done, 1)
                 guest.ends("b", 0)
     return of(kind, power, "what_is_asked", script, Wide, hosted=True)
@@ -136,7 +136,7 @@ def sectors(kind):
                     room = [] if content[0] else [Buffer(data + 0x100, 3 * SECTOR, WRITE)]
                     guest.offer("b", 0, [Buffer(data, len(content)), *room, Buffer(done, 1, WRITE)])
                     guest.notify("b", 0)
-                    guest.do("io", "failed" if first % 4 == 3 else "done")
+                    guest.do("io", "0 failed" if first % 4 == 3 else "0 done")
                     guest.look(done, 1)
                     guest.ends("b", 0)
     return Life(f"across/{kind}_sectors_of_a_hosted_disk", "Sectors across each of eleven powers of two.", script,

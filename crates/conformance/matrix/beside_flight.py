@@ -34,15 +34,15 @@ mw 0 80005000 ee > 0 done - 0 0
 mw 0 80001000 00400080000000001000000001000100 > 0 done - 0 0
 mw 0 80001010 00500080000000000100000002000000 > 0 done - 0 0
 mw 0 80002000 000001000000 > 0 done - 0 0
-w 0 b 050 4 00000000 > 0 done - 0 0 flush:0:0:-
+w 0 b 050 4 00000000 > 0 done - 0 0 0=flush:0:0:-
 w 1 b 070 4 00000003 > 1 done - 0 0
 w 1 b 070 4 00000000 > 1 done - 0 0
 w 0 b 070 4 00000000 > 0 busy - 0 0
-io 1 done > 1 idle - 0 0
+io 1 0 done > 1 idle - 0 0
 mr 0 80005000 1 > 0 b:ee - 0 0
-io 0 failed > 0 done - 1 0
+io 0 0 failed > 0 done - 1 0
 mr 0 80005000 1 > 0 b:01 - 1 0
-io 0 done > 0 idle - 1 0
+io 0 0 done > 0 idle - 1 0
 r 1 b 070 4 > 1 v:00000000 - 0 0
 """
     return first("beside_flight/a_reset_by_hand", "Slot 1 is reset while a flush of slot 0 is in flight, whose reset waits.",
@@ -71,7 +71,7 @@ def a_bad_restore(guest, window, setup):
 def completes_nothing(guest, window, setup):
     """A completion of it finds nothing in flight."""
     for verdict in ("done", "failed"):
-        guest.do("io", verdict)
+        guest.do("io", f"0 {verdict}")
 
 
 OWN = [is_restored, restored_after_a_life, a_bad_restore, completes_nothing]
@@ -139,7 +139,7 @@ def both_in_flight(is_packed, is_turned):
                         begins(guest, name)
                     order = guests[::-1] if is_turned else guests
                     for guest, verdict in zip(order, verdicts):
-                        guest.do("io", verdict)
+                        guest.do("io", f"0 {verdict}")
                         for one in guests:
                             one.look(one.done, 1)
                     for guest in guests:

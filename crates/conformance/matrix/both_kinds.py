@@ -21,7 +21,7 @@ FOLDERS = {"beside_a_flight": "What a guest on the image does while each request
 
 SECTORS = 12
 # The image has the sectors of the first extent elsewhere than the host's disk begins.
-EXTENT, HOSTED = Wide(0x80000000, 0x10000, start=3), Wide(0x80000000, 0x10000, start=4, disk="host")
+EXTENT, HOSTED = Wide(0x80000000, 0x10000, start=3), Wide(0x80000000, 0x10000, start=4, disk="host:1")
 MORE = {"an_identity": (header(GET_ID), (20,)), "no_type": (header(5), (4,)), "a_read_past_the_end": (header(IN, 8), (SECTOR,)),
         "a_read_of_eight_sectors": (header(IN), (8 * SECTOR,))}
 KNOWN = {**REQUESTS, **MORE}
@@ -124,8 +124,8 @@ def uses_the_console(guest):
 
 
 def completes_nothing(guest):
-    guest.do("io", "done")
-    guest.do("io", "failed")
+    guest.do("io", "0 done")
+    guest.do("io", "0 failed")
 
 
 ACTS = [*map(asking, KNOWN), offers, asking("a_read"), falls, is_reset, asking("a_write"), stops, is_restored, uses_the_console, completes_nothing]
@@ -217,8 +217,8 @@ def with_failing_calls(is_packed):
 
 def four_guests(is_packed):
     """Two guests on the image and two hosted ones: flights end in turned order, and beside each each other request is made."""
-    slots = [Wide(0x80000000, 0x10000, start=0, count=4, disk="host"), Wide(0x80000000, 0x10000, start=0, count=4),
-             Wide(0x80000000, 0x10000, start=4, count=8), Wide(0x80000000, 0x10000, start=4, count=8, disk="host")]
+    slots = [Wide(0x80000000, 0x10000, start=0, count=4, disk="host:1"), Wide(0x80000000, 0x10000, start=0, count=4),
+             Wide(0x80000000, 0x10000, start=4, count=8), Wide(0x80000000, 0x10000, start=4, count=8, disk="host:1")]
 
     def script(life):
         hosts, guests = [Both(life, slot=at) for at in (0, 3)], [Both(life, slot=at) for at in (1, 2)]
@@ -251,7 +251,7 @@ def extent_beside(slot, kinds, step):
 def among_64(what, is_turned, kind_of_slot, start_of):
     """Each slot of 64 asks or is served: of which kind it is, its number says; turned, it is of the other. `start_of` is where the
     lines of hosted disks say that these begin."""
-    kinds = ["image" if kind_of_slot(slot) == int(is_turned) else "host" for slot in range(64)]
+    kinds = ["image" if kind_of_slot(slot) == int(is_turned) else "host:1" for slot in range(64)]
     starts = [slot if kind == "image" else start_of(slot, kinds) for slot, kind in enumerate(kinds)]
     slots = [Wide(0x80000000 + 0x1000 * slot, 0x5000, start=starts[slot], count=1, disk=kind) for slot, kind in enumerate(kinds)]
 
@@ -269,7 +269,7 @@ def among_64(what, is_turned, kind_of_slot, start_of):
         for guest in guests:
             guest.notify("b", 0)
         for guest in guests[::-1]:
-            guest.do("io", "failed" if guest.slot % 5 == 0 else "done")
+            guest.do("io", "0 failed" if guest.slot % 5 == 0 else "0 done")
             guest.look(guest.done, 1)
             guest.look(guest.room + DATA, 2)
             guest.ends("b", 0)
@@ -288,13 +288,13 @@ class Refused(Story):
 def too_large(bit):
     """A hosted disk of so many sectors is ExtentOutside, wherever the extent beside it lies."""
     return Refused(f"among_both_kinds/a_hosted_disk_of_2_to_{bit}_sectors", "A hosted disk has fewer than 2^55 sectors.",
-                   [EXTENT, Wide(0x80000000, 0x10000, start=0, count=1 << bit, disk="host")], fault="board ExtentOutside", image=plain_image(SECTORS),
+                   [EXTENT, Wide(0x80000000, 0x10000, start=0, count=1 << bit, disk="host:1")], fault="board ExtentOutside", image=plain_image(SECTORS),
                    shows=[("sectors of a hosted disk", "bits 55 to 63")])
 
 
 def too_large_among_64(slot):
     """One hosted disk of 64 is too large, the others aren't."""
-    slots = [Wide(0x80000000, 0x1000, count=1 << 55 if at == slot else (1 << 55) - 1, disk="host") for at in range(64)]
+    slots = [Wide(0x80000000, 0x1000, count=1 << 55 if at == slot else (1 << 55) - 1, disk="host:1") for at in range(64)]
     return Refused(f"among_both_kinds/a_hosted_disk_that_is_too_large_in_slot_{slot}", "Each hosted disk is judged.", slots,
                    fault="board ExtentOutside", shows=[("sectors of a hosted disk", "each of eight slots")])
 

@@ -20,18 +20,18 @@ OF_FORMAT = {
     "version_2": ("vreplay 2", "cache 10", [f"slot 80000000 10000 0 4 rw 50 19 {IDENTITY}", f"slot 0 1000 4 4 ro 0 ffff {IDENTITY}"], EVENTS),
     "extended": ("kalyubos 1", "cache 1",
                  [f"slot 80000000+1000,90000000+1000 image 0 4 rw 50 19 {IDENTITY}", f"slot 0+1000 image 4 4 ro 0 ffff {IDENTITY}"],
-                 [*EVENTS, f"st 0 {SNAPSHOT}", "st 1 -", "io 0 done", "io 1 failed"]),
+                 [*EVENTS, f"st 0 {SNAPSHOT}", "st 1 -", "io 0 0 done", "io 1 0 failed"]),
     "hosted": ("kalyubos 1", "cache 1",
-               [f"slot 80000000+1000,90000000+1000 host 0 4 rw 50 19 {IDENTITY}", f"slot 0+1000 host 4 4 ro 0 ffff {IDENTITY}"],
-               [*EVENTS, f"st 0 {SNAPSHOT}", "io 0 done", "io 1 failed", "io 2 done"]),
+               [f"slot 80000000+1000,90000000+1000 host:1 0 4 rw 50 19 {IDENTITY}", f"slot 0+1000 host:1 4 4 ro 0 ffff {IDENTITY}"],
+               [*EVENTS, f"st 0 {SNAPSHOT}", "io 0 0 done", "io 1 0 failed", "io 2 0 done"]),
     "both": ("kalyubos 1", "cache 2",
-             [f"slot 80000000+1000 host 0 9 ro 50 19 {IDENTITY}", f"slot 80000000+1000,90000000+1000 image 0 8 rw 0 ffff {IDENTITY}"],
-             [*EVENTS, f"st 1 {SNAPSHOT}", "io 0 done", "io 1 failed"]),
+             [f"slot 80000000+1000 host:1 0 9 ro 50 19 {IDENTITY}", f"slot 80000000+1000,90000000+1000 image 0 8 rw 0 ffff {IDENTITY}"],
+             [*EVENTS, f"st 1 {SNAPSHOT}", "io 0 0 done", "io 1 0 failed"]),
 }
 # What stands for any field, and for any line.
 OTHERS = ("1" + "0" * 16, "f" * 16, "10000", "ffff", "100", "ff", "100000000", "ffffffff", "0", "00", "b", "c", "B", "3", "4", "1", "done",
-          "failed", "rw", "ro", "RO", "image", "host")
-NO_LINES = ("", " ", "#", "# r", "R 0 b 000 4", "slots 0", "in", "vreplay 1", "vreplay 3", "kalyubos 1", "hosted", "cache", "st 0", "io 0")
+          "failed", "rw", "ro", "RO", "image", "host:1")
+NO_LINES = ("", " ", "#", "# r", "R 0 b 000 4", "slots 0", "in", "vreplay 1", "vreplay 3", "kalyubos 1", "hosted", "cache", "st 0", "io 0", "io 0 0")
 COUNT = 60
 
 

@@ -62,7 +62,7 @@ def stories():
     for make in (guests.identities, guests.memories, guests.bases, guests.consoles, disks):
         yield hosted(make())
     yield regions_of_64_slots("eight_regions", "image")
-    yield asking_nothing(regions_of_64_slots("hosted_eight_regions", "host"))
+    yield asking_nothing(regions_of_64_slots("hosted_eight_regions", "host:1"))
 
 
 # --- texts that are refused
@@ -124,7 +124,7 @@ def extended(story, disk="image"):
 
 def hosted(story):
     """A story of 64 slots that asks nothing, on a board whose disks the host serves: each record says so."""
-    extended(story, "host")
+    extended(story, "host:1")
     story.name = story.name.replace("/extended_", "/hosted_")
     story.shows = [("each field of 64 slots", "in a hosted trace")]
     return asking_nothing(story)

@@ -139,11 +139,11 @@ mw 0 80004018 0200000000000000 > 0 done - 0 0
 mw 0 80005000 eeeeeeee > 0 done - 0 0
 mw 0 80001000 0040008000000000200000000100010000500080000000000400000002000000 > 0 done - 0 0
 mw 0 80002000 000001000000 > 0 done - 0 0
-w 0 b 050 4 00000000 > 0 done - 0 0 zeroes-stable:0:0:200+400
+w 0 b 050 4 00000000 > 0 done - 0 0 0=zeroes-stable:0:0:200+400
 in 0 61 > 0 took:1 - 0 0
 mw 0 80002000 0100 > 0 done - 0 0
 mr 0 80005000 4 > 0 b:eeeeeeee - 0 0
-io 0 done > 0 done - 0 0
+io 0 0 done > 0 done - 0 0
 mr 0 80005000 4 > 0 b:eeeeee00 - 0 0
 mr 0 80003000 c > 0 b:000001000000000000000000 - 0 0
 """
@@ -153,7 +153,7 @@ BOTH_KINDS = """
 mw 1 80004000 04000000000000000000000000000000 > 1 done - 0 0
 mw 1 80001000 0040008000000000100000000100010000600080000000000100000002000000 > 1 done - 0 0
 mw 1 80002000 000001000000 > 1 done - 0 0
-w 1 b 050 4 00000000 > 1 done - 0 0 flush:0:0:-
+w 1 b 050 4 00000000 > 1 done - 0 0 0=flush:0:0:-
 mw 0 80004000 00000000000000000100000000000000 > 0 done - 0 0
 mw 0 80001000 0040008000000000100000000100010000500080000000000102000002000000 > 0 done - 0 0
 mw 0 80002000 000001000000 > 0 done - 0 0
@@ -161,8 +161,8 @@ w 0 b 050 4 00000000 > 0 done - 1 0
 mr 0 800051fe 3 > 0 b:141400 - 1 0
 mr 0 80003000 c > 0 b:000001000000000001020000 - 1 0
 mr 1 80003000 c > 1 b:000000000000000000000000 - 0 0
-io 0 done > 0 idle - 1 0
-io 1 failed > 1 done - 1 0
+io 0 0 done > 0 idle - 1 0
+io 1 0 failed > 1 done - 1 0
 mr 1 80006000 1 > 1 b:01 - 1 0
 mr 1 80003000 c > 1 b:000001000000000001000000 - 1 0
 r 0 b 060 4 > 0 v:00000001 - 1 0
@@ -172,7 +172,7 @@ r 0 b 060 4 > 0 v:00000001 - 1 0
 def first(name, about, text, window="b", slots=(Slot(),), hosted=False, **more):
     """A scenario of these lines; in a hosted trace a record that asks nothing ends in -."""
     rows = [row.replace("W", window).split(" > ") for row in text.split("\n") if row]
-    is_hosted = hosted or any(getattr(slot, "disk", "image") == "host" for slot in slots)
+    is_hosted = hosted or any(getattr(slot, "disk", "image") != "image" for slot in slots)
     records = [record + " -" if is_hosted and record.count(" ") == 4 else record for _, record in rows]
 
     def script(life):
@@ -224,4 +224,4 @@ def of_slot_1(text):
 def of_both_kinds():
     up = BEGINS + FIRST_QUEUE + GOES
     return first("beside_a_flight/a_flush_by_hand", "A flush of a hosted disk in flight, and a read of a guest on the image.",
-                 up + of_slot_1(up) + BOTH_KINDS, slots=[Wide(length=0x10000, start=3), Wide(length=0x10000, disk="host")], image=plain_image(12))
+                 up + of_slot_1(up) + BOTH_KINDS, slots=[Wide(length=0x10000, start=3), Wide(length=0x10000, disk="host:1")], image=plain_image(12))

@@ -42,10 +42,10 @@ class Life(Story):
     host has all disks."""
 
     def __init__(self, name, about, script, slots=(Slot(),), worked=None, hosted=False, **more):
-        super().__init__(name, about, [dataclasses.replace(slot, disk="host") for slot in slots] if hosted else slots, **more)
+        super().__init__(name, about, [dataclasses.replace(slot, disk="host:1") for slot in slots] if hosted else slots, **more)
         self.script, self.worked, self.records = script, worked, []
         self.extended = any(isinstance(slot, Wide) for slot in self.slots)
-        self.hosted = self.extended and any(slot.disk == "host" for slot in self.slots)
+        self.hosted = self.extended and any(slot.disk != "image" for slot in self.slots)
         self.version = 3 if self.extended else self.version
 
     def head(self):
@@ -106,7 +106,8 @@ class Ring:
         self.is_packed = queue.packed if queue.ready else "ring_packed" in guest.window(window).negotiated()
         good = 1 <= queue.number <= 256 and (self.is_packed or not queue.number & (queue.number - 1))
         self.number = queue.number if good else 4
-        self.place = queue.place if queue.ready else 0
+        self.used = queue.place if queue.ready else 0
+        self.place = self.used + queue.ahead if queue.ready else 0
         rings = (4, 4) if self.is_packed else (6 + 2 * self.number, 6 + 8 * self.number)
         self.lengths = (16 * self.number, *rings)
         inside = all(guest.memory().holds(at, length) for at, length in zip(queue.areas, self.lengths))
@@ -183,7 +184,7 @@ class Ring:
             guest.look(device, self.lengths[2])
         else:
             guest.look(device, 4)
-            guest.look(device + 4 + 8 * ((self.place - 1) % self.number), 8)
+            guest.look(device + 4 + 8 * ((self.used - 1) % self.number), 8)
 
 
 class Guest:

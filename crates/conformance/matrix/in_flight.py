@@ -46,7 +46,7 @@ class Asking(Guest):
         self.meanwhile, self.completed = meanwhile, 0
 
     def flight(self):
-        return self.life.board[self.slot].flight
+        return self.life.board[self.slot].tags[0]
 
     def notify(self, window, index):
         found = super().notify(window, index)
@@ -65,7 +65,7 @@ class Asking(Guest):
         if asked.kind == "in" and verdict == "done":
             for turn, (at, count) in enumerate(asked.runs):
                 self.put(at, bytes([0xc0 + self.completed % 16 + turn]) * count)
-        self.do("io", verdict)
+        self.do("io", f"0 {verdict}")
 
     def asks(self, name):
         """A request, completed, and what is seen of it."""
@@ -159,7 +159,7 @@ def acknowledged(guest):
 
 
 def of_another_slot(guest):
-    guest.life.do("io 1 done")
+    guest.life.do("io 1 0 done")
     guest.life.do("w 1 b 050 4 00000000")
     guest.life.do("in 1 61")
 

@@ -44,7 +44,7 @@ class Lots(Guest):
         return self.life.extended
 
     def flight(self):
-        return self.life.board[self.slot].flight
+        return self.life.board[self.slot].tags[0]
 
     # --- a window
 
@@ -369,7 +369,8 @@ class Lots(Guest):
         queue = dice.one(window.queues)
         what = dice.below(8)
         if what < 3:
-            queue.place, queue.left, queue.passed = (dice.one((0, 1, queue.number, 2 * queue.number, 2 * queue.number - 1)) % 65536 for _ in range(3))
+            edges = (0, 1, queue.number, 2 * queue.number, 2 * queue.number - 1)
+            queue.place, queue.left, queue.passed, queue.ahead = (dice.one(edges) % 65536 for _ in range(4))
         elif what == 3:
             window.status ^= 1 << dice.below(8)
         elif what == 4:
@@ -395,7 +396,8 @@ class Lots(Guest):
             else:
                 queue.place = dice.one((0xffff, 0xfffe, 0xfffd, 0xffff - queue.number % 65536, 0x7fff, 0x7ffe, 0xff, 0x100, 0x8000))
             queue.passed = dice.below(queue.number + 1) if dice.is_one_in(2) else 0
-            queue.left = queue.number - queue.passed if dice.is_one_in(2) else 0
+            queue.ahead = dice.below(queue.number - queue.passed + 1) if dice.is_one_in(3) else 0
+            queue.left = queue.number - queue.passed - queue.ahead if dice.is_one_in(2) else 0
         elif what == 8:
             window.interrupts = dice.below(4)
             window.status = dice.one((0x0b, 0x0f, 0x4f, 0x8f, 0x0c, 0x08)) if window.status & 8 else window.status & 0xf7
@@ -413,7 +415,7 @@ class Lots(Guest):
             for at, count in asked.runs:
                 self.put(at, bytes([self.dice.below(256)]) * count)
         if self.is_extended():
-            self.do("io", "done" if is_done else "failed")
+            self.do("io", "0 done" if is_done else "0 failed")
 
     def small(self):
         """An emergency byte, a resize, an acknowledgement, a notify of another queue, or registers that are read."""
@@ -490,7 +492,8 @@ class LotsRing:
         self.has_events = queue.event_idx if queue.ready else "event_idx" in negotiated
         is_good = 1 <= queue.number <= 256 and (self.is_packed or not queue.number & (queue.number - 1))
         self.number = queue.number if is_good else 4
-        self.place = queue.place if queue.ready else 0
+        self.used = queue.place if queue.ready else 0
+        self.place = self.used + queue.ahead if queue.ready else 0
         lengths = (16 * self.number, *((4, 4) if self.is_packed else (6 + 2 * self.number, 6 + 8 * self.number)))
         inside = all(guest.memory().holds(at, length) for at, length in zip(queue.areas, lengths))
         self.areas = queue.areas if inside else guest.some_areas(window, index, 0, self.number, self.is_packed)
@@ -609,13 +612,13 @@ class LotsRing:
             if self.number <= 8:
                 guest.look(desc, 16 * self.number)
             else:
-                guest.look(desc + 16 * ((self.place - 1) % self.number), 16)
+                guest.look(desc + 16 * ((self.used - 1) % self.number), 16)
             guest.look(device, 4)
         elif self.number <= 8:
             guest.look(device, 6 + 8 * self.number)
         else:
             guest.look(device, 4)
-            guest.look(device + 4 + 8 * ((self.place - 1) % self.number), 8)
+            guest.look(device + 4 + 8 * ((self.used - 1) % self.number), 8)
             guest.look(device + 4 + 8 * self.number, 2)
 
 

@@ -29,7 +29,7 @@ def stories():
 def by_hand():
     """A disk's queue of 4 is ready at place 5 before DRIVER_OK: its place is kept, also in the ring's second turn."""
     area = "0030008000000000"
-    snapshot = SNAPSHOT.replace(area + "00", area + "01" + "050000000000", 1)
+    snapshot = SNAPSHOT.replace(area + "00", area + "01" + "0500000000000000", 1)
     return first("midway/a_ready_queue_before_driver_ok_by_hand",
                  "A queue that is ready at place 5 is restored before DRIVER_OK, and serves from there on.", f"""
 st 0 {snapshot} > 0 done - 2 0
@@ -131,7 +131,7 @@ def start_at_place(guest, window):
             for at, mark in enumerate(used):
                 guest.put(ring.areas[0] + 16 * ((ring.place + at) % ring.number) + 14, mark.to_bytes(2, "little"))
         else:
-            guest.put(queue.areas[1], bytes(2) + queue.place.to_bytes(2, "little"))
+            guest.put(queue.areas[1], bytes(2) + (ring.place % 65536).to_bytes(2, "little"))
 
 
 def resets(guest, window, setup):

@@ -83,7 +83,7 @@ def take(queue, memory):
     if queue.packed or not queue.left or len(memory.regions) > 1:
         return TAKE(queue, memory)
     region = memory.regions[0]
-    head = HALF.unpack_from(region.bytes, queue.areas[1] + 4 + 2 * (queue.place % queue.number) - region.base)[0]
+    head = HALF.unpack_from(region.bytes, queue.areas[1] + 4 + 2 * (queue.next % queue.number) - region.base)[0]
     if head >= queue.number:
         return TAKE(queue, memory)
     address, length, flags, _ = DESCRIPTOR.unpack_from(region.bytes, queue.areas[0] + 16 * head - region.base)
@@ -112,7 +112,7 @@ def give(queue, memory, chain, length, wrote):
 def serve(slot, window, index):
     """A service: here of a console's split queue, in a memory of one region; else the model serves."""
     queue = slot.windows[window].queues[index]
-    if window == "b" or queue.packed or len(slot.memory.regions) > 1:
+    if window == "b" or queue.packed or queue.ahead or len(slot.memory.regions) > 1:
         return SERVE(slot, window, index)
     texts, fault = [], False
     try:

@@ -77,10 +77,11 @@ def fields_of(snapshot):
 
 def of_ready_queue(snapshot, window, index, queue):
     wrong = [{"number": 0}, {"number": 257}, {"number": 1 << 31}, {"ready": 2}, {"left": 1, "passed": queue.number}, {"passed": 2 * queue.number}]
+    wrong += [{"left": 1, "ahead": queue.number}, {"passed": 1, "ahead": 2 * queue.number - 1}, {"ahead": 0xffff}]
     if snapshot.windows[window].accepted >> 34 & 1:
         wrong += [{"place": 2 * queue.number}, {"place": 0xffff}]
     else:
-        wrong += [{"number": 3}, {"left": queue.number + 1}]
+        wrong += [{"number": 3}, {"left": queue.number + 1}, {"ahead": queue.number + 1}]
     for area in range(3):
         for more in (1 if area != 1 else 1, 1 << 40):
             areas = list(queue.areas)

@@ -158,6 +158,7 @@ FIELDS = {
     "number": of_queue("number", (2, True), (8, True), (2, False), (8, False), (300, False)),
     "place": of_queue("place", (1, True), (3, True), (4, True), (7, True), (0x8002, True), (0xffff, True)),
     "left": of_queue("left", (1, True), (2, True)), "passed": of_queue("passed", (1, True), (2, True)),
+    "ahead": of_queue("ahead", (1, True), (2, True), (4, True), (7, True)),
     "selector_of_a_new_driver": [begun_with_selector(value) for value in (0, 1, 2, 3)],
     "second_queue_of_the_disk": [second_queue_of_a_disk],
     "ready": [none_ready, *of_queue("ready", (False, False))],

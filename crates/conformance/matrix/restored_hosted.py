@@ -29,19 +29,19 @@ def stories():
 def by_hand():
     """A flush is on offer when a snapshot of a live disk is taken up; it is asked by the notify."""
     area = "0030008000000000"
-    live = SNAPSHOT.replace("4442003045000000" + "0b", "4442003045000000" + "0f", 1).replace(area + "00", area + "01" + "000000000000", 1)
+    live = SNAPSHOT.replace("4442003045000000" + "0b", "4442003045000000" + "0f", 1).replace(area + "00", area + "01" + "0000000000000000", 1)
     lines = f"""
 mw 0 80004000 04000000000000000000000000000000 > 0 done - 0 0
 mw 0 80001000 00400080000000001000000001000100 > 0 done - 0 0
 mw 0 80001010 00500080000000000100000002000000 > 0 done - 0 0
 mw 0 80002000 000001000000 > 0 done - 0 0
 st 0 {live} > 0 done - 2 0
-io 0 done > 0 idle - 2 0
+io 0 0 done > 0 idle - 2 0
 in 0 61 > 0 took:1 - 2 0
 st 0 {live} > 0 done - 2 0
-w 0 b 050 4 00000000 > 0 done - 2 0 flush:0:0:-
+w 0 b 050 4 00000000 > 0 done - 2 0 0=flush:0:0:-
 st 0 {live} > 0 busy - 2 0
-io 0 done > 0 done - 3 0
+io 0 0 done > 0 done - 3 0
 mr 0 80003000 c > 0 b:000001000000000001000000 - 3 0
 """
     return first("restored_hosted/a_flush_on_offer_by_hand", "A flush on offer when a disk is restored is asked by the next notify.",
@@ -117,7 +117,7 @@ def offers(guest, name):
 
 def waits(guest, turn):
     """Other events ask nothing."""
-    guest.do("io", ("done", "failed")[turn % 2])
+    guest.do("io", ("0 done", "0 failed")[turn % 2])
     guest.look(guest.done, 1)
     guest.type(b"w")
     guest.resize(turn, 3)

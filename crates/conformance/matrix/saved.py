@@ -8,7 +8,7 @@ from .drivers import number
 
 @dataclasses.dataclass
 class SavedQueue:
-    """`place` counts of a ready queue alone, and so do what its service left and passed."""
+    """`place` counts of a ready queue alone, and so do what its service left and passed, and what is in flight."""
 
     number: int = 0
     areas: typing.List[int] = dataclasses.field(default_factory=lambda: [0, 0, 0])
@@ -16,10 +16,12 @@ class SavedQueue:
     place: int = 0
     left: int = 0
     passed: int = 0
+    ahead: int = 0
 
     def spelled(self):
         text = number(self.number, 4) + b"".join(number(area, 8) for area in self.areas) + bytes([self.ready])
-        return text + (number(self.place, 2) + number(self.left, 2) + number(self.passed, 2) if self.ready else b"")
+        served = (self.place, self.left, self.passed, self.ahead) if self.ready else ()
+        return text + b"".join(number(one, 2) for one in served)
 
 
 @dataclasses.dataclass
@@ -71,7 +73,7 @@ def saved(guest):
 
 
 def saved_window(window):
-    queues = [SavedQueue(queue.number, list(queue.areas), queue.ready, queue.place) for queue in window.queues]
+    queues = [SavedQueue(queue.number, list(queue.areas), queue.ready, queue.place, ahead=queue.ahead) for queue in window.queues]
     selectors = [window.device_sel, window.driver_sel, window.queue_sel, 0]
     return SavedWindow(window.offered_bits(), window.status, window.driver_features, selectors,
                        (queues + [SavedQueue()])[:2], window.interrupts,

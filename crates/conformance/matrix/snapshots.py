@@ -7,7 +7,8 @@ from .saved import restore, saved
 
 TITLE = "Bits of a snapshot"
 HOW = ("A snapshot of a slot at work differs in one bit from what was saved: it is refused, or it is taken and registers show it. Place and "
-       "chains left and passed of a ready queue have each of the numbers at which something begins or ends, together.")
+       "chains left and passed of a ready queue have each of the numbers at which something begins or ends, together; and so have "
+       "those passed, left and in flight.")
 FOLDERS = {"snapshot_bits": "Each bit of a snapshot, and the numbers of a ready queue together."}
 
 # What is read of each window after a snapshot that was taken.
@@ -20,6 +21,7 @@ def stories():
         for window in "bc":
             yield bits(window, is_packed)
             yield numbers(window, is_packed)
+            yield in_flight(window, is_packed)
 
 
 def by_hand():
@@ -80,3 +82,21 @@ def numbers(window, is_packed):
                         serves(guest, window, index)
     return Life(named(window, is_packed, "place_left_and_passed"), "Place and chains left and passed of a ready queue in a grid.", script,
                 [Wide(length=0x10000)], shows=[("place, chains left and passed", "0 to 8, 2^15, 2^16 - 1, together")])
+
+
+def in_flight(window, is_packed):
+    """How much of a queue is in flight beside what its service left and passed; those that are taken serve two chains."""
+    def script(life):
+        guest, setup = at_work(life, window, is_packed)
+        snapshot, index = saved(guest), INDICES[window][-1]
+        for place in (0, 3, 7, 0xffff):
+            for left, passed in ((0, 0), (1, 0), (0, 1), (1, 1), (0, 3), (2, 2)):
+                for ahead in (1, 2, 3, 4, 5, 7, 8, 0x8000, 0xffff):
+                    queue = snapshot.windows[window].queues[index]
+                    queue.place, queue.left, queue.passed, queue.ahead = place, left, passed, ahead
+                    if restore(guest, snapshot).split(" ")[1] == "done":
+                        guest.setup = setup
+                        serves(guest, window, index)
+                        serves(guest, window, index)
+    return Life(named(window, is_packed, "place_left_passed_and_in_flight"), "Place, and chains left, passed and in flight of a ready queue in a grid.",
+                script, [Wide(length=0x10000)], shows=[("chains left, passed and in flight", "0 to 8, 2^15, 2^16 - 1, together")])

@@ -195,7 +195,7 @@ def completions(is_packed):
             offer_all(guest, named_table)
             guest.notify("b", 0)
             for at in range(256 if turn < 256 else 2):
-                guest.do("io", "failed" if at % 7 == 6 else "done")
+                guest.do("io", "0 failed" if at % 7 == 6 else "0 done")
             guest.look(guest.room + DONE, 1)
             guest.ends("b", 0)
     return Life(named("b", "65537_completions", is_packed), "65,537 flushes are completed one by one.", script, [Wide(length=0x10000)], hosted=True,

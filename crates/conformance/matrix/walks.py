@@ -66,7 +66,7 @@ def slots_of(kind, dice):
         start += sectors
     if kind.startswith("two_both"):
         at = dice.below(2)
-        slots[at] = dataclasses.replace(slots[at], disk="host", start=slots[1 - at].start)
+        slots[at] = dataclasses.replace(slots[at], disk="host:1", start=slots[1 - at].start)
     return slots
 
 

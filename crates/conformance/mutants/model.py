@@ -246,6 +246,9 @@ def descriptor(memory, at):
 
 
 class Queue:
+    # Whether the service that comes goes on in the open queue; how many places are in flight, and how many chains on offer in a split ring.
+    goes_on, ahead, left = False, 0, 0
+
     def __init__(self, size_limit):
         self.exists = size_limit > 0
         self.reset()
@@ -256,14 +259,22 @@ class Queue:
         self.ready = False
         self.place = 0
 
-    # --- opening, closing, notifications
+    @property
+    def next(self):
+        """The place of the next chain to be taken: those in flight lie between it and the place of the next used entry."""
+        return (self.place + self.ahead) % (2 * self.number if self.packed else 65536)
+
+    # --- opening, taking, giving
 
     def open(self, memory):
+        if self.goes_on:
+            self.goes_on = False
+            return
         self.passed, self.begin = 0, self.place
         if not self.packed:
             idx = memory.number(self.areas[1] + 2, 2)
-            self.left = (idx - self.place) % 65536
-            if self.left > self.number:
+            self.left = (idx - self.next) % 65536
+            if self.left > self.number - self.ahead:
                 raise Fault("Jump")
 
     def take(self, memory):
@@ -273,7 +284,7 @@ class Queue:
         if self.left == 0:
             return None
         chain = Chain(memory)
-        chain.head = memory.number(self.areas[1] + 4 + 2 * (self.place % self.number), 2)
+        chain.head = memory.number(self.areas[1] + 4 + 2 * (self.next % self.number), 2)
         self.walk(chain, self.areas[0], self.number, chain.head, memory, False)
         return chain
 
@@ -315,13 +326,13 @@ class Queue:
 
     def take_packed(self, memory):
         size = self.number
-        at = self.areas[0] + 16 * (self.place % size)
-        flags, wrap = memory.number(at + 14, 2), self.place < size
-        if self.passed >= size or bool(flags & AVAIL) != wrap or bool(flags & USED) == wrap:
+        at = self.areas[0] + 16 * (self.next % size)
+        flags, wrap = memory.number(at + 14, 2), self.next < size
+        if self.passed + self.ahead >= size or bool(flags & AVAIL) != wrap or bool(flags & USED) == wrap:
             return None
         chain, members = Chain(memory), 0
         while True:
-            at = self.areas[0] + 16 * ((self.place + members) % size)
+            at = self.areas[0] + 16 * ((self.next + members) % size)
             address, length, chain.id, flags = descriptor(memory, at)
             members += 1
             chain.members = members
@@ -353,6 +364,22 @@ class Queue:
         self.place = (self.place + chain.members) % (2 * self.number)
         self.passed += chain.members
 
+    # --- chains in flight
+
+    def launch(self, chain):
+        """A chain is in flight: the next one is taken behind it, and no used entry is written."""
+        self.ahead, self.left = self.ahead + chain.members, self.left - 1
+
+    def land(self, chain):
+        """A chain is in flight no more: it may be given as any other."""
+        self.ahead, self.left = self.ahead - chain.members, self.left + 1
+
+    def shut(self):
+        """Behind a closing no place is passed, until a completion or an opening."""
+        self.begin, self.passed = self.place, 0
+
+    # --- closing
+
     def close(self, memory):
         """The closing writes; whether a notification is wanted."""
         if self.packed:
@@ -360,7 +387,7 @@ class Queue:
             return self.packed_wants(memory)
         memory.put_number(self.areas[2], 2, 0)
         if self.event_idx:
-            memory.put_number(self.areas[2] + 4 + 8 * self.number, 2, self.place)
+            memory.put_number(self.areas[2] + 4 + 8 * self.number, 2, self.next)
         return self.split_wants(memory)
 
     def split_wants(self, memory):
@@ -399,6 +426,7 @@ class Queue:
         self.indirect, self.event_idx = "indirect_desc" in negotiated, "event_idx" in negotiated
         self.place = 0
         self.ready = True
+        self.ahead = 0
 
     def restore(self, snapshot, window, memory):
         self.number, self.areas = snapshot.value(4), [snapshot.value(8) for _ in range(3)]
@@ -408,10 +436,12 @@ class Queue:
     def restore_place(self, snapshot, window, memory):
         """A queue that was ready is made ready, and a service of it can come so far."""
         place, left, passed = (snapshot.value(2) for _ in range(3))
+        ahead = snapshot.value(2)
         if window.status & FEATURES_OK:
             self.make_ready(memory, window.negotiated())
         if not self.ready:
             raise NoSnapshot
+        self.ahead, passed = ahead, passed + ahead
         most = 2 * self.number - 1
         if self.packed and (place > most or passed > most):
             raise NoSnapshot
@@ -553,8 +583,8 @@ class Window:
 
 
 class Slot:
-    # What is in flight: over an image nothing ever is.
-    flight = None
+    # What is in flight, by its tag: over an image nothing ever is.
+    tags = ()
 
     def __init__(self, fields, cache, lacks):
         base, length, self.start, self.count, mode, self.cols, self.rows, *named = fields
@@ -756,7 +786,7 @@ class Slot:
             return IOERR
         return OK
 
-    def complete(self, went_well):
+    def complete(self, tag, went_well):
         """Whether something was in flight."""
         return False
 
@@ -784,27 +814,36 @@ class Slot:
 
 
 class HostedSlot(Slot):
-    """A slot whose disk the host serves: a chain that asks for it is in flight until the host says what came of it."""
+    """A slot whose disk the host serves: chains that ask for it are in flight, each at its tag, until the host says what came of them."""
 
     def serve(self, window, index):
         if window == "c":
             return super().serve(window, index)
-        if not self.flight:
+        if None in self.tags:
             self.look()
         return b""
 
     def look(self):
-        """A service up to the first chain that asks; its queue stays open then."""
+        """A service that goes on behind a chain that asks, while a tag is free; where none is, its queue stays open."""
         try:
             super().serve("b", 0)
         except Asks as asked:
-            self.flight = asked
+            self.tags[self.tags.index(None)] = asked
+            self.windows["b"].queues[0].launch(asked.chain)
+            if None in self.tags:
+                self.windows["b"].queues[0].goes_on = True
+                self.look()
+        else:
+            self.windows["b"].queues[0].shut()
 
-    def complete(self, went_well):
-        if not self.flight:
+    def complete(self, tag, went_well):
+        if not any(self.tags[tag:tag + 1]):
             return False
-        asked, chain, queue = self.flight, self.flight.chain, self.windows["b"].queues[0]
-        self.flight = None
+        asked, chain, queue = self.tags[tag], self.tags[tag].chain, self.windows["b"].queues[0]
+        self.tags[tag] = None
+        if not self.windows["b"].live():
+            return True
+        queue.land(chain)
         room = chain.room()
         status = OK if went_well else IOERR
         found = room - 1 if asked.kind == "in" and went_well else 0
@@ -816,12 +855,12 @@ class HostedSlot(Slot):
     # --- what waits
 
     def write(self, window, offset, width, value):
-        if self.flight and window == "b" and offset in (0x044, 0x070):
+        if any(self.tags) and window == "b" and offset in (0x044, 0x070):
             raise Busy
         return super().write(window, offset, width, value)
 
     def restore(self, content):
-        if self.flight:
+        if any(self.tags):
             raise Busy
         super().restore(content)
 
@@ -875,14 +914,27 @@ def judge_others(base, length, others):
         end = at + size
 
 
-def judge_disk(count):
-    """A disk that the host serves: it has fewer than 2^64 bytes."""
+def depth_of(disk):
+    """How many operations of a slot's disk may be in flight; over an image none ever is."""
+    return int(disk.partition(":")[2] or "1", 16)
+
+
+def judge_disk(disk, count):
+    """A disk that the host serves: it has 1 to 64 operations in flight, and fewer than 2^64 bytes."""
+    if not 1 <= depth_of(disk) <= 64:
+        raise BadBoard("BadDepth")
     if count > 2**55 - 1:
         raise BadBoard("ExtentOutside")
 
 
 # The slots by who has their disks.
 SLOTS = {"image": Slot, "host": HostedSlot}
+
+
+def slot_on(disk, fields, cache, lacks):
+    slot = SLOTS[disk.partition(":")[0]](fields, cache, lacks)
+    slot.tags = depth_of(disk) * [None]
+    return slot
 
 
 def board_of(slots, capacity, image, lacks, most=64, largest=2**28):
@@ -897,8 +949,8 @@ def board_of(slots, capacity, image, lacks, most=64, largest=2**28):
         if base % 4096 or base + length > 2**64:
             raise BadBoard("BadBase")
         judge_others(base, length, rest[4:])
-        if disk == "host":
-            judge_disk(count)
+        if disk != "image":
+            judge_disk(disk, count)
             continue
         if start + count > len(image.bytes) // SECTOR:
             raise BadBoard("ExtentOutside")
@@ -909,7 +961,7 @@ def board_of(slots, capacity, image, lacks, most=64, largest=2**28):
     if not 1 <= capacity <= 65536:
         raise BadBoard("BadCapacity")
     cache = Cache(image, capacity)
-    return [SLOTS[disk](fields, cache, lacks) for disk, *fields in slots]
+    return [slot_on(disk, fields, cache, lacks) for disk, *fields in slots]
 
 
 def bytes_of(field):
@@ -938,18 +990,18 @@ def record_of(slots, word, fields):
     return f"{number:x} {reply} {spelled(output)} {slot.windows['b'].interrupts} {slot.windows['c'].interrupts}"
 
 
-def flight_of(slots, fields):
-    """What is in flight of the slot that an event names, or none."""
+def tags_of(slots, fields):
+    """What is in flight of the slot that an event names, by its tag."""
     named = slots[int(fields[0], 16):]
-    return named[0].flight if named else None
+    return [*named[0].tags] if named else []
 
 
 def hosted_record_of(slots, word, fields):
-    """A record, and behind it the operation that began with its event."""
-    before = flight_of(slots, fields)
+    """A record, and behind it the operations that began with its event."""
+    before = tags_of(slots, fields)
     record = record_of(slots, word, fields)
-    now = flight_of(slots, fields)
-    began = now if now is not before else None
+    now = tags_of(slots, fields)
+    began = ";".join(f"{tag:x}={asked}" for tag, asked in enumerate(now) if asked and asked is not before[tag])
     return f"{record} {began or '-'}"
 
 
@@ -998,8 +1050,8 @@ def restored(slot, content):
     return "done", b""
 
 
-def completed(slot, verdict):
-    return "done" if slot.complete(verdict == "done") else "idle", b""
+def completed(slot, tag, verdict):
+    return "done" if slot.complete(int(tag, 16), verdict == "done") else "idle", b""
 
 
 REPLIES = {"r": read, "w": write, "mr": memory_read, "mw": memory_write, "in": typed, "sz": resized, "st": restored,
@@ -1015,7 +1067,7 @@ def replay(text, content, fails=(), lacks=(), fault_of=None):
     lines = [line.split(" ") for line in text.decode("ascii").split("\n")[:-1]]
     first_line = " ".join(lines[0])
     slots = [slot_of(first_line, line) for line in lines if line[0] == "slot"]
-    is_hosted = any(disk == "host" for disk, *_ in slots)
+    is_hosted = any(disk != "image" for disk, *_ in slots)
     most, largest = 16 if first_line == "vreplay 1" else 64, 2**32 if first_line == EXTENDED else 2**28
     try:
         board = board_of(slots, int(lines[1][1], 16), image, lacks, most, largest)

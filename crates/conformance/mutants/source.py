@@ -62,5 +62,6 @@ class Model:
             text = f"class {function.owner}:\n" + textwrap.indent(textwrap.dedent(text), "    ")
         exec(compile(text, MODEL, "exec"), names, own)
         changed = vars(own[function.owner])[function.name] if function.owner else own[function.name]
-        function.of(names).__code__ = changed.__code__
+        right = function.of(names)
+        getattr(right, "fget", right).__code__ = getattr(changed, "fget", changed).__code__
         return names

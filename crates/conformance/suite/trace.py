@@ -48,7 +48,7 @@ def bit_name(window, bit):
 EXTENDED = "kalyubos 1\n"
 
 # Every name that a scenario's features may have.
-BESIDE_BITS = {"guests", "extended", "hosted", "ro", "input", "resize", "size", "restore", "vendor", "offer", "fails",
+BESIDE_BITS = {"guests", "extended", "hosted", "depth", "ro", "input", "resize", "size", "restore", "vendor", "offer", "fails",
                "calls"}
 NAMED = BESIDE_BITS | {feature for fields in FIELDS.values() for _, _, feature in fields} \
     | {bit_name(window, bit) for window in WINDOWS for bit in range(64)}
@@ -98,8 +98,8 @@ class Event:
     def say_st(self, data):
         return f"is restored from {counted(bytes_in(data))}"
 
-    def say_io(self, verdict):
-        return f"has its disk's operation {verdict}"
+    def say_io(self, tag, verdict):
+        return f"has its disk's operation of tag {tag} {verdict}"
 
 
 def bytes_in(field):
@@ -118,7 +118,7 @@ def place(window, offset):
     return f"{REGISTERS.get(offset, f'offset {offset:03x}')} of its {WINDOWS[window]} window"
 
 
-COUNTS = {"r": 5, "w": 6, "mr": 4, "mw": 4, "in": 3, "sz": 4, "st": 3, "io": 3}
+COUNTS = {"r": 5, "w": 6, "mr": 4, "mw": 4, "in": 3, "sz": 4, "st": 3, "io": 4}
 
 
 def events_of(text):
@@ -151,15 +151,18 @@ def features_of(text, replies):
     They are the features that a driver takes or asks for (DriverFeatures), those that a device shows (the expected
     answers of DeviceFeatures), and those whose configuration fields are touched. Others are no bits: `offer`, all
     offered features are read; `vendor`, VendorID is; `resize`, `input` and `restore`, the host does that; `hosted`, it
-    serves a disk; `guests`, there are more than one; `ro`, a slot is read-only; `extended`, the trace is of no
+    serves a disk; `depth`, several operations of one may be in flight; `guests`, there are more than one; `ro`, a slot is read-only; `extended`, the trace is of no
     version that a plain one has.
     """
     found = {"extended"} if text.startswith(EXTENDED) else set()
     slots = slots_of(text)
     if len(slots) > 1:
         found.add("guests")
-    if "extended" in found and any(fields[1:2] == ["host"] for fields in slots):
+    hosted = {fields[1] for fields in slots if "extended" in found and len(fields) > 1 and fields[1].startswith("host:")}
+    if hosted:
         found.add("hosted")
+    if hosted - {"host:1"}:
+        found.add("depth")
     if any(fields[4:5] == ["ro"] for fields in slots):
         found.add("ro")
     windows = {}
