@@ -1,8 +1,9 @@
 /*
  * How fast two guests read their disks from two files in order, through examples/embed/file_disk.c, each on a board and a
- * thread of its own: megabytes a second of both together. bench/disks builds it, and runs dd beside it.
+ * thread of its own: megabytes a second of both together. DEPTH reads of a guest are in flight at most. bench/disks builds it,
+ * and runs dd beside it.
  *
- *     disks ring|threads BLOCK FILE FILE
+ *     disks ring|threads BLOCK DEPTH FILE FILE
  */
 #define _GNU_SOURCE
 #include <poll.h>
@@ -16,7 +17,7 @@
 
 #include "file_disk.h"
 
-enum { GUESTS = 2, RING = 8, SECTOR = 512, TABLE = 0x1000, AVAIL = 0x2000, USED = 0x3000, HEADERS = 0x4000, DATA = 0x10000 };
+enum { GUESTS = 2, RING = 64, SECTOR = 512, TABLE = 0x1000, AVAIL = 0x2000, USED = 0x3000, HEADERS = 0x4000, DATA = 0x10000 };
 static const uint64_t MEMORY = 0x80000000;
 
 struct guest {
@@ -25,7 +26,7 @@ struct guest {
     const char *path;
     uint8_t *memory;
     uint64_t blocks, asked;
-    uint32_t block;
+    uint32_t block, depth, places; /* how many reads are on offer at once */
 };
 
 static const struct file_way *way;
@@ -65,17 +66,16 @@ static void bring_up(struct guest *guest)
                                   { 0x44, 1 }, { 0x70, 15 } };
     for (size_t i = 0; i < sizeof steps / sizeof *steps; i++)
         store(guest, (uint16_t)steps[i][0], steps[i][1]);
-    for (unsigned i = 0; i < RING; i++) {
+    for (unsigned i = 0; i < guest->places; i++) {
         describe(guest, 4 * i, HEADERS + 32 * i, 16, 1, 4 * i + 1);
         describe(guest, 4 * i + 1, DATA + (uint64_t)i * guest->block, guest->block, 3, 4 * i + 2);
         describe(guest, 4 * i + 2, HEADERS + 32 * i + 16, 1, 2, 0);
     }
 }
 
-/* Offers the next read; the notification comes behind several. */
-static void offer(struct guest *guest)
+/* Offers the next read at a place; the notification comes behind several. */
+static void offer(struct guest *guest, unsigned place)
 {
-    unsigned place = (unsigned)(guest->asked % RING);
     uint64_t sector = guest->asked * guest->block / SECTOR;
     uint16_t head = (uint16_t)(4 * place), idx = (uint16_t)++guest->asked;
     memset(guest->memory + HEADERS + 32 * place, 0, 8);
@@ -92,51 +92,63 @@ static uint16_t used(const struct guest *guest)
     return idx;
 }
 
+/* Takes back the read of a used entry, and offers the next one at its place; whether there was one. */
+static bool take_back(struct guest *guest, uint64_t number)
+{
+    uint32_t head;
+    memcpy(&head, guest->memory + USED + 4 + 8 * (number % (4 * RING)), sizeof head);
+    need(guest->memory[HEADERS + 32 * (head / 4) + 16] == 0, "a read's status");
+    if (guest->asked == guest->blocks)
+        return false;
+    offer(guest, head / 4);
+    return true;
+}
+
 static void *read_as_guest(void *user)
 {
     struct guest *guest = user;
     uint64_t done = 0;
     bring_up(guest);
     pthread_barrier_wait(&all_ready);
-    while (guest->asked < RING && guest->asked < guest->blocks)
-        offer(guest);
+    while (guest->asked < guest->places && guest->asked < guest->blocks)
+        offer(guest, (unsigned)guest->asked);
     store(guest, 0x50, 0);
     while (done < guest->blocks) {
         struct kalyubos_pending pending;
         struct pollfd wake = { .fd = guest->disk.ready, .events = POLLIN };
         need(poll(&wake, 1, -1) == 1, "poll");
-        bool failed;
-        if (!file_disk_go_on(&guest->disk, &failed))
+        uint8_t tag;
+        bool failed, more = false;
+        while (file_disk_go_on(&guest->disk, &tag, &failed))
+            if (kalyubos_completed(&guest->board, 0, tag, failed, &pending) == KALYUBOS_IO)
+                need(file_disk_begin(&guest->disk), "a step");
+        if ((uint16_t)done == used(guest))
             continue;
-        if (kalyubos_completed(&guest->board, 0, failed, &pending) == KALYUBOS_IO)
-            need(file_disk_begin(&guest->disk), "a step");
         store(guest, 0x64, 1);
-        bool more = false;
-        for (; (uint16_t)done != used(guest); done++) {
-            need(guest->memory[HEADERS + 32 * (done % RING) + 16] == 0, "a read's status");
-            if ((more = guest->asked < guest->blocks))
-                offer(guest);
-        }
+        for (; (uint16_t)done != used(guest); done++)
+            more = take_back(guest, done) || more;
         if (more)
             store(guest, 0x50, 0);
     }
     return NULL;
 }
 
-static void power_on(struct guest *guest, const char *path, uint32_t block)
+static void power_on(struct guest *guest, const char *path, uint32_t block, uint32_t depth)
 {
     struct stat file;
     need(stat(path, &file) == 0, path);
-    *guest = (struct guest){ .path = path, .block = block, .blocks = (uint64_t)file.st_size / block };
+    *guest = (struct guest){ .path = path, .block = block, .depth = depth, .blocks = (uint64_t)file.st_size / block };
+    guest->places = depth < 8 ? 8 : depth;
+    need(depth >= 1 && depth <= RING, "DEPTH is 1 to 64");
     struct kalyubos_slot slot = {
-        .size = sizeof slot, .regions = { { MEMORY, (DATA + (uint64_t)RING * block + 0xfff) & ~(uint64_t)0xfff } },
-        .count = (uint64_t)file.st_size / SECTOR, .read_only = true, .hosted = true,
+        .size = sizeof slot, .regions = { { MEMORY, (DATA + (uint64_t)guest->places * block + 0xfff) & ~(uint64_t)0xfff } },
+        .count = (uint64_t)file.st_size / SECTOR, .read_only = true, .hosted = true, .depth = depth,
     };
     struct kalyubos_config config = kalyubos_config(&slot, 1);
     size_t len;
     need(kalyubos_create(&guest->board, &config) == KALYUBOS_DONE, "create");
     need(kalyubos_memory(&guest->board, 0, MEMORY, &guest->memory, &len) == KALYUBOS_DONE, "memory");
-    const char *wrong = file_disk_open(&guest->disk, &guest->board, 0, path, slot.count * SECTOR, true, way);
+    const char *wrong = file_disk_open(&guest->disk, &guest->board, 0, depth, path, slot.count * SECTOR, true, way);
     need(wrong == NULL, wrong);
     need(guest->disk.way == way, "no io_uring");
 }
@@ -152,11 +164,11 @@ int main(int words_len, char **words)
 {
     static struct guest guests[GUESTS];
     pthread_t cpus[GUESTS];
-    need(words_len == 3 + GUESTS, "ring|threads BLOCK FILE FILE");
+    need(words_len == 4 + GUESTS, "ring|threads BLOCK DEPTH FILE FILE");
     way = strcmp(words[1], "threads") == 0 ? &file_thread : &file_ring;
     need(pthread_barrier_init(&all_ready, NULL, GUESTS + 1) == 0, "a barrier");
     for (int i = 0; i < GUESTS; i++) {
-        power_on(&guests[i], words[3 + i], (uint32_t)atoi(words[2]));
+        power_on(&guests[i], words[4 + i], (uint32_t)atoi(words[2]), (uint32_t)atoi(words[3]));
         need(pthread_create(&cpus[i], NULL, read_as_guest, &guests[i]) == 0, "a CPU");
     }
     pthread_barrier_wait(&all_ready);

@@ -1,10 +1,11 @@
 /*
  * Times a disk that the host serves beside one in an image: a notify with one IN of 4 KiB, memory in place, and where the host
- * serves it the notify that asks, kalyubos_operation and kalyubos_completed, without a byte moved. In turn, the best of many
+ * serves it the notify that asks, kalyubos_operation and kalyubos_completed, without a byte moved; also of 8 and of 32 requests
+ * that one notify asks for, which are in flight together and are completed from the last to the first. In turn, the best of many
  * rounds, in processor time; and how often the heap was called meanwhile. bench/hosted builds it.
  *
- *     hosted                 prints the times and their ratio
- *     hosted image|host N    makes N requests in that way, for callgrind
+ *     hosted                     prints the times of one request, and a ratio
+ *     hosted image|host|8|32 N   makes N requests in that way, for callgrind
  */
 #include <stdio.h>
 #include <stdlib.h>
@@ -13,7 +14,7 @@
 
 #include "kalyubos.h"
 
-enum { ROUNDS = 200, REQUESTS = 2000, LEN = 4096, SECTORS = 128, MEMORY_LEN = 0x100000 };
+enum { ROUNDS = 200, REQUESTS = 1920, LEN = 4096, SECTORS = 128, MEMORY_LEN = 0x100000, QUEUE = 64 };
 static const uint64_t MEMORY = 0x80000000;
 enum { TABLE = 0x1000, AVAIL = 0x2000, HEADER = 0x4000, DATA = 0x10000 };
 
@@ -23,7 +24,8 @@ struct guest {
     uint16_t idx;
 };
 
-static struct guest in_image, by_host;
+static struct guest in_image, by_host, deep[2];
+static const uint32_t DEPTHS[2] = { 8, 32 };
 static uint8_t image[SECTORS * 512], buffer[LEN], other[LEN];
 
 static void need(bool holds, const char *what)
@@ -59,7 +61,7 @@ void kalyubos_dealloc(void *at)
     free(at);
 }
 
-/* ---- a driver with a queue of four, whose every chain is one IN of the first 4 KiB */
+/* ---- a driver with a queue of 64, whose every chain is one IN of the first 4 KiB */
 
 static void describe(struct guest *guest, int place, uint64_t at, uint32_t len, uint16_t flags, uint16_t next)
 {
@@ -67,13 +69,13 @@ static void describe(struct guest *guest, int place, uint64_t at, uint32_t len, 
     memcpy(guest->memory + TABLE + 16 * place, &it, sizeof it);
 }
 
-static void power_on(struct guest *guest, bool is_hosted)
+static void power_on(struct guest *guest, bool is_hosted, uint32_t depth)
 {
     const uint32_t at = (uint32_t)MEMORY;
-    const uint32_t steps[][2] = { { 0x70, 1 }, { 0x70, 3 }, { 0x24, 1 }, { 0x20, 1 }, { 0x70, 11 }, { 0x38, 4 },
+    const uint32_t steps[][2] = { { 0x70, 1 }, { 0x70, 3 }, { 0x24, 1 }, { 0x20, 1 }, { 0x70, 11 }, { 0x38, QUEUE },
                                   { 0x80, at + TABLE }, { 0x90, at + AVAIL }, { 0xa0, at + 0x3000 }, { 0x44, 1 }, { 0x70, 15 } };
     struct kalyubos_slot slot = { .size = sizeof slot, .regions = { { MEMORY, MEMORY_LEN } }, .count = SECTORS,
-                                  .hosted = is_hosted };
+                                  .hosted = is_hosted, .depth = depth };
     struct kalyubos_config config = kalyubos_config(&slot, 1);
     struct kalyubos_pending pending;
     size_t len;
@@ -89,9 +91,10 @@ static void power_on(struct guest *guest, bool is_hosted)
     describe(guest, 2, HEADER + 16, 1, 2, 0);
 }
 
-static uint32_t notify(struct guest *guest, struct kalyubos_pending *pending)
+/* Offers so many chains, and notifies. */
+static uint32_t notify(struct guest *guest, uint32_t chains, struct kalyubos_pending *pending)
 {
-    guest->idx++;
+    guest->idx = (uint16_t)(guest->idx + chains);
     memcpy(guest->memory + AVAIL + 2, &guest->idx, 2);
     return kalyubos_write(&guest->board, 0, KALYUBOS_BLOCK, 0x50, 4, 0, pending);
 }
@@ -99,18 +102,40 @@ static uint32_t notify(struct guest *guest, struct kalyubos_pending *pending)
 static void read_image(void)
 {
     struct kalyubos_pending pending;
-    need(notify(&in_image, &pending) == KALYUBOS_DONE && pending.block == 1 && in_image.memory[HEADER + 16] == 0, "an IN");
+    need(notify(&in_image, 1, &pending) == KALYUBOS_DONE && pending.block == 1 && in_image.memory[HEADER + 16] == 0, "an IN");
 }
 
-static void ask_host(void)
+/* Asks for so many reads at once, and completes them. */
+static void ask_for(struct guest *guest, uint32_t depth)
 {
     static struct kalyubos_run runs[KALYUBOS_RUNS];
     struct kalyubos_operation operation;
     struct kalyubos_pending pending;
-    need(notify(&by_host, &pending) == KALYUBOS_IO, "a notify");
-    need(kalyubos_operation(&by_host.board, 0, &operation, runs, KALYUBOS_RUNS) == KALYUBOS_DONE, "an operation");
-    need(kalyubos_completed(&by_host.board, 0, false, &pending) == KALYUBOS_DONE && operation.len == LEN &&
-         pending.block == 1 && by_host.memory[HEADER + 16] == 0, "a completion");
+    uint64_t tags = 0;
+    need(notify(guest, depth, &pending) == KALYUBOS_IO, "a notify");
+    if (depth > 1)
+        need(kalyubos_in_flight(&guest->board, 0, &tags) == KALYUBOS_DONE && tags == ((uint64_t)1 << depth) - 1, "what began");
+    for (uint32_t tag = 0; tag < depth; tag++)
+        need(kalyubos_operation(&guest->board, 0, (uint8_t)tag, &operation, runs, KALYUBOS_RUNS) == KALYUBOS_DONE &&
+             operation.len == LEN, "an operation");
+    for (uint32_t left = depth; left > 0; left--)
+        need(kalyubos_completed(&guest->board, 0, (uint8_t)(left - 1), false, &pending) == KALYUBOS_DONE &&
+             pending.block == 1 && guest->memory[HEADER + 16] == 0, "a completion");
+}
+
+static void ask_host(void)
+{
+    ask_for(&by_host, 1);
+}
+
+static void ask_for_8(void)
+{
+    ask_for(&deep[0], DEPTHS[0]);
+}
+
+static void ask_for_32(void)
+{
+    ask_for(&deep[1], DEPTHS[1]);
 }
 
 /* The compiler can't see what the copy is for. */
@@ -132,13 +157,15 @@ static double now(void)
 
 static void time_all(void)
 {
-    void (*const works[])(void) = { read_image, copy_alone, ask_host };
-    double best[3] = { 1e18, 1e18, 1e18 };
+    void (*const works[])(void) = { read_image, copy_alone, ask_host, ask_for_8, ask_for_32 };
+    const int parts[] = { 1, 1, 1, (int)DEPTHS[0], (int)DEPTHS[1] };
+    enum { WORKS = sizeof parts / sizeof *parts };
+    double best[WORKS] = { 1e18, 1e18, 1e18, 1e18, 1e18 };
     uint64_t before = heap_calls;
     for (int round = 0; round < ROUNDS; round++) {
-        for (int which = 0; which < 3; which++) {
+        for (int which = 0; which < WORKS; which++) {
             double start = now();
-            for (int i = 0; i < REQUESTS; i++)
+            for (int i = 0; i < REQUESTS; i += parts[which])
                 works[which]();
             double one = (now() - start) / REQUESTS;
             best[which] = one < best[which] ? one : best[which];
@@ -147,20 +174,29 @@ static void time_all(void)
     printf("a notify with one IN of 4 KiB, out of an image       %8.1f ns\n", best[0]);
     printf("a copy of 4 KiB                                      %8.1f ns\n", best[1]);
     printf("hosted: the notify, its operation, its completion    %8.1f ns\n", best[2]);
+    printf("hosted: the same of one request, of 8 in flight      %8.1f ns\n", best[3]);
+    printf("hosted: the same of one request, of 32 in flight     %8.1f ns\n", best[4]);
     printf("hosted, to the notify less its copy                  %8.2f\n", best[2] / (best[0] - best[1]));
     printf("calls of the heap meanwhile                          %8d\n", (int)(heap_calls - before));
 }
 
 int main(int words_len, char **words)
 {
-    power_on(&in_image, false);
-    power_on(&by_host, true);
+    power_on(&in_image, false, 0);
+    power_on(&by_host, true, 1);
+    for (int i = 0; i < 2; i++)
+        power_on(&deep[i], true, DEPTHS[i]);
     if (words_len == 3) {
-        for (int i = 0; i < atoi(words[2]); i++)
-            (strcmp(words[1], "host") == 0 ? ask_host : read_image)();
+        int which = strcmp(words[1], "image") == 0 ? 0 : strcmp(words[1], "host") == 0 ? 1 : strcmp(words[1], "8") == 0 ? 2 : 3;
+        void (*const works[])(void) = { read_image, ask_host, ask_for_8, ask_for_32 };
+        int part = which < 2 ? 1 : (int)DEPTHS[which - 2];
+        for (int i = 0; i < atoi(words[2]); i += part)
+            works[which]();
     } else {
         time_all();
     }
-    need(kalyubos_destroy(&in_image.board) == KALYUBOS_DONE && kalyubos_destroy(&by_host.board) == KALYUBOS_DONE, "destroy");
+    struct guest *guests[] = { &in_image, &by_host, &deep[0], &deep[1] };
+    for (int i = 0; i < 4; i++)
+        need(kalyubos_destroy(&guests[i]->board) == KALYUBOS_DONE, "destroy");
     return 0;
 }

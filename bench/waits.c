@@ -4,7 +4,8 @@
  *
  * In each round every guest asks at once, the hostile one is called first, and the others one after another. What each
  * of them waits is the time from the round's start to the end of its own call. A host that serves the disks moves no
- * byte here, and a guest's own calls are three: the notify, kalyubos_operation and kalyubos_completed.
+ * byte here, and a guest's own calls are three: the notify, kalyubos_operation and kalyubos_completed. One of the hostile guest's
+ * calls may begin as many operations as its disk is deep.
  */
 #include <stdint.h>
 #include <stdio.h>
@@ -81,7 +82,7 @@ static double now(void)
 }
 
 /* Makes a board of all guests, over an image of all disks or with disks that the host serves. */
-static void make(bool hosted, uint32_t chains, uint64_t bytes)
+static void make(bool hosted, uint32_t depth, uint32_t chains, uint64_t bytes)
 {
     struct kalyubos_slot slots[GUESTS];
     struct kalyubos_config config = kalyubos_config(slots, GUESTS);
@@ -90,6 +91,7 @@ static void make(bool hosted, uint32_t chains, uint64_t bytes)
             .size = sizeof *slots, .regions = { { BASE, i ? 0x20000 : 0x20000 + LARGE } },
             .start = i ? SECTORS + (uint64_t)i * LEN / 512 : 0, .count = i ? LEN / 512 : SECTORS,
             .cols = 80, .rows = 25, .outlet = TEXT, .hosted = hosted,
+            .depth = depth,
         };
     config.image = image;
     config.image_len = hosted ? 0 : sizeof image;
@@ -131,7 +133,7 @@ static void end(const char *what)
 static void time_of(const char *what, uint32_t chains, uint64_t bytes, uint32_t len)
 {
     struct kalyubos_pending pending;
-    make(false, chains, bytes);
+    make(false, 1, chains, bytes);
     for (uint8_t i = 0; i < GUESTS; i++)
         bring_up(i, i ? LEN : len, 1);
     uint32_t answer = KALYUBOS_DONE;
@@ -152,12 +154,12 @@ static void time_of(const char *what, uint32_t chains, uint64_t bytes, uint32_t 
     end(what);
 }
 
-/* Asks what a guest's disk waits for, which is an IN of so many bytes. */
-static void ask(uint8_t guest, uint32_t len)
+/* Asks what a guest's disk is asked for with a tag, which is an IN of so many bytes. */
+static void ask(uint8_t guest, uint8_t tag, uint32_t len)
 {
     static struct kalyubos_run runs[KALYUBOS_RUNS];
     struct kalyubos_operation operation;
-    must(kalyubos_operation(&board, guest, &operation, runs, KALYUBOS_RUNS));
+    must(kalyubos_operation(&board, guest, tag, &operation, runs, KALYUBOS_RUNS));
     if (operation.len != len)
         must(KALYUBOS_IDLE);
 }
@@ -177,7 +179,7 @@ struct hostile {
     void (*begin)(const struct hostile *it);
     uint32_t (*call)(const struct hostile *it, uint32_t answer);
     int calls;
-    uint32_t chains, len;
+    uint32_t depth, chains, len;
     uint16_t buffers;
 };
 
@@ -186,15 +188,23 @@ static void begin_reads(const struct hostile *it)
     bring_up(0, it->len, it->buffers);
 }
 
-/* Its disk: it notifies, or says that its operation is done. */
+/* Its disk: it notifies, or says that one of its operations is done. */
 static uint32_t call_disk(const struct hostile *it, uint32_t answer)
 {
     struct kalyubos_pending pending;
-    answer = answer == KALYUBOS_IO ? kalyubos_completed(&board, 0, false, &pending) : notify(0, RING);
-    if (answer == KALYUBOS_IO)
-        ask(0, it->len);
-    else
-        must(answer);
+    uint64_t before = 0, after = 0;
+    must(kalyubos_in_flight(&board, 0, &before));
+    if (before == 0) {
+        answer = notify(0, RING);
+    } else {
+        uint8_t tag = (uint8_t)__builtin_ctzll(before);
+        before &= before - 1;
+        answer = kalyubos_completed(&board, 0, tag, false, &pending);
+    }
+    must(answer == KALYUBOS_IO ? KALYUBOS_DONE : answer);
+    must(kalyubos_in_flight(&board, 0, &after));
+    for (uint64_t fresh = after & ~before; fresh != 0; fresh &= fresh - 1)
+        ask(0, (uint8_t)__builtin_ctzll(fresh), it->len);
     return answer;
 }
 
@@ -274,7 +284,7 @@ static void run_hosted(const struct hostile *it, int run)
 {
     struct kalyubos_pending pending;
     struct kalyubos_counters counters;
-    make(true, it->chains, 0);
+    make(true, it->depth, it->chains, 0);
     it->begin(it);
     for (uint8_t i = 1; i < GUESTS; i++)
         bring_up(i, LEN, 1);
@@ -288,8 +298,8 @@ static void run_hosted(const struct hostile *it, int run)
             must(answer);
         for (uint8_t guest = 1; guest < GUESTS; guest++) {
             must(notify(guest, 1) == KALYUBOS_IO ? KALYUBOS_DONE : KALYUBOS_IDLE);
-            ask(guest, LEN);
-            must(kalyubos_completed(&board, guest, false, &pending));
+            ask(guest, 0, LEN);
+            must(kalyubos_completed(&board, guest, 0, false, &pending));
             keep_best(&wait_took[calls][guest], now() - start, run);
         }
     }
@@ -322,14 +332,16 @@ int main(void)
     time_of("256 chains of 4 KiB, no budget", 0, 0, LEN);
     time_of("256 chains of 4 KiB, 1 chain a call", 1, 0, LEN);
     time_of("256 chains of 4 KiB, 64 KiB a call", 0, 0x10000, LEN);
-    time_hosted("256 chains of 8 MiB, hosted", (struct hostile){ begin_reads, call_disk, MOST_CALLS, 0, LARGE, 1 });
+    time_hosted("256 chains of 8 MiB, hosted", (struct hostile){ begin_reads, call_disk, MOST_CALLS, 1, 0, LARGE, 1 });
     time_hosted("256 chains of 8 MiB in 254 buffers, hosted",
-                (struct hostile){ begin_reads, call_disk, MOST_CALLS, 0, LARGE, 254 });
+                (struct hostile){ begin_reads, call_disk, MOST_CALLS, 1, 0, LARGE, 254 });
+    time_hosted("the same, 64 of them in flight",
+                (struct hostile){ begin_reads, call_disk, MOST_CALLS, KALYUBOS_TAGS, 0, LARGE, 254 });
     time_hosted("256 tables of 256 bytes to a console, no budget",
-                (struct hostile){ begin_texts, call_console, CHAINS / RING, 0, 0, 0 });
+                (struct hostile){ begin_texts, call_console, CHAINS / RING, 1, 0, 0, 0 });
     time_hosted("256 tables of 256 bytes to a console, 1 chain",
-                (struct hostile){ begin_texts, call_console, CHAINS, 1, 0, 0 });
+                (struct hostile){ begin_texts, call_console, CHAINS, 1, 1, 0, 0 });
     time_hosted("256 tables of 256 buffers to a disk, 1 chain",
-                (struct hostile){ begin_others, call_other, CHAINS / RING, 1, 0, 0 });
+                (struct hostile){ begin_others, call_other, CHAINS / RING, 1, 1, 0, 0 });
     return 0;
 }

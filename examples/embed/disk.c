@@ -1,10 +1,10 @@
 /*
  * Real disks for two guests, over two files. Each guest has a handle of its own and a thread of its own, which is its CPU,
  * makes its calls and looks at its disk. So guests share nothing, and need no lock. file_disk.c is to be copied: it brings
- * what a disk is asked for to the kernel, and never waits; file_ring.c has io_uring for it.
+ * what a disk is asked for to the kernel, up to DEPTH operations at once, and never waits; file_ring.c has io_uring for it.
  *
- * The guests are C as well: a driver's loads and stores are a CPU's exits. Guest 0 asks for two megabytes and then does other
- * things, until guest 1 has used its disk and ended. `disk threads` does without io_uring.
+ * The guests are C as well: a driver's loads and stores are a CPU's exits. Guest 0 asks for two megabytes by four requests and
+ * then does other things, until guest 1 has used its disk and ended. `disk threads` does without io_uring.
  */
 #define _GNU_SOURCE
 #include <poll.h>
@@ -16,7 +16,7 @@
 
 #include "file_disk.h"
 
-enum { GUESTS = 2, MEMORY_LEN = 0x400000, DISK_LEN = 0x400000, SECTOR_LEN = 512, OUTLET = 64 };
+enum { GUESTS = 2, MEMORY_LEN = 0x400000, DISK_LEN = 0x400000, SECTOR_LEN = 512, OUTLET = 64, DEPTH = 4 };
 static const uint64_t MEMORY = 0x80000000;
 
 struct guest {
@@ -48,16 +48,17 @@ static uint32_t load(struct guest *guest, uint8_t window, uint16_t offset)
     return value;
 }
 
-/* The kernel has ended a step of the disk: it goes on, or the request is completed, and the guest's lines are told. */
+/* The kernel has ended steps of the disk: requests are completed, and what then begins goes to the kernel. */
 static void go_on(struct guest *guest)
 {
+    uint8_t tag;
     bool failed;
-    uint32_t answer = KALYUBOS_DONE;
-    while (file_disk_go_on(&guest->disk, &failed) &&
-           (answer = kalyubos_completed(&guest->board, 0, failed, &guest->lines)) == KALYUBOS_IO &&
-           !file_disk_begin(&guest->disk)) /* the kernel doesn't take it: it has failed */
-        continue;
-    need(answer == KALYUBOS_DONE || answer == KALYUBOS_IO, "a completion");
+    while (file_disk_go_on(&guest->disk, &tag, &failed)) {
+        uint32_t answer = kalyubos_completed(&guest->board, 0, tag, failed, &guest->lines);
+        if (answer == KALYUBOS_IO)
+            (void)file_disk_begin(&guest->disk); /* the loop tells what the kernel doesn't take */
+        need(answer == KALYUBOS_DONE || answer == KALYUBOS_IO, "a completion");
+    }
 }
 
 /* Waits for the disk. A CPU that runs on is kicked instead, since none runs during a call: KVM_RUN ends by a signal. */
@@ -70,7 +71,7 @@ static void wait_for_disk(struct guest *guest)
 
 /*
  * A store. What its disk is asked for begins, and the CPU runs on. A store that resets the device, or its queue, waits
- * for what is in flight.
+ * for all that is in flight.
  */
 static void store(struct guest *guest, uint8_t window, uint16_t offset, uint32_t value)
 {
@@ -92,7 +93,8 @@ static void halt(struct guest *guest)
 /* ---- a guest's driver: where its queue and buffers lie (VIRTIO 1.2, 2.7 and 5.2.6) */
 
 enum { HEADER = 0, STATUS = 0x10, TABLE = 0x100, AVAIL = 0x200, USED = 0x300, ZEROED = 0x400, DATA = 0x100000 };
-enum { IN = 0, OUT = 1, FLUSH = 4, WRITE_ZEROES = 13, NEXT = 1, WRITE = 2, PLACES = 4 };
+enum { IN = 0, OUT = 1, FLUSH = 4, WRITE_ZEROES = 13, NEXT = 1, WRITE = 2, PLACES = 16 };
+enum { REQUESTS = 4, HEADER_LEN = 0x20, CHAIN_LEN = 3 }; /* each request has a header, a status and a chain of its own */
 enum { DEVICE_ID = 0x8, NOTIFY = 0x50, ACK = 0x64, DEVICE_STATUS = 0x70, EMERG_WR = 0x108 };
 
 static void bring_up(struct guest *guest, uint32_t features)
@@ -108,26 +110,41 @@ static void bring_up(struct guest *guest, uint32_t features)
 /* Offers a request whose data, if it has any, lies at an offset of the memory, and notifies. */
 static void ask(struct guest *guest, uint32_t type, uint64_t sector, uint32_t data, uint32_t len)
 {
+    uint16_t number = guest->offered % REQUESTS, head = number * CHAIN_LEN, place = guest->offered % PLACES;
+    uint32_t at = number * HEADER_LEN;
     struct { uint32_t type, reserved; uint64_t sector; } header = { type, 0, sector };
-    struct { uint64_t addr; uint32_t len; uint16_t flags, next; } table[3] = {
-        { MEMORY + HEADER, sizeof header, NEXT, len == 0 ? 2 : 1 },
-        { MEMORY + data, len, NEXT | (type == IN ? WRITE : 0), 2 },
-        { MEMORY + STATUS, 1, WRITE, 0 },
+    struct { uint64_t addr; uint32_t len; uint16_t flags, next; } chain[CHAIN_LEN] = {
+        { MEMORY + HEADER + at, sizeof header, NEXT, (uint16_t)(head + (len == 0 ? 2 : 1)) },
+        { MEMORY + data, len, NEXT | (type == IN ? WRITE : 0), (uint16_t)(head + 2) },
+        { MEMORY + STATUS + at, 1, WRITE, 0 },
     };
     guest->offered++;
-    memcpy(guest->memory + HEADER, &header, sizeof header);
-    memcpy(guest->memory + TABLE, table, sizeof table);
+    memcpy(guest->memory + HEADER + at, &header, sizeof header);
+    memcpy(guest->memory + TABLE + head * sizeof *chain, chain, sizeof chain);
+    memcpy(guest->memory + AVAIL + 4 + 2 * place, &head, sizeof head);
     memcpy(guest->memory + AVAIL + 2, &guest->offered, sizeof guest->offered);
-    guest->memory[STATUS] = 0xff;
+    guest->memory[STATUS + at] = 0xff;
     store(guest, KALYUBOS_BLOCK, NOTIFY, 0);
 }
 
-/* Waits for the interrupt, acknowledges it, and looks at the status. */
+/* Asks for parts of a row of sectors by as many requests as fit. */
+static void ask_in_parts(struct guest *guest, uint32_t type, uint64_t sector, uint32_t data, uint32_t len)
+{
+    for (uint32_t part = 0; part < REQUESTS; part++)
+        ask(guest, type, sector + part * (len / REQUESTS / SECTOR_LEN), data + part * (len / REQUESTS), len / REQUESTS);
+}
+
+/* Waits for the interrupts of all requests, acknowledges them, and looks at each status. */
 static void await(struct guest *guest)
 {
-    halt(guest);
-    store(guest, KALYUBOS_BLOCK, ACK, guest->lines.block);
-    need(guest->memory[STATUS] == 0, "a request's status");
+    uint16_t used;
+    do {
+        halt(guest);
+        store(guest, KALYUBOS_BLOCK, ACK, guest->lines.block);
+        memcpy(&used, guest->memory + USED + 2, sizeof used);
+    } while (used != guest->offered);
+    for (unsigned number = 0; number < REQUESTS; number++)
+        need(guest->memory[STATUS + number * HEADER_LEN] == 0, "a request's status");
 }
 
 static void transfer(struct guest *guest, uint32_t type, uint64_t sector, uint32_t data, uint32_t len)
@@ -136,13 +153,13 @@ static void transfer(struct guest *guest, uint32_t type, uint64_t sector, uint32
     await(guest);
 }
 
-/* Guest 0: its request is in flight while it uses its console, and while guest 1 uses its disk. It knows no flush. */
+/* Guest 0: its requests are in flight while it uses its console, and while guest 1 uses its disk. It knows no flush. */
 static void runs_on(struct guest *guest)
 {
     const uint8_t *data = guest->memory + DATA;
     const uint32_t len = 0x200000;
     bring_up(guest, 0);
-    ask(guest, IN, 0, DATA, len);
+    ask_in_parts(guest, IN, 0, DATA, len);
     for (const char *word = "busy"; *word != 0; word++)
         store(guest, KALYUBOS_CONSOLE, EMERG_WR, (uint8_t)*word);
     printf("guest 0 runs on: device %u, line %u, status %02x\n", (unsigned)load(guest, KALYUBOS_BLOCK, DEVICE_ID),
@@ -157,14 +174,15 @@ static void runs_on(struct guest *guest)
     printf("guest 0 has reset its disk\n");
 }
 
-/* Guest 1: writes, zeroes, flushes and reads, each to its end. */
+/* Guest 1: writes by four requests at once; zeroes, flushes and reads, each to its end. */
 static void works(struct guest *guest)
 {
     const struct { uint64_t sector; uint32_t count, flags; } zeroed = { 3, 2, 0 };
     pthread_barrier_wait(&both);
     bring_up(guest, 1 << 9 | 1 << 14); /* FLUSH, WRITE_ZEROES */
     memset(guest->memory + DATA, 'B', 8 * SECTOR_LEN);
-    transfer(guest, OUT, 0, DATA, 8 * SECTOR_LEN);
+    ask_in_parts(guest, OUT, 0, DATA, 8 * SECTOR_LEN);
+    await(guest);
     memcpy(guest->memory + ZEROED, &zeroed, sizeof zeroed);
     transfer(guest, WRITE_ZEROES, 0, ZEROED, sizeof zeroed);
     transfer(guest, FLUSH, 0, 0, 0);
@@ -188,7 +206,7 @@ static void power_on(struct guest *guest, unsigned number, bool threads)
     static uint8_t content[DISK_LEN];
     struct kalyubos_slot slot = {
         .size = sizeof slot, .regions = { { MEMORY, MEMORY_LEN } }, .count = DISK_LEN / SECTOR_LEN, .outlet = OUTLET,
-        .hosted = true,
+        .hosted = true, .depth = DEPTH,
     };
     struct kalyubos_config config = kalyubos_config(&slot, 1);
     size_t len;
@@ -199,7 +217,7 @@ static void power_on(struct guest *guest, unsigned number, bool threads)
     need(file >= 0 && write(file, content, sizeof content) == DISK_LEN && close(file) == 0, "a file");
     need(kalyubos_create(&guest->board, &config) == KALYUBOS_DONE, "create");
     need(kalyubos_memory(&guest->board, 0, MEMORY, &guest->memory, &len) == KALYUBOS_DONE, "memory");
-    const char *wrong = file_disk_open(&guest->disk, &guest->board, 0, guest->path, DISK_LEN, false,
+    const char *wrong = file_disk_open(&guest->disk, &guest->board, 0, DEPTH, guest->path, DISK_LEN, false,
                                        threads ? &file_thread : &file_ring);
     need(wrong == NULL, wrong);
 }

@@ -19,7 +19,7 @@
 /* Where a guest finds what, in physical addresses. */
 static const uint64_t WINDOWS = 0x0a000000, MEMORY = 0x80000000, PROGRAM = 0x80010000;
 
-enum { PAGE = 0x1000, MEMORY_LEN = 0x20000, OUTLET = 64, GUESTS = 2, TURN = 20, TURNS = 1000, DISK_LEN = 2 * 512 };
+enum { PAGE = 0x1000, MEMORY_LEN = 0x20000, OUTLET = 64, GUESTS = 2, TURN = 20, TURNS = 1000, DISK_LEN = 2 * 512, DEPTH = 4 };
 enum { CHAINS = 1 /* that a call serves */ };
 
 struct guest {
@@ -29,7 +29,6 @@ struct guest {
     uc_err ended;   /* what its CPU couldn't go on from, if anything */
     FILE *terminal; /* what its console put out */
     struct file_disk disk; /* where the host serves it, */
-    bool in_flight;        /* and whether it has something to do */
 };
 
 static const char *const DISKS[GUESTS] = { "the first half of the image\n", "the second half\n" };
@@ -82,7 +81,7 @@ static void open_disk(struct guest *guest)
     size_t len = strlen(DISKS[guest->slot]);
     const char *wrong = "can't be written";
     if (file >= 0 && ftruncate(file, DISK_LEN) == 0 && write(file, DISKS[guest->slot], len) == (ssize_t)len)
-        wrong = file_disk_open(&guest->disk, &board, guest->slot, path, DISK_LEN, false, &file_thread);
+        wrong = file_disk_open(&guest->disk, &board, guest->slot, DEPTH, path, DISK_LEN, false, &file_thread);
     if (wrong != NULL) {
         fprintf(stderr, "%s: %s\n", path, wrong);
         exit(1);
@@ -91,26 +90,26 @@ static void open_disk(struct guest *guest)
     unlink(path);
 }
 
-/* What the disk came to, which may begin a next operation. */
+/* What the disk came to, which may begin further operations. */
 static void go_on_with_disk(struct guest *guest)
 {
     struct kalyubos_pending pending;
+    uint8_t tag;
     bool failed;
-    uint32_t answer;
-    do {
-        if (!file_disk_go_on(&guest->disk, &failed))
-            return;
-        answer = kalyubos_completed(&board, guest->slot, failed, &pending);
-        guest->in_flight = answer == KALYUBOS_IO;
-        must(guest->in_flight ? KALYUBOS_DONE : answer, "completed");
-    } while (guest->in_flight && !file_disk_begin(&guest->disk)); /* the kernel doesn't take it: it has failed */
+    while (file_disk_go_on(&guest->disk, &tag, &failed)) {
+        uint32_t answer = kalyubos_completed(&board, guest->slot, tag, failed, &pending);
+        if (answer == KALYUBOS_IO)
+            (void)file_disk_begin(&guest->disk); /* the loop tells what the kernel doesn't take */
+        else
+            must(answer, "completed");
+    }
 }
 
 /* Between two turns, and where a store waits for it: at most a moment, in which the disk may have ended. */
 static void look_at_disk(struct guest *guest)
 {
     struct pollfd wake = { .fd = guest->disk.ready, .events = POLLIN };
-    if (guest->in_flight && poll(&wake, 1, 1) > 0)
+    if (guest->disk.begun != 0 && poll(&wake, 1, 1) > 0)
         go_on_with_disk(guest);
 }
 
@@ -136,7 +135,6 @@ static void window_store(uc_engine *cpu, uint64_t offset, unsigned width, uint64
             look_at_disk(guest);
     } while (answer == KALYUBOS_BUSY || (answer == KALYUBOS_NO_ROOM && show(guest)));
     if (answer == KALYUBOS_IO) {
-        guest->in_flight = true;
         if (!file_disk_begin(&guest->disk))
             go_on_with_disk(guest);
     } else if (answer != KALYUBOS_NO_ROOM) {
@@ -213,9 +211,9 @@ static void create(struct guest *guests, bool hosted)
     static uint8_t image[GUESTS * DISK_LEN];
     struct kalyubos_slot slots[GUESTS] = {
         { .size = sizeof *slots, .regions = { { MEMORY, MEMORY_LEN } }, .start = 0, .count = 2, .cols = 80, .rows = 25,
-          .outlet = OUTLET, .hosted = hosted, .identity = "first half" },
+          .outlet = OUTLET, .hosted = hosted, .depth = DEPTH, .identity = "first half" },
         { .size = sizeof *slots, .regions = { { MEMORY, MEMORY_LEN } }, .start = 2, .count = 2, .cols = 80, .rows = 25,
-          .outlet = OUTLET, .hosted = hosted, .identity = "second half" },
+          .outlet = OUTLET, .hosted = hosted, .depth = DEPTH, .identity = "second half" },
     };
     struct kalyubos_config config = kalyubos_config(slots, GUESTS);
     for (uint8_t slot = 0; slot < GUESTS; slot++) {

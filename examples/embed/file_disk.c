@@ -1,4 +1,7 @@
-/* An operation is a row of steps, each one call of the kernel; the last is a sync where the guest relies on the medium. */
+/*
+ * An operation is a row of steps, each one call of the kernel; the last is a sync where the guest relies on the medium. The
+ * steps of one operation follow each other, and those of others stand beside them.
+ */
 #define _GNU_SOURCE
 #include <errno.h>
 #include <fcntl.h>
@@ -12,21 +15,21 @@
 #include "file_disk.h"
 
 /* The run that goes on, and how many bytes of it are done. */
-static const struct kalyubos_run *run_of(const struct file_disk *disk, uint64_t *at)
+static const struct kalyubos_run *run_of(const struct file_flight *flight, uint64_t *at)
 {
-    const struct kalyubos_run *run = disk->runs;
-    for (*at = disk->done; *at >= run->len; run++)
+    const struct kalyubos_run *run = flight->runs;
+    for (*at = flight->done; *at >= run->len; run++)
         *at -= run->len;
     return run;
 }
 
 /* Copies the next bytes of the runs into the buffer, or out of it. Each run lies inside the guest's memory. */
-static void copy(struct file_disk *disk, uint64_t len, bool into_buffer)
+static void copy(const struct file_disk *disk, struct file_flight *flight, uint64_t len, bool into_buffer)
 {
     uint64_t at, part;
-    const struct kalyubos_run *run = run_of(disk, &at);
+    const struct kalyubos_run *run = run_of(flight, &at);
     for (uint64_t copied = 0; copied < len; copied += part, run++, at = 0) {
-        uint8_t *buffer = disk->buffer + copied;
+        uint8_t *buffer = flight->buffer + copied;
         part = MIN(run->len - at, len - copied);
         if (into_buffer)
             kalyubos_read_memory(disk->board, disk->slot, run->at + at, buffer, part);
@@ -35,122 +38,123 @@ static void copy(struct file_disk *disk, uint64_t len, bool into_buffer)
     }
 }
 
-/* Submits the next step, by what is done, and answers whether the kernel takes it. */
-static bool go_further(struct file_disk *disk)
+/* Submits a tag's next step, by what is done, and answers whether the kernel takes it. */
+static bool go_further(struct file_disk *disk, uint8_t tag)
 {
-    uint64_t at, left = disk->len - disk->done;
-    struct file_step step = { disk->asked.kind, disk->asked.start + disk->done, MIN(left, FILE_BUFFER) };
+    struct file_flight *flight = &disk->flights[tag];
+    uint64_t at, left = flight->len - flight->done;
+    struct file_step step = { flight->asked.kind, flight->asked.start + flight->done, MIN(left, FILE_BUFFER) };
     if (left == 0) {
         step.kind = KALYUBOS_FLUSH;
-        disk->unsynced = false;
+        flight->unsynced = false;
     } else if (step.kind == KALYUBOS_ZEROES) {
-        const struct kalyubos_run *run = run_of(disk, &at);
+        const struct kalyubos_run *run = run_of(flight, &at);
         step.at = run->at + at;
         step.len = MIN(run->len - at, FILE_BUFFER);
     } else if (step.kind == KALYUBOS_OUT) {
-        copy(disk, step.len, true);
+        copy(disk, flight, step.len, true);
     }
-    disk->step = step;
-    return disk->way->submit(disk);
+    flight->step = step;
+    return disk->way->submit(disk, tag);
 }
 
-/* ---- a thread: steps go to it through a pipe, and what they came to comes back through another */
+/* ---- threads: the tags of steps go to them through a pipe, and what these came to comes back through another */
 
-struct worker {
-    pthread_t thread;
-    const struct file_disk *disk;
+struct workers {
+    struct file_disk *disk;
     int steps[2], results[2];
+    size_t len;
+    pthread_t threads[KALYUBOS_TAGS];
 };
 
-static ssize_t call_kernel(const struct file_disk *disk, const struct file_step *step)
+struct result {
+    int32_t result;
+    uint8_t tag;
+};
+
+static ssize_t call_kernel(int file, const struct file_step *step, uint8_t *buffer)
 {
     switch (step->kind) {
     case KALYUBOS_IN:
-        return pread(disk->file, disk->buffer, step->len, step->at);
+        return pread(file, buffer, step->len, step->at);
     case KALYUBOS_FLUSH:
-        return fdatasync(disk->file);
+        return fdatasync(file);
     case KALYUBOS_ZEROES:
-        if (fallocate(disk->file, FALLOC_FL_ZERO_RANGE, step->at, step->len) == 0)
+        if (fallocate(file, FALLOC_FL_ZERO_RANGE, step->at, step->len) == 0)
             return step->len;
-        memset(disk->buffer, 0, step->len); /* the file system has no such call */
+        memset(buffer, 0, step->len); /* the file system has no such call */
     }
-    return pwrite(disk->file, disk->buffer, step->len, step->at);
+    return pwrite(file, buffer, step->len, step->at);
 }
 
 /* Signals are for the host's other threads, so that they interrupt no call of this one. It ends once no more steps come. */
 static void *work(void *user)
 {
-    const struct worker *worker = user;
-    struct file_step step;
+    const struct workers *workers = user;
+    uint8_t tag;
     ssize_t got;
     sigset_t all;
     sigfillset(&all);
     pthread_sigmask(SIG_BLOCK, &all, NULL);
-    while ((got = read(worker->steps[0], &step, sizeof step)) != 0) {
-        if (got != sizeof step)
+    while ((got = read(workers->steps[0], &tag, 1)) != 0) {
+        if (got != 1)
             continue;
-        int32_t result = (int32_t)call_kernel(worker->disk, &step);
-        while (write(worker->results[1], &result, sizeof result) != sizeof result)
-            continue; /* a pipe always has room for one result */
+        struct file_flight *flight = &workers->disk->flights[tag];
+        struct result result = { (int32_t)call_kernel(workers->disk->file, &flight->step, flight->buffer), tag };
+        while (write(workers->results[1], &result, sizeof result) != sizeof result)
+            continue; /* a pipe always has room for a result of each tag */
     }
     return NULL;
 }
 
-static void close_pipe(const int pipe[2])
+/* A pipe that wasn't opened is -1, and no file. */
+static void close_workers(struct file_disk *disk)
 {
-    for (int end = 0; end < 2; end++)
-        if (pipe[end] >= 0)
-            close(pipe[end]);
+    struct workers *workers = disk->kept;
+    close(workers->steps[1]);
+    while (workers->len > 0)
+        pthread_join(workers->threads[--workers->len], NULL);
+    close(workers->steps[0]);
+    close(workers->results[0]);
+    close(workers->results[1]);
+    free(workers);
 }
 
-static bool open_worker(struct file_disk *disk)
+static bool open_workers(struct file_disk *disk)
 {
-    struct worker *worker = malloc(sizeof *worker);
-    if (worker == NULL)
+    struct workers *workers = disk->kept = malloc(sizeof *workers);
+    if (workers == NULL)
         return false;
-    *worker = (struct worker){ .disk = disk, .steps = { -1, -1 }, .results = { -1, -1 } };
-    if (pipe2(worker->steps, O_CLOEXEC) == 0 && pipe2(worker->results, O_CLOEXEC | O_NONBLOCK) == 0 &&
-        (errno = pthread_create(&worker->thread, NULL, work, worker)) == 0) {
-        disk->kept = worker;
-        disk->ready = worker->results[0];
-        return true;
-    }
-    int why = errno;
-    close_pipe(worker->steps);
-    close_pipe(worker->results);
-    free(worker);
-    errno = why;
-    return false;
+    *workers = (struct workers){ .disk = disk, .steps = { -1, -1 }, .results = { -1, -1 } };
+    bool good = pipe2(workers->steps, O_CLOEXEC) == 0 && pipe2(workers->results, O_CLOEXEC | O_NONBLOCK) == 0;
+    for (; good && workers->len < disk->depth; workers->len += good)
+        good = (errno = pthread_create(&workers->threads[workers->len], NULL, work, workers)) == 0;
+    disk->ready = workers->results[0];
+    return good;
 }
 
-static bool submit(struct file_disk *disk)
+static bool submit(struct file_disk *disk, uint8_t tag)
 {
-    const struct worker *worker = disk->kept;
-    return write(worker->steps[1], &disk->step, sizeof disk->step) == sizeof disk->step;
+    const struct workers *workers = disk->kept;
+    return write(workers->steps[1], &tag, 1) == 1;
 }
 
-static bool has_result(struct file_disk *disk, int32_t *result)
+static bool has_result(struct file_disk *disk, uint8_t *tag, int32_t *result)
 {
-    const struct worker *worker = disk->kept;
-    return read(worker->results[0], result, sizeof *result) == sizeof *result;
+    const struct workers *workers = disk->kept;
+    struct result got;
+    if (read(workers->results[0], &got, sizeof got) != sizeof got)
+        return false;
+    *tag = got.tag;
+    *result = got.result;
+    return true;
 }
 
-static void close_worker(struct file_disk *disk)
-{
-    struct worker *worker = disk->kept;
-    close(worker->steps[1]);
-    worker->steps[1] = -1;
-    pthread_join(worker->thread, NULL);
-    close_pipe(worker->steps);
-    close_pipe(worker->results);
-    free(worker);
-}
-
-const struct file_way file_thread = { "a thread", open_worker, submit, has_result, close_worker };
+const struct file_way file_thread = { "threads", open_workers, submit, has_result, close_workers };
 
 /* ---- a disk */
 
-/* What is wrong with the file, the buffer or the way to the kernel, or NULL. */
+/* What is wrong with the file, the buffers or the way to the kernel, or NULL. */
 static const char *open_all(struct file_disk *disk, const char *path, uint64_t len, bool read_only)
 {
     disk->file = open(path, (read_only ? O_RDONLY : O_RDWR) | O_CLOEXEC);
@@ -161,14 +165,16 @@ static const char *open_all(struct file_disk *disk, const char *path, uint64_t l
         return strerror(errno);
     if ((uint64_t)file_len < len)
         return "is shorter than the disk";
-    disk->buffer = malloc(FILE_BUFFER);
-    return disk->buffer != NULL && disk->way->open(disk) ? NULL : strerror(errno);
+    disk->flights = malloc(disk->depth * sizeof *disk->flights);
+    return disk->flights != NULL && disk->way->open(disk) ? NULL : strerror(errno);
 }
 
-const char *file_disk_open(struct file_disk *disk, struct kalyubos *board, uint8_t slot, const char *path, uint64_t len,
-                           bool read_only, const struct file_way *way)
+const char *file_disk_open(struct file_disk *disk, struct kalyubos *board, uint8_t slot, uint32_t depth, const char *path,
+                           uint64_t len, bool read_only, const struct file_way *way)
 {
-    *disk = (struct file_disk){ .board = board, .slot = slot, .way = way, .file = -1, .ready = -1 };
+    *disk = (struct file_disk){
+        .board = board, .slot = slot, .depth = (uint8_t)MAX(depth, 1), .way = way, .file = -1, .ready = -1,
+    };
     const char *wrong = open_all(disk, path, len, read_only);
     if (wrong != NULL)
         file_disk_close(disk);
@@ -181,35 +187,62 @@ void file_disk_close(struct file_disk *disk)
         disk->way->close(disk);
     if (disk->file >= 0)
         close(disk->file);
-    free(disk->buffer);
+    free(disk->flights);
     *disk = (struct file_disk){ .file = -1, .ready = -1 };
+}
+
+static void begin(struct file_disk *disk, uint8_t tag)
+{
+    struct file_flight *flight = &disk->flights[tag];
+    kalyubos_operation(disk->board, disk->slot, tag, &flight->asked, flight->runs, KALYUBOS_RUNS);
+    flight->len = flight->done = 0;
+    for (uint32_t i = 0; i < flight->asked.runs; i++)
+        flight->len += flight->runs[i].len;
+    flight->unsynced = flight->asked.stable || flight->len == 0; /* without bytes it is a flush, or moves none */
+    disk->begun |= (uint64_t)1 << tag;
+    if (!go_further(disk, tag))
+        disk->refused |= (uint64_t)1 << tag;
 }
 
 bool file_disk_begin(struct file_disk *disk)
 {
-    kalyubos_operation(disk->board, disk->slot, &disk->asked, disk->runs, KALYUBOS_RUNS);
-    disk->len = disk->done = 0;
-    for (uint32_t i = 0; i < disk->asked.runs; i++)
-        disk->len += disk->runs[i].len;
-    disk->unsynced = disk->asked.stable || disk->len == 0; /* without bytes it is a flush, or moves none */
-    disk->is_refused = !go_further(disk);
-    return !disk->is_refused;
+    uint64_t in_flight = 0;
+    kalyubos_in_flight(disk->board, disk->slot, &in_flight);
+    for (uint8_t tag = 0; tag < disk->depth; tag++)
+        if ((in_flight & ~disk->begun) >> tag & 1)
+            begin(disk, tag);
+    return disk->refused == 0;
 }
 
-bool file_disk_go_on(struct file_disk *disk, bool *failed)
+/* What a step came to: whether its operation has ended with it. */
+static bool has_ended(struct file_disk *disk, uint8_t tag, int32_t result, bool *failed)
 {
-    int32_t result = -1;
-    if (!disk->is_refused && !disk->way->has_result(disk, &result))
-        return false;
-    disk->is_refused = false;
-    *failed = result < 0 || (result == 0 && disk->step.len > 0);
+    struct file_flight *flight = &disk->flights[tag];
+    *failed = result < 0 || (result == 0 && flight->step.len > 0);
     if (*failed)
         return true;
-    if (disk->step.kind == KALYUBOS_IN)
-        copy(disk, (uint64_t)result, false);
-    disk->done += (uint64_t)result;
-    if (disk->done == disk->len && !disk->unsynced)
+    if (flight->step.kind == KALYUBOS_IN)
+        copy(disk, flight, (uint64_t)result, false);
+    flight->done += (uint64_t)result;
+    if (flight->done == flight->len && !flight->unsynced)
         return true;
-    *failed = !go_further(disk);
+    *failed = !go_further(disk, tag);
     return *failed;
+}
+
+bool file_disk_go_on(struct file_disk *disk, uint8_t *tag, bool *failed)
+{
+    int32_t result = -1;
+    bool ended = disk->refused != 0;
+    if (ended) {
+        *tag = (uint8_t)__builtin_ctzll(disk->refused);
+        *failed = true;
+    }
+    while (!ended && disk->way->has_result(disk, tag, &result))
+        ended = has_ended(disk, *tag, result, failed);
+    if (ended) { /* its tag may be used again by the completion */
+        disk->begun &= ~((uint64_t)1 << *tag);
+        disk->refused &= disk->begun;
+    }
+    return ended;
 }

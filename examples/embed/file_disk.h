@@ -2,11 +2,12 @@
  * file_disk: guests' disks on files, for boards whose disks the host serves. To copy, with file_disk.c; file_ring.c beside
  * it has io_uring in the place of threads.
  *
- * Each disk has a thread of its own, which calls the kernel. Disks share nothing, and no call here waits for a file.
+ * Each disk has as many threads as its slot's depth, and a thread calls the kernel for one operation at a time. Disks share
+ * nothing, and no call here waits for a file.
  *
- * What orders the calls on a guest's handle orders those of its disk too, and during them no CPU of the guest runs. Bytes go
- * through a buffer of the disk's own, and between it and the guest's memory within these calls alone. So while the kernel
- * works, the guest's CPUs run and their exits are served.
+ * What orders the calls on a guest's handle orders those of its disk too, and during them no CPU of the guest runs. Each
+ * operation's bytes go through a buffer of the disk's own, and between it and the guest's memory within these calls alone.
+ * So while the kernel works, the guest's CPUs run and their exits are served.
  */
 #ifndef FILE_DISK_H
 #define FILE_DISK_H
@@ -22,18 +23,24 @@ struct file_step {
     uint64_t at, len;
 };
 
-struct file_disk {
-    int ready; /* can be read, as poll tells, once a step has ended */
-    int file;
-    struct kalyubos *board;
-    uint8_t slot, *buffer;
-
+/* The operation of a tag. */
+struct file_flight {
     struct kalyubos_operation asked;
     struct kalyubos_run runs[KALYUBOS_RUNS];
     uint64_t len, done; /* how many bytes all runs have, and how many of them are done */
     bool unsynced;      /* a sync is wanted at the end */
-    bool is_refused;    /* the kernel hasn't taken its first step, and nobody was told */
     struct file_step step;
+    uint8_t buffer[FILE_BUFFER];
+};
+
+struct file_disk {
+    int ready; /* can be read, as poll tells, once a step has ended */
+    int file;
+    struct kalyubos *board;
+    uint8_t slot, depth;
+    uint64_t begun;              /* bit n: the operation of tag n is begun, and hasn't ended */
+    uint64_t refused;            /* those of them that the kernel hasn't taken */
+    struct file_flight *flights; /* one for each tag */
 
     const struct file_way *way;
     void *kept; /* by the way */
@@ -42,28 +49,29 @@ struct file_disk {
 /* A way to the kernel. */
 struct file_way {
     const char *name;
-    bool (*open)(struct file_disk *disk);   /* sets `ready` */
-    bool (*submit)(struct file_disk *disk); /* false where the kernel hasn't taken the step */
-    bool (*has_result)(struct file_disk *disk, int32_t *result); /* of the step, once: bytes done, or below 0 */
-    void (*close)(struct file_disk *disk);  /* behind the end of a step that the kernel works on */
+    bool (*open)(struct file_disk *disk);                /* sets `ready` */
+    bool (*submit)(struct file_disk *disk, uint8_t tag); /* false where the kernel hasn't taken the tag's step */
+    bool (*has_result)(struct file_disk *disk, uint8_t *tag, int32_t *result); /* of a step, once: bytes done, or below 0 */
+    void (*close)(struct file_disk *disk); /* behind the end of all steps that the kernel works on */
 };
 extern const struct file_way file_thread; /* of file_disk.c */
-extern const struct file_way file_ring;   /* of file_ring.c: io_uring, or a thread where that isn't to be had. The
-                                           * thread that begins a step lives until its end. */
+extern const struct file_way file_ring;   /* of file_ring.c: io_uring, or threads where that isn't to be had. A thread that
+                                           * begins steps lives until their end. */
 
 /* Serves a slot's disk from a file of at least `len` bytes, which is opened for reading alone for a slot that is read-only.
- * Answers NULL, or what is wrong; then nothing is left open. */
-const char *file_disk_open(struct file_disk *disk, struct kalyubos *board, uint8_t slot, const char *path, uint64_t len,
-                           bool read_only, const struct file_way *way);
+ * `depth` is the slot's, of which 0 is 1. Answers NULL, or what is wrong; then nothing is left open. */
+const char *file_disk_open(struct file_disk *disk, struct kalyubos *board, uint8_t slot, uint32_t depth, const char *path,
+                           uint64_t len, bool read_only, const struct file_way *way);
 
-/* Closes what was opened. It waits for a step that the kernel works on; its operation is never completed. */
+/* Closes what was opened. It waits for the steps that the kernel works on; their operations are never completed. */
 void file_disk_close(struct file_disk *disk);
 
-/* Begins what the slot waits for: after each call that is answered KALYUBOS_IO. False where the kernel doesn't take it: then
- * nothing is to be waited for, and file_disk_go_on tells at once that it has failed. */
+/* Begins all operations that aren't begun: after each call that is answered KALYUBOS_IO. False where the kernel doesn't take
+ * one: then file_disk_go_on tells at once that it has failed, and `ready` doesn't. */
 bool file_disk_begin(struct file_disk *disk);
 
-/* Goes on where `ready` can be read: true once the operation has ended, to be completed as `failed` says. */
-bool file_disk_go_on(struct file_disk *disk, bool *failed);
+/* Goes on where `ready` can be read: true once an operation has ended, to be completed with its tag and as `failed` says. Call
+ * it until it is false: others may have ended too. */
+bool file_disk_go_on(struct file_disk *disk, uint8_t *tag, bool *failed);
 
 #endif

@@ -1,7 +1,7 @@
 /*
  * Tries file_disk.c and file_ring.c with each of their calls failing in turn, by threads and by io_uring: a disk that can't be
- * opened leaves nothing behind, each operation of one that is open ends, and a close gives back all. It is linked with
- * --wrap for each call that is named in CALLS of .ci/checks/hosts.py, and has the library's three functions itself.
+ * opened leaves nothing behind, each operation of one that is open ends, also beside others, and a close gives back all. It is linked with
+ * --wrap for each call that is named in CALLS of .ci/checks/hosts.py, and has the library's four functions itself.
  */
 #define _GNU_SOURCE
 #include <dirent.h>
@@ -19,11 +19,14 @@
 
 #include "file_disk.h"
 
-enum { MEMORY_LEN = 0x2000, DISK_LEN = 0x4000, SECONDS = 10 };
+enum { MEMORY_LEN = 0x2000, DISK_LEN = 0x4000, SECONDS = 10, DEPTH = 4 };
 
 static uint8_t memory[MEMORY_LEN];
-static struct kalyubos_operation asked;
-static struct kalyubos_run runs[2];
+static uint64_t in_flight;
+static struct {
+    struct kalyubos_operation operation;
+    struct kalyubos_run runs[2];
+} asked[DEPTH];
 
 static void need(bool holds, const char *what)
 {
@@ -33,13 +36,20 @@ static void need(bool holds, const char *what)
     }
 }
 
-/* ---- the library: a slot that waits for `asked` */
+/* ---- the library: a slot of which the tags of `in_flight` are asked for */
 
-uint32_t kalyubos_operation(const struct kalyubos *board, uint8_t slot, struct kalyubos_operation *to, struct kalyubos_run *into, size_t most)
+uint32_t kalyubos_in_flight(const struct kalyubos *board, uint8_t slot, uint64_t *tags)
+{
+    (void)board, (void)slot;
+    *tags = in_flight;
+    return KALYUBOS_DONE;
+}
+
+uint32_t kalyubos_operation(const struct kalyubos *board, uint8_t slot, uint8_t tag, struct kalyubos_operation *to, struct kalyubos_run *into, size_t most)
 {
     (void)board, (void)slot, (void)most;
-    *to = asked;
-    memcpy(into, runs, asked.runs * sizeof *runs);
+    *to = asked[tag].operation;
+    memcpy(into, asked[tag].runs, to->runs * sizeof *into);
     return KALYUBOS_DONE;
 }
 
@@ -176,15 +186,35 @@ static bool is_all_gone(const struct left *before)
 
 /* ---- a disk and its operations */
 
-/* Does an operation to its end, and answers whether it failed. */
-static bool is_failed(struct file_disk *disk)
+/* What is asked for with a tag: `len` bytes from a place of the disk on, to or from as many of the memory, or to zeroes. */
+static void ask(uint8_t tag, uint32_t kind, uint64_t start, uint64_t at, uint64_t len)
 {
-    bool failed, waits = file_disk_begin(disk);
-    do {
+    bool halves = kind == KALYUBOS_OUT;
+    uint64_t first = halves ? len / 2 : len;
+    asked[tag].operation = (struct kalyubos_operation){ .kind = kind, .start = start, .stable = halves && start == 0 };
+    asked[tag].operation.runs = kind == KALYUBOS_FLUSH ? 0 : halves ? 2 : 1;
+    asked[tag].runs[0] = (struct kalyubos_run){ at, first };
+    asked[tag].runs[1] = (struct kalyubos_run){ at + first, len - first };
+}
+
+/* Does the operations of these tags to their ends, all at once, and answers which failed. */
+static uint64_t failed_of(struct file_disk *disk, uint64_t tags)
+{
+    uint64_t failed_tags = 0;
+    uint8_t tag;
+    bool failed;
+    in_flight = tags;
+    for (bool waits = file_disk_begin(disk); in_flight != 0; waits = true) {
         struct pollfd wake = { .fd = disk->ready, .events = POLLIN };
         need(!waits || poll(&wake, 1, SECONDS * 1000) == 1, "an operation doesn't end");
-    } while (!file_disk_go_on(disk, &failed));
-    return failed;
+        while (file_disk_go_on(disk, &tag, &failed)) {
+            need(in_flight >> tag & 1, "an operation ends that isn't in flight");
+            in_flight &= ~((uint64_t)1 << tag);
+            failed_tags |= (uint64_t)failed << tag;
+        }
+    }
+    need(disk->begun == 0, "an operation is begun that has ended");
+    return failed_tags;
 }
 
 static bool is_all(const uint8_t *bytes, size_t len, uint8_t byte)
@@ -194,29 +224,28 @@ static bool is_all(const uint8_t *bytes, size_t len, uint8_t byte)
     return len == 0;
 }
 
-/* Writes 4 KiB in two parts, zeroes the second kilobyte, flushes, reads all back, and reads behind the file's end. */
+/*
+ * Writes 4 KiB by two operations at once, zeroes the second kilobyte beside a flush, reads all back by two, and reads behind the
+ * file's end. Answers how many failed that needn't.
+ */
 static unsigned use(struct file_disk *disk)
 {
-    unsigned failed = 0;
     memset(memory, 'x', 0x1000);
     memset(memory + 0x1000, 0xff, 0x1000);
-    runs[0] = (struct kalyubos_run){ 0, 0x800 };
-    runs[1] = (struct kalyubos_run){ 0x800, 0x800 };
-    asked = (struct kalyubos_operation){ .kind = KALYUBOS_OUT, .stable = true, .runs = 2 };
-    bool wrote = !is_failed(disk);
-    runs[0] = (struct kalyubos_run){ 0x400, 0x400 };
-    asked = (struct kalyubos_operation){ .kind = KALYUBOS_ZEROES, .runs = 1 };
-    bool zeroed = !is_failed(disk);
-    asked = (struct kalyubos_operation){ .kind = KALYUBOS_FLUSH };
-    failed += is_failed(disk);
-    runs[0] = (struct kalyubos_run){ 0x1000, 0x1000 };
-    asked = (struct kalyubos_operation){ .kind = KALYUBOS_IN, .runs = 1 };
-    bool read = !is_failed(disk);
-    if (wrote && zeroed && read)
+    ask(0, KALYUBOS_OUT, 0, 0, 0x800);
+    ask(2, KALYUBOS_OUT, 0x800, 0x800, 0x800);
+    uint64_t wrote = failed_of(disk, 1 | 4);
+    ask(1, KALYUBOS_ZEROES, 0, 0x400, 0x400);
+    ask(3, KALYUBOS_FLUSH, 0, 0, 0);
+    uint64_t zeroed = failed_of(disk, 2 | 8);
+    ask(0, KALYUBOS_IN, 0, 0x1000, 0x800);
+    ask(1, KALYUBOS_IN, 0x800, 0x1800, 0x800);
+    uint64_t read = failed_of(disk, 1 | 2);
+    if (wrote == 0 && (zeroed & 2) == 0 && read == 0)
         need(is_all(memory + 0x1000, 0x400, 'x') && is_all(memory + 0x1400, 0x400, 0) && is_all(memory + 0x1800, 0x800, 'x'), "other bytes are read");
-    asked = (struct kalyubos_operation){ .kind = KALYUBOS_IN, .start = DISK_LEN, .runs = 1 };
-    need(is_failed(disk), "a read behind the file's end is done");
-    return failed + !wrote + !zeroed + !read;
+    ask(3, KALYUBOS_IN, DISK_LEN, 0x1000, 0x400);
+    need(failed_of(disk, 8) == 8, "a read behind the file's end is done");
+    return (unsigned)(__builtin_popcountll(wrote) + __builtin_popcountll(zeroed) + __builtin_popcountll(read));
 }
 
 /* Opens the disk, uses it and closes it while the call of this number fails; 0 for none. Answers how many calls there were. */
@@ -226,7 +255,7 @@ static unsigned long try(const char *path, const struct file_way *way, unsigned 
     struct file_disk disk;
     calls = 0;
     failing = number;
-    const char *wrong = file_disk_open(&disk, NULL, 0, path, DISK_LEN, false, way);
+    const char *wrong = file_disk_open(&disk, NULL, 0, DEPTH, path, DISK_LEN, false, way);
     if (wrong == NULL) {
         unsigned failed = use(&disk);
         need(failed <= 1, "one failing call fails two operations");
@@ -244,20 +273,21 @@ static void warm_up(const char *path, const struct file_way *way)
 {
     struct file_disk disk;
     struct left left = look();
-    need(file_disk_open(&disk, NULL, 0, path, DISK_LEN, false, way) == NULL && use(&disk) == 0, "a first disk");
+    need(file_disk_open(&disk, NULL, 0, DEPTH, path, DISK_LEN, false, way) == NULL && use(&disk) == 0, "a first disk");
     file_disk_close(&disk);
     is_all_gone(&left);
 }
 
-/* A disk that is closed while the kernel works on a step leaves nothing either. */
+/* A disk that is closed while the kernel works on steps leaves nothing either. */
 static void try_close_in_flight(const char *path, const struct file_way *way)
 {
     struct left before = look();
     struct file_disk disk;
-    need(file_disk_open(&disk, NULL, 0, path, DISK_LEN, false, way) == NULL, "a disk to be closed in flight can't be opened");
-    runs[0] = (struct kalyubos_run){ 0, 0x1000 };
-    asked = (struct kalyubos_operation){ .kind = KALYUBOS_OUT, .stable = true, .runs = 1 };
-    need(file_disk_begin(&disk), "an operation to be left in flight");
+    need(file_disk_open(&disk, NULL, 0, DEPTH, path, DISK_LEN, false, way) == NULL, "a disk to be closed in flight can't be opened");
+    ask(0, KALYUBOS_OUT, 0, 0, 0x1000);
+    ask(1, KALYUBOS_IN, 0x1000, 0x1000, 0x1000);
+    in_flight = 3;
+    need(file_disk_begin(&disk), "operations to be left in flight");
     file_disk_close(&disk);
     need(is_all_gone(&before), "a close in flight leaves something");
 }
@@ -266,8 +296,8 @@ static void try_close_in_flight(const char *path, const struct file_way *way)
 static void try_read_only(const char *path, const struct file_way *way)
 {
     struct file_disk disk;
-    need(file_disk_open(&disk, NULL, 0, path, DISK_LEN, true, way) == NULL, "a file for reading alone can't be opened");
-    need(use(&disk) == 2, "of a file for reading alone, others fail than a write and a zeroing");
+    need(file_disk_open(&disk, NULL, 0, DEPTH, path, DISK_LEN, true, way) == NULL, "a file for reading alone can't be opened");
+    need(use(&disk) == 3, "of a file for reading alone, others fail than two writes and a zeroing");
     file_disk_close(&disk);
 }
 

@@ -1,4 +1,4 @@
-/* The way to the kernel of file_disk.h by io_uring: a ring of one place for each disk, and no thread. */
+/* The way to the kernel of file_disk.h by io_uring: a ring for each disk, with a place for each tag, and no thread. */
 #define _GNU_SOURCE
 #include <errno.h>
 #include <fcntl.h>
@@ -6,6 +6,7 @@
 #include <stdlib.h>
 #include <string.h>
 #include <sys/mman.h>
+#include <sys/param.h>
 #include <sys/syscall.h>
 #include <unistd.h>
 
@@ -15,79 +16,100 @@ struct ring {
     int file;
     uint8_t *queues;
     size_t queues_len;
-    unsigned *sent, *taken, *ended, *places;
-    struct io_uring_sqe *order;
+    unsigned *sent, *taken, *ended, *sent_places, *order_of_place, *ended_places;
+    struct io_uring_sqe *orders; /* one for each tag, or more */
+    size_t orders_len;
     struct io_uring_cqe *results;
-    bool writes_zeros; /* the file system has no call that zeroes */
-    int tries;         /* how often this step was submitted */
-    bool is_busy;      /* the kernel works on a step */
+    unsigned busy; /* how many steps the kernel works on */
+    struct {
+        bool writes_zeros; /* the file system has no call that zeroes */
+        int tries;         /* how often this step was submitted */
+    } tags[KALYUBOS_TAGS];
 };
 
 /* How often a step is handed over, or submitted again, while the kernel lacks memory for it. */
 enum { TRIES = 1000 };
 
-/* The call of the kernel for a step. */
-static struct io_uring_sqe order_of(const struct file_disk *disk)
+/* The call of the kernel for a tag's step. */
+static struct io_uring_sqe order_of(const struct file_disk *disk, uint8_t tag)
 {
     const struct ring *ring = disk->kept;
-    const struct file_step *step = &disk->step;
-    struct io_uring_sqe order = { .fd = disk->file, .off = step->at, .addr = (uintptr_t)disk->buffer, .len = (uint32_t)step->len };
+    struct file_flight *flight = &disk->flights[tag];
+    const struct file_step *step = &flight->step;
+    struct io_uring_sqe order = {
+        .fd = disk->file, .off = step->at, .addr = (uintptr_t)flight->buffer, .len = (uint32_t)step->len, .user_data = tag,
+    };
     switch (step->kind) {
     case KALYUBOS_IN:
         order.opcode = IORING_OP_READ;
         return order;
     case KALYUBOS_FLUSH:
-        return (struct io_uring_sqe){ .opcode = IORING_OP_FSYNC, .fd = disk->file, .fsync_flags = IORING_FSYNC_DATASYNC };
+        return (struct io_uring_sqe){ .opcode = IORING_OP_FSYNC, .fd = disk->file, .fsync_flags = IORING_FSYNC_DATASYNC,
+                                      .user_data = tag };
     case KALYUBOS_ZEROES:
-        if (!ring->writes_zeros)
+        if (!ring->tags[tag].writes_zeros)
             return (struct io_uring_sqe){ .opcode = IORING_OP_FALLOCATE, .fd = disk->file, .off = step->at,
-                                          .addr = step->len, .len = FALLOC_FL_ZERO_RANGE };
-        memset(disk->buffer, 0, step->len);
+                                          .addr = step->len, .len = FALLOC_FL_ZERO_RANGE, .user_data = tag };
+        memset(flight->buffer, 0, step->len);
     }
     order.opcode = IORING_OP_WRITE;
     return order;
 }
 
-static bool submit(struct file_disk *disk)
+static bool submit(struct file_disk *disk, uint8_t tag)
 {
     struct ring *ring = disk->kept;
-    *ring->order = order_of(disk);
-    __atomic_store_n(ring->sent, *ring->sent + 1, __ATOMIC_RELEASE);
-    for (int tries = 0; tries < TRIES && !ring->is_busy; tries++) {
-        ring->is_busy = syscall(SYS_io_uring_enter, ring->file, 1, 0, 0, NULL, 0) == 1;
-        if (!ring->is_busy && errno != EINTR && errno != EAGAIN)
+    unsigned sent = *ring->sent;
+    bool is_sent = false;
+    ring->orders[tag] = order_of(disk, tag);
+    ring->order_of_place[sent & *ring->sent_places] = tag;
+    __atomic_store_n(ring->sent, sent + 1, __ATOMIC_RELEASE);
+    for (int tries = 0; tries < TRIES && !is_sent; tries++) {
+        is_sent = syscall(SYS_io_uring_enter, ring->file, 1, 0, 0, NULL, 0) == 1;
+        if (!is_sent && errno != EINTR && errno != EAGAIN)
             break;
     }
-    if (!ring->is_busy)
-        __atomic_store_n(ring->sent, *ring->sent - 1, __ATOMIC_RELEASE);
-    return ring->is_busy;
+    if (!is_sent)
+        __atomic_store_n(ring->sent, sent, __ATOMIC_RELEASE);
+    ring->busy += is_sent;
+    return is_sent;
 }
 
-/* Whether the step is to be submitted again: it was interrupted, or zeroes have to be written. */
-static bool is_again(struct file_disk *disk, int32_t result)
+/* Whether a tag's step is to be submitted again: it was interrupted, or zeroes have to be written. */
+static bool is_again(struct file_disk *disk, uint8_t tag, int32_t result)
 {
     struct ring *ring = disk->kept;
     if (result == -EINTR || result == -EAGAIN)
-        return ++ring->tries < TRIES;
-    if (disk->step.kind != KALYUBOS_ZEROES || ring->writes_zeros || result >= 0)
+        return ++ring->tags[tag].tries < TRIES;
+    if (disk->flights[tag].step.kind != KALYUBOS_ZEROES || ring->tags[tag].writes_zeros || result >= 0)
         return false;
-    return ring->writes_zeros = true;
+    return ring->tags[tag].writes_zeros = true;
 }
 
-static bool has_result(struct file_disk *disk, int32_t *result)
+/* The next result that the kernel has. */
+static bool take(struct ring *ring, uint8_t *tag, int32_t *result)
 {
-    struct ring *ring = disk->kept;
     unsigned taken = *ring->taken;
     if (taken == __atomic_load_n(ring->ended, __ATOMIC_ACQUIRE))
         return false;
-    *result = ring->results[taken & *ring->places].res;
+    *tag = (uint8_t)ring->results[taken & *ring->ended_places].user_data;
+    *result = ring->results[taken & *ring->ended_places].res;
     __atomic_store_n(ring->taken, taken + 1, __ATOMIC_RELEASE);
-    ring->is_busy = false;
-    if (is_again(disk, *result) && submit(disk))
-        return false;
-    ring->tries = 0;
-    if (*result == 0 && disk->step.kind == KALYUBOS_ZEROES && !ring->writes_zeros)
-        *result = (int32_t)disk->step.len;
+    ring->busy--;
+    return true;
+}
+
+static bool has_result(struct file_disk *disk, uint8_t *tag, int32_t *result)
+{
+    struct ring *ring = disk->kept;
+    do {
+        if (!take(ring, tag, result))
+            return false;
+    } while (is_again(disk, *tag, *result) && submit(disk, *tag));
+    ring->tags[*tag].tries = 0;
+    const struct file_step *step = &disk->flights[*tag].step;
+    if (*result == 0 && step->kind == KALYUBOS_ZEROES && !ring->tags[*tag].writes_zeros)
+        *result = (int32_t)step->len;
     return true;
 }
 
@@ -95,8 +117,8 @@ static void free_ring(struct ring *ring)
 {
     if (ring->queues != MAP_FAILED)
         munmap(ring->queues, ring->queues_len);
-    if (ring->order != MAP_FAILED)
-        munmap(ring->order, sizeof *ring->order);
+    if (ring->orders != MAP_FAILED)
+        munmap(ring->orders, ring->orders_len);
     if (ring->file >= 0)
         close(ring->file);
     free(ring);
@@ -111,11 +133,12 @@ static void *map(const struct ring *ring, size_t len, off_t at)
 static void find_parts(struct ring *ring, const struct io_uring_params *told)
 {
     uint8_t *at = ring->queues;
-    *(unsigned *)(at + told->sq_off.array) = 0;
     ring->sent = (unsigned *)(at + told->sq_off.tail);
+    ring->sent_places = (unsigned *)(at + told->sq_off.ring_mask);
+    ring->order_of_place = (unsigned *)(at + told->sq_off.array);
     ring->taken = (unsigned *)(at + told->cq_off.head);
     ring->ended = (unsigned *)(at + told->cq_off.tail);
-    ring->places = (unsigned *)(at + told->cq_off.ring_mask);
+    ring->ended_places = (unsigned *)(at + told->cq_off.ring_mask);
     ring->results = (struct io_uring_cqe *)(at + told->cq_off.cqes);
 }
 
@@ -125,13 +148,16 @@ static bool open_ring(struct file_disk *disk)
     struct ring *ring = malloc(sizeof *ring);
     if (ring == NULL)
         return false;
-    *ring = (struct ring){ .queues = MAP_FAILED, .order = MAP_FAILED, .file = (int)syscall(SYS_io_uring_setup, 1, &told) };
-    ring->queues_len = told.cq_off.cqes + told.cq_entries * sizeof(struct io_uring_cqe);
+    *ring = (struct ring){ .queues = MAP_FAILED, .orders = MAP_FAILED };
+    ring->file = (int)syscall(SYS_io_uring_setup, disk->depth, &told);
+    ring->queues_len = MAX(told.sq_off.array + told.sq_entries * sizeof(unsigned),
+                           told.cq_off.cqes + told.cq_entries * sizeof(struct io_uring_cqe));
+    ring->orders_len = told.sq_entries * sizeof(struct io_uring_sqe);
     if (ring->file >= 0 && told.features & IORING_FEAT_RW_CUR_POS) {
         ring->queues = map(ring, ring->queues_len, IORING_OFF_SQ_RING);
-        ring->order = map(ring, sizeof *ring->order, IORING_OFF_SQES);
+        ring->orders = map(ring, ring->orders_len, IORING_OFF_SQES);
     }
-    if (ring->queues == MAP_FAILED || ring->order == MAP_FAILED) {
+    if (ring->queues == MAP_FAILED || ring->orders == MAP_FAILED) {
         free_ring(ring);
         return false;
     }
@@ -141,7 +167,7 @@ static bool open_ring(struct file_disk *disk)
     return true;
 }
 
-static bool open_ring_or_thread(struct file_disk *disk)
+static bool open_ring_or_threads(struct file_disk *disk)
 {
     if (open_ring(disk))
         return true;
@@ -149,13 +175,16 @@ static bool open_ring_or_thread(struct file_disk *disk)
     return file_thread.open(disk);
 }
 
-/* The kernel may write into the buffer until its step has ended. */
+/* The kernel may write into a buffer until its step has ended. */
 static void close_ring(struct file_disk *disk)
 {
     struct ring *ring = disk->kept;
-    while (ring->is_busy && *ring->taken == __atomic_load_n(ring->ended, __ATOMIC_ACQUIRE))
-        syscall(SYS_io_uring_enter, ring->file, 0, 1, IORING_ENTER_GETEVENTS, NULL, 0);
+    uint8_t tag;
+    int32_t result;
+    while (ring->busy > 0)
+        if (!take(ring, &tag, &result))
+            syscall(SYS_io_uring_enter, ring->file, 0, 1, IORING_ENTER_GETEVENTS, NULL, 0);
     free_ring(ring);
 }
 
-const struct file_way file_ring = { "io_uring", open_ring_or_thread, submit, has_result, close_ring };
+const struct file_way file_ring = { "io_uring", open_ring_or_threads, submit, has_result, close_ring };

@@ -8,7 +8,7 @@
 
 #include "shut_heap.h"
 
-enum { CONFIG = 72, SIZE = 184, PAGE = 0x1000, TOO_LARGE = (1 << 24) + 1, SECTORS = 4, IMAGE = SECTORS * 512 };
+enum { CONFIG = 72, SIZE = 192, PAGE = 0x1000, TOO_LARGE = (1 << 24) + 1, SECTORS = 4, IMAGE = SECTORS * 512 };
 enum { UNTOLD = 99 };
 
 _Static_assert(sizeof(struct kalyubos_config) == CONFIG, "a config of this version has 72 bytes");
@@ -94,11 +94,13 @@ static void check_pairs(void)
         }
 }
 
-/* ---- two disks: extents are inside the image and share no sector; of one that the host serves `start` isn't read */
+/* ---- two disks: extents are inside the image and share no sector; of one that the host serves `start` isn't read, and of one of
+ * the image `depth` isn't */
 
 struct disk {
     bool hosted;
     uint64_t start, count;
+    uint32_t depth;
 };
 
 static const struct {
@@ -106,15 +108,23 @@ static const struct {
     uint32_t answer;
     size_t slot;
 } DISKS[] = {
-    { { { false, 0, 2 }, { false, 2, 2 } }, KALYUBOS_DONE, UNTOLD },
-    { { { false, 0, 2 }, { false, 1, 2 } }, KALYUBOS_EXTENTS_OVERLAP, 1 },
-    { { { false, 0, 2 }, { true, 1, 2 } }, KALYUBOS_DONE, UNTOLD },
-    { { { true, 0, SECTORS }, { false, 0, SECTORS } }, KALYUBOS_DONE, UNTOLD },
-    { { { true, UINT64_MAX, SECTORS }, { false, 0, SECTORS } }, KALYUBOS_DONE, UNTOLD },
-    { { { true, 0, (1ull << 55) - 1 }, { false, 0, SECTORS } }, KALYUBOS_DONE, UNTOLD },
-    { { { true, 0, 1ull << 55 }, { false, 1, SECTORS } }, KALYUBOS_EXTENT_OUTSIDE, 0 },
-    { { { true, 1, SECTORS }, { false, 1, SECTORS } }, KALYUBOS_EXTENT_OUTSIDE, 1 },
-    { { { false, 0, SECTORS + 1 }, { true, 0, 1 } }, KALYUBOS_EXTENT_OUTSIDE, 0 },
+    { { { false, 0, 2, 0 }, { false, 2, 2, 0 } }, KALYUBOS_DONE, UNTOLD },
+    { { { false, 0, 2, 0 }, { false, 1, 2, 0 } }, KALYUBOS_EXTENTS_OVERLAP, 1 },
+    { { { false, 0, 2, 0 }, { true, 1, 2, 0 } }, KALYUBOS_DONE, UNTOLD },
+    { { { true, 0, SECTORS, 0 }, { false, 0, SECTORS, 0 } }, KALYUBOS_DONE, UNTOLD },
+    { { { true, UINT64_MAX, SECTORS, 0 }, { false, 0, SECTORS, 0 } }, KALYUBOS_DONE, UNTOLD },
+    { { { true, 0, (1ull << 55) - 1, 0 }, { false, 0, SECTORS, 0 } }, KALYUBOS_DONE, UNTOLD },
+    { { { true, 0, 1ull << 55, 0 }, { false, 1, SECTORS, 0 } }, KALYUBOS_EXTENT_OUTSIDE, 0 },
+    { { { true, 1, SECTORS, 0 }, { false, 1, SECTORS, 0 } }, KALYUBOS_EXTENT_OUTSIDE, 1 },
+    { { { false, 0, SECTORS + 1, 0 }, { true, 0, 1, 0 } }, KALYUBOS_EXTENT_OUTSIDE, 0 },
+    { { { true, 0, SECTORS, 1 }, { true, 0, SECTORS, 64 } }, KALYUBOS_DONE, UNTOLD },
+    { { { true, 0, SECTORS, 65 }, { true, 0, SECTORS, 64 } }, KALYUBOS_BAD_DEPTH, 0 },
+    { { { true, 0, SECTORS, 2 }, { true, 0, 1ull << 55, 65 } }, KALYUBOS_BAD_DEPTH, 1 },
+    { { { true, 0, SECTORS, 2 }, { true, 0, SECTORS, 256 } }, KALYUBOS_BAD_DEPTH, 1 },
+    { { { true, 0, SECTORS, 0x10001 }, { true, 0, SECTORS, 1 } }, KALYUBOS_BAD_DEPTH, 0 },
+    { { { true, 0, SECTORS, UINT32_MAX }, { false, 0, SECTORS + 1, 0 } }, KALYUBOS_BAD_DEPTH, 0 },
+    { { { false, 0, SECTORS + 1, 65 }, { true, 0, SECTORS, 65 } }, KALYUBOS_EXTENT_OUTSIDE, 0 },
+    { { { false, 0, SECTORS, 65 }, { true, 0, SECTORS, 0 } }, KALYUBOS_DONE, UNTOLD },
 };
 enum { DISKS_LEN = sizeof DISKS / sizeof *DISKS };
 
@@ -126,9 +136,21 @@ static void check_disks(void)
             slots[j] = (struct kalyubos_slot){
                 .size = SIZE, .regions = { { 0, PAGE } }, .start = DISKS[i].disks[j].start,
                 .count = DISKS[i].disks[j].count, .hosted = DISKS[i].disks[j].hosted,
+                .depth = DISKS[i].disks[j].depth,
             };
         check(over_image(slots, 2, image, IMAGE), DISKS[i].answer, (struct place){ DISKS[i].slot, UNTOLD }, i);
     }
+}
+
+/* An outlet and the memory are judged before the depth. */
+static void check_before_depth(void)
+{
+    struct kalyubos_slot slot = {
+        .size = SIZE, .regions = { { 0, 1 } }, .outlet = TOO_LARGE, .hosted = true, .depth = 65,
+    };
+    check(over_image(&slot, 1, image, 0), KALYUBOS_BAD_OUTLET, (struct place){ 0, UNTOLD }, 0);
+    slot.outlet = 0;
+    check(over_image(&slot, 1, image, 0), KALYUBOS_BAD_MEMORY_SIZE, (struct place){ 0, 0 }, 0);
 }
 
 /* ---- the config's own fields, of one slot: its size comes before the slot's, loans before the image */
@@ -188,6 +210,7 @@ int main(void)
 {
     check_pairs();
     check_disks();
+    check_before_depth();
     check_configs();
     printf("judged: %d pairs of slots, with disks of either kind, %d pairs of disks, %d configs; create alike\n",
            PAIRS_LEN, DISKS_LEN, CONFIGS_LEN);

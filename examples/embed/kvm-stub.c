@@ -172,23 +172,32 @@ uint32_t kalyubos_write(struct kalyubos *board, uint8_t slot, uint8_t window, ui
     return tell(guest, pending, answer);
 }
 
-uint32_t kalyubos_operation(const struct kalyubos *board, uint8_t slot, struct kalyubos_operation *operation,
-                            struct kalyubos_run *runs, size_t runs_len)
+/* One operation at a time is in flight, with tag 0. */
+uint32_t kalyubos_in_flight(const struct kalyubos *board, uint8_t slot, uint64_t *tags)
+{
+    (void)board;
+    *tags = guests[slot].in_flight;
+    return KALYUBOS_DONE;
+}
+
+uint32_t kalyubos_operation(const struct kalyubos *board, uint8_t slot, uint8_t tag,
+                            struct kalyubos_operation *operation, struct kalyubos_run *runs, size_t runs_len)
 {
     const struct slot *guest = &guests[slot];
     (void)board, (void)runs_len;
-    if (!guest->in_flight)
+    if (!guest->in_flight || tag != 0)
         return KALYUBOS_IDLE;
     runs[0] = (struct kalyubos_run){ number(guest, guest->windows[KALYUBOS_BLOCK].descriptors + 16), SECTOR };
     *operation = (struct kalyubos_operation){ KALYUBOS_IN, 1, 0, SECTOR, false };
     return KALYUBOS_DONE;
 }
 
-uint32_t kalyubos_completed(struct kalyubos *board, uint8_t slot, bool failed, struct kalyubos_pending *pending)
+uint32_t kalyubos_completed(struct kalyubos *board, uint8_t slot, uint8_t tag, bool failed,
+                            struct kalyubos_pending *pending)
 {
     struct slot *guest = &guests[slot];
     (void)board, (void)failed;
-    if (!guest->in_flight)
+    if (!guest->in_flight || tag != 0)
         return tell(guest, pending, KALYUBOS_IDLE);
     guest->in_flight = false;
     return tell(guest, pending, end_request(guest, &guest->windows[KALYUBOS_BLOCK]));

@@ -56,12 +56,11 @@ struct guest {
     uint32_t count;         /* what its second CPU had counted when a call began, */
     bool ran_on;            /* and whether it went on in a call */
     pthread_t thread;       /* of its first CPU */
-    struct file_disk disk;  /* where the host serves it, */
-    bool in_flight;         /* and whether it has something to do */
+    struct file_disk disk;  /* where the host serves it */
 };
 
 static const char *const DISKS[GUESTS] = { "the first half of the image\n", "the second half\n" };
-enum { DISK_LEN = 2 * 512 };
+enum { DISK_LEN = 2 * 512, DEPTH = 4 };
 
 static struct kalyubos board;
 static bool hosted, lent;
@@ -173,7 +172,8 @@ static void open_disk(struct guest *guest)
     int file = must(mkstemp(path), "a disk");
     must(ftruncate(file, DISK_LEN), "a disk");
     must((int)write(file, DISKS[guest->slot], strlen(DISKS[guest->slot])), "a disk");
-    const char *wrong = file_disk_open(&guest->disk, &board, guest->slot, path, DISK_LEN, false, &file_thread);
+    const char *wrong = file_disk_open(&guest->disk, &board, guest->slot, DEPTH, path, DISK_LEN, false,
+                                       &file_thread);
     if (wrong != NULL) {
         fprintf(stderr, "%s: %s\n", path, wrong);
         exit(1);
@@ -191,21 +191,21 @@ static bool disk_can_go_on(const struct guest *guest, int milliseconds)
 /* What the disk came to. This may complete what the guest asked for, so it is a call for the guest. */
 static void go_on_with_disk(struct guest *guest)
 {
+    uint8_t tag;
     bool failed;
-    uint32_t answer;
-    do {
-        if (!file_disk_go_on(&guest->disk, &failed))
-            return;
-        answer = kalyubos_completed(&board, guest->slot, failed, &guest->lines);
-        guest->in_flight = answer == KALYUBOS_IO;
-        must_do(guest->in_flight ? KALYUBOS_DONE : answer, "completed");
-    } while (guest->in_flight && !file_disk_begin(&guest->disk)); /* the kernel doesn't take it: it has failed */
+    while (file_disk_go_on(&guest->disk, &tag, &failed)) {
+        uint32_t answer = kalyubos_completed(&board, guest->slot, tag, failed, &guest->lines);
+        if (answer == KALYUBOS_IO)
+            (void)file_disk_begin(&guest->disk); /* the loop tells what the kernel doesn't take */
+        else
+            must_do(answer, "completed");
+    }
 }
 
 /* Waits so many milliseconds for the disk, -1 without end, and goes on with it. */
 static void look_at_disk(struct guest *guest, int milliseconds)
 {
-    if (!guest->in_flight || !disk_can_go_on(guest, milliseconds))
+    if (guest->disk.begun == 0 || !disk_can_go_on(guest, milliseconds))
         return;
     begin_calls(guest);
     go_on_with_disk(guest);
@@ -272,7 +272,6 @@ static void store(struct guest *guest, uint8_t window, uint16_t offset, uint8_t 
             answer = go_on(guest);
     } while (makes_way(guest, answer));
     if (answer == KALYUBOS_IO) {
-        guest->in_flight = true;
         if (!file_disk_begin(&guest->disk))
             go_on_with_disk(guest);
     } else if (answer != KALYUBOS_NO_ROOM) {
@@ -343,7 +342,7 @@ static void run_cpu(struct guest *guest)
         case KVM_EXIT_IRQ_WINDOW_OPEN:
             break;
         case KVM_EXIT_HLT:
-            if (!guest->run->if_flag || (guest->lines.block == 0 && guest->lines.console == 0 && !guest->in_flight))
+            if (!guest->run->if_flag || (guest->lines.block == 0 && guest->lines.console == 0 && guest->disk.begun == 0))
                 return;
             if (guest->lines.block == 0 && guest->lines.console == 0)
                 look_at_disk(guest, -1);
@@ -449,9 +448,9 @@ static void create(struct guest *guests)
     static uint8_t image[GUESTS * DISK_LEN];
     struct kalyubos_slot slots[GUESTS] = {
         { .size = sizeof *slots, .start = 0, .count = 2, .cols = 80, .rows = 25, .outlet = OUTLET, .hosted = hosted,
-          .identity = "first half" },
+          .depth = DEPTH, .identity = "first half" },
         { .size = sizeof *slots, .start = 2, .count = 2, .cols = 80, .rows = 25, .outlet = OUTLET, .hosted = hosted,
-          .identity = "second half" },
+          .depth = DEPTH, .identity = "second half" },
     };
     struct kalyubos_config config = kalyubos_config(slots, GUESTS);
     struct kalyubos_loan loans[GUESTS * REGIONS];

@@ -159,7 +159,7 @@ static void check_hosted(void)
     need(ask(IN, 0, DATA, SECTOR) == KALYUBOS_IO, "a read", 0);
     marked(0, "a request that is in flight");
     begin();
-    need(kalyubos_completed(&board, 0, false, &pending) == KALYUBOS_DONE, "a completion", 0);
+    need(kalyubos_completed(&board, 0, 0, false, &pending) == KALYUBOS_DONE, "a completion", 0);
     marked(pages_of(USED, 1) | pages_of(STATUS_BYTE, 1), "a completion");
 }
 

@@ -6,7 +6,7 @@
 
 #include "shut_heap.h"
 
-enum { MEMORY_LEN = 0x10000, SECTORS = 4, LEN = 257, WITH_QUEUE = LEN + 6 + 2, HOLD = 0xaa };
+enum { MEMORY_LEN = 0x10000, SECTORS = 4, LEN = 257, WITH_QUEUE = LEN + 8 + 2, HOLD = 0xaa };
 enum { NOTIFY = 0x050, STATUS = 0x070 };
 static const uint64_t MEMORY = 0x80000000;
 
@@ -32,7 +32,7 @@ static const uint8_t fresh[LEN] = { DESCRIPTION, BLOCK_OFFERS, FRESH, CONSOLE_OF
 static const uint8_t made_up[WITH_QUEUE] = {
     DESCRIPTION, BLOCK_OFFERS,
     0x4f, 0, 0, 0, 0, 1, 0, 0, 0, 2, 0, 0, 0, 1, 0, 0, 0, 1, 0, 0, 0, 5, 0, 0, 0,
-    8, 0, 0, 0, 0, 0x10, 0, 0x80, 0, 0, 0, 0, 0, 0x20, 0, 0x80, 0, 0, 0, 0, 0, 0x30, 0, 0x80, 0, 0, 0, 0, 1, 3, 0, 0, 0, 0, 0,
+    8, 0, 0, 0, 0, 0x10, 0, 0x80, 0, 0, 0, 0, 0, 0x20, 0, 0x80, 0, 0, 0, 0, 0, 0x30, 0, 0x80, 0, 0, 0, 0, 1, 3, 0, 0, 0, 0, 0, 0, 0,
     QUEUE, 3, 0, 0, 0, 0,
     CONSOLE_OFFERS, 0, ZEROS_8, ZEROS_16, QUEUE, QUEUE, 1, 7, 0, 0, 0, 2, 0, 0, 0, 'l', 's',
 };
@@ -143,7 +143,7 @@ static void check_busy(uint32_t first)
     need(kalyubos_restore(&board, 0, fresh, LEN, &pending) == KALYUBOS_BUSY, "restore", first);
     uint32_t answer = first;
     while (answer == first)
-        answer = first == KALYUBOS_MORE ? kalyubos_go_on(&board, 0, &pending) : kalyubos_completed(&board, 0, false, &pending);
+        answer = first == KALYUBOS_MORE ? kalyubos_go_on(&board, 0, &pending) : kalyubos_completed(&board, 0, 0, false, &pending);
     need(answer == KALYUBOS_DONE && kalyubos_saved_len(&board, 0, &len) == KALYUBOS_DONE, "the end of the service", answer);
 }
 

@@ -62,7 +62,7 @@ static void make(enum kind kind)
     static const uint8_t image[IMAGE];
     struct kalyubos_slot slot = {
         .size = sizeof slot, .regions = { { MEMORY, LEN } }, .count = SECTORS, .cols = 80, .rows = 25, .outlet = OUTLET,
-        .hosted = kind == HOSTED,
+        .hosted = kind == HOSTED, .depth = 2,
     };
     struct kalyubos_loan loan = { memory, LEN };
     struct kalyubos_config config = kalyubos_config(&slot, 1);
@@ -134,20 +134,23 @@ static void ask_always(void)
     size_t len;
     struct kalyubos_counters counters;
     struct kalyubos_fault fault;
+    uint64_t tags;
     done(kalyubos_interrupts(&board, 0, &block, &console), "interrupts");
     done(kalyubos_disturbed(&board, 0, &disturbed), "disturbed");
     done(kalyubos_counters(&board, 0, &counters), "counters");
     done(kalyubos_last_fault(&board, 0, KALYUBOS_BLOCK, &fault), "last_fault");
+    done(kalyubos_in_flight(&board, 0, &tags), "in_flight");
     done(kalyubos_take_output(&board, 0, out, sizeof out, &len), "take_output");
     kalyubos_memory(&board, 0, MEMORY, &bytes, &len);
 }
 
-/* The operation that is in flight, if one is. */
-static void ask_operation(uint32_t answer)
+/* The operations that are in flight: both, or none. */
+static void ask_operations(uint32_t answer)
 {
     struct kalyubos_operation operation;
     struct kalyubos_run runs[KALYUBOS_RUNS];
-    need(kalyubos_operation(&board, 0, &operation, runs, KALYUBOS_RUNS) == answer, "operation");
+    for (uint8_t tag = 0; tag < 2; tag++)
+        need(kalyubos_operation(&board, 0, tag, &operation, runs, KALYUBOS_RUNS) == answer, "operation");
 }
 
 static void ask_image(uint32_t answer)
@@ -236,19 +239,19 @@ static void while_drivers_begin(enum kind kind)
     write_on();
     read_all(KALYUBOS_DONE);
     ask_always();
-    ask_operation(KALYUBOS_IDLE);
+    ask_operations(KALYUBOS_IDLE);
     ask_image(kind == HOSTED ? KALYUBOS_NO_IMAGE : KALYUBOS_DONE);
     done(kalyubos_destroy(&board), "destroy");
     say(kind == HOSTED ? "hosted board, bring-up" : "image board, bring-up");
     forbid(false);
 }
 
-/* Leaves a request in flight, or over an image a service paused: two chains are on offer, and a call serves one. */
+/* Two requests are on offer. Leaves both in flight, or over an image a service paused, since a call serves one. */
 static void notify_disk(enum kind kind)
 {
     make(kind);
     bring_up(KALYUBOS_BLOCK, 0, 0, STEPS);
-    offer(KALYUBOS_BLOCK, kind == HOSTED ? 1 : 2);
+    offer(KALYUBOS_BLOCK, 2);
     need(set(KALYUBOS_BLOCK, NOTIFY, 4, 0) == (kind == HOSTED ? KALYUBOS_IO : KALYUBOS_MORE), "a notify");
 }
 
@@ -259,7 +262,7 @@ static void while_a_disk_works(void)
     read_all(KALYUBOS_DONE);
     write_on();
     ask_always();
-    ask_operation(KALYUBOS_DONE);
+    ask_operations(KALYUBOS_DONE);
     need(set(KALYUBOS_BLOCK, STATUS, 4, 0) == KALYUBOS_BUSY, "a reset in flight");
     done(kalyubos_resize(&board, 0, 80, 25, &pending), "resize");
     done(kalyubos_destroy(&board), "destroy");
@@ -299,7 +302,7 @@ static void go_on(void)
 
 static void complete(void)
 {
-    (void)!kalyubos_completed(&board, 0, false, &pending);
+    (void)!kalyubos_completed(&board, 0, 0, false, &pending);
 }
 
 static void copy_out(void)

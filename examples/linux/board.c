@@ -27,7 +27,9 @@ static bool paused[GUESTS];                   /* and whether that is paused */
 /* Of disks that the host serves: all are slots of one board, whose calls so stand in the middle of each other's flights. */
 static struct file_disk disks[GUESTS];
 static struct board_flights flights[GUESTS];
-static bool flies[GUESTS]; /* whether an operation is under way */
+static struct {
+    uint64_t all, failed; /* the tags whose files have ended, and that aren't completed; and those that failed */
+} ended[GUESTS];
 
 static void must(uint32_t answer, const char *what)
 {
@@ -68,8 +70,8 @@ static void name_disk(struct kalyubos_slot *slot, const char *path)
 static void open_disk(uint8_t slot)
 {
     const char *path = settings.names[slot];
-    const char *wrong = file_disk_open(&disks[slot], &board, slot, path, settings.sectors[slot] * 512, false,
-                                       settings.threads ? &file_thread : &file_ring);
+    const char *wrong = file_disk_open(&disks[slot], &board, slot, settings.depth, path, settings.sectors[slot] * 512,
+                                       false, settings.threads ? &file_thread : &file_ring);
     if (wrong != NULL) {
         fprintf(stderr, "linux-machine: %s: %s\n", path, wrong);
         exit(2);
@@ -102,7 +104,7 @@ void board_open(const struct board_settings *wanted)
     for (size_t i = 0; i < settings.guests; i++) {
         slots[i] = (struct kalyubos_slot){ .size = sizeof *slots, .start = start, .count = settings.sectors[i],
                                            .cols = COLUMNS, .rows = ROWS, .outlet = settings.outlet,
-                                           .hosted = settings.hosted };
+                                           .hosted = settings.hosted, .depth = settings.depth };
         memcpy(slots[i].regions, settings.large ? LARGE : SMALL, sizeof slots[i].regions);
         name_disk(&slots[i], settings.names[i]);
         start += settings.sectors[i];
@@ -117,8 +119,8 @@ void board_open(const struct board_settings *wanted)
 void board_close(void)
 {
     for (size_t i = 0; i < settings.guests; i++)
-        while (flies[i])
-            if (board_complete(i) == KALYUBOS_MORE)
+        while (disks[i].begun != 0)
+            if (board_complete(i, &(uint8_t){ BOARD_ANY }) == KALYUBOS_MORE)
                 board_wait();
     for (size_t i = 0; i < settings.guests && settings.copies; i++)
         for (size_t j = 0; j < memories[i].count; j++)
@@ -165,11 +167,11 @@ static void after(uint8_t slot)
         must(kalyubos_read_memory(&board, slot, regions[i].base, regions[i].bytes, regions[i].len), "read_memory");
 }
 
-/* Counts a call of a guest for those whose operation is under way. */
+/* Counts a call of a guest for those of whom operations are under way. */
 static void count_call(uint8_t slot)
 {
     for (size_t i = 0; i < settings.guests; i++)
-        flights[i].calls += flies[i] && i != slot;
+        flights[i].calls += disks[i].begun != 0 && i != slot;
 }
 
 uint32_t board_read(uint8_t slot, uint8_t window, uint16_t offset, uint8_t width)
@@ -177,7 +179,7 @@ uint32_t board_read(uint8_t slot, uint8_t window, uint16_t offset, uint8_t width
     uint32_t value;
     count_call(slot);
     must(record_read(&board, slot, window, offset, width, &value), "read");
-    watch_after(&board, &(struct watch_call){ WATCH_READ, slot, window, offset, width, 0 }, record_line());
+    watch_after(&board, &(struct watch_call){ WATCH_READ, slot, window, offset, width, 0, 0 }, record_line());
     return value;
 }
 
@@ -188,22 +190,28 @@ static void begin(const struct watch_call *call)
     served[call->slot] = *call;
 }
 
-static void count_runs(uint8_t slot)
+/* Counts an operation that begins. */
+static void count_operation(uint8_t slot, const struct file_flight *flight)
 {
     const struct memory *memory = &memories[slot];
-    for (uint32_t i = 0; i < disks[slot].asked.runs; i++)
+    flights[slot].operations++;
+    for (uint32_t i = 0; i < flight->asked.runs && flight->asked.kind != KALYUBOS_ZEROES; i++)
         for (size_t j = 0; j < memory->count; j++)
-            flights[slot].runs[j] += disks[slot].runs[i].at - memory->regions[j].base < memory->regions[j].len;
+            flights[slot].runs[j] += flight->runs[i].at - memory->regions[j].base < memory->regions[j].len;
 }
 
-/* An operation of the slot's disk begins. */
+/* Operations of the slot's disk begin. */
 static void take_off(uint8_t slot)
 {
-    (void)file_disk_begin(&disks[slot]); /* one that the kernel doesn't take has failed: board_wait doesn't wait for it */
-    flies[slot] = true;
-    flights[slot].operations++;
-    if (disks[slot].asked.kind != KALYUBOS_ZEROES)
-        count_runs(slot);
+    struct file_disk *disk = &disks[slot];
+    uint64_t before = disk->begun;
+    (void)file_disk_begin(disk); /* one that the kernel doesn't take has failed: board_wait doesn't wait for it */
+    for (uint8_t tag = 0; tag < disk->depth; tag++)
+        if ((disk->begun & ~before) >> tag & 1)
+            count_operation(slot, &disk->flights[tag]);
+    size_t together = (size_t)__builtin_popcountll(disk->begun);
+    if (together > flights[slot].together)
+        flights[slot].together = together;
 }
 
 /*
@@ -230,23 +238,47 @@ static uint32_t settle(uint8_t slot, uint32_t answer)
 uint32_t board_write(uint8_t slot, uint8_t window, uint16_t offset, uint8_t width, uint32_t value)
 {
     before(slot);
-    begin(&(struct watch_call){ WATCH_WRITE, slot, window, offset, width, value });
+    begin(&(struct watch_call){ WATCH_WRITE, slot, window, offset, width, value, 0 });
     return settle(slot, record_write(&board, slot, window, offset, width, value, &waits[slot]));
 }
 
-uint32_t board_complete(uint8_t slot)
+uint64_t board_in_flight(uint8_t slot)
 {
+    return disks[slot].begun;
+}
+
+/* Takes in what has ended. It stays begun until it is completed. */
+static void take_in_ended(uint8_t slot)
+{
+    uint8_t tag;
     bool failed;
-    if (!flies[slot])
-        return KALYUBOS_DONE;
     before(slot);
-    if (!file_disk_go_on(&disks[slot], &failed)) {
-        after(slot);
-        return KALYUBOS_MORE;
+    while (file_disk_go_on(&disks[slot], &tag, &failed)) {
+        disks[slot].begun |= (uint64_t)1 << tag;
+        ended[slot].all |= (uint64_t)1 << tag;
+        ended[slot].failed |= (uint64_t)failed << tag;
     }
-    begin(&(struct watch_call){ .kind = WATCH_COMPLETION, .slot = slot, .window = KALYUBOS_BLOCK, .value = failed });
-    flies[slot] = false;
-    return settle(slot, record_completed(&board, slot, failed, &waits[slot]));
+    after(slot);
+}
+
+uint32_t board_complete(uint8_t slot, uint8_t *tag)
+{
+    if (disks[slot].begun == 0)
+        return KALYUBOS_DONE;
+    take_in_ended(slot);
+    if (ended[slot].all == 0 || (*tag != BOARD_ANY && (ended[slot].all >> *tag & 1) == 0))
+        return KALYUBOS_MORE;
+    if (*tag == BOARD_ANY)
+        *tag = (uint8_t)__builtin_ctzll(ended[slot].all);
+    uint64_t others = ~((uint64_t)1 << *tag);
+    bool failed = ended[slot].failed >> *tag & 1;
+    before(slot);
+    begin(&(struct watch_call){ .kind = WATCH_COMPLETION, .slot = slot, .window = KALYUBOS_BLOCK, 
+                                .value = failed, .tag = *tag });
+    disks[slot].begun &= others;
+    ended[slot].all &= others;
+    ended[slot].failed &= others;
+    return settle(slot, record_completed(&board, slot, *tag, failed, &waits[slot]));
 }
 
 void board_wait(void)
@@ -255,8 +287,8 @@ void board_wait(void)
     struct pollfd ready[GUESTS];
     bool is_refused = false;
     for (size_t i = 0; i < settings.guests; i++) {
-        ready[i] = (struct pollfd){ .fd = flies[i] ? disks[i].ready : -1, .events = POLLIN };
-        is_refused = is_refused || (flies[i] && disks[i].is_refused);
+        ready[i] = (struct pollfd){ .fd = disks[i].begun != 0 ? disks[i].ready : -1, .events = POLLIN };
+        is_refused = is_refused || disks[i].refused != 0;
     }
     if (!is_refused)
         poll(ready, settings.guests, MILLISECONDS);

@@ -28,6 +28,7 @@ struct board_settings {
     bool hosted;        /* there is no image: each disk is the file of its name, which the host serves, */
     bool threads;       /* without io_uring */
     bool large;         /* each guest's memory is a large one */
+    uint32_t depth;     /* how many operations of a disk that the host serves may be in flight */
 };
 
 void board_open(const struct board_settings *settings);
@@ -45,7 +46,7 @@ uint32_t board_read(uint8_t slot, uint8_t window, uint16_t offset, uint8_t width
 /*
  * What became of a write: KALYUBOS_DONE; NO_ROOM where the console's output has none: take some, and make the write again;
  * MORE where its service pauses: from then until board_go_on answers another the guest must not run or be typed to. Of a
- * disk that the host serves: IO where an operation began; BUSY where the write is to be made again, after board_complete.
+ * disk that the host serves: IO where operations began; BUSY where the write is to be made again, once nothing is in flight.
  */
 uint32_t board_write(uint8_t slot, uint8_t window, uint16_t offset, uint8_t width, uint32_t value);
 
@@ -55,20 +56,24 @@ uint32_t board_go_on(uint8_t slot);
 /* Whether a service of the slot is paused. */
 bool board_is_paused(uint8_t slot);
 
+/* The tags of what is in flight of a slot's disk that the host serves. */
+uint64_t board_in_flight(uint8_t slot);
+
 /*
- * Completes the operation of the slot's disk once its file has ended: DONE, or IO where the next began. Before it answers
- * MORE, and the guest sees nothing; board_wait waits, for a while, until that has changed for some slot. Where nothing is in
- * flight it is DONE.
+ * Completes the operation of a tag once its file has ended, or with BOARD_ANY the first that has, and tells its tag: DONE, or
+ * IO where others began. Before it answers MORE, and the guest sees nothing; board_wait waits, for a while, until that has
+ * changed for some slot. Where nothing is in flight it is DONE.
  */
-uint32_t board_complete(uint8_t slot);
+enum { BOARD_ANY = 0xff };
+uint32_t board_complete(uint8_t slot, uint8_t *tag);
 void board_wait(void);
 
 /*
- * Of a slot's disk that the host serves: its operations so far, how many calls other guests made during them, and how many of
- * their runs lay in which region of its memory.
+ * Of a slot's disk that the host serves: its operations so far, how many were in flight together at most, how many calls other
+ * guests made during them, and how many of their runs lay in which region of its memory.
  */
 struct board_flights {
-    size_t operations, calls, runs[MEMORY_REGIONS];
+    size_t operations, together, calls, runs[MEMORY_REGIONS];
 };
 struct board_flights board_flights(uint8_t slot);
 

@@ -33,7 +33,7 @@ uint64_t queue_number(const struct memory *memory, uint64_t addr, unsigned count
     return value;
 }
 
-/* The last two numbers are `flags` and `next` in a split ring; a packed one has them the other way round. */
+/* The last two numbers are `flags` and `next` in a split ring; a packed one has `id` and `flags`, and `next` is then the id. */
 struct descriptor {
     uint64_t addr;
     uint32_t len;
@@ -45,7 +45,7 @@ static struct descriptor descriptor_at(const struct memory *memory, uint64_t tab
     uint64_t at = table + (uint64_t)index * DESCRIPTOR;
     uint16_t first = queue_number(memory, at + 12, 2), second = queue_number(memory, at + 14, 2);
     return (struct descriptor){ queue_number(memory, at, 8), queue_number(memory, at + 8, 4),
-                                packed ? second : first, packed ? 0 : second };
+                                packed ? second : first, packed ? first : second };
 }
 
 /* ---- one chain */
@@ -114,9 +114,9 @@ static void walk_table(struct chain *chain, const struct queue *queue, const str
 
 static struct chain split_chain(const struct queue *queue, const struct memory *memory, uint32_t place)
 {
-    struct chain chain = { .place = place, .members = 1 };
-    struct descriptor table;
     uint32_t head = queue_number(memory, queue->areas[AREA_DRIVER] + 4 + 2 * (place % queue->size), 2);
+    struct chain chain = { .place = place, .id = head, .members = 1 };
+    struct descriptor table;
     if (walk(&chain, memory, queue->areas[AREA_DESCRIPTORS], queue->size, head, &table))
         walk_table(&chain, queue, memory, &table, false);
     return chain;
@@ -129,6 +129,7 @@ static struct chain packed_chain(const struct queue *queue, const struct memory 
     do {
         one = descriptor_at(memory, queue->areas[AREA_DESCRIPTORS], (place + chain.members) % queue->size, true);
         chain.members++;
+        chain.id = one.next;
         if (one.flags & INDIRECT) {
             walk_table(&chain, queue, memory, &one, chain.members > 1);
             return chain;

@@ -101,27 +101,59 @@ static uint32_t store(const struct machine *machine)
 
 /* ---- a disk that the host serves */
 
-/* It has something to do, and is done after so many instructions, or once its file is. */
+/* The tag that is done first; where files end when they do, whichever has. */
+static uint8_t first_due(const struct machine *machine)
+{
+    uint8_t first = BOARD_ANY;
+    for (uint64_t rest = machine->flies; rest != 0; rest &= rest - 1) {
+        uint8_t tag = (uint8_t)__builtin_ctzll(rest);
+        if (machine->dues[tag] != NEVER && (first == BOARD_ANY || machine->dues[tag] < machine->dues[first]))
+            first = tag;
+    }
+    return first;
+}
+
+/* When the first is done: then the CPU stops. */
+static void note_due(struct machine *machine)
+{
+    uint8_t first = first_due(machine);
+    machine->due = first == BOARD_ANY ? NEVER : machine->dues[first];
+    if (machine->due < machine->cpu.stop_at)
+        machine->cpu.stop_at = machine->due;
+}
+
+/*
+ * Operations begin, and each is done after so many instructions, or once its file is. Where one begins beside others it takes
+ * once to three times as many, by turns, so that they end in another order.
+ */
 static void take_off(struct machine *machine)
 {
     struct cpu *cpu = &machine->cpu;
-    machine->flies = true;
-    machine->due = machine->latency == NEVER ? NEVER : cpu->cycles + machine->latency;
-    cpu->stop_at = machine->due < cpu->stop_at ? machine->due : cpu->stop_at;
+    uint64_t fresh = board_in_flight(machine->slot) & ~machine->flies;
+    for (; fresh != 0; fresh &= fresh - 1) {
+        uint64_t times = machine->flies != 0 ? 1 + machine->flights % 3 : 1;
+        bool is_real = machine->latency == NEVER;
+        machine->dues[__builtin_ctzll(fresh)] = is_real ? NEVER : cpu->cycles + times * machine->latency;
+        machine->flies |= fresh & -fresh;
+        machine->flights++;
+    }
+    note_due(machine);
 }
 
 static void settle(struct machine *machine, uint32_t answer);
 
-/* The disk is done, or the guest waits: at its time it goes no further before its file is. */
+/* An operation is done, or the guest waits: at its time it goes no further before its file is. */
 static void land(struct machine *machine)
 {
-    uint32_t answer = board_complete(machine->slot);
+    uint8_t tag = first_due(machine);
+    uint32_t answer = board_complete(machine->slot, &tag);
     machine->paused = answer == KALYUBOS_MORE && (machine->busy || machine->latency != NEVER);
     if (answer == KALYUBOS_MORE)
         return;
     bool again = machine->busy;
-    machine->flies = machine->busy = false;
-    machine->due = NEVER;
+    machine->flies &= ~((uint64_t)1 << tag);
+    machine->busy = false;
+    note_due(machine);
     settle(machine, answer);
     if (again)
         settle(machine, store(machine));
@@ -129,7 +161,7 @@ static void land(struct machine *machine)
 
 static bool is_due(const struct machine *machine)
 {
-    return machine->flies && (machine->busy || machine->latency == NEVER || machine->cpu.cycles >= machine->due);
+    return machine->flies != 0 && (machine->busy || machine->latency == NEVER || machine->cpu.cycles >= machine->due);
 }
 
 /* ---- stores */

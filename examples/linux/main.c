@@ -25,8 +25,10 @@
  *                     only the names and the lengths count
  *   --hosted WAY      serves each disk from its guest's file in place, by a board whose disks are the host's: WAY is `ring`,
  *                     by io_uring where that is to be had, or `threads`
- *   --latency COUNT   such a disk is done after so many of its guest's instructions, 10000 where it isn't said, so that runs
- *                     stay the same; a guest whose file takes longer waits for it. `real`: it is done when its file is
+ *   --depth COUNT     has up to so many operations of such a disk in flight, 1 where it isn't said, and 64 at most
+ *   --latency COUNT   such an operation is done after so many of its guest's instructions, 10000 where it isn't said, so that
+ *                     runs stay the same; beside others by turns after twice and three times as many. A guest whose file
+ *                     takes longer waits for it. `real`: it is done when its file is
  *
  * What a guest's drivers do wrong is told in guest-0.mistakes, and at the end on the screen.
  */
@@ -169,7 +171,7 @@ static void open_guests(void)
         sectors[i] = guests[i].sectors;
     board_open(&(struct board_settings){ words.count, sectors, words.guests, served, words.cache, words.outlet,
                                          words.chains, words.bytes, words.record, words.copies, words.hosted,
-                                         words.threads, words.large });
+                                         words.threads, words.large, words.depth });
     free(image);
     for (size_t i = 0; i < words.count; i++)
         if (guests[i].is_noise)

@@ -25,8 +25,8 @@ static void tell_call(FILE *told, const struct watch_call *call)
     if (call->kind == WATCH_INPUT)
         fprintf(told, "in %x: the console of guest %u is typed to", call->slot, call->slot);
     else if (call->kind == WATCH_COMPLETION)
-        fprintf(told, "io %x %s: the disk of guest %u %s", call->slot, call->value != 0 ? "failed" : "done", call->slot,
-                call->value != 0 ? "failed" : "is done");
+        fprintf(told, "io %x %x %s: the disk of guest %u %s", call->slot, call->tag, call->value != 0 ? "failed" : "done",
+                call->slot, call->value != 0 ? "failed" : "is done");
     else if (call->kind == WATCH_READ)
         fprintf(told, "r %x %c %03x %x: guest %u reads %s of its %s window", call->slot, *window, call->offset,
                 call->width, call->slot, name, window);

@@ -31,7 +31,7 @@ static void set(struct noise *noise, unsigned window, uint16_t offset, uint32_t 
         answer = board_write(noise->slot, window, offset, 4, value);
         while (answer == KALYUBOS_MORE)
             answer = board_go_on(noise->slot);
-        if (answer == KALYUBOS_BUSY && board_complete(noise->slot) == KALYUBOS_MORE)
+        if (answer == KALYUBOS_BUSY && board_complete(noise->slot, &(uint8_t){ BOARD_ANY }) == KALYUBOS_MORE)
             board_wait();
     } while (answer == KALYUBOS_BUSY ||
              (answer == KALYUBOS_NO_ROOM && board_output(noise->slot, bytes, sizeof bytes) > 0));
@@ -71,7 +71,7 @@ static void write_noise(struct noise *noise)
 
 void noise_run(struct noise *noise, unsigned count)
 {
-    board_complete(noise->slot);
+    board_complete(noise->slot, &(uint8_t){ BOARD_ANY });
     for (unsigned i = 0; i < count; i++) {
         unsigned window = at_random(noise) % 2, what = at_random(noise) % 16;
         if (what == 0)

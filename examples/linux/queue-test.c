@@ -85,8 +85,8 @@ static void put_entry(uint32_t at, const struct entry *entry, bool packed)
 /* Whether the first chain on offer is as the row says. */
 static bool is_right(const struct row *row)
 {
-    static struct chain chains[QUEUE_PLACES];
-    struct queue queue = { true, row->packed, row->indirect, 4, { BASE + RING, BASE + AVAILABLE, BASE + USED }, 0 };
+    static struct chain chains[QUEUE_PLACES + 1];
+    struct queue queue = { true, row->packed, row->indirect, 4, { BASE + RING, BASE + AVAILABLE, BASE + USED }, 0, 0, 0, 0 };
     memset(bytes, 0, sizeof bytes);
     for (size_t i = 0; i < 4; i++)
         put_entry(RING + 16 * i, &row->ring[i], row->packed);
@@ -105,21 +105,49 @@ static bool is_right(const struct row *row)
            (one->is_writable ? one->last == BASE + (uint64_t)row->last : row->last == 0);
 }
 
-/* A chain that is on offer isn't given back yet; it is once the device says so, and the queue then stands behind it. */
+/* A used entry of three places of the ring; packed, the descriptor at a place. */
+static void put_used(bool packed, uint32_t place, uint16_t id)
+{
+    put(packed ? RING + 16 * place + 12 : USED + 4 + 8 * place, id, packed ? 2 : 4);
+    put(packed ? RING + 16 * place + 14 : USED + 2, packed ? GIVEN_BACK : place + 1, 2);
+}
+
+/*
+ * Two chains are on offer, of two descriptors and of one, whose ids are 2 and 3. The second is given back before the first, each
+ * once the device says so, and the queue then stands behind both.
+ */
 static bool gives_back(bool packed)
 {
-    struct chain chains[QUEUE_PLACES];
-    struct queue queue = { true, packed, false, 4, { BASE + RING, BASE + AVAILABLE, BASE + USED }, 0 };
+    static struct chain chains[QUEUE_PLACES + 1];
+    const struct entry entries[] = { { 0x8000, 1, N, 3 }, { 0x8000, 1, 0, 2 }, { 0x9000, 1, 0, 3 } };
+    struct queue queue = { true, packed, false, 4, { BASE + RING, BASE + AVAILABLE, BASE + USED }, 0, 0, 0, 0 };
     memset(bytes, 0, sizeof bytes);
-    for (size_t i = 0; i < 3; i++)
-        put_entry(RING + 16 * i, &(struct entry){ 0x8000, 1, packed ? OFFERED | (i < 2 ? N : 0) : 0, 0 }, packed);
-    put(AVAILABLE + 2, packed ? 0 : 1, 2);
-    if (queue_offered(&queue, &MEMORY, chains) != 1 || queue_is_used(&queue, &MEMORY, chains))
+    for (size_t i = 0; i < 3; i++) {
+        struct entry entry = entries[i];
+        entry.flags |= packed ? OFFERED : 0;
+        put_entry(RING + 16 * (packed || i == 1 ? i : i == 0 ? 2 : 3), &entry, packed);
+    }
+    if (!packed) { /* the first is descriptor 2 and goes on by 3, the second is descriptor 3 alone */
+        put(AVAILABLE + 2, 2, 2);
+        put(AVAILABLE + 4, 2 | 3 << 16, 4);
+    }
+    if (queue_take_in(&queue, &MEMORY, chains) != NULL || queue.pending != 2 || chains[0].id != 2 || chains[1].id != 3 ||
+        queue_given_back(&queue, &MEMORY, chains) != NULL || queue_take_in(&queue, &MEMORY, chains) != NULL)
         return false;
-    put(packed ? RING + 14 : USED + 2, packed ? GIVEN_BACK : 1, 2);
-    bool used = queue_is_used(&queue, &MEMORY, chains);
-    queue_pass(&queue, chains);
-    return used && queue.place == (packed ? 3 : 1);
+    put_used(packed, 0, 3);
+    struct chain *first = queue_given_back(&queue, &MEMORY, chains);
+    if (queue.pending != 2 || first != &chains[1])
+        return false;
+    queue_give_back(&queue, chains, first);
+    if (queue.pending != 1 || chains[0].id != 2 || queue_given_back(&queue, &MEMORY, chains) != NULL)
+        return false;
+    put_used(packed, 1, 2);
+    struct chain *second = queue_given_back(&queue, &MEMORY, chains);
+    if (second != &chains[0])
+        return false;
+    queue_give_back(&queue, chains, second);
+    uint32_t end = packed ? 3 : 2;
+    return queue.pending == 0 && queue.ahead == 0 && queue.place == end && queue.used == end;
 }
 
 int main(void)
@@ -131,7 +159,7 @@ int main(void)
             wrong++;
         }
     if (!gives_back(false) || !gives_back(true)) {
-        puts("a chain that is given back: not as it must be");
+        puts("chains that are given back: not as they must be");
         wrong++;
     }
     if (wrong == 0)

@@ -1,7 +1,9 @@
 /* The virtqueue of queue.h: what is on offer, and what was given back. */
 #include "queue.h"
 
-enum { AVAIL = 0x80, USED = 0x8000, DESCRIPTOR = 16, INDICES = 0x10000 };
+#include <string.h>
+
+enum { AVAIL = 0x80, USED = 0x8000, DESCRIPTOR = 16, ENTRY = 8, INDICES = 0x10000 };
 
 static const char TOO_MANY_CHAINS[] = "more chains are on offer than the virtqueue has places (2.7.6)";
 
@@ -22,7 +24,7 @@ static size_t split_offered(const struct queue *queue, const struct memory *memo
     uint32_t idx = queue_number(memory, queue->areas[AREA_DRIVER] + 2, 2);
     uint32_t left = (idx - queue->place) % INDICES;
     size_t count = 0;
-    if (left > queue->size) {
+    if (left + queue->ahead > queue->size) {
         chains[0] = (struct chain){ .fault = TOO_MANY_CHAINS, .place = queue->place };
         return 1;
     }
@@ -33,41 +35,76 @@ static size_t split_offered(const struct queue *queue, const struct memory *memo
     return count;
 }
 
+/* The place behind another, so many places on. */
+static uint32_t place_behind(const struct queue *queue, uint32_t place, uint32_t members)
+{
+    return (place + members) % (queue->packed ? 2 * queue->size : INDICES);
+}
+
 static size_t packed_offered(const struct queue *queue, const struct memory *memory, struct chain *chains)
 {
-    struct queue at = *queue;
     size_t count = 0;
-    uint32_t passed = 0;
-    while (passed < queue->size && packed_is_offered(queue, memory, at.place)) {
-        chains[count] = chain_at(queue, memory, at.place);
+    uint32_t place = queue->place, passed = queue->ahead;
+    while (passed < queue->size && packed_is_offered(queue, memory, place)) {
+        chains[count] = chain_at(queue, memory, place);
         passed += chains[count].members;
-        queue_pass(&at, &chains[count]);
+        place = place_behind(queue, place, chains[count].members);
         if (chains[count++].fault != NULL)
             break;
     }
     return count;
 }
 
-size_t queue_offered(const struct queue *queue, const struct memory *memory, struct chain chains[QUEUE_PLACES])
+size_t queue_offered(const struct queue *queue, const struct memory *memory, struct chain *chains)
 {
     if (!queue->ready || queue->size == 0 || queue->size > QUEUE_PLACES)
         return 0;
     return queue->packed ? packed_offered(queue, memory, chains) : split_offered(queue, memory, chains);
 }
 
-bool queue_is_used(const struct queue *queue, const struct memory *memory, const struct chain *chain)
+const char *queue_take_in(struct queue *queue, const struct memory *memory, struct chain *chains)
+{
+    size_t count = queue_offered(queue, memory, chains + queue->pending);
+    for (size_t i = 0; i < count; i++) {
+        const struct chain *chain = &chains[queue->pending];
+        if (chain->fault != NULL)
+            return chain->fault;
+        queue->pending++;
+        queue->ahead += chain->members;
+        queue->place = place_behind(queue, queue->place, chain->members);
+    }
+    return NULL;
+}
+
+/* Whether the device gave a chain back at the next used entry, and by which id. */
+static bool has_used(const struct queue *queue, const struct memory *memory, uint32_t *id)
 {
     if (!queue->packed) {
         uint32_t idx = queue_number(memory, queue->areas[AREA_DEVICE] + 2, 2);
-        return (idx - chain->place - 1) % INDICES < queue->size;
+        *id = queue_number(memory, queue->areas[AREA_DEVICE] + 4 + queue->used % queue->size * ENTRY, 4);
+        return (idx - queue->used - 1) % INDICES < queue->size;
     }
-    uint16_t flags = packed_flags(queue, memory, chain->place);
-    bool wrap = chain->place < queue->size;
+    uint16_t flags = packed_flags(queue, memory, queue->used);
+    bool wrap = queue->used < queue->size;
+    *id = queue_number(memory, queue->areas[AREA_DESCRIPTORS] + queue->used % queue->size * DESCRIPTOR + 12, 2);
     return ((flags & AVAIL) != 0) == wrap && ((flags & USED) != 0) == wrap;
 }
 
-void queue_pass(struct queue *queue, const struct chain *chain)
+struct chain *queue_given_back(const struct queue *queue, const struct memory *memory, struct chain *chains)
 {
-    queue->place = queue->packed ? (chain->place + chain->members) % (2 * queue->size)
-                                 : (chain->place + 1) % INDICES;
+    uint32_t id;
+    if (queue->pending == 0 || !has_used(queue, memory, &id))
+        return NULL;
+    for (struct chain *chain = chains; chain < chains + queue->pending; chain++)
+        if (chain->id == id)
+            return chain;
+    return NULL;
+}
+
+void queue_give_back(struct queue *queue, struct chain *chains, struct chain *chain)
+{
+    queue->used = place_behind(queue, queue->used, chain->members);
+    queue->ahead -= chain->members;
+    queue->pending--;
+    memmove(chain, chain + 1, (size_t)(chains + queue->pending - chain) * sizeof *chain);
 }

@@ -1,7 +1,7 @@
 /*
  * What the library answers to record-test.c, for a machine where it isn't built. It is no device: over an image the disk's
  * first notify with DRIVER_OK ends in an error of the request, its second in a fault, and the console's first finds no room;
- * where the host serves the disks, guest 0's asks for one operation after the other.
+ * where the host serves the disks, guest 0's first notify asks for two operations, and its second for one.
  */
 #include <stdlib.h>
 #include <string.h>
@@ -18,17 +18,27 @@ static struct guest {
 } guests[GUESTS];
 
 static uint32_t notifies[2];
-static bool hosted, in_flight;
-static size_t asked; /* how many operations there were */
+static bool hosted;
+static uint64_t in_flight; /* the tags of what is */
+static uint8_t given_back; /* how many operations were completed */
 
-static const struct {
+/* Operations by their tags: tag 0 is used twice. Then the used entry of each, and where its status byte lies. */
+static const struct asked {
     struct kalyubos_operation operation;
     struct kalyubos_run runs[2];
-} ASKED[] = {
-    { { KALYUBOS_IN, 1, 0x200, 0x200, false }, { { 0x80005000, 0x200 } } },
-    { { KALYUBOS_OUT, 1, 0, 0x200, true }, { { 0x80006010, 0x200 } } },
-    { { KALYUBOS_IN, 2, 0, 0x200, false }, { { 0x80005000, 0x100 }, { 0x80005800, 0x100 } } },
+    uint8_t id, len[2];
+    uint16_t status;
+} ASKED[][2] = {
+    { { { KALYUBOS_IN, 1, 0x200, 0x200, false }, { { 0x80005000, 0x200 } }, 0, { 0x01, 0x02 }, 0x5200 },
+      { { KALYUBOS_OUT, 1, 0, 0x200, true }, { { 0x80006010, 0x200 } }, 2, { 1, 0 }, 0x7000 } },
+    { { { KALYUBOS_IN, 2, 0, 0x200, false }, { { 0x80005000, 0x100 }, { 0x80005800, 0x100 } }, 0, { 0, 0 }, 0x5900 } },
 };
+
+/* What the tag stands for: the first notify asks for two operations. */
+static const struct asked *asked_with(uint8_t tag)
+{
+    return &ASKED[given_back / 2][tag];
+}
 
 static uint32_t tell(const struct guest *guest, struct kalyubos_pending *pending, uint32_t answer)
 {
@@ -104,46 +114,50 @@ static uint32_t serve_console(struct guest *guest, struct kalyubos_pending *pend
     return tell(guest, pending, notifies[1] == 1 ? KALYUBOS_NO_ROOM : KALYUBOS_DONE);
 }
 
-/* The used ring at 3000 gets the chain of the operation that ended, whose status byte lies behind its data or at 7000. */
-static void give_back(struct guest *guest, bool failed)
+/* The used ring at 3000 gets the chain of the operation that ended. */
+static void give_back(struct guest *guest, const struct asked *ended, bool failed)
 {
-    guest->memory[0x3002] = asked;
-    if (asked == 1) {
-        memcpy(guest->memory + 0x3008, (const uint8_t[]){ 0x01, 0x02 }, 2);
-    } else if (asked == 2) {
-        guest->memory[0x300c] = 2;
-        guest->memory[0x3010] = 1;
-    }
-    guest->memory[asked == 1 ? 0x5200 : asked == 2 ? 0x7000 : 0x5900] = failed;
+    uint8_t *entry = guest->memory + 0x3004 + 8 * given_back++;
+    guest->memory[0x3002] = given_back;
+    entry[0] = ended->id;
+    memcpy(entry + 4, ended->len, sizeof ended->len);
+    guest->memory[ended->status] = failed;
     guest->block |= 1;
 }
 
 static uint32_t ask(struct guest *guest, struct kalyubos_pending *pending)
 {
-    in_flight = true;
-    asked++;
+    in_flight = given_back == 0 ? 3 : 1;
     return tell(guest, pending, KALYUBOS_IO);
 }
 
-uint32_t kalyubos_operation(const struct kalyubos *board, uint8_t slot, struct kalyubos_operation *operation,
-                            struct kalyubos_run *runs, size_t runs_len)
+uint32_t kalyubos_in_flight(const struct kalyubos *board, uint8_t slot, uint64_t *tags)
 {
-    (void)board, (void)slot, (void)runs_len;
-    *operation = ASKED[asked - 1].operation;
-    memcpy(runs, ASKED[asked - 1].runs, sizeof ASKED->runs);
+    (void)board;
+    *tags = slot == 0 ? in_flight : 0;
     return KALYUBOS_DONE;
 }
 
-/* Behind the first operation the second is on offer. */
-uint32_t kalyubos_completed(struct kalyubos *board, uint8_t slot, bool failed, struct kalyubos_pending *pending)
+uint32_t kalyubos_operation(const struct kalyubos *board, uint8_t slot, uint8_t tag,
+                            struct kalyubos_operation *operation, struct kalyubos_run *runs, size_t runs_len)
+{
+    const struct asked *asked = asked_with(tag);
+    (void)board, (void)slot, (void)runs_len;
+    *operation = asked->operation;
+    memcpy(runs, asked->runs, sizeof asked->runs);
+    return KALYUBOS_DONE;
+}
+
+uint32_t kalyubos_completed(struct kalyubos *board, uint8_t slot, uint8_t tag, bool failed,
+                            struct kalyubos_pending *pending)
 {
     struct guest *guest = &guests[slot];
     (void)board;
-    if (!in_flight)
+    if ((in_flight >> tag & 1) == 0)
         return tell(guest, pending, KALYUBOS_IDLE);
-    give_back(guest, failed);
-    in_flight = false;
-    return asked == 1 ? ask(guest, pending) : tell(guest, pending, KALYUBOS_DONE);
+    in_flight &= ~((uint64_t)1 << tag);
+    give_back(guest, asked_with(tag), failed);
+    return tell(guest, pending, KALYUBOS_DONE);
 }
 
 uint32_t kalyubos_write(struct kalyubos *board, uint8_t slot, uint8_t window, uint16_t offset, uint8_t width,
@@ -153,7 +167,7 @@ uint32_t kalyubos_write(struct kalyubos *board, uint8_t slot, uint8_t window, ui
     (void)board, (void)width;
     if (window == KALYUBOS_CONSOLE && offset == EMERGENCY) {
         put_out(guest, (char[]){ value, 0 });
-    } else if (offset == STATUS && in_flight) {
+    } else if (offset == STATUS && in_flight != 0) {
         return tell(guest, pending, KALYUBOS_BUSY);
     } else if (offset == STATUS) {
         guest->status = value == 0 ? 0 : guest->status | value;

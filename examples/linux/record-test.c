@@ -27,7 +27,7 @@ static void must(bool holds, const char *what)
 
 static uint32_t try_to_write(uint8_t window, uint16_t offset, uint8_t width, uint32_t value)
 {
-    struct watch_call call = { WATCH_WRITE, 0, window, offset, width, value };
+    struct watch_call call = { WATCH_WRITE, 0, window, offset, width, value, 0 };
     watch_before(&call);
     uint32_t answer = record_write(&board, 0, window, offset, width, value, &pending);
     if (answer != KALYUBOS_BUSY)
@@ -44,7 +44,7 @@ static uint32_t read_register(uint8_t window, uint16_t offset, uint8_t width)
 {
     uint32_t value = 0;
     must(record_read(&board, 0, window, offset, width, &value) == KALYUBOS_DONE, "a read");
-    watch_after(&board, &(struct watch_call){ WATCH_READ, 0, window, offset, width, 0 }, record_line());
+    watch_after(&board, &(struct watch_call){ WATCH_READ, 0, window, offset, width, 0, 0 }, record_line());
     return value;
 }
 
@@ -159,11 +159,11 @@ static void use_image(FILE *mistakes)
 
 /* ---- with disks that the host serves */
 
-static void complete(bool failed, uint32_t expected)
+static void complete(uint8_t tag, bool failed, uint32_t expected)
 {
-    struct watch_call call = { .kind = WATCH_COMPLETION, .window = KALYUBOS_BLOCK, .value = failed };
+    struct watch_call call = { .kind = WATCH_COMPLETION, .window = KALYUBOS_BLOCK, .value = failed, .tag = tag };
     watch_before(&call);
-    must(record_completed(&board, 0, failed, &pending) == expected, "a completion");
+    must(record_completed(&board, 0, tag, failed, &pending) == expected, "a completion");
     watch_after(&board, &call, record_line());
 }
 
@@ -182,10 +182,10 @@ static void ask_for_two(void)
     memory[0x6000] = 1;
     memcpy(memory + 0x6010, "new", 3);
     memory[0x5200] = memory[0x7000] = 0xff;
-    must(try_to_write(KALYUBOS_BLOCK, 0x050, 4, 0) == KALYUBOS_IO, "an operation");
+    must(try_to_write(KALYUBOS_BLOCK, 0x050, 4, 0) == KALYUBOS_IO, "two operations");
 }
 
-/* While the read is in flight guest 1 goes on, and guest 0 too, but for a reset of its disk. */
+/* While both are in flight guest 1 goes on, and guest 0 too, but for a reset of its disk. */
 static void go_on_meanwhile(void)
 {
     uint32_t value;
@@ -213,6 +213,7 @@ static void serve_disks(FILE *mistakes)
 {
     struct kalyubos_slot slots[] = { SLOT, SLOT };
     slots[0].hosted = slots[1].hosted = true;
+    slots[0].depth = 2;
     slots[1].regions[1] = (struct kalyubos_region){ BASE + 2 * LEN, 0x1000 };
     struct kalyubos_config config = kalyubos_config(slots, 2);
     must(record_create(&board, &config) == KALYUBOS_DONE, "create");
@@ -221,12 +222,12 @@ static void serve_disks(FILE *mistakes)
     write_register(KALYUBOS_BLOCK, 0x070, 4, 15);
     ask_for_two();
     go_on_meanwhile();
+    complete(1, false, KALYUBOS_DONE);
     memcpy(memory + 0x5000, "host", 4);
-    complete(false, KALYUBOS_IO);
-    complete(false, KALYUBOS_DONE);
-    complete(false, KALYUBOS_IDLE);
+    complete(0, false, KALYUBOS_DONE);
+    complete(1, false, KALYUBOS_IDLE);
     ask_for_what_fails();
-    complete(true, KALYUBOS_DONE);
+    complete(0, true, KALYUBOS_DONE);
     write_register(KALYUBOS_BLOCK, 0x070, 4, 0);
     must(watch_count(0) == 1, "a mistake");
 }

@@ -24,16 +24,16 @@ struct seen {
     bool refused;  /* whether that was a write that is to be made again */
     struct text event; /* what is asked for: the line of an event that isn't done */
     char reply[32];    /* and what it is answered once it is */
+    uint64_t begun;    /* the tags of its operations that a record has */
     struct kalyubos_pending waits;
     struct text output; /* what the host hasn't taken yet */
     struct text untold; /* what no record has yet */
 };
 
-/* What a call asks the host for, until its record has it. */
+/* The operations that began with a call, by their tags, until its record has them. */
 struct asked {
-    bool is_there;
-    struct kalyubos_operation operation;
-    struct kalyubos_run runs[KALYUBOS_RUNS];
+    const struct kalyubos *board;
+    uint64_t tags;
 };
 
 static FILE *trace, *records;
@@ -90,22 +90,34 @@ static void end_call(void)
     called = lines;
 }
 
-static void put_asked(void)
+static void put_operation(const struct kalyubos *board, uint8_t slot, uint8_t tag)
 {
     static const char *const KINDS[] = {
         [KALYUBOS_IN] = "in", [KALYUBOS_OUT] = "out", [KALYUBOS_FLUSH] = "flush", [KALYUBOS_ZEROES] = "zeroes",
     };
-    const struct kalyubos_operation *operation = &asked.operation;
-    if (!asked.is_there) {
+    struct kalyubos_operation operation;
+    struct kalyubos_run runs[KALYUBOS_RUNS];
+    kalyubos_operation(board, slot, tag, &operation, runs, KALYUBOS_RUNS);
+    fprintf(records, "%x=%s%s:%llx:%llx:%s", tag, KINDS[operation.kind], operation.stable ? "-stable" : "",
+            (unsigned long long)operation.start, (unsigned long long)operation.len, operation.runs == 0 ? "-" : "");
+    for (uint32_t i = 0; i < operation.runs; i++)
+        fprintf(records, "%s%llx+%llx", i > 0 ? "," : "", (unsigned long long)runs[i].at, (unsigned long long)runs[i].len);
+}
+
+/* What was asked, in the order of the tags. */
+static void put_asked(uint8_t slot)
+{
+    const char *before = " ";
+    if (asked.tags == 0)
         fputs(" -", records);
-        return;
+    for (uint8_t tag = 0; tag < KALYUBOS_TAGS; tag++) {
+        if ((asked.tags >> tag & 1) == 0)
+            continue;
+        fputs(before, records);
+        put_operation(asked.board, slot, tag);
+        before = ";";
     }
-    fprintf(records, " %s%s:%llx:%llx:%s", KINDS[operation->kind], operation->stable ? "-stable" : "",
-            (unsigned long long)operation->start, (unsigned long long)operation->len, operation->runs == 0 ? "-" : "");
-    for (uint32_t i = 0; i < operation->runs; i++)
-        fprintf(records, "%s%llx+%llx", i > 0 ? "," : "", (unsigned long long)asked.runs[i].at,
-                (unsigned long long)asked.runs[i].len);
-    asked.is_there = false;
+    asked.tags = 0;
 }
 
 /* The end of a record: the output that no record has yet, the interrupt words as they stand, and what was asked. */
@@ -116,7 +128,7 @@ static void end_record(uint8_t slot)
     put_bytes(records, of->untold.bytes, of->untold.len);
     fprintf(records, " %x %x", (unsigned)of->waits.block, (unsigned)of->waits.console);
     if (hosted)
-        put_asked();
+        put_asked(slot);
     fputc('\n', records);
     of->untold.len = 0;
 }
@@ -275,9 +287,12 @@ static void put_slot(const struct memory *memory, const struct kalyubos_slot *sl
     for (size_t i = 0; i < memory->count; i++)
         fprintf(trace, "%s%llx%c%llx", i > 0 ? "," : "", (unsigned long long)memory->regions[i].base,
                 extended ? '+' : ' ', (unsigned long long)memory->regions[i].len);
-    fprintf(trace, "%s %llx %llx %s %x %x ", !extended ? "" : slot->hosted ? " host" : " image",
-            (unsigned long long)slot->start, (unsigned long long)slot->count, slot->read_only ? "ro" : "rw", slot->cols,
-            slot->rows);
+    if (extended && slot->hosted)
+        fprintf(trace, " host:%x", (unsigned)(slot->depth == 0 ? 1 : slot->depth));
+    else if (extended)
+        fputs(" image", trace);
+    fprintf(trace, " %llx %llx %s %x %x ", (unsigned long long)slot->start, (unsigned long long)slot->count,
+            slot->read_only ? "ro" : "rw", slot->cols, slot->rows);
     put_bytes(trace, slot->identity, sizeof slot->identity);
     fputc('\n', trace);
 }
@@ -345,9 +360,12 @@ static uint32_t settle(struct kalyubos *board, uint8_t slot, uint32_t answer, st
     fwrite(of->event.bytes, 1, of->event.len, trace);
     of->event.len = 0;
     end_call();
-    asked.is_there = answer == KALYUBOS_IO;
-    if (asked.is_there)
-        kalyubos_operation(board, slot, &asked.operation, asked.runs, KALYUBOS_RUNS);
+    if (answer == KALYUBOS_IO) {
+        uint64_t tags = 0;
+        kalyubos_in_flight(board, slot, &tags);
+        asked = (struct asked){ board, tags & ~of->begun };
+        of->begun = tags;
+    }
     put_record(slot, reply);
     put_changes(slot, put_read);
     return answer;
@@ -376,15 +394,19 @@ uint32_t record_go_on(struct kalyubos *board, uint8_t slot, struct kalyubos_pend
     return writes(slot) ? settle(board, slot, answer, pending) : answer;
 }
 
-uint32_t record_completed(struct kalyubos *board, uint8_t slot, bool failed, struct kalyubos_pending *pending)
+uint32_t record_completed(struct kalyubos *board, uint8_t slot, uint8_t tag, bool failed,
+                          struct kalyubos_pending *pending)
 {
     if (!writes(slot) || !hosted)
-        return kalyubos_completed(board, slot, failed, pending);
+        return kalyubos_completed(board, slot, tag, failed, pending);
     put_changes(slot, put_write);
-    char line[16];
-    ask(slot, line, snprintf(line, sizeof line, "io %x %s", slot, failed ? "failed" : "done"));
+    char line[32];
+    ask(slot, line, snprintf(line, sizeof line, "io %x %x %s", slot, tag, failed ? "failed" : "done"));
     strcpy(seen[slot].reply, "done");
-    return settle(board, slot, kalyubos_completed(board, slot, failed, pending), pending);
+    uint32_t answer = kalyubos_completed(board, slot, tag, failed, pending);
+    if (answer == KALYUBOS_DONE || answer == KALYUBOS_IO) /* the tag may be used again */
+        seen[slot].begun &= ~((uint64_t)1 << tag);
+    return settle(board, slot, answer, pending);
 }
 
 uint32_t record_input(struct kalyubos *board, uint8_t slot, const uint8_t *bytes, size_t bytes_len, size_t *took,

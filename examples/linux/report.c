@@ -44,6 +44,8 @@ static void show_flights(uint8_t slot)
     if (flights.operations > 0)
         printf("guest %u: its disk was asked %zu times, and other guests made %zu calls meanwhile\n", slot,
                flights.operations, flights.calls);
+    if (flights.together > 1)
+        printf("guest %u: up to %zu operations of its disk were in flight together\n", slot, flights.together);
     if (board_memory(slot)->count > 1)
         printf("guest %u: %zu of its disk's runs lay in the first region of its memory, %zu in the second\n", slot,
                flights.runs[0], flights.runs[1]);

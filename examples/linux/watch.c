@@ -64,7 +64,7 @@ void watch_before(const struct watch_call *call)
         return;
     struct window *window = &guest->windows[call->window];
     for (size_t i = 0; i < WINDOW_QUEUES; i++)
-        window->offered[i] = queue_offered(&window->queues[i], &guest->memory, window->chains[i]);
+        window->faults[i] = queue_take_in(&window->queues[i], &guest->memory, window->chains[i]);
 }
 
 /* ---- what the driver did, by what stood before it */
@@ -113,18 +113,15 @@ static void look_at_request(struct guest *guest, const struct watch_call *call, 
              status == REQUEST_IOERR ? "IOERR" : "UNSUPP", type, request_name(type), sector);
 }
 
-/* Looks at the chains that were given back; the fault of the first that wasn't, or NULL. */
-static const char *look_at_queue(struct guest *guest, const struct watch_call *call, struct queue *queue,
-                                 const struct chain *chains, size_t offered)
+/* Looks at the chains that were given back, in the order of the used entries. */
+static void look_at_queue(struct guest *guest, const struct watch_call *call, struct queue *queue, struct chain *chains)
 {
-    for (size_t i = 0; i < offered; i++) {
-        if (chains[i].fault != NULL || !queue_is_used(queue, &guest->memory, &chains[i]))
-            return chains[i].fault;
-        queue_pass(queue, &chains[i]);
+    struct chain *chain;
+    while ((chain = queue_given_back(queue, &guest->memory, chains)) != NULL) {
         if (call->window == KALYUBOS_BLOCK)
-            look_at_request(guest, call, &chains[i]);
+            look_at_request(guest, call, chain);
+        queue_give_back(queue, chains, chain);
     }
-    return NULL;
 }
 
 static void look_at_service(struct guest *guest, const struct watch_call *call, bool needs_reset)
@@ -132,8 +129,8 @@ static void look_at_service(struct guest *guest, const struct watch_call *call, 
     struct window *window = &guest->windows[call->window];
     const char *fault = NULL;
     for (size_t i = 0; i < WINDOW_QUEUES; i++) {
-        const char *found = look_at_queue(guest, call, &window->queues[i], window->chains[i], window->offered[i]);
-        fault = fault != NULL ? fault : found;
+        look_at_queue(guest, call, &window->queues[i], window->chains[i]);
+        fault = fault != NULL ? fault : window->faults[i];
     }
     if (needs_reset)
         tell(guest, call, "the device needs a reset (2.1.2): %s", fault != NULL ? fault : "a chain can't be served");

@@ -12,8 +12,8 @@
 #include "window.h"
 
 /*
- * A guest's access to a register; what was typed to its console, or a completion of its disk, which have no register. The
- * value of a completion says whether it failed.
+ * A guest's access to a register; what was typed to its console, or a completion of its disk, which have no register. A
+ * completion is of a tag, and its value says whether it failed.
  */
 struct watch_call {
     enum { WATCH_READ, WATCH_WRITE, WATCH_INPUT, WATCH_COMPLETION } kind;
@@ -21,6 +21,7 @@ struct watch_call {
     uint16_t offset;
     uint8_t width;
     uint32_t value;
+    uint8_t tag;
 };
 
 /* Tells the guest's mistakes to a file from now on. */

@@ -22,7 +22,8 @@ static void keep_queue(const struct window *window, struct queue *queue, uint16_
 {
     bool is_area = offset >= QUEUE_DESC && offset < QUEUE_AREAS_END && offset % 16 <= 4;
     if (offset == QUEUE_READY) {
-        queue->place = queue->ready ? queue->place : 0;
+        if (!queue->ready)
+            queue->place = queue->used = queue->pending = queue->ahead = 0;
         queue->ready = ready;
         queue->packed = window->features >> RING_PACKED & 1;
         queue->indirect = window->features >> INDIRECT_DESC & 1;

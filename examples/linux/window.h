@@ -11,8 +11,8 @@ struct window {
     uint32_t features_sel, queue_sel;
     uint64_t features;
     struct queue queues[WINDOW_QUEUES];
-    struct chain chains[WINDOW_QUEUES][QUEUE_PLACES]; /* what was on offer before the call */
-    size_t offered[WINDOW_QUEUES];
+    struct chain chains[WINDOW_QUEUES][QUEUE_PLACES + 1]; /* of each queue those that are pending */
+    const char *faults[WINDOW_QUEUES]; /* what was wrong with the chain behind them before the call, or NULL */
 };
 
 /* Keeps what was written to a register; `ready` is what QueueReady reads after it. */

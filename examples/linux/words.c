@@ -45,7 +45,8 @@ static uint64_t feature(const char *word)
 static const struct option OPTIONS[] = {
     { "bytes", required_argument, NULL, 'y' },   { "cache", required_argument, NULL, 'c' },
     { "chains", required_argument, NULL, 'a' },  { "copies", no_argument, NULL, 'p' },
-    { "cycles", required_argument, NULL, 'n' },  { "hosted", required_argument, NULL, 'h' },
+    { "cycles", required_argument, NULL, 'n' },  { "depth", required_argument, NULL, 'f' },
+    { "hosted", required_argument, NULL, 'h' },
     { "image", required_argument, NULL, 'm' },   { "interactive", no_argument, NULL, 'i' },
     { "keep", required_argument, NULL, 'b' },    { "kernel", required_argument, NULL, 'k' },
     { "large", no_argument, NULL, 'j' },         { "late", no_argument, NULL, 'l' },
@@ -75,6 +76,7 @@ static void take(struct words *words, int option)
     case 'c': words->cache = number(optarg); break;
     case 'd': words->to = optarg; break;
     case 'e': words->save_at = number(optarg); break;
+    case 'f': words->depth = number(optarg); break;
     case 'g': words->shown = number(optarg); break;
     case 'h': host(words, optarg); break;
     case 'i': words->interactive = true; break;
@@ -116,7 +118,7 @@ struct words words_of(int argc, char **argv)
 {
     struct words words = {
         .to = ".", .script = "", .cache = 1024, .outlet = 0x8000, .bytes = 0x10000, .cycles = 4000000000, .latency = 10000,
-        .shown = -1, .kept = -1,
+        .depth = 1, .shown = -1, .kept = -1,
     };
     int option;
     while ((option = getopt_long(argc, argv, "", OPTIONS, NULL)) != -1)
@@ -131,5 +133,7 @@ struct words words_of(int argc, char **argv)
         fail("a saved guest beside --image or --record");
     if (words.hosted && (words.image != NULL || words.kept >= 0))
         fail("--hosted beside --image or --keep");
+    if (words.depth == 0 || words.depth > 64)
+        fail("--depth is 1 to 64");
     return words;
 }

@@ -16,6 +16,7 @@ struct words {
     const char *image; /* the file of all disks, which is served in place, or NULL */
     bool hosted;       /* each disk is the guest's file, which the host serves, */
     bool threads;      /* without io_uring */
+    uint32_t depth;    /* how many operations of it may be in flight */
     uint64_t latency;  /* how many instructions such a disk takes, or all ones: as many as pass */
     uint32_t cache, outlet;
     uint32_t chains; /* the budget of a call, or 0 for no limit */

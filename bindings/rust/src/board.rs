@@ -48,7 +48,7 @@ pub struct Pending {
     pub output: u64,
     /// Whether the slot's service pauses: [`Board::go_on`] goes on with it.
     pub more: bool,
-    /// Whether the slot's disk waits for the host from now on: [`Board::operation`] says for what.
+    /// Whether operations of the slot's disk began, which wait for the host: [`Board::in_flight`] says which.
     pub io: bool,
 }
 
@@ -229,8 +229,8 @@ impl Board {
     /// there was output to take.
     ///
     /// [`Error::Busy`]: a service of the slot is paused. Or the write, to Status or QueueReady of the block window,
-    /// waits for what is in flight of a disk that the host serves. The guest's CPU waits with it; make the same write
-    /// again after the completion.
+    /// waits for all that is in flight of a disk that the host serves. The guest's CPU waits with it; make the same write
+    /// again once all is completed.
     ///
     /// ```
     /// # use kalyubos::{Board, Config, Error, Slot, Window};
@@ -271,7 +271,7 @@ impl Board {
     }
 
     /// Goes on with a slot's service that pauses, and tells what then waits. Until it is done every other call for the
-    /// slot is [`Error::Busy`], but those that tell its interrupts, counters or operation or take its output, and none
+    /// slot is [`Error::Busy`], but those that tell its interrupts, counters or operations or take its output, and none
     /// of its CPUs runs.
     pub fn go_on(&mut self, slot: u8) -> Result<Pending, Error> {
         let mut told = ffi::Pending::default();

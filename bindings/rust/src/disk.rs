@@ -4,15 +4,16 @@ use crate::board::{Board, Pending};
 use crate::error::Error;
 use crate::ffi;
 use crate::operation::{Operation, Outcome, Run};
+use crate::tags::Tags;
 
 impl Board {
-    /// What a slot's disk is asked for, or nothing where nothing of it is in flight. It may be asked for again and
-    /// again.
+    /// Which operations of a slot's disk are in flight, by their tags: numbers below the slot's [`depth`](crate::Slot::depth).
     ///
-    /// The operation borrows no board, so its runs are read while guest memory is lent:
+    /// An operation keeps its tag until it is completed; then the tag is free for another. A host remembers those that it
+    /// has begun, begins the others after each call that tells [`Pending::io`], and forgets a tag before it completes it:
     ///
     /// ```
-    /// use kalyubos::{Board, Config, Error, Kind, Operation, Outcome, Slot};
+    /// use kalyubos::{Board, Config, Error, Kind, Operation, Outcome, Slot, Tags};
     ///
     /// /// A read of a disk that is a list of bytes.
     /// fn read(board: &mut Board, asked: &Operation, disk: &[u8]) -> Result<(), Error> {
@@ -25,21 +26,39 @@ impl Board {
     ///     Ok(())
     /// }
     ///
-    /// let mut board = Board::create(&Config::new(&[Slot::hosted(0x8000_0000, 0x1_0000, 8)]))?;
-    /// match board.operation(0)? {
-    ///     Some(asked) if asked.kind == Kind::In => read(&mut board, &asked, &[0; 8 * 512])?,
-    ///     Some(_) => println!("{:?}", board.complete(0, Outcome::Failed)?),
-    ///     None => println!("nothing is in flight"),
+    /// let slot = Slot::hosted(0x8000_0000, 0x1_0000, 8).with_depth(16);
+    /// let mut board = Board::create(&Config::new(&[slot]))?;
+    /// let mut begun = Tags::default();
+    /// for tag in board.in_flight(0)?.without(begun) {
+    ///     begun.insert(tag);
+    ///     match board.operation(0, tag)? {
+    ///         Some(asked) if asked.kind == Kind::In => read(&mut board, &asked, &[0; 8 * 512])?,
+    ///         asked => println!("{asked:?}"),
+    ///     }
+    /// }
+    /// while let Some(tag) = begun.first() {
+    ///     begun.remove(tag);
+    ///     println!("{:?}", board.complete(0, tag, Outcome::Done)?);
     /// }
     /// # Ok::<(), Box<dyn std::error::Error>>(())
     /// ```
-    pub fn operation(&self, slot: u8) -> Result<Option<Operation>, Error> {
+    pub fn in_flight(&self, slot: u8) -> Result<Tags, Error> {
+        let mut bits = 0;
+        Error::check(unsafe { ffi::kalyubos_in_flight(self.handle(), slot, &mut bits) })?;
+        Ok(Tags::of(bits))
+    }
+
+    /// What a slot's disk is asked for with a tag, or nothing where nothing of it is in flight with this tag. It may be
+    /// asked for again and again, and stays the same until [`complete`](Board::complete). The operation borrows no board,
+    /// so its runs are read while guest memory is lent.
+    pub fn operation(&self, slot: u8, tag: u8) -> Result<Option<Operation>, Error> {
         let mut told = ffi::Operation::default();
         let mut runs = [Run::default(); ffi::RUNS];
         let number = unsafe {
             ffi::kalyubos_operation(
                 self.handle(),
                 slot,
+                tag,
                 &mut told,
                 runs.as_mut_ptr(),
                 runs.len(),
@@ -52,16 +71,19 @@ impl Board {
         }
     }
 
-    /// Says what came of the slot's operation. The guest's request is completed, and its queue looked at again.
+    /// Says what came of the slot's operation with a tag. The guest's request is completed, the tag is free, and the queue
+    /// is looked at again. Operations are completed in any order.
     ///
     /// Of [`Outcome::Done`] the bytes of an IN stand in the runs, those of an OUT are found by each later IN, and after
-    /// a flush, or where the operation is `stable`, they are on the medium. [`Error::Idle`]: nothing was in flight.
-    pub fn complete(&mut self, slot: u8, outcome: Outcome) -> Result<Pending, Error> {
+    /// a flush, or where the operation is `stable`, they are on the medium. In a window that asks for a reset a completion
+    /// only frees its tag. [`Error::Idle`]: nothing was in flight with this tag.
+    pub fn complete(&mut self, slot: u8, tag: u8, outcome: Outcome) -> Result<Pending, Error> {
         let mut told = ffi::Pending::default();
         let number = unsafe {
             ffi::kalyubos_completed(
                 self.handle_mut(),
                 slot,
+                tag,
                 outcome == Outcome::Failed,
                 &mut told,
             )

@@ -18,7 +18,7 @@ pub enum Error {
     /// A service of the slot is paused; see [`Board::go_on`](crate::Board::go_on). Or the write waits for the slot's
     /// disk, which the host serves; see [`Board::write`](crate::Board::write). So do a save and a restore.
     Busy,
-    /// Nothing of the slot is in flight; see [`Board::complete`](crate::Board::complete).
+    /// Nothing of the slot is in flight with this tag; see [`Board::complete`](crate::Board::complete).
     Idle,
     /// The board has no image, or one of no bytes.
     NoImage,
@@ -74,6 +74,8 @@ pub enum CreateError {
     BadCache,
     /// An outlet is asked to keep more than 2^24 bytes.
     BadOutlet,
+    /// A disk that the host serves has a depth above 64.
+    BadDepth,
     /// The lent bytes have another number or length than the regions; see [`Board::over_lent`](crate::Board::over_lent).
     BadLoan,
     /// The library that is linked has a config or a slot of another size than the crate.
@@ -157,6 +159,7 @@ impl CreateError {
             17 => BadSize,
             28 => RegionsNotApart,
             29 => BadLoan,
+            30 => BadDepth,
             number => Other(number),
         })
     }
@@ -171,7 +174,7 @@ impl fmt::Display for Error {
                 f.write_str("the console's next output does not fit behind what waits")
             }
             Error::Busy => f.write_str("a service of the slot is paused, or its disk is at work"),
-            Error::Idle => f.write_str("nothing of the slot is in flight"),
+            Error::Idle => f.write_str("nothing of the slot is in flight with this tag"),
             Error::NoImage => f.write_str("the board has no image, or one of no bytes"),
             Error::ShortBuffer => f.write_str("the buffer is shorter than the snapshot"),
             Error::Other(number) => write!(f, "the library answered {number}"),
@@ -211,6 +214,7 @@ impl fmt::Display for CreateError {
             ExtentsOverlap => "two slots share a sector",
             BadCache => "a cache keeps 1 to 65536 sectors",
             BadOutlet => "an outlet keeps 2^24 bytes at most",
+            BadDepth => "a disk that the host serves has 1 to 64 operations in flight",
             BadLoan => "each region of each slot needs lent bytes of its length",
             BadSize => "the library's config or slot has another size than the crate's",
             WrongLibrary(version) => {

@@ -36,6 +36,7 @@ pub struct Slot {
     pub read_only: bool,
     pub hosted: bool,
     pub identity: [u8; 20],
+    pub depth: u32,
 }
 
 /// What waits once a call is answered.
@@ -118,9 +119,11 @@ unsafe extern "C" {
         value: u32,
         pending: *mut Pending,
     ) -> u32;
+    pub fn kalyubos_in_flight(board: *const Handle, slot: u8, tags: *mut u64) -> u32;
     pub fn kalyubos_operation(
         board: *const Handle,
         slot: u8,
+        tag: u8,
         operation: *mut Operation,
         runs: *mut Run,
         runs_len: usize,
@@ -128,6 +131,7 @@ unsafe extern "C" {
     pub fn kalyubos_completed(
         board: *mut Handle,
         slot: u8,
+        tag: u8,
         failed: bool,
         pending: *mut Pending,
     ) -> u32;

@@ -13,6 +13,7 @@ mod operation;
 mod pages;
 mod saved;
 mod slot;
+mod tags;
 
 pub use board::{Board, Budget, Interrupts, Pending, Window};
 pub use config::Config;
@@ -22,3 +23,4 @@ pub use fault::{DriverFault, FaultKind};
 pub use identity::{Identity, IdentityTooLong};
 pub use operation::{Kind, Operation, Outcome, Run, Runs};
 pub use slot::{Region, Slot};
+pub use tags::Tags;

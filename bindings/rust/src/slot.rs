@@ -27,6 +27,7 @@ pub struct Slot {
     outlet: u32,
     read_only: bool,
     hosted: bool,
+    depth: u32,
     identity: Identity,
 }
 
@@ -49,13 +50,15 @@ impl Slot {
             outlet: 0x8000,
             read_only: false,
             hosted: false,
+            depth: 1,
             identity: Identity::default(),
         }
     }
 
     /// A guest as [`new`](Slot::new) has it whose disk the host serves: one of so many sectors. The board says what it
-    /// wants of the disk ([`Board::operation`](crate::Board::operation)), the host does it as it likes and says that it
-    /// is done ([`Board::complete`](crate::Board::complete)), and meanwhile the guest runs on.
+    /// wants of the disk ([`Board::in_flight`](crate::Board::in_flight)), the host does it as it likes and says that it
+    /// is done ([`Board::complete`](crate::Board::complete)), and meanwhile the guest runs on. One operation at a time is
+    /// in flight, unless [`with_depth`](Slot::with_depth) allows more.
     pub fn hosted(base: u64, len: u64, sectors: u64) -> Slot {
         Slot {
             hosted: true,
@@ -96,6 +99,13 @@ impl Slot {
         self
     }
 
+    /// How many operations of its disk may be in flight where the host serves it, 1 to 64; 0 is 1. Of a disk of the image it
+    /// says nothing.
+    pub fn with_depth(mut self, operations: u32) -> Slot {
+        self.depth = operations;
+        self
+    }
+
     /// What its disk answers to GET_ID.
     pub fn with_identity(mut self, identity: Identity) -> Slot {
         self.identity = identity;
@@ -118,6 +128,12 @@ impl Slot {
     #[must_use]
     pub fn is_hosted(&self) -> bool {
         self.hosted
+    }
+
+    /// How many operations of its disk may be in flight.
+    #[must_use]
+    pub fn depth(&self) -> u32 {
+        self.depth
     }
 
     /// The columns and rows of its console.
@@ -164,6 +180,7 @@ impl Slot {
             read_only: self.read_only,
             hosted: self.hosted,
             identity: *self.identity.bytes(),
+            depth: self.depth,
         })
     }
 }

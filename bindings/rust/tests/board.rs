@@ -232,6 +232,7 @@ fn a_slot_tells_what_it_was_made_with() {
     assert!(!slot.is_hosted());
     let hosted = Slot::hosted(MEMORY, LEN, 5);
     assert_eq!((hosted.sectors(), hosted.is_hosted()), (0..5, true));
+    assert_eq!((hosted.depth(), hosted.with_depth(64).depth()), (1, 64));
 }
 
 #[test]

@@ -1,6 +1,6 @@
 //! A disk that the host serves: a flight from its write to its completion, also beside a disk of the image.
 
-use kalyubos::{Board, Budget, Config, CreateError, Error, Kind, Outcome, Run, Slot, Window};
+use kalyubos::{Board, Budget, Config, CreateError, Error, Kind, Outcome, Run, Slot, Tags, Window};
 use std::num::NonZeroU32;
 
 const MEMORY: u64 = 0x8000_0000;
@@ -68,13 +68,16 @@ fn one_read_on_offer() -> Board {
 #[test]
 fn a_request_waits_for_the_host() {
     let mut board = one_read_on_offer();
-    assert_eq!(board.complete(0, Outcome::Done), Err(Error::Idle));
+    assert_eq!(board.complete(0, 0, Outcome::Done), Err(Error::Idle));
     let served = board
         .write(0, Window::Block, NOTIFY, 4, 0)
         .expect("a store");
     assert!(served.io && served.interrupts.block == 0);
 
-    let asked = board.operation(0).expect("a slot").expect("an operation");
+    let asked = board
+        .operation(0, 0)
+        .expect("a slot")
+        .expect("an operation");
     assert_eq!(
         (asked.kind, asked.start, asked.len, asked.stable),
         (Kind::In, 512, 512, false)
@@ -92,16 +95,16 @@ fn a_request_waits_for_the_host() {
         Err(Error::Busy)
     );
     board.memory(0, MEMORY).expect("a memory")[0x101] = 0xff;
-    assert_eq!(board.operation(0), Ok(Some(asked)));
+    assert_eq!(board.operation(0, 0), Ok(Some(asked)));
 
     board
         .write_memory(0, runs[1].at, &[7; 0x100])
         .expect("a run");
-    let served = board.complete(0, Outcome::Done).expect("a completion");
+    let served = board.complete(0, 0, Outcome::Done).expect("a completion");
     assert!(!served.io && served.interrupts.block == 1);
     let memory = board.memory(0, MEMORY).expect("a memory");
     assert_eq!((memory[0], memory[0x6ff], memory[0x302]), (0, 7, 1));
-    assert_eq!(board.operation(0), Ok(None));
+    assert_eq!(board.operation(0, 0), Ok(None));
 }
 
 /// The runs are read while the memory is lent, and on another thread while the guest's calls go on.
@@ -109,7 +112,7 @@ fn a_request_waits_for_the_host() {
 fn an_operation_borrows_no_board() {
     let mut board = one_read_on_offer();
     assert!(board.write(0, Window::Block, NOTIFY, 4, 0).unwrap().io);
-    let asked = board.operation(0).unwrap().expect("an operation");
+    let asked = board.operation(0, 0).unwrap().expect("an operation");
     for run in &asked.runs {
         board.memory(0, run.at).unwrap()[..run.len as usize].fill(7);
     }
@@ -121,7 +124,7 @@ fn an_operation_borrows_no_board() {
     let length = std::thread::spawn(move || asked.runs.iter().map(|run| run.len).sum::<u64>());
     assert_eq!(board.read(0, Window::Block, 0x008, 4), Ok(2));
     assert_eq!(length.join().unwrap(), 512);
-    let served = board.complete(0, Outcome::Done).unwrap();
+    let served = board.complete(0, 0, Outcome::Done).unwrap();
     assert!(!served.io && served.interrupts.block == 1);
 }
 
@@ -132,7 +135,7 @@ fn a_flush_has_no_runs() {
     board.memory(0, MEMORY).unwrap()[0x10] = 4; // the request's type, and then no data
     board.memory(0, MEMORY).unwrap()[0x10e] = 3;
     assert!(board.write(0, Window::Block, NOTIFY, 4, 0).unwrap().io);
-    let asked = board.operation(0).unwrap().expect("an operation");
+    let asked = board.operation(0, 0).unwrap().expect("an operation");
     assert_eq!((asked.kind, asked.start, asked.len), (Kind::Flush, 0, 0));
     assert!(asked.runs.is_empty() && asked.runs == asked.clone().runs);
     assert_eq!(format!("{:?}", asked.runs), "[]");
@@ -150,7 +153,60 @@ fn asking_changes_nothing() {
     assert_eq!(first.interrupts(0).unwrap().block, 0);
     assert_eq!(second.counters(0).unwrap().notifies, 0);
     assert_eq!(first.save(0).unwrap().len(), second.saved_len(0).unwrap());
-    assert_eq!(first.operation(0), Ok(None));
+    assert_eq!(first.operation(0, 0), Ok(None));
+}
+
+/// A board of one guest of this depth with the read on offer so many times.
+fn reads_on_offer(depth: u32, count: u8) -> Board {
+    let slots = [hosted().with_depth(depth)];
+    let mut board = Board::create(&Config::new(&slots)).expect("a board");
+    offer_read(&mut board, 0);
+    board.memory(0, MEMORY).unwrap()[0x202] = count;
+    board
+}
+
+/// Of three requests two are in flight together; the last of these ends first, and its tag is used again.
+#[test]
+fn operations_end_in_any_order() {
+    let mut board = reads_on_offer(2, 3);
+    assert_eq!(board.in_flight(0), Ok(Tags::default()));
+    assert!(board.write(0, Window::Block, NOTIFY, 4, 0).unwrap().io);
+    let tags = board.in_flight(0).unwrap();
+    assert_eq!(tags.into_iter().collect::<Vec<_>>(), [0, 1]);
+    assert_eq!(format!("{tags:?} {}", tags.len()), "{0, 1} 2");
+    assert_eq!(board.operation(0, 2), Ok(None));
+    assert_eq!(board.complete(0, 2, Outcome::Done), Err(Error::Idle));
+    assert_eq!(board.complete(0, 255, Outcome::Done), Err(Error::Idle));
+
+    let first = board.operation(0, 0).unwrap();
+    assert!(board.complete(0, 1, Outcome::Done).unwrap().io); // the third begins
+    assert_eq!(board.in_flight(0), Ok(tags));
+    assert_eq!(board.operation(0, 0).unwrap(), first);
+    assert!(!board.complete(0, 1, Outcome::Failed).unwrap().io);
+    assert_eq!(board.in_flight(0).unwrap().first(), Some(0));
+    assert_eq!(
+        board.write(0, Window::Block, STATUS, 4, 0),
+        Err(Error::Busy)
+    );
+    assert!(!board.complete(0, 0, Outcome::Done).unwrap().io);
+    assert!(board.in_flight(0).unwrap().is_empty());
+    assert_eq!(board.memory(0, MEMORY).unwrap()[0x302], 3); // the used idx
+    let reset = board.write(0, Window::Block, STATUS, 4, 0).unwrap();
+    assert_eq!(reset.interrupts.block, 0);
+}
+
+/// A fault behind an operation in flight: its completion frees the tag, and changes nothing of the guest's memory.
+#[test]
+fn a_completion_behind_a_fault_frees_its_tag() {
+    let mut board = reads_on_offer(2, 2);
+    board.memory(0, MEMORY).unwrap()[0x206] = 4; // the second head is outside the table
+    let pending = board.write(0, Window::Block, NOTIFY, 4, 0).unwrap();
+    assert!(pending.io && pending.interrupts.block & 2 != 0);
+    let before = board.memory(0, MEMORY).unwrap().to_vec();
+    let pending = board.complete(0, 0, Outcome::Done).unwrap();
+    assert!(!pending.io && pending.interrupts.block & 2 != 0);
+    assert!(board.in_flight(0).unwrap().is_empty());
+    assert_eq!(board.memory(0, MEMORY).unwrap(), before);
 }
 
 #[test]
@@ -162,7 +218,7 @@ fn a_failure_is_an_error_of_the_request() {
             .expect("a store")
             .io
     );
-    let served = board.complete(0, Outcome::Failed).expect("a completion");
+    let served = board.complete(0, 0, Outcome::Failed).expect("a completion");
     assert!(!served.io && served.interrupts.block == 1);
     assert_eq!(board.memory(0, MEMORY).expect("a memory")[0], 1);
 }
@@ -170,10 +226,18 @@ fn a_failure_is_an_error_of_the_request() {
 #[test]
 fn refusals_are_told() {
     let mut board = one_read_on_offer();
-    assert_eq!(board.operation(1), Err(Error::BadSlot));
-    assert_eq!(board.complete(1, Outcome::Done), Err(Error::BadSlot));
+    assert_eq!(board.operation(1, 0), Err(Error::BadSlot));
+    assert_eq!(board.complete(1, 0, Outcome::Done), Err(Error::BadSlot));
     assert_eq!(board.image_len(), Err(Error::NoImage));
     assert_eq!(board.image().unwrap_err(), Error::NoImage);
+    assert_eq!(board.in_flight(1), Err(Error::BadSlot));
+    let deep = [hosted().with_depth(65)];
+    let fault = Config::new(&deep).judge().unwrap_err();
+    assert_eq!((fault.why, fault.slot), (CreateError::BadDepth, Some(0)));
+    assert_eq!(
+        Board::create(&Config::new(&deep)).unwrap_err(),
+        CreateError::BadDepth
+    );
     let long = [Slot::hosted(MEMORY, LEN, 1 << 55)];
     let refused = Board::create(&Config::new(&long)).unwrap_err();
     assert_eq!(refused, CreateError::ExtentOutside);
@@ -191,13 +255,13 @@ fn a_board_has_both_kinds_of_disk() {
     assert!(board.write(1, Window::Block, NOTIFY, 4, 0).unwrap().io);
     let pending = board.write(0, Window::Block, NOTIFY, 4, 0).unwrap();
     assert!(!pending.io && pending.interrupts.block == 1);
-    assert_eq!(board.operation(0), Ok(None));
-    assert_eq!(board.complete(0, Outcome::Done), Err(Error::Idle));
+    assert_eq!(board.operation(0, 0), Ok(None));
+    assert_eq!(board.complete(0, 0, Outcome::Done), Err(Error::Idle));
     assert_eq!(board.memory(0, MEMORY + 0x400).unwrap()[0], 7);
 
-    let asked = board.operation(1).unwrap().expect("an operation");
+    let asked = board.operation(1, 0).unwrap().expect("an operation");
     board.memory(1, asked.runs[0].at).unwrap()[0] = 9;
-    let pending = board.complete(1, Outcome::Done).unwrap();
+    let pending = board.complete(1, 0, Outcome::Done).unwrap();
     assert!(!pending.io && pending.interrupts.block == 1);
     assert_eq!(board.memory(1, MEMORY).unwrap()[..1], [0]);
     assert_eq!(board.memory(1, MEMORY + 0x400).unwrap()[0], 9);
@@ -223,9 +287,9 @@ fn a_console_pauses_beside_a_disk_at_work() {
     memory[0x202] = 2; // on offer two times
     let pending = board.write(0, Window::Console, NOTIFY, 4, 1).unwrap();
     assert!(pending.more && !pending.io && pending.output == 1);
-    assert!(board.operation(0).unwrap().is_some());
-    assert_eq!(board.complete(0, Outcome::Done), Err(Error::Busy));
+    assert!(board.operation(0, 0).unwrap().is_some());
+    assert_eq!(board.complete(0, 0, Outcome::Done), Err(Error::Busy));
     let pending = board.go_on(0).unwrap();
     assert!(!pending.more && pending.output == 2);
-    assert!(!board.complete(0, Outcome::Done).unwrap().io);
+    assert!(!board.complete(0, 0, Outcome::Done).unwrap().io);
 }

@@ -65,8 +65,8 @@ fn a_guest_goes_on_where_it_was_saved() {
         .expect("a store");
     assert_eq!(first.input(0, b"ls").expect("input").0, 2);
 
-    // 61 bytes of description, 96 of a window and 6 more of one whose queue is ready, the count, and one byte of input
-    assert_eq!(first.saved_len(0), Ok(61 + 96 + 96 + 6 + 4 + 1));
+    // 61 bytes of description, 96 of a window and 8 more of one whose queue is ready, the count, and one byte of input
+    assert_eq!(first.saved_len(0), Ok(61 + 96 + 96 + 8 + 4 + 1));
     let devices = first.save(0).expect("a snapshot");
     let memory = first.memory(0, MEMORY).expect("a memory").to_vec();
     let disk = first.image().expect("an image").to_vec();
@@ -189,7 +189,7 @@ fn a_disk_at_work_is_busy() {
     assert_eq!(board.saved_len(0), Err(Error::Busy));
     assert_eq!(board.save_into(0, &mut [0; 1024]), Err(Error::Busy));
     assert_eq!(board.restore(0, &fresh), Err(RestoreError::Busy));
-    let _ = board.complete(0, Outcome::Done).expect("a completion");
+    let _ = board.complete(0, 0, Outcome::Done).expect("a completion");
 
     // a slot over an image takes it
     let devices = board.save(0).expect("a snapshot");

@@ -1,15 +1,15 @@
 //! The host of `disk.c`, in Rust with std alone: real disks for two guests over two files, and the same lines. Each guest has
-//! a board of its own and a thread of its own, which is its CPU and makes its calls; its disk is a thread that knows the file
-//! and no guest. Guests share nothing, and need no lock.
+//! a board of its own and a thread of its own, which is its CPU and makes its calls; its disk is a few threads that know the
+//! file and no guest, one for each operation that may be in flight. Guests share nothing, and need no lock.
 
-use kalyubos::{Board, Config, Kind, Operation, Outcome, Pending, Slot, Window};
+use kalyubos::{Board, Config, Kind, Operation, Outcome, Pending, Slot, Tags, Window};
 use std::error::Error;
 use std::fs::{self, File};
 use std::io;
 use std::os::unix::fs::FileExt;
 use std::path::PathBuf;
 use std::sync::mpsc::{channel, Receiver, Sender};
-use std::sync::Barrier;
+use std::sync::{Arc, Barrier, Mutex};
 use std::thread;
 
 type Result<T> = std::result::Result<T, Box<dyn Error + Send + Sync>>;
@@ -18,11 +18,13 @@ const MEMORY: u64 = 0x8000_0000;
 const MEMORY_LEN: u64 = 0x40_0000;
 const DISK_LEN: u64 = 0x40_0000;
 const SECTOR_LEN: usize = 512;
+const DEPTH: u32 = 4;
 
 // ---- the disk
 
 /// What is asked of a file, with the bytes that go to it, or with room for those that come.
 struct Order {
+    tag: u8,
     asked: Operation,
     bytes: Vec<u8>,
 }
@@ -47,10 +49,14 @@ impl Order {
     }
 }
 
-/// A disk's thread: performs orders as long as there are some, and sends each back with what came of it.
-fn serve(file: File, orders: Receiver<Order>, ends: Sender<(Order, Outcome)>) {
-    for mut order in orders {
-        let outcome = match order.perform(&file) {
+/// A thread of a disk's: performs orders as long as there are some, and sends each back with what came of it.
+fn serve(file: &File, orders: &Mutex<Receiver<Order>>, ends: &Sender<(Order, Outcome)>) {
+    loop {
+        let order = orders.lock().expect("no thread panics").recv();
+        let Ok(mut order) = order else {
+            return;
+        };
+        let outcome = match order.perform(file) {
             Ok(()) => Outcome::Done,
             Err(_) => Outcome::Failed,
         };
@@ -68,6 +74,8 @@ struct Guest {
     path: PathBuf,
     orders: Sender<Order>,
     ends: Receiver<(Order, Outcome)>,
+    /// The tags of the orders that are out.
+    begun: Tags,
     /// The word of the block window's line, as the last call left it.
     line: u32,
     offered: u16,
@@ -79,16 +87,21 @@ impl Guest {
             std::env::temp_dir().join(format!("kalyubos-disk-{}-{number}", std::process::id()));
         fs::write(&path, vec![b'a' + number as u8; DISK_LEN as usize])?;
         let file = File::options().read(true).write(true).open(&path)?;
-        let slot = Slot::hosted(MEMORY, MEMORY_LEN, DISK_LEN / SECTOR_LEN as u64);
+        let slot = Slot::hosted(MEMORY, MEMORY_LEN, DISK_LEN / SECTOR_LEN as u64).with_depth(DEPTH);
         let (orders, taken) = channel();
         let (sent, ends) = channel();
-        thread::spawn(move || serve(file, taken, sent));
+        let shared = Arc::new((file, Mutex::new(taken)));
+        for _ in 0..DEPTH {
+            let (shared, sent) = (Arc::clone(&shared), sent.clone());
+            thread::spawn(move || serve(&shared.0, &shared.1, &sent));
+        }
         Ok(Guest {
             number,
             board: Board::create(&Config::new(&[slot]))?,
             path,
             orders,
             ends,
+            begun: Tags::default(),
             line: 0,
             offered: 0,
         })
@@ -103,21 +116,25 @@ impl Guest {
         Ok(())
     }
 
-    /// Hands what the slot waits for to its disk, with the bytes of an OUT.
+    /// Hands what began to the disk, with the bytes of an OUT.
     fn begin(&mut self) -> Result<()> {
-        let Some(asked) = self.board.operation(0)? else {
-            return Ok(());
-        };
-        let mut bytes = vec![0; asked.len as usize];
-        if asked.kind == Kind::Out {
-            let mut rest = &mut bytes[..];
-            for run in &asked.runs {
-                let (part, behind) = rest.split_at_mut(run.len as usize);
-                self.board.read_memory(0, run.at, part)?;
-                rest = behind;
+        for tag in self.board.in_flight(0)?.without(self.begun) {
+            let Some(asked) = self.board.operation(0, tag)? else {
+                continue;
+            };
+            let mut bytes = vec![0; asked.len as usize];
+            if asked.kind == Kind::Out {
+                let mut rest = &mut bytes[..];
+                for run in &asked.runs {
+                    let (part, behind) = rest.split_at_mut(run.len as usize);
+                    self.board.read_memory(0, run.at, part)?;
+                    rest = behind;
+                }
             }
+            self.begun.insert(tag);
+            self.orders.send(Order { tag, asked, bytes })?;
         }
-        Ok(self.orders.send(Order { asked, bytes })?)
+        Ok(())
     }
 
     /// Waits for the disk, and completes what it did, with the bytes of an IN.
@@ -131,11 +148,12 @@ impl Guest {
                 rest = behind;
             }
         }
-        let pending = self.board.complete(0, outcome)?;
+        self.begun.remove(order.tag);
+        let pending = self.board.complete(0, order.tag, outcome)?;
         self.take_in(pending)
     }
 
-    /// A store. One that resets the device, or its queue, waits for what is in flight.
+    /// A store. One that resets the device, or its queue, waits for all that is in flight.
     fn store(&mut self, window: Window, offset: u16, value: u32) -> Result<()> {
         loop {
             match self.board.write(0, window, offset, 4, value) {
@@ -150,7 +168,7 @@ impl Guest {
     fn bring_up(&mut self, features: u32) -> Result<()> {
         let at = MEMORY as u32;
         let queue = [
-            (0x38, 4),
+            (0x38, PLACES as u32),
             (0x80, at + TABLE as u32),
             (0x90, at + AVAIL as u32),
             (0xa0, at + USED as u32),
@@ -176,32 +194,57 @@ impl Guest {
 
     /// Offers a request whose data, if it has any, lies at an offset of the memory, and notifies.
     fn ask(&mut self, what: u32, sector: u64, data: usize, len: u32) -> Result<()> {
+        let (number, place) = (
+            usize::from(self.offered) % REQUESTS,
+            usize::from(self.offered) % PLACES,
+        );
+        let (at, head) = (number * HEADER_LEN, (number * CHAIN_LEN) as u16);
         let writes = if what == IN { WRITE } else { 0 };
         let table = [
-            descriptor(HEADER, 16, NEXT, if len == 0 { 2 } else { 1 }),
-            descriptor(data, len, NEXT | writes, 2),
-            descriptor(STATUS, 1, WRITE, 0),
+            descriptor(HEADER + at, 16, NEXT, head + if len == 0 { 2 } else { 1 }),
+            descriptor(data, len, NEXT | writes, head + 2),
+            descriptor(STATUS + at, 1, WRITE, 0),
         ];
         self.offered += 1;
         let memory = self.board.memory(0, MEMORY)?;
-        memory[HEADER..HEADER + 8].copy_from_slice(&u64::from(what).to_le_bytes());
-        memory[HEADER + 8..HEADER + 16].copy_from_slice(&sector.to_le_bytes());
-        memory[TABLE..TABLE + 48].copy_from_slice(&table.concat());
+        memory[HEADER + at..][..8].copy_from_slice(&u64::from(what).to_le_bytes());
+        memory[HEADER + at + 8..][..8].copy_from_slice(&sector.to_le_bytes());
+        memory[TABLE + 16 * usize::from(head)..][..48].copy_from_slice(&table.concat());
+        memory[AVAIL + 4 + 2 * place..][..2].copy_from_slice(&head.to_le_bytes());
         memory[AVAIL + 2..AVAIL + 4].copy_from_slice(&self.offered.to_le_bytes());
-        memory[STATUS] = 0xff;
+        memory[STATUS + at] = 0xff;
         self.store(Window::Block, 0x50, 0)
     }
 
-    /// Waits for the interrupt, acknowledges it, and looks at the status.
+    /// Asks for parts of a row of sectors by as many requests as fit.
+    fn ask_in_parts(&mut self, what: u32, sector: u64, data: usize, len: usize) -> Result<()> {
+        let part = len / REQUESTS;
+        for number in 0..REQUESTS {
+            let first = sector + (number * part / SECTOR_LEN) as u64;
+            self.ask(what, first, data + number * part, part as u32)?;
+        }
+        Ok(())
+    }
+
+    /// Waits for the interrupts of all requests, acknowledges them, and looks at each status.
     fn wait(&mut self) -> Result<()> {
-        while self.line == 0 {
-            self.wait_for_disk()?;
+        loop {
+            while self.line == 0 {
+                self.wait_for_disk()?;
+            }
+            self.store(Window::Block, 0x64, self.line)?;
+            let offered = self.offered.to_le_bytes();
+            if self.board.memory(0, MEMORY)?[USED + 2..USED + 4] == offered {
+                break;
+            }
         }
-        self.store(Window::Block, 0x64, self.line)?;
-        match self.board.memory(0, MEMORY)?[STATUS] {
-            0 => Ok(()),
-            status => Err(format!("a request has status {status}").into()),
+        for number in 0..REQUESTS {
+            match self.board.memory(0, MEMORY)?[STATUS + number * HEADER_LEN] {
+                0 => {}
+                status => return Err(format!("a request has status {status}").into()),
+            }
         }
+        Ok(())
     }
 
     fn transfer(&mut self, what: u32, sector: u64, data: usize, len: u32) -> Result<()> {
@@ -209,11 +252,11 @@ impl Guest {
         self.wait()
     }
 
-    /// Guest 0: its request is in flight while it uses its console, and while guest 1 uses its disk. It knows no flush.
+    /// Guest 0: its requests are in flight while it uses its console, and while guest 1 uses its disk. It knows no flush.
     fn runs_on(&mut self, both: &Barrier) -> Result<()> {
         let len = 0x20_0000;
         self.bring_up(0)?;
-        self.ask(IN, 0, DATA, len as u32)?;
+        self.ask_in_parts(IN, 0, DATA, len)?;
         for letter in *b"busy" {
             self.store(Window::Console, 0x108, letter.into())?;
         }
@@ -240,7 +283,7 @@ impl Guest {
         Ok(())
     }
 
-    /// Guest 1: writes, zeroes, flushes and reads, each to its end.
+    /// Guest 1: writes by four requests at once; zeroes, flushes and reads, each to its end.
     fn works(&mut self, both: &Barrier) -> Result<()> {
         both.wait();
         self.bring_up(1 << 9 | 1 << 14)?; // FLUSH, WRITE_ZEROES
@@ -248,7 +291,8 @@ impl Guest {
         memory[DATA..DATA + 8 * SECTOR_LEN].fill(b'B');
         memory[ZEROED..ZEROED + 8].copy_from_slice(&3u64.to_le_bytes());
         memory[ZEROED + 8..ZEROED + 16].copy_from_slice(&2u64.to_le_bytes());
-        self.transfer(OUT, 0, DATA, 8 * SECTOR_LEN as u32)?;
+        self.ask_in_parts(OUT, 0, DATA, 8 * SECTOR_LEN)?;
+        self.wait()?;
         self.transfer(WRITE_ZEROES, 0, ZEROED, 16)?;
         self.transfer(FLUSH, 0, 0, 0)?;
         self.transfer(IN, 2, DATA, 4 * SECTOR_LEN as u32)?;
@@ -288,6 +332,12 @@ const AVAIL: usize = 0x200;
 const USED: usize = 0x300;
 const ZEROED: usize = 0x400;
 const DATA: usize = 0x10_0000;
+
+/// The places of the queue, and the requests that may be on offer: each has a header, a status and a chain of its own.
+const PLACES: usize = 16;
+const REQUESTS: usize = 4;
+const HEADER_LEN: usize = 0x20;
+const CHAIN_LEN: usize = 3;
 
 const IN: u32 = 0;
 const OUT: u32 = 1;
