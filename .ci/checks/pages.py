@@ -202,4 +202,11 @@ def walks():
     return not wrong, wrong or [f"{found} lines that go through a trace"]
 
 
-CHECKS = {"links": links, "named": named, "words": words, "sentences": sentences, "short": short, "walks": walks}
+def reading():
+    """docs/promises.md lists what the headline stands on, as .ci/reading counts it."""
+    good, said = script(".ci/reading")
+    missing = [line for line in said if line not in (TOP / "docs/promises.md").read_text(encoding="utf-8").splitlines()]
+    return good and not missing, [f"docs/promises.md lacks: {line}" for line in missing] or [said[0].rstrip(":")]
+
+
+CHECKS = {"links": links, "reading": reading, "named": named, "words": words, "sentences": sentences, "short": short, "walks": walks}
