@@ -187,14 +187,20 @@ unfolding slot_at slot slot_fields
 slot_read =
     reread SlotFits
     (made_read (both_read (both_read read64 (both_read read64 read64)) (both_read
-    (both_read flag_read (both_read identity_read (both_read read16 read16)))
+    (both_read flag_read (both_read identity_read (both_read read16 (both_read read16 flag_read))))
     (both_read window_read window_read))) _
     (λ s. (
       (s.base, (s.len, s.sectors)),
-      ((s.read_only, (s.identity, (s.cols, s.rows))), (s.block, s.console)),
+      ((s.read_only, (s.identity, (s.cols, (s.rows, s.on_hold)))), (s.block, s.console)),
     )) (λ x fits. refl) (λ s. refl))
-    (λ s fits. (fits.0, (fits.1.0.1, fits.1.1)))
-    (λ s fits. (fits.0, ((tt, fits.1.0), fits.1.1)))
+    (λ s fits. (
+      fits.0,
+      ((fits.1.0.1.0, (fits.1.0.1.1.0, fits.1.0.1.1.1.0)), fits.1.1),
+    ))
+    (λ s fits. (
+      fits.0,
+      ((tt, (fits.1.0.0, (fits.1.0.1.0, (fits.1.0.1.1, tt)))), fits.1.1),
+    ))
 
 -- ---- all that stands before the pending input
 

@@ -79,6 +79,7 @@ slot_fields s =
     ∷ field s.identity
     ∷ field (to_le_bytes w16 s.cols)
     ∷ field (to_le_bytes w16 s.rows)
+    ∷ field (flag s.on_hold ∷ [])
     ∷ (window_fields s.block ++ window_fields s.console)
 
 -- ---- the snapshot

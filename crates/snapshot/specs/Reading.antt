@@ -142,12 +142,13 @@ slot_at =
       read_only = x.1.0.0;
       identity = x.1.0.1.0;
       cols = x.1.0.1.1.0;
-      rows = x.1.0.1.1.1;
+      rows = x.1.0.1.1.1.0;
+      on_hold = x.1.0.1.1.1.1;
       block = x.1.1.0;
       console = x.1.1.1;
     })
     ((number_at w64 & number_at w64 & number_at w64)
-    & (flag_at & identity_at & number_at w16 & number_at w16) & (window_at & window_at))
+    & (flag_at & identity_at & number_at w16 & number_at w16 & flag_at) & (window_at & window_at))
 
 -- ---- the snapshot
 

@@ -49,11 +49,12 @@ window w =
 abbrev pub flag : Bool → ℕ
 flag b = if b then 1 else 0
 
--- the memory and the disk, what the guest is told of the disk and the console, and both windows
+-- the memory and the disk, what the guest is told of the disk and the console, whether the slot is on hold, and both
+-- windows
 unfoldable pub slot : SavedSlot → List ℕ
 slot s =
     (to_le_bytes w64 s.base ++ (to_le_bytes w64 s.len ++ to_le_bytes w64 s.sectors))
-    ++ (((flag s.read_only ∷ []) ++ (s.identity ++ (to_le_bytes w16 s.cols ++ to_le_bytes w16 s.rows)))
+    ++ (((flag s.read_only ∷ []) ++ (s.identity ++ (to_le_bytes w16 s.cols ++ (to_le_bytes w16 s.rows ++ (flag s.on_hold ∷ [])))))
     ++ (window s.block ++ window s.console))
 
 -- ---- the snapshot

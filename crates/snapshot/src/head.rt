@@ -11,7 +11,7 @@ use byteorder::{ByteOrder, LittleEndian};
 use mmio_window::{Reached, SavedQueue, SavedWindow};
 
 /// How long a snapshot is at most, beside the pending input.
-const MOST_FIXED: usize = 289;
+const MOST_FIXED: usize = 290;
 
 /// Room for the front of a snapshot.
 pub(crate) type Head = ArrayVec<u8, MOST_FIXED>;
@@ -22,7 +22,7 @@ pub(crate) fn head_of(saved: &SavedSlot, pending: usize) -> Head
     requires { pending ≤ 4096 }
     ensures text { result.items ≡ head saved.now pending }
     ensures fits { SlotFits saved.now }
-    ensures len { length result.items ≤ 289 }
+    ensures len { length result.items ≤ 290 }
 {
     let mut out = ArrayVec::new();
     put(&mut out, b"KALYUBOS");
@@ -34,7 +34,7 @@ pub(crate) fn head_of(saved: &SavedSlot, pending: usize) -> Head
 
 // Bytes behind what is there.
 fn put(out: &mut Head, bytes: &[u8])
-    requires room { length out.old.items + length bytes.now ≤ 289 }
+    requires room { length out.old.items + length bytes.now ≤ 290 }
     ensures { Puts out.old.items out.new.items bytes.now (length bytes.now) }
 {
     let Ok(()) = out.try_extend_from_slice(bytes) else {
@@ -43,7 +43,7 @@ fn put(out: &mut Head, bytes: &[u8])
 }
 
 fn put_u8(out: &mut Head, byte: u8)
-    requires room { length out.old.items + 1 ≤ 289 }
+    requires room { length out.old.items + 1 ≤ 290 }
     ensures puts { Puts out.old.items out.new.items (byte ∷ []) 1 }
     ensures fits { byte < 256 }
 {
@@ -51,7 +51,7 @@ fn put_u8(out: &mut Head, byte: u8)
 }
 
 fn put_u16(out: &mut Head, number: u16)
-    requires room { length out.old.items + 2 ≤ 289 }
+    requires room { length out.old.items + 2 ≤ 290 }
     ensures puts { Puts out.old.items out.new.items (to_le_bytes w16 number) 2 }
     ensures fits { number < 2 ^ 16 }
 {
@@ -61,7 +61,7 @@ fn put_u16(out: &mut Head, number: u16)
 }
 
 fn put_u32(out: &mut Head, number: u32)
-    requires room { length out.old.items + 4 ≤ 289 }
+    requires room { length out.old.items + 4 ≤ 290 }
     ensures puts { Puts out.old.items out.new.items (to_le_bytes w32 number) 4 }
     ensures fits { number < 2 ^ 32 }
 {
@@ -71,7 +71,7 @@ fn put_u32(out: &mut Head, number: u32)
 }
 
 fn put_u64(out: &mut Head, number: u64)
-    requires room { length out.old.items + 8 ≤ 289 }
+    requires room { length out.old.items + 8 ≤ 290 }
     ensures puts { Puts out.old.items out.new.items (to_le_bytes w64 number) 8 }
     ensures fits { number < 2 ^ 64 }
 {
@@ -81,8 +81,8 @@ fn put_u64(out: &mut Head, number: u64)
 }
 
 fn put_slot(out: &mut Head, saved: &SavedSlot)
-    requires room { length out.old.items + 273 ≤ 289 }
-    ensures puts { Puts out.old.items out.new.items (slot saved.now) 273 }
+    requires room { length out.old.items + 274 ≤ 290 }
+    ensures puts { Puts out.old.items out.new.items (slot saved.now) 274 }
     ensures fits { SlotFits saved.now }
 {
     put_u64(out, saved.base);
@@ -92,12 +92,13 @@ fn put_slot(out: &mut Head, saved: &SavedSlot)
     put(out, &saved.identity);
     put_u16(out, saved.cols);
     put_u16(out, saved.rows);
+    put_u8(out, u8::from(saved.on_hold));
     put_window(out, &saved.block);
     put_window(out, &saved.console);
 }
 
 fn put_window(out: &mut Head, saved: &SavedWindow)
-    requires room { length out.old.items + 112 ≤ 289 }
+    requires room { length out.old.items + 112 ≤ 290 }
     ensures puts { Puts out.old.items out.new.items (window saved.now) 112 }
     ensures fits { WindowFits saved.now }
 {
@@ -115,7 +116,7 @@ fn put_window(out: &mut Head, saved: &SavedWindow)
 }
 
 fn put_queue(out: &mut Head, saved: &SavedQueue)
-    requires room { length out.old.items + 37 ≤ 289 }
+    requires room { length out.old.items + 37 ≤ 290 }
     ensures puts { Puts out.old.items out.new.items (queue saved.now) 37 }
     ensures fits { QueueFits saved.now }
 {
@@ -128,7 +129,7 @@ fn put_queue(out: &mut Head, saved: &SavedQueue)
 
 // How far a queue is served, where it is ready.
 fn put_reached(out: &mut Head, saved: Option<Reached>)
-    requires room { length out.old.items + 9 ≤ 289 }
+    requires room { length out.old.items + 9 ≤ 290 }
     ensures puts { Puts out.old.items out.new.items (reached saved) 9 }
     ensures fits { MayReach saved }
 {

@@ -23,4 +23,6 @@ pub struct SavedSlot {
     pub cols: u16,
     /// The console's rows.
     pub rows: u16,
+    /// Whether no further chain of the block queue is taken until the host says so.
+    pub on_hold: bool,
 }

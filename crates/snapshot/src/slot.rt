@@ -102,6 +102,7 @@ impl Reader<'_> {
             identity: self.identity()?,
             cols: self.u16()?,
             rows: self.u16()?,
+            on_hold: self.flag()?,
             block: self.window()?,
             console: self.window()?,
         })

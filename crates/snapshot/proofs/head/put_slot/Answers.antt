@@ -10,8 +10,9 @@ returns-clause-puts c =
     (puts_then c.put_u64-2.ensures.puts c.put_u64-3.ensures.puts) in
     let len : length c.args.saved.now.identity ≡ 20 = search rules in
     let flag = rw (c.from.ensures ∙ flag_spelled c.args.saved.now.read_only) at c.put_u8.ensures.puts in
-    let traits = puts_then flag
-    (puts_then c.put.ensures (puts_then c.put_u16.ensures.puts c.put_u16-2.ensures.puts)) in
+    let on_hold = rw (c.from-2.ensures ∙ flag_spelled c.args.saved.now.on_hold) at c.put_u8-2.ensures.puts in
+    let console = puts_then c.put_u16.ensures.puts (puts_then c.put_u16-2.ensures.puts on_hold) in
+    let traits = puts_then flag (puts_then c.put.ensures console) in
     let windows = puts_then c.put_window.ensures.puts c.put_window-2.ensures.puts in
     let all = puts_then sizes (puts_then traits windows) in
     record { text = all.text; len = omega (arith, len, all.len) }
