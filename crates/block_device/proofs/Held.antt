@@ -1,9 +1,9 @@
 -- What is in flight lies between the next used entry and the next chain, also once one more chain asks.
 use Rattle.std.proofs.Common.{◌≡◌, ◌∙◌, ℕ, Bool, true, false, cond, suc, ◌<◌, Option, Some, None, List, [], ◌∷◌, length, get_or, set, refl, sym, ap, subst, arith}
-use Rattle.std.specs.Prelude.{IfSome}
+use Rattle.std.specs.Prelude.{All, IfSome, sum_by}
 use Rattle.std.specs.Option.{option_map}
 use Rattle.std.proofs.lemmas.List.{get_or-map, length-map, map-set}
-use Rattle.std.proofs.lemmas.List.Elements.{All-weaker}
+use Rattle.std.proofs.lemmas.List.Elements.{All-cons, All-nil, All-weaker}
 use Rattle.guest_memory.specs.Memory.{Memory}
 use Rattle.mmio_window.specs.declared.queue.Queue.{Queue}
 use Rattle.mmio_window.specs.declared.queue.Queue.TheVariants.{Split, Packed}
@@ -17,7 +17,7 @@ use Rattle.chain.specs.declared.fault.Fault.{Fault}
 use Rattle.chain.specs.Service.{Ending, Faulted, Refused, Runs, Site, Spent, Works, stop}
 use Rattle.sector_cache.specs.Disk.{Disk}
 use Rattle.negotiation.specs.Negotiation.{is_live, with_needs_reset}
-use Rattle.mmio_window.specs.Queue.{AreAhead, Fits, TagFits, ahead_of, entry_of, launched, opened, queue_kind, shut, stopped}
+use Rattle.mmio_window.specs.Queue.{AreAhead, Fits, TagFits, ahead_of, entry_of, tag_places, launched, opened, queue_kind, shut, stopped}
 use Rattle.mmio_window.specs.Serving.{after_service}
 use Rattle.mmio_window.specs.Window.{WindowState, queue_at, ring_at, with_ring}
 use Rattle.mmio_window.proofs.Ahead.{AreAhead-landed, AreAhead-launched, AreAhead-served}
@@ -25,7 +25,7 @@ use Rattle.mmio_window.proofs.Pieces.{queue_stands_open}
 use Rattle.block_device.specs.declared.device.BlockDevice.{BlockDevice}
 use Rattle.block_device.specs.declared.operation.Verdict.{Verdict}
 use Rattle.block_device.specs.Asking.{unasked_device}
-use Rattle.block_device.specs.Flights.{AsksNext, HostedQueue, InFlight, IsLanding, LandsBy, LookEnds, LooksFrom, free_tag, token_in, tokens_of, unlimited}
+use Rattle.block_device.specs.Flights.{AreHeld, AsksNext, HostedQueue, InFlight, IsLanding, LandsBy, LookEnds, LooksFrom, TagIsHeld, free_tag, freed, token_in, tokens_of, unlimited}
 use Rattle.block_device.specs.declared.hosting.Hosted.TheVariants as hosted
 use Rattle.block_device.specs.Extent.{extent_disk}
 use Rattle.block_device.specs.Hosting.{HostsTo, site_of}
@@ -305,3 +305,33 @@ ahead_looked device stage old [] new looks held =
 ahead_looked device stage old (here ∷ asked) new looks held =
     ahead_looked device Next looks.0 asked new looks.2
     (ahead_asked device stage old looks.0 here looks.1 held)
+
+-- ---- free tags are held, whatever memory and window there are
+
+freed_each : (capacity : ℕ) (m : Memory) (tags : List (Option InFlight)) → All (TagIsHeld capacity m) (freed tags)
+freed_each capacity m [] = All-nil (TagIsHeld capacity m)
+freed_each capacity m (tag ∷ tags) =
+    All-cons (TagIsHeld capacity m) None (freed tags) tt (freed_each capacity m tags)
+
+freed_fit : (queue : Queue) (tags : List (Option InFlight)) → All (TagFits queue) (tokens_of (freed tags))
+freed_fit queue [] = All-nil (TagFits queue)
+freed_fit queue (tag ∷ tags) = All-cons (TagFits queue) None (tokens_of (freed tags)) tt (freed_fit queue tags)
+
+freed_places : (tags : List (Option InFlight)) → sum_by tag_places (tokens_of (freed tags)) ≡ 0
+freed_places [] = refl
+freed_places (tag ∷ tags) = freed_places tags
+
+freed_ahead : (found : Option Queue) (tags : List (Option InFlight))
+    → IfSome found (λ queue. AreAhead queue (tokens_of (freed tags)))
+freed_ahead None tags = tt
+freed_ahead (Some queue) tags = record {
+  each = freed_fit queue tags;
+  places = let none = freed_places tags in omega (arith, none);
+}
+
+pub freed_held : (capacity : ℕ) (m : Memory) (window : WindowState) (tags : List (Option InFlight))
+    → AreHeld capacity (record { memory = m; window = window; tags = freed tags })
+freed_held capacity m window tags = record {
+  each = freed_each capacity m tags;
+  ahead = freed_ahead (queue_at 0 window) tags;
+}

@@ -8,7 +8,7 @@ use Rattle.guest_memory.proofs.Ranges.{inside_same}
 use Rattle.chain.specs.declared.segment.Segment.{Segment}
 use Rattle.mmio_window.specs.declared.queue.Queue.{Queue}
 use Rattle.mmio_window.specs.Queue.{AreAhead}
-use Rattle.mmio_window.specs.Window.{queue_at}
+use Rattle.mmio_window.specs.Window.{WindowState, queue_at}
 use Rattle.mmio_window.proofs.Ahead.{is_ahead_in}
 use Rattle.block_device.specs.declared.hosting.Flight.{Flight}
 use Rattle.block_device.specs.declared.operation.OperationKind.{OperationKind}
@@ -17,65 +17,85 @@ use Rattle.block_device.specs.declared.operation.Verdict.{Verdict}
 use Rattle.block_device.specs.Operation.{InMemory, LieBy}
 use Rattle.mmio_window.specs.declared.stage.Stage.TheVariants.{First}
 use Rattle.block_device.specs.declared.device.BlockDevice.{BlockDevice}
-use Rattle.block_device.specs.Flights.{AreHeld, HostedQueue, InFlight, IsLanding, IsLook, LandsBy, TagIsHeld, in_room, token_in, tokens_of}
+use Rattle.block_device.specs.Flights.{AreHeld, HostedQueue, InFlight, IsLanding, IsLook, LandsBy, TagIsHeld, flight_in, token_in, tokens_of}
 use Rattle.block_device.specs.Hosting.{CompletesIn, IsInFlight}
 use Rattle.block_device.proofs.Held.{ahead_landed, ahead_looked}
-use Rattle.block_device.proofs.Tags.{entry_at}
 
--- the chain of a tag, the runs of whose operation its room has
-abbrev pub flying : Flight → List Segment → InFlight
-flying flight r = record { flight = flight; runs = r }
+-- the chain whose flight is in a tag
+record IsThere (flight : Flight) (tags : List (Option InFlight)) (i : ℕ) : Type 0 where
+  here : InFlight
+  there : get_or tags i None ≡ Some here
+  its : here.flight ≡ flight
+  within : i < length tags
 
-pub there : (tags : List (Option InFlight)) (i n : ℕ) (found : Option InFlight) (f : Option Flight)
-    (flight : Flight) (r : List Segment) → found ≡ get_or tags i found → i < n
-    → n ≡ length tags → in_room f r ≡ found → f ≡ Some flight → get_or tags i None ≡ Some (flying flight r)
-there tags i n found f flight r is below size view holds =
-    entry_at tags i n found is below size ∙ sym view ∙ ap (λ f. in_room f r) holds
+found_there : (flight : Flight) (tag : Option InFlight) → Some flight ≡ flight_in tag
+    → (here : InFlight) × (tag ≡ Some here) × (here.flight ≡ flight)
+found_there flight None found = cc found
+found_there flight (Some here) found = (here, refl, cc found)
 
-pub in_flight : (capacity : ℕ) (h : HostedQueue) (i n : ℕ) (flight : Flight) (r : List Segment)
-    → get_or h.tags i None ≡ Some (flying flight r) → i < n → n ≡ length h.tags → AreHeld capacity h
-    → is_some (queue_at 0 h.window) ≡ true → IsInFlight h.memory h.window flight
-in_flight capacity h i n flight r here below size held live = go (queue_at 0 h.window) refl held.ahead live
+some_within : (tags : List (Option InFlight)) (i : ℕ) (here : InFlight) → get_or tags i None ≡ Some here → i < length tags
+some_within [] i here is = cc is
+some_within (tag ∷ tags) zero here is = omega arith
+some_within (tag ∷ tags) (suc i) here is = let rest = some_within tags i here is in omega (arith, rest)
+
+is_there : (flight : Flight) (tags : List (Option InFlight)) (i : ℕ) → Some flight ≡ flight_in (get_or tags i None)
+    → IsThere flight tags i
+is_there flight tags i found =
+    let there = found_there flight (get_or tags i None) found in
+    record { here = there.0; there = there.1; its = there.2; within = some_within tags i there.0 there.1 }
+
+pub in_flight : (capacity : ℕ) (m : Memory) (w : WindowState) (tags : List (Option InFlight)) (i : ℕ) (flight : Flight)
+    → Some flight ≡ flight_in (get_or tags i None)
+    → AreHeld capacity (record { memory = m; window = w; tags = tags })
+    → is_some (queue_at 0 w) ≡ true → IsInFlight m w flight
+in_flight capacity m w tags i flight found held live = go (queue_at 0 w) refl held.ahead live
   where
-    go : (o : Option Queue) → queue_at 0 h.window ≡ o → IfSome o (λ queue. AreAhead queue (tokens_of h.tags))
-        → is_some o ≡ true → IsInFlight h.memory h.window flight
+    go : (o : Option Queue) → queue_at 0 w ≡ o → IfSome o (λ queue. AreAhead queue (tokens_of tags))
+        → is_some o ≡ true → IsInFlight m w flight
     go None e a some = absurd (cc some)
     go (Some queue) e a some =
-        let within : i < length h.tags = omega (arith, below, size) in
-        let each : TagIsHeld capacity h.memory (Some (flying flight r)) =
-        subst (TagIsHeld capacity h.memory) here
-        (All-get_or (TagIsHeld capacity h.memory) h.tags i None within held.each) in
-        let token : get_or (tokens_of h.tags) i None ≡ Some flight.token =
-        get_or-map token_in h.tags i None None within ∙ ap token_in here in
-        record {
+        let is = is_there flight tags i found in
+        let each : TagIsHeld capacity m (Some is.here) =
+        subst (TagIsHeld capacity m) is.there
+        (All-get_or (TagIsHeld capacity m) tags i None is.within held.each) in
+        let token : get_or (tokens_of tags) i None ≡ Some is.here.flight.token =
+        get_or-map token_in tags i None None is.within ∙ ap token_in is.there in
+        subst (IsInFlight m w) is.its (record {
           queue = queue;
           ready = e;
-          ahead = is_ahead_in queue (tokens_of h.tags) i flight.token
-              (let same = length-map h.tags token_in in omega (arith, within, same)) a token;
+          ahead = is_ahead_in queue (tokens_of tags) i is.here.flight.token
+              (let same = length-map tags token_in in omega (arith, is.within, same)) a token;
           status = each.status;
           some = each.some;
-        }
+        })
 
-pub lands_live : (i : ℕ) (here : InFlight) (verdict : Verdict) (old new : HostedQueue)
-    → get_or old.tags i None ≡ Some here → is_some (queue_at 0 old.window) ≡ true
-    → CompletesIn here.flight verdict old.memory new.memory old.window new.window
+pub lands_live : (i : ℕ) (flight : Flight) (verdict : Verdict) (old new : HostedQueue)
+    → Some flight ≡ flight_in (get_or old.tags i None) → is_some (queue_at 0 old.window) ≡ true
+    → CompletesIn flight verdict old.memory new.memory old.window new.window
     → new.tags ≡ set old.tags i None → IsLanding i verdict old new
-lands_live i here verdict old new is live completes tags =
-    record { here = here; there = is; lands = go (queue_at 0 old.window) live }
+lands_live i flight verdict old new found live completes tags =
+    let is = is_there flight old.tags i found in
+    record { here = is.here; there = is.there; lands = go is (queue_at 0 old.window) live }
   where
-    go : (o : Option Queue) → is_some o ≡ true → LandsBy o i here verdict old new
-    go None some = absurd (cc some)
-    go (Some queue) some = record { completes = completes; tags = tags }
+    go : (is : IsThere flight old.tags i) (o : Option Queue) → is_some o ≡ true → LandsBy o i is.here verdict old new
+    go is None some = absurd (cc some)
+    go is (Some queue) some = record {
+      completes = subst (λ f. CompletesIn f verdict old.memory new.memory old.window new.window) (sym is.its)
+          completes;
+      tags = tags;
+    }
 
-pub lands_dead : (i : ℕ) (here : InFlight) (verdict : Verdict) (old new : HostedQueue)
-    → get_or old.tags i None ≡ Some here → is_some (queue_at 0 old.window) ≡ false
-    → new ≡ record old { tags = set old.tags i None } → IsLanding i verdict old new
-lands_dead i here verdict old new is dead same =
-    record { here = here; there = is; lands = go (queue_at 0 old.window) dead }
+pub lands_dead : (i : ℕ) (flight : Flight) (verdict : Verdict) (old : HostedQueue) (tags : List (Option InFlight))
+    → Some flight ≡ flight_in (get_or old.tags i None) → is_some (queue_at 0 old.window) ≡ false
+    → tags ≡ set old.tags i None → IsLanding i verdict old (record old { tags = tags })
+lands_dead i flight verdict old tags found dead same =
+    let is = is_there flight old.tags i found in
+    record { here = is.here; there = is.there; lands = go is (queue_at 0 old.window) dead }
   where
-    go : (o : Option Queue) → is_some o ≡ false → LandsBy o i here verdict old new
-    go None none = same
-    go (Some queue) none = absurd (cc none)
+    go : (is : IsThere flight old.tags i) (o : Option Queue) → is_some o ≡ false
+        → LandsBy o i is.here verdict old (record old { tags = tags })
+    go is None none = ap (λ t. record old { tags = t }) same
+    go is (Some queue) none = absurd (cc none)
 
 -- ---- what is held stays so
 
@@ -137,6 +157,14 @@ held_landed capacity tag verdict old new landing below same held =
           (held_set capacity old.memory new.memory old.tags tag None same held.each tt);
       ahead = ahead_landed tag verdict old new landing below held.ahead;
     }
+
+pub held_live : (capacity i : ℕ) (flight : Flight) (verdict : Verdict) (old new : HostedQueue)
+    → Some flight ≡ flight_in (get_or old.tags i None) → is_some (queue_at 0 old.window) ≡ true
+    → CompletesIn flight verdict old.memory new.memory old.window new.window
+    → new.tags ≡ set old.tags i None → SameRange old.memory new.memory → AreHeld capacity old → AreHeld capacity new
+held_live capacity i flight verdict old new found live completes tags same held =
+    held_landed capacity i verdict old new (lands_live i flight verdict old new found live completes tags)
+    (is_there flight old.tags i found).within same held
 
 pub landed_free : (tag : ℕ) (verdict : Verdict) (old new : HostedQueue) → IsLanding tag verdict old new
     → get_or new.tags tag None ≡ None

@@ -1,6 +1,7 @@
 pub mod Answering
 pub mod Anywhere
 pub mod Asking
+pub mod Bits
 pub mod Durable
 pub mod Endings
 pub mod Exact

@@ -1,5 +1,5 @@
--- Operations in flight of one disk that the host serves, each in a tag of its own, and what a look at the queue
--- and a completion make of them. How many tags there are was chosen as the slot was made.
+-- Operations in flight of one disk that the host serves, each in a tag of its own, and what a look at the queue,
+-- a landing and a drop make of them. How many tags there are was chosen as the slot was made.
 use Rattle.std.specs.Prelude.{◌≡◌, ℕ, suc, ◌+◌, ◌*◌, ◌<◌, ⊤, Bool, Option, Some, None, is_some, List, [], ◌∷◌, map, get_or, set, All, IfSome}
 use Rattle.std.specs.List.{list_any}
 use Rattle.std.specs.Option.{option_map}
@@ -13,7 +13,7 @@ use Rattle.mmio_window.specs.declared.queue.Token.{Token}
 use Rattle.mmio_window.specs.declared.stage.Stage.{Stage}
 use Rattle.mmio_window.specs.declared.stage.Stage.TheVariants.{First, Next}
 use Rattle.mmio_window.specs.Queue.{AreAhead}
-use Rattle.mmio_window.specs.Window.{WindowState, queue_at}
+use Rattle.mmio_window.specs.Window.{WindowState, queue_at, with_reset_asked}
 use Rattle.block_device.specs.declared.device.BlockDevice.{BlockDevice}
 use Rattle.block_device.specs.declared.hosting.Flight.{Flight}
 use Rattle.block_device.specs.declared.hosting.Hosted.TheVariants.{Asks, Done}
@@ -61,6 +61,11 @@ pub record AsksNext (device : BlockDevice) (stage : Stage) (old : HostedQueue) (
       old.memory new.memory old.window new.window buffers here.runs disk
   pub tags : new.tags ≡ set old.tags tag (Some here)
 
+-- From one state of the queue to another, whichever chain it is.
+pub record LooksOn (device : BlockDevice) (stage : Stage) (old new : HostedQueue) : Type 0 where
+  pub here : InFlight
+  pub asks : AsksNext device stage old here new
+
 -- No further chain asks, and the service ends.
 pub record AsksNoMore (device : BlockDevice) (stage : Stage) (old new : HostedQueue) : Type 0 where
   pub ends :
@@ -89,7 +94,12 @@ pub record IsLook (device : BlockDevice) (old new : HostedQueue) : Type 0 where
   pub asked : List InFlight
   pub looks : LooksAt device old asked new
 
--- ---- a completion
+-- ---- a landing
+
+-- the chain in flight in this tag
+abbrev pub flight_in : Option InFlight → Option Flight
+flight_in None = None
+flight_in (Some here) = Some here.flight
 
 -- The chain is given back, and its driver is notified where it wants to be; its tag is free again.
 pub record IsGivenIn (tag : ℕ) (here : InFlight) (verdict : Verdict) (old new : HostedQueue) : Type 0 where
@@ -108,11 +118,16 @@ pub record IsLanding (tag : ℕ) (verdict : Verdict) (old new : HostedQueue) : T
   pub there : get_or old.tags tag None ≡ Some here
   pub lands : LandsBy (queue_at 0 old.window) tag here verdict old new
 
--- The operation of this tag is completed, and the device looks at its queue again.
-pub record IsCompletion (device : BlockDevice) (tag : ℕ) (verdict : Verdict) (old new : HostedQueue) : Type 0 where
-  pub landed : HostedQueue
-  pub lands : IsLanding tag verdict old landed
-  pub looks : IsLook device landed new
+-- ---- a drop
+
+-- so many free tags
+abbrev pub freed : List (Option InFlight) → List (Option InFlight)
+freed tags = map (λ tag. None) tags
+
+-- What is in flight is given up: each tag is free, nothing is written, and the device asks to be reset, since its
+-- driver can't count on what was in flight (2.1.2).
+abbrev pub given_up : HostedQueue → HostedQueue
+given_up q = record q { window = with_reset_asked q.window; tags = freed q.tags }
 
 -- ---- what holds between two calls
 

@@ -1,16 +1,18 @@
 //! The operations in flight of a disk that the host serves, each in a tag of its own: a look at the queue takes free tags,
-//! and completions in any order free them again.
+//! landings in any order free them again, and a drop frees all.
 
-ghost use Rattle.std.specs.Prelude.{◌≡◌, ◌*◌, ◌^◌, ◌<◌, ◌≤◌, [], Some, None, IfOk, IfSome, get_or, length, replicate};
+ghost use Rattle.std.specs.Prelude.{◌≡◌, ℕ, ◌*◌, ◌^◌, ◌<◌, ◌≤◌, [], All, Option, Some, None, IfOk, IfSome, get_or, length, replicate, set};
+ghost use Rattle.std.specs.Option.{option_map};
 ghost use Rattle.std.specs.Bool.{OnTrue, OnFalse};
-ghost use Rattle.guest_memory.specs.Memory.{SameRange};
+ghost use Rattle.guest_memory.specs.Memory.{Memory, SameRange};
 ghost use Rattle.sector_cache.specs.Disk.{Disk};
 ghost use Rattle.mmio_window.specs.Soundness.{IsSound};
 ghost use Rattle.mmio_window.specs.Window.{queue_at};
+ghost use Rattle.mmio_window.specs.declared.stage.Stage.TheVariants.{Next};
 ghost use Rattle.chain.specs.declared.segment.Buffer.{Buffer};
 ghost use Rattle.block_device.specs.declared.hosting.Hosted.{Hosted};
 ghost use Rattle.block_device.specs.Extent.{sector_len};
-ghost use Rattle.block_device.specs.Flights.{AreHeld, HostedQueue, InFlight, IsCompletion, IsLanding, IsLook, TagIsHeld, is_any, operation_in, runs_in, taken_bits, unlimited};
+ghost use Rattle.block_device.specs.Flights.{AreHeld, AsksNoMore, HostedQueue, InFlight, IsLanding, IsLook, LooksOn, TagIsHeld, flight_in, free_tag, freed, given_up, is_any, operation_in, runs_in, taken_bits, unlimited};
 ghost use Rattle.block_device.specs.Hosting.{HostsTo};
 ghost use Rattle.std.specs.Prelude.{List};
 
@@ -58,22 +60,33 @@ impl<A: Allocator + Copy> Tag<A> {
     }
 }
 
+impl<A: Allocator> Tag<A> {
+    // Gives up the operation that is in it, if one is.
+    fn set_free(&mut self)
+        ensures { self.new ≡ None }
+    {
+        self.flight = None;
+    }
+}
+
 /// The tags of one disk: as many as were chosen when it was made.
 #[derive(Drop)]
 pub struct Flights<A: Allocator = Global> {
     tags: Vec<Tag<A>, A>,
+    // The tags in flight: bit n is set where tag n is taken.
+    taken: u64,
     counts: Counts,
 }
 
 impl<A: Allocator> Model for Flights<A> {
-    ghost use Rattle.std.specs.Prelude.{List, Option, ◌≤◌, length};
-    ghost use Rattle.block_device.specs.Flights.{InFlight};
+    ghost use Rattle.std.specs.Prelude.{◌≡◌, List, Option, ◌≤◌, length};
+    ghost use Rattle.block_device.specs.Flights.{InFlight, taken_bits};
 
     ghost Value = { List (Option InFlight) };
 
     ghost view = { λ f. f.tags.items };
 
-    ghost invariant = { λ f. length f.tags.items ≤ 64 };
+    ghost invariant = { λ f. (length f.tags.items ≤ 64) × (f.taken ≡ taken_bits f.tags.items) };
 }
 
 impl<A: Allocator + Copy> Flights<A> {
@@ -88,6 +101,7 @@ impl<A: Allocator + Copy> Flights<A> {
         }
         Ok(Flights {
             tags,
+            taken: 0,
             counts: Counts::default(),
         })
     }
@@ -106,20 +120,14 @@ impl<A: Allocator> Flights<A> {
     pub fn is_busy(&self) -> bool
         ensures { result ≡ is_any self.now }
     {
-        self.tags.iter().any(|tag| tag.flight.is_some())
+        self.taken != 0
     }
 
     /// The tags in flight: bit n is set where tag n is taken.
     pub fn taken(&self) -> u64
         ensures { result ≡ taken_bits self.now }
     {
-        let mut bits = 0;
-        let mut index = self.tags.len();
-        while index > 0 {
-            index -= 1;
-            bits = bits * 2 + u64::from(self.tags[index].flight.is_some());
-        }
-        bits
+        self.taken
     }
 
     /// What the host is asked to do by this tag.
@@ -149,6 +157,7 @@ impl<A: Allocator> Flights<A> {
 impl BlockDevice {
     /// Looks at the queue: serves chains that ask for nothing, and puts those that ask into free tags, until none is on offer
     /// or no tag is free. `room` is for the buffers of each chain.
+    #[tactic(auto, using(crate::proofs::Tags::looks_first, crate::proofs::Tags::fewer_behind))]
     pub fn look<M: Allocator, A: Allocator>(
         &self,
         mem: &mut GuestMemory<M>,
@@ -167,53 +176,46 @@ impl BlockDevice {
         ensures sound { IsSound mem.new window.new }
     {
         let mut stage = Stage::First;
-        for index in 0..flights.tags.len() {
-            let Some(tag) = flights.tags.get_mut(index) else {
-                unreachable!();
-            };
-            if tag.flight.is_none() {
-                if !self.look_for(mem, window, stage, tag, room) {
-                    return;
-                }
-                stage = Stage::Next;
+        while let Some(tag) = flights.lowest_free() {
+            if !self.look_for(mem, window, stage, flights, tag, room) {
+                return;
             }
+            stage = behind_a_chain();
         }
     }
 
-    /// Completes the operation of this tag by what came of it, and looks at the queue again. Its chain is given back, unless the
-    /// device has asked to be reset meanwhile. Answers false, and changes nothing, where no operation has this tag.
-    pub fn complete<M: Allocator, A: Allocator>(
+    // Looks for the next chain that asks, and puts it into this tag, which is the lowest free one. Answers whether there is one.
+    #[inline(always)]
+    fn look_for<M: Allocator, A: Allocator>(
         &self,
         mem: &mut GuestMemory<M>,
         window: &mut Window,
+        stage: Stage,
         flights: &mut Flights<A>,
-        room: &mut Chain,
         tag: usize,
-        verdict: Verdict,
+        room: &mut Chain,
     ) -> bool
         requires sound { IsSound mem.old window.old }
         requires disk { sector_len * self.now.extent.count < 2 ^ 64 }
-        requires held { AreHeld self.now.extent.count (record { memory = mem.old; window = window.old; tags = flights.old }) }
-        ensures completes { OnTrue result (IsCompletion self.now tag verdict
-            (record { memory = mem.old; window = window.old; tags = flights.old })
+        requires lowest { free_tag flights.old ≡ Some tag }
+        requires each { All (TagIsHeld self.now.extent.count mem.old) flights.old }
+        ensures asks { OnTrue result (LooksOn self.now stage (record { memory = mem.old; window = window.old; tags = flights.old })
             (record { memory = mem.new; window = window.new; tags = flights.new })) }
-        ensures idle { OnFalse result (get_or flights.old tag None ≡ None) }
-        ensures kept { OnFalse result (◌≡◌ {A = HostedQueue} (record { memory = mem.new; window = window.new; tags = flights.new })
-            (record { memory = mem.old; window = window.old; tags = flights.old })) }
-        ensures held { AreHeld self.now.extent.count (record { memory = mem.new; window = window.new; tags = flights.new }) }
-        ensures depth { length flights.new ≡ length flights.old }
+        ensures ends { OnFalse result (AsksNoMore self.now stage (record { memory = mem.old; window = window.old; tags = flights.old })
+            (record { memory = mem.new; window = window.new; tags = flights.new })) }
+        ensures each { All (TagIsHeld self.now.extent.count mem.new) flights.new }
         ensures range { SameRange mem.old mem.new }
         ensures sound { IsSound mem.new window.new }
     {
-        if !flights.land(mem, window, self.extent.count, tag, verdict) {
+        if !self.look_into(mem, window, stage, &mut flights.tags[tag], room) {
             return false;
         }
-        self.look(mem, window, flights, room);
+        flights.taken = with_tag(flights.taken, tag);
         true
     }
 
     // Looks for the next chain that asks, and puts it into this tag, which is free. Answers whether there is one.
-    fn look_for<M: Allocator, A: Allocator>(
+    fn look_into<M: Allocator, A: Allocator>(
         &self,
         mem: &mut GuestMemory<M>,
         window: &mut Window,
@@ -249,8 +251,9 @@ impl BlockDevice {
 }
 
 impl<A: Allocator> Flights<A> {
-    // Gives back the chain of this tag, which is free then.
-    fn land<M: Allocator>(
+    /// Completes the operation of this tag by what came of it: its chain is given back, unless the device has asked to be reset
+    /// meanwhile, and the tag is free. Answers false, and changes nothing, where no operation has this tag.
+    pub fn land<M: Allocator>(
         &mut self,
         mem: &mut GuestMemory<M>,
         window: &mut Window,
@@ -271,16 +274,107 @@ impl<A: Allocator> Flights<A> {
         ensures range { SameRange mem.old mem.new }
         ensures sound { IsSound mem.new window.new }
     {
-        let Some(found) = self.tags.get_mut(tag) else {
-            return false;
-        };
-        let Some(flight) = found.flight.take() else {
+        let Some((flight, readable)) = self.take(tag) else {
             return false;
         };
         if window.may_serve(REQUESTQ) {
             let written = flight.complete(mem, window, verdict);
-            self.counts.used(found.readable, written);
+            self.count(readable, written);
         }
         true
     }
+
+    // Takes the operation of this tag out of it, and how many bytes of its chain the device may read: the tag is free.
+    #[inline(always)]
+    fn take(&mut self, tag: usize) -> Option<(Flight, u32)>
+        ensures found { option_map (λ out. out.0) result ≡ flight_in (get_or self.old tag None) }
+        ensures free { self.new ≡ set self.old tag None }
+    {
+        let found = self.tags.get_mut(tag)?;
+        let flight = found.flight.take()?;
+        self.taken = without_tag(self.taken, tag);
+        Some((flight, found.readable))
+    }
+
+    // The lowest free tag.
+    #[tactic(auto, using(crate::proofs::Bits::free_below, crate::proofs::Bits::free_nowhere))]
+    #[inline(always)]
+    fn lowest_free(&self) -> Option<usize>
+        ensures { result ≡ free_tag self.now }
+    {
+        let tag = self.taken.trailing_ones() as usize;
+        if tag < self.tags.len() {
+            Some(tag)
+        } else {
+            None
+        }
+    }
+
+    // Counts a chain that was in flight.
+    #[inline(always)]
+    fn count(&mut self, readable: u32, written: u32)
+        ensures { self.new ≡ self.old }
+    {
+        self.counts.used(readable, written);
+    }
+
+    /// Gives up what is in flight: each tag is free, nothing is written, and the device asks to be reset (2.1.2).
+    pub fn give_up(&mut self, window: &mut Window)
+        ensures given_up { (m : Memory) → ◌≡◌ {A = HostedQueue}
+            (record { memory = m; window = window.new; tags = self.new })
+            (given_up (record { memory = m; window = window.old; tags = self.old })) }
+        ensures held { (capacity : ℕ) (m : Memory) →
+            AreHeld capacity (record { memory = m; window = window.new; tags = self.new }) }
+        ensures sound { (m : Memory) → IsSound m window.old → IsSound m window.new }
+    {
+        self.free_all();
+        window.needs_reset();
+    }
+
+    // Frees all tags.
+    fn free_all(&mut self)
+        ensures { self.new ≡ freed self.old }
+    {
+        free_each(self.tags.as_mut_slice());
+        self.taken = 0;
+    }
+}
+
+// Frees each of these tags.
+fn free_each<A: Allocator>(tags: &mut [Tag<A>])
+    ensures { tags.new ≡ freed tags.old }
+{
+    for tag in tags.iter_mut() {
+        tag.set_free();
+    }
+}
+
+// The stage of a look behind a chain that asked: the queue stands open.
+#[inline(always)]
+fn behind_a_chain() -> Stage
+    ensures { result ≡ Next }
+{
+    Stage::Next
+}
+
+// A set of tags with this one in it as well.
+#[tactic(auto, using(crate::proofs::Bits::set_with))]
+#[inline(always)]
+fn with_tag(taken: u64, tag: usize) -> u64
+    requires { tag < 64 }
+    ensures { (tags : List (Option InFlight)) (here : InFlight) → tag < length tags → taken ≡ taken_bits tags →
+        result ≡ taken_bits (set tags tag (Some here)) }
+{
+    taken | 1 << tag
+}
+
+// A set of tags without this one.
+#[tactic(auto, using(crate::proofs::Bits::set_without))]
+#[inline(always)]
+fn without_tag(taken: u64, tag: usize) -> u64
+    requires { tag < 64 }
+    ensures { (tags : List (Option InFlight)) → tag < length tags → taken ≡ taken_bits tags →
+        result ≡ taken_bits (set tags tag None) }
+{
+    taken & !(1 << tag)
 }
