@@ -13,7 +13,7 @@ use Rattle.console_device.specs.Device.{transmit_fitting, transmit_within}
 use Rattle.console_device.proofs.Pieces.{fitting_within}
 use Rattle.board.specs.declared.event.Event.{Event}
 use Rattle.board.specs.declared.event.EventKind.{EventKind}
-use Rattle.board.specs.declared.event.EventKind.TheVariants.{Read, Write, MemRead, MemWrite, Input, Resize, Restore, Complete}
+use Rattle.board.specs.declared.event.EventKind.TheVariants.{Read, Write, MemRead, MemWrite, Input, Resize, Restore, Host}
 use Rattle.board.specs.declared.pause.Service.TheVariants.{Block, Receive, Transmit}
 use Rattle.board.specs.declared.pause.Turn.TheVariants.{Answered}
 use Rattle.board.specs.declared.reply.Reply.{Reply}
@@ -119,7 +119,7 @@ ended_over_image limit (MemWrite addr bytes) budget state new waiting left reply
 ended_over_image limit (Input bytes) budget state new waiting left reply h = tt
 ended_over_image limit (Resize cols rows) budget state new waiting left reply h = tt
 ended_over_image limit (Restore bytes) budget state new waiting left reply h = tt
-ended_over_image limit (Complete tag verdict) budget state new waiting left reply h = tt
+ended_over_image limit (Host said) budget state new waiting left reply h = tt
 
 ended_by : {A : Type 0} (limit : ℕ) (part : Bool) (what : EventKind A) (budget : Budget)
     (state new : SlotState) (waiting left : List ℕ) (reply : Reply A)

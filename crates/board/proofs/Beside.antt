@@ -8,7 +8,7 @@ use Rattle.block_device.specs.declared.device.BlockDevice.{BlockDevice}
 use Rattle.block_device.specs.declared.extent.Extent.{Extent}
 use Rattle.block_device.specs.Extent.{StaysInExtent}
 use Rattle.board.specs.declared.event.EventKind.{EventKind}
-use Rattle.board.specs.declared.event.EventKind.TheVariants.{Read, Write, MemRead, MemWrite, Input, Resize, Restore, Complete}
+use Rattle.board.specs.declared.event.EventKind.TheVariants.{Read, Write, MemRead, MemWrite, Input, Resize, Restore, Host}
 use Rattle.board.specs.declared.pause.Service.{Service}
 use Rattle.board.specs.declared.pause.Service.TheVariants as service
 use Rattle.board.specs.Backing.{HostDisk, sectors_by}
@@ -109,7 +109,7 @@ block_asked (MemWrite addr bytes) state rings = absurd (cc (rings))
 block_asked (Input bytes) state rings = absurd (cc (rings))
 block_asked (Resize cols rows) state rings = absurd (cc (rings))
 block_asked (Restore bytes) state rings = absurd (cc (rings))
-block_asked (Complete tag verdict) state rings = absurd (cc (rings))
+block_asked (Host said) state rings = absurd (cc (rings))
 
 -- what its service leaves to be noted is that of the event
 pub unnoted_behind : (old mid new : BoardSlot) (before after : Disk) (failed : Bool) → mid.extent ≡ old.extent

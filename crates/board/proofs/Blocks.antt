@@ -9,9 +9,9 @@ use Rattle.mmio_window.specs.declared.device_kind.DeviceKind.{DeviceKind}
 use Rattle.mmio_window.specs.Window.{WindowState}
 use Rattle.block_device.specs.declared.device.BlockDevice.{BlockDevice}
 use Rattle.block_device.specs.declared.extent.Extent.{Extent}
-use Rattle.block_device.specs.declared.operation.Verdict.{Verdict}
 use Rattle.block_device.specs.Extent.{IsWithin, extent_disk}
-use Rattle.board.specs.declared.event.EventKind.TheVariants.{Read, Complete}
+use Rattle.board.specs.declared.event.EventKind.TheVariants.{Read, Host}
+use Rattle.board.specs.declared.event.HostEvent.{HostEvent}
 use Rattle.board.specs.declared.reply.Reply.TheVariants.{Value, Idle}
 use Rattle.board.specs.Image.{Health, Tells, bytes_of, health_of, sectors_of, disk_with}
 use Rattle.board.specs.Machine.{register}
@@ -78,8 +78,8 @@ read_given state window offset width value health is = inl (record {
   failures = refl;
 })
 
--- and a completion: nothing is in flight
-pub completion_given : {A : Type 0} (state : SlotState) (tag : ℕ) (verdict : Verdict) (health : Health)
-    → MayGiveOverImage {A = A} state (Complete tag verdict) health health (replies state Idle)
-completion_given state tag verdict health =
+-- and what the host says: there is nothing to do
+pub told_given : {A : Type 0} (state : SlotState) (said : HostEvent) (health : Health)
+    → MayGiveOverImage {A = A} state (Host said) health health (replies state Idle)
+told_given state said health =
     inl (record { alike = record { alike = refl; image = refl }; answered = λ none. cc; failures = refl })

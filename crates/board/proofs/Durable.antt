@@ -73,7 +73,7 @@ served_clean state (event.MemWrite addr bytes) old new outcome clean h = same_di
 served_clean state (event.Input bytes) old new outcome clean h = same_dirty old new h.image clean
 served_clean state (event.Resize cols rows) old new outcome clean h = same_dirty old new h.image clean
 served_clean state (event.Restore bytes) old new outcome clean h = same_dirty old new h.image clean
-served_clean state (event.Complete tag verdict) old new outcome clean h = same_dirty old new h.image clean
+served_clean state (event.Host said) old new outcome clean h = same_dirty old new h.image clean
 
 clean_over_image : {A : Type 0} (state : SlotState) (what : EventKind A) (old new : Health)
     (outcome : Outcome A) → new.failures ≡ old.failures → old.dirty ≡ false

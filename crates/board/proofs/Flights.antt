@@ -18,7 +18,7 @@ use Rattle.block_device.specs.declared.operation.OperationKind.TheVariants as ki
 use Rattle.block_device.specs.Flights.{AreHeld, InFlight, TagIsHeld, is_any, tokens_of}
 use Rattle.block_device.specs.Operation.{LieBy, LiesInside}
 use Rattle.board.specs.declared.event.EventKind.{EventKind}
-use Rattle.board.specs.declared.event.EventKind.TheVariants.{Read, Write, MemRead, MemWrite, Input, Resize, Restore, Complete}
+use Rattle.board.specs.declared.event.EventKind.TheVariants.{Read, Write, MemRead, MemWrite, Input, Resize, Restore, Host}
 use Rattle.board.specs.Backing.{HostDisk, sectors_by, tags_in}
 use Rattle.board.specs.Hosting.{HoldsFlights, block_beside, must_wait, waits_now}
 use Rattle.board.specs.declared.spec.Backing.{Backing}
@@ -44,7 +44,7 @@ keeps_queues (MemWrite addr bytes) slot free = keeps_all slot.block
 keeps_queues (Input bytes) slot free = keeps_all slot.block
 keeps_queues (Resize cols rows) slot free = keeps_all slot.block
 keeps_queues (Restore bytes) slot free = absurd (cc)
-keeps_queues (Complete tag verdict) slot free = keeps_all slot.block
+keeps_queues (Host said) slot free = keeps_all slot.block
 
 -- what lies in a memory lies in every one of its range
 lie_still : (what : OperationKind) (capacity : ℕ) (m m' : Memory) (runs : List Segment) → SameRange m m'

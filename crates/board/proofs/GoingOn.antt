@@ -1,6 +1,6 @@
 -- A guest that was restored goes on as the one that was saved would have.
 use Rattle.std.proofs.Common.{◌≡◌, ◌∙◌, inl, inr, ℕ, Bool, true, false, List, [], ◌∷◌, ◌++◌, map, Option, Some, None, refl, sym, ap, subst}
-use Rattle.std.specs.Prelude.{drop, length, take, false, true}
+use Rattle.std.specs.Prelude.{drop, take, false, true}
 use Rattle.std.specs.List.{slice_get}
 use Rattle.std.proofs.Math.Seq.{take-append_seam}
 use Rattle.snapshot.specs.declared.saved.SavedSlot.{SavedSlot}
@@ -12,16 +12,15 @@ use Rattle.board.specs.declared.reply.Record.{Record}
 use Rattle.board.specs.declared.reply.Reply.TheVariants.{Done}
 use Rattle.board.specs.Backing.{HostDisk}
 use Rattle.board.specs.Hosting.{OwnGives, waits_now}
-use Rattle.board.specs.Image.{Health, sectors_of}
+use Rattle.board.specs.Image.{Health}
 use Rattle.board.specs.Line.{IsLine, IsQuiet, Move, events_of, own_events, own_records, records_of}
 use Rattle.board.specs.Machine.{IsToldAlone, RunsOnItsOwn}
 use Rattle.board.specs.Moving.{HasBytesOf, MovesTo, RanOnBoth, as_of}
 use Rattle.board.specs.Outcome.{Outcome}
 use Rattle.board.specs.Restoring.{IsRestoring, IsTakenUp, slot_in}
 use Rattle.board.specs.Saved.{IsAs, IsLike, IsSavedTo, IsSnapshotOf, Suits, saved_slot, snapshot_of}
-use Rattle.board.specs.Slot.{BoardSlot, SlotState, sectors_in, state_of}
-use Rattle.board.specs.Steps.{IsAnsweredBy}
-use Rattle.board.specs.World.{MayGive, MayGiveBy, MayGiveOverImage, SlotStep, Step, World}
+use Rattle.board.specs.Slot.{BoardSlot, SlotState, state_of}
+use Rattle.board.specs.World.{MayGiveBy, MayGiveOverImage, SlotStep, Step, World}
 use Rattle.board.proofs.Alone.{alone, get_set, slot_step}
 use Rattle.board.proofs.Saving.{as_saved}
 use Rattle.board.proofs.Steps.{answers_join}
@@ -68,6 +67,7 @@ like_saved saved other suits memory = record {
   sectors = sym suits.sectors;
   read_only = sym suits.read_only;
   identity = sym suits.identity;
+  on_hold = suits.on_hold;
 }
 
 -- what a guest sees of a slot whose disk has these bytes

@@ -1,5 +1,5 @@
 -- An honest host serves the model's block device.
-use Rattle.std.proofs.Common.{◌≡◌, ◌≢◌, ℕ, zero, suc, Option, Some, None, List, [], ◌∷◌, get_or, set, refl, sym, ◌∙◌, ap, subst}
+use Rattle.std.proofs.Common.{◌≡◌, ℕ, zero, suc, Option, Some, None, List, [], ◌∷◌, get_or, set, refl, sym, ◌∙◌, ap, subst}
 use Rattle.std.specs.Prelude.{All}
 use Rattle.std.proofs.lemmas.List.Elements.{All-head, All-tail}
 use Rattle.std.proofs.lemmas.Option.{same_Some}
@@ -26,7 +26,7 @@ use Rattle.board.specs.declared.event.EventKind.{EventKind}
 use Rattle.board.specs.declared.reply.Record.{Record}
 use Rattle.board.specs.Backing.{tags_in}
 use Rattle.board.specs.Honest.{IsFlown, IsHonestlyServed}
-use Rattle.board.specs.Hosting.{hosted_queue, tag_in}
+use Rattle.board.specs.Hosting.{hosted_queue, LeavesTag}
 use Rattle.board.specs.Line.{MayBeTold}
 use Rattle.board.specs.Slot.{SlotState}
 use Rattle.board.specs.Steps.{IsAnsweredBy}
@@ -139,7 +139,7 @@ asked_in device stage old (there ∷ asked) new tag here looks free takes =
 -- whatever came between, the tag is of the same operation
 life_keeps : {A : Type 0} (tag : ℕ) (here : InFlight) (old : SlotState) (events : List (EventKind A))
     (records : List (Record A)) (last : SlotState) → get_or (tags_in old.host) tag None ≡ Some here
-    → All (λ (what : EventKind A). tag_in what ≢ Some tag) events
+    → All (LeavesTag {A = A} tag) events
     → IsAnsweredBy (MayBeTold 0) old events records last → get_or (tags_in last.host) tag None ≡ Some here
 life_keeps tag here old [] [] last taken others course =
     ap (λ (s : SlotState). get_or (tags_in s.host) tag None) course ∙ taken
@@ -147,7 +147,7 @@ life_keeps tag here old [] (t ∷ records) last taken others course = absurd cou
 life_keeps tag here old (event ∷ events) [] last taken others course = absurd course
 life_keeps {A} tag here old (event ∷ events) (t ∷ records) last taken others course =
     let told = course.1 in
-    let Other : EventKind A → Type 0 = λ what. tag_in what ≢ Some tag in
+    let Other : EventKind A → Type 0 = LeavesTag tag in
     life_keeps tag here told.outcome.state events records last
     (outlasts old tag here event told.before told.behind told.outcome taken (All-head Other event events others)
     told.given)
@@ -178,8 +178,7 @@ honest device began tag here now verdict new flown =
     flown.free flown.takes in
     let taken = life_keeps tag here flown.asking flown.events flown.records now flown.takes flown.others
     flown.course in
-    let completes = completed_here tag here verdict flown.queue (hosted_queue now) flown.completes.landed
-    flown.ready taken flown.completes.lands in
+    let completes = completed_here tag here verdict flown.queue (hosted_queue now) new flown.ready taken flown.lands in
     record {
       asked = a.asked;
       buffers = a.buffers;

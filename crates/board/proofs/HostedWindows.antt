@@ -14,7 +14,7 @@ use Rattle.mmio_window.specs.declared.queue_registers.QueueRegisters.{QueueRegis
 use Rattle.mmio_window.specs.declared.stage.Stage.{Stage}
 use Rattle.mmio_window.specs.DeviceKind.{queue_of}
 use Rattle.mmio_window.specs.Serving.{after_service}
-use Rattle.mmio_window.specs.Window.{WindowState, queue_at, with_registers_in, with_ring}
+use Rattle.mmio_window.specs.Window.{WindowState, queue_at, with_registers_in, with_reset_asked, with_ring}
 use Rattle.mmio_window.proofs.Devices.{KeepsDevice, KeepsDevice-self, KeepsDevice-served, KeepsDevice-trans}
 use Rattle.sector_cache.specs.Disk.{Disk}
 use Rattle.block_device.specs.declared.device.BlockDevice.{BlockDevice}
@@ -24,14 +24,14 @@ use Rattle.block_device.specs.declared.hosting.Hosted.TheVariants.{Asks, More, D
 use Rattle.block_device.specs.declared.operation.Verdict.{Verdict}
 use Rattle.block_device.specs.declared.extent.Extent.{Extent}
 use Rattle.block_device.specs.Asking.{unasked_device}
-use Rattle.block_device.specs.Flights.{AreHeld, HostedQueue, InFlight, IsCompletion, IsLook, unlimited}
+use Rattle.block_device.specs.Flights.{AreHeld, HostedQueue, InFlight, IsLanding, IsLook, given_up, unlimited}
 use Rattle.block_device.specs.Hosting.{CompletesIn, HostsTo}
 use Rattle.block_device.proofs.Unasked.{any_disk}
 use Rattle.board.specs.Backing.{HostDisk, sectors_by, tags_in, with_tags}
-use Rattle.board.specs.Hosting.{CompletesTag, HoldsFlights, LooksAtQueue, device_at, device_extent, hosted_device, hosted_queue, with_queue_of}
+use Rattle.board.specs.Hosting.{HoldsFlights, LandsTag, LooksAtQueue, LooksUnless, device_at, device_extent, dropped, hosted_device, hosted_queue, with_queue, with_queue_of}
 use Rattle.board.specs.Image.{sectors_of}
 use Rattle.board.specs.Slot.{BoardSlot, disk_sectors, state_of}
-use Rattle.board.proofs.Looking.{IsLeftByLandings, IsLeftByLooks, completion_left, look_left}
+use Rattle.board.proofs.Looking.{IsLeftByLandings, IsLeftByLooks, landing_left, look_left}
 
 registers_kept : (kind : DeviceKind) (change : QueueRegisters → QueueRegisters) (w : WindowState)
     → KeepsDevice w (with_registers_in (queue_of kind 0) change w)
@@ -73,6 +73,17 @@ KeepsDevice-completes : (flight : Flight) (answer : Verdict) (old new : Memory) 
 KeepsDevice-completes flight answer old new before after h =
     at before _ after h.window (spent_kept h.wanted before _)
 
+-- and after a drop
+KeepsDevice-asked : (w : WindowState) → KeepsDevice w (with_reset_asked w)
+KeepsDevice-asked w = record { kind = refl; offered = refl; generation = λ never. refl }
+
+pub gave_up_keeps : (m : Memory) (old new : WindowState) (tags now : List (Option InFlight))
+    → ◌≡◌ {A = HostedQueue} (record { memory = m; window = new; tags = now })
+    (given_up (record { memory = m; window = old; tags = tags }))
+    → KeepsDevice old new
+gave_up_keeps m old new tags now gives =
+    at old _ new (ap (λ (q : HostedQueue). q.window) gives) (KeepsDevice-asked old)
+
 -- ---- with many in flight
 
 abbrev SameDevice : HostedQueue → HostedQueue → Type 0
@@ -101,13 +112,13 @@ pub looked_keeps : (device : BlockDevice) (old new : HostedQueue) → IsLook dev
     → KeepsDevice old.window new.window
 looked_keeps device old new h = look_left SameDevice keeps_device device old new h
 
--- and where it may have been of nothing
-pub completed_keeps : (done : Bool) (device : BlockDevice) (tag : ℕ) (verdict : Verdict) (old new : HostedQueue)
-    → OnTrue done (IsCompletion device tag verdict old new) → OnFalse done (new ≡ old)
+-- after a landing, where it may have been of nothing
+pub landed_keeps : (done : Bool) (tag : ℕ) (verdict : Verdict) (old new : HostedQueue)
+    → OnTrue done (IsLanding tag verdict old new) → OnFalse done (new ≡ old)
     → KeepsDevice old.window new.window
-completed_keeps true device tag verdict old new completes same =
-    completion_left SameDevice keeps_device landing_keeps device tag verdict old new completes
-completed_keeps false device tag verdict old new completes same =
+landed_keeps true tag verdict old new lands same =
+    landing_left SameDevice keeps_device landing_keeps tag verdict old new lands
+landed_keeps false tag verdict old new lands same =
     at old.window old.window new.window (ap (λ (q : HostedQueue). q.window) same) (KeepsDevice-self old.window)
 
 -- ---- as the slot's guest sees it
@@ -124,6 +135,10 @@ with_extent e f read_only identity is = rw is refl
 same_disk : (one other : HostDisk) → other.sectors ≡ one.sectors
     → Some other ≡ Some (record { sectors = one.sectors; tags = other.tags })
 same_disk one other is = rw (← is) refl
+
+pub own_tags : (host : Option HostDisk) → host ≡ with_tags (tags_in host) host
+own_tags None = refl
+own_tags (Some disk) = refl
 
 flown : (host : Option HostDisk) (disk now : HostDisk) → host ≡ Some disk → now.sectors ≡ disk.sectors
     → Some now ≡ with_tags now.tags host
@@ -168,29 +183,59 @@ rest_on_host image slot new disk now hosted same rest =
     ap (state_of image) rest
     ∙ ap (λ (h : Option HostDisk). record state { memory = new.memory; block = new.block; host = h }) host
 
--- a look
+-- a look, of a slot that isn't on hold
 pub looked : (image : List ℕ) (slot new : BoardSlot) (disk now : HostDisk) (device : BlockDevice)
-    → slot.host ≡ Some disk → device ≡ device_at slot → now.sectors ≡ disk.sectors
+    → slot.on_hold ≡ false → slot.host ≡ Some disk → device ≡ device_at slot → now.sectors ≡ disk.sectors
     → IsLook device (queue_with slot disk) (queue_with new now)
     → new ≡ record slot { memory = new.memory; block = new.block; host = Some now }
     → LooksAtQueue (state_of image slot) (state_of image new)
-looked image slot new disk now device hosted is same looks rest = record {
-  looks = on_host IsLook image slot new disk now device hosted (ap (λ (s : BoardSlot). s.host) rest) is looks;
+looked image slot new disk now device free hosted is same looks rest = record {
+  looks =
+      subst (λ (on_hold : Bool). LooksUnless on_hold (hosted_device (state_of image slot))
+      (hosted_queue (state_of image slot)) (hosted_queue (state_of image new))) (sym free)
+      (on_host IsLook image slot new disk now device hosted (ap (λ (s : BoardSlot). s.host) rest) is looks);
   rest = rest_on_host image slot new disk now hosted same rest;
 }
 
--- a completion, where it is one
-pub completed : (done : Bool) (tag : ℕ) (verdict : Verdict) (slot new : BoardSlot) (disk now : HostDisk)
-    (device : BlockDevice) → slot.host ≡ Some disk → device ≡ device_at slot → now.sectors ≡ disk.sectors
-    → OnTrue done (IsCompletion device tag verdict (queue_with slot disk) (queue_with new now))
+-- and one on hold isn't looked at
+pub unlooked : (image : List ℕ) (slot : BoardSlot) → slot.on_hold ≡ true
+    → LooksAtQueue (state_of image slot) (state_of image slot)
+unlooked image slot on_hold = record {
+  looks =
+      subst (λ (b : Bool). LooksUnless b (hosted_device (state_of image slot)) (hosted_queue (state_of image slot))
+      (hosted_queue (state_of image slot))) (sym on_hold) refl;
+  rest = ap (λ (h : Option HostDisk). record (state_of image slot) { host = h }) (own_tags slot.host);
+}
+
+-- a landing, where it is one
+pub landed : (done : Bool) (tag : ℕ) (verdict : Verdict) (slot new : BoardSlot) (disk now : HostDisk)
+    → slot.host ≡ Some disk → now.sectors ≡ disk.sectors
+    → OnTrue done (IsLanding tag verdict (queue_with slot disk) (queue_with new now))
     → new ≡ record slot { memory = new.memory; block = new.block; host = Some now }
-    → OnTrue done ((image : List ℕ) → CompletesTag tag verdict (state_of image slot) (state_of image new))
-completed true tag verdict slot new disk now device hosted is same completes rest = λ image. record {
-  completes = on_host (λ (d : BlockDevice) (old later : HostedQueue). IsCompletion d tag verdict old later) image
-      slot new disk now device hosted (ap (λ (s : BoardSlot). s.host) rest) is completes;
+    → OnTrue done ((image : List ℕ) → LandsTag tag verdict (state_of image slot) (state_of image new))
+landed true tag verdict slot new disk now hosted same lands rest = λ image. record {
+  lands = on_host (λ (d : BlockDevice) (old later : HostedQueue). IsLanding tag verdict old later) image
+      slot new disk now (device_at slot) hosted (ap (λ (s : BoardSlot). s.host) rest) refl lands;
   rest = rest_on_host image slot new disk now hosted same rest;
 }
-completed false tag verdict slot new disk now device hosted is same completes rest = tt
+landed false tag verdict slot new disk now hosted same lands rest = tt
+
+-- a drop
+pub gave_up : (image : List ℕ) (slot new : BoardSlot) (disk now : HostDisk) → slot.host ≡ Some disk
+    → now.sectors ≡ disk.sectors → queue_with new now ≡ given_up (queue_with slot disk)
+    → new ≡ record slot { block = new.block; host = Some now }
+    → state_of image new ≡ dropped (state_of image slot)
+gave_up image slot new disk now hosted same gives rest =
+    let state = state_of image slot in
+    let memory : new.memory ≡ slot.memory = ap (λ (s : BoardSlot). s.memory) rest in
+    let whole : new ≡ record slot { memory = new.memory; block = new.block; host = Some now } =
+    rest ∙ ap (λ (m : Memory). record slot { memory = m; block = new.block; host = Some now }) (sym memory) in
+    let now_is : new.host ≡ Some now = ap (λ (s : BoardSlot). s.host) rest in
+    let queue : hosted_queue (state_of image new) ≡ given_up (hosted_queue state) =
+    ap (λ t. record { memory = new.memory; window = new.block; tags = t }) (ap tags_in now_is)
+    ∙ (gives ∙ ap (λ t. given_up (record { memory = slot.memory; window = slot.block; tags = t }))
+    (sym (ap tags_in hosted))) in
+    rest_on_host image slot new disk now hosted same whole ∙ ap (λ (q : HostedQueue). with_queue q state) queue
 
 -- and where it isn't, the slot stays
 slot_with : (slot : BoardSlot) (m : Memory) (w : WindowState) (h : Option HostDisk) → m ≡ slot.memory

@@ -1,13 +1,13 @@
 -- What an event of a slot comes to by who has its disk.
-use Rattle.std.proofs.Common.{◌≡◌, ◌≢◌, ℕ, zero, suc, Bool, true, false, Option, Some, None, List, [], get_or, refl, sym, ◌∙◌, subst, append-nil}
+use Rattle.std.proofs.Common.{◌≡◌, ◌≢◌, ℕ, zero, suc, Bool, true, false, Option, Some, None, List, [], refl, sym, subst, append-nil}
 use Rattle.std.specs.Prelude.{◌&&◌, ◌||◌, if◌then◌else◌, IfErr, IsSome, OnErr, OnOk, Ok, Err, Result, is_some}
 use Rattle.chain.specs.declared.budget.Budget.{Budget}
-use Rattle.block_device.specs.declared.operation.Verdict.{Verdict}
 use Rattle.block_device.specs.Flights.{is_any}
 use Rattle.mmio_window.specs.declared.device_kind.DeviceKind.{DeviceKind}
 use Rattle.mmio_window.specs.declared.device_kind.DeviceKind.TheVariants.{Block, Console}
 use Rattle.board.specs.declared.event.EventKind.{EventKind}
-use Rattle.board.specs.declared.event.EventKind.TheVariants.{Read, Write, MemRead, MemWrite, Input, Resize, Restore, Complete}
+use Rattle.board.specs.declared.event.HostEvent.{HostEvent}
+use Rattle.board.specs.declared.event.EventKind.TheVariants.{Read, Write, MemRead, MemWrite, Input, Resize, Restore, Host}
 use Rattle.board.specs.declared.pause.Pause.{Pause}
 use Rattle.board.specs.declared.pause.Service.{Service}
 use Rattle.mmio_window.specs.declared.stage.Stage.TheVariants.{Next}
@@ -16,7 +16,7 @@ use Rattle.board.specs.declared.pause.Turn.TheVariants.{Answered}
 use Rattle.board.specs.declared.reply.Reply.{Reply}
 use Rattle.board.specs.declared.reply.Reply.TheVariants.{Busy}
 use Rattle.board.specs.Backing.{HostDisk, tags_in}
-use Rattle.board.specs.Hosting.{CompletesOrGives, CompletionGives, LooksAtQueue, OwnGives, Told, has_part, is_block_task, must_wait, notifies_block, told_in, waits_now}
+use Rattle.board.specs.Hosting.{HostGives, HostOrGives, LooksAtQueue, OwnGives, has_part, is_block_task, must_wait, notifies_block, told_in, waits_now}
 use Rattle.board.specs.Image.{Health, sectors_of}
 use Rattle.board.specs.Outcome.{Outcome, does, replies}
 use Rattle.board.specs.Pausing.{Begins, BeginsOverImage, ComesTo, GoesOn, GoesOnBy, ServesTurn, TurnsTo, asked_over_image, is_hosts, readied}
@@ -43,11 +43,11 @@ pub no_host : {A : Type 0} (host : Option HostDisk) (what : EventKind A) (state 
 no_host None what state is = refl
 no_host (Some disk) what state is = absurd (cc)
 
--- it has in a completion, in what waits, and in a notification of the block device
-pub part_by_completion : {A : Type 0} (host : Option HostDisk) (what : EventKind A) (state : SlotState)
-    (told : Told) → IsSome host → told_in what ≡ Some told → has_part host what state ≡ true
-part_by_completion None what state told hosted is = absurd (cc)
-part_by_completion (Some disk) what state told hosted is = rw is refl
+-- it has in what the host says, in what waits, and in a notification of the block device
+pub part_by_host : {A : Type 0} (host : Option HostDisk) (what : EventKind A) (state : SlotState)
+    (said : HostEvent) → IsSome host → told_in what ≡ Some said → has_part host what state ≡ true
+part_by_host None what state said hosted is = absurd (cc)
+part_by_host (Some disk) what state said hosted is = rw is refl
 
 waits_by : (v waits rings : Bool) → waits ≡ true → (v || (waits || rings)) ≡ true
 waits_by true waits rings is = refl
@@ -244,7 +244,7 @@ waiting_silent limit state new (MemWrite addr bytes) waiting reply waits = absur
 waiting_silent limit state new (Input bytes) waiting reply waits = absurd (cc)
 waiting_silent limit state new (Resize cols rows) waiting reply waits = absurd (cc)
 waiting_silent limit state new (Restore bytes) waiting reply waits = tt
-waiting_silent limit state new (Complete tag verdict) waiting reply waits = absurd (cc)
+waiting_silent limit state new (Host said) waiting reply waits = absurd (cc)
 
 pub ringing_silent : {A : Type 0} (limit : ℕ) (state new : SlotState) (what : EventKind A)
     (waiting : List ℕ) (reply : Reply A) → notifies_block what state ≡ true
@@ -258,24 +258,22 @@ ringing_silent limit state new (MemWrite addr bytes) waiting reply rings = absur
 ringing_silent limit state new (Input bytes) waiting reply rings = absurd (cc)
 ringing_silent limit state new (Resize cols rows) waiting reply rings = absurd (cc)
 ringing_silent limit state new (Restore bytes) waiting reply rings = absurd (cc)
-ringing_silent limit state new (Complete tag verdict) waiting reply rings = absurd (cc)
+ringing_silent limit state new (Host said) waiting reply rings = absurd (cc)
 
 -- ---- what comes of it
 
 given_at : {A : Type 0} (host : Option HostDisk) (state : SlotState) (what : EventKind A) (health : Health)
     (outcome : Outcome A) → IsSome host
-    → CompletesOrGives (λ (o : Outcome A). MayGiveOverImage state what health health o) (told_in what) state what
+    → HostOrGives (λ (o : Outcome A). MayGiveOverImage state what health health o) (told_in what) state what
     outcome
     → MayGiveBy host state what health health outcome
 given_at None state what health outcome hosted h = absurd (cc)
 given_at (Some disk) state what health outcome hosted h = record { gives = h; image = refl }
 
-pub completion_given : {A : Type 0} (state : SlotState) (tag : ℕ) (verdict : Verdict) (health : Health)
-    (outcome : Outcome A) → IsSome state.host
-    → CompletionGives (get_or (tags_in state.host) tag None) (record { tag = tag; verdict = verdict }) state outcome
-    → MayGive state (Complete tag verdict) health health outcome
-completion_given state tag verdict health outcome hosted h =
-    given_at state.host state (Complete tag verdict) health outcome hosted h
+pub told_given : {A : Type 0} (state : SlotState) (said : HostEvent) (health : Health) (outcome : Outcome A)
+    → IsSome state.host → HostGives said state outcome → MayGive state (Host said) health health outcome
+told_given state said health outcome hosted h =
+    given_at state.host state (Host said) health outcome hosted h
 
 -- only an own event waits, or notifies the block device
 pub waiting_own : {A : Type 0} (what : EventKind A) → must_wait what ≡ true → told_in what ≡ None
@@ -286,7 +284,7 @@ waiting_own (MemWrite addr bytes) waits = refl
 waiting_own (Input bytes) waits = refl
 waiting_own (Resize cols rows) waits = refl
 waiting_own (Restore bytes) waits = refl
-waiting_own (Complete tag verdict) waits = absurd (cc)
+waiting_own (Host said) waits = absurd (cc)
 
 pub ringing_own : {A : Type 0} (what : EventKind A) (state : SlotState) → notifies_block what state ≡ true
     → told_in what ≡ None
@@ -297,7 +295,7 @@ ringing_own (MemWrite addr bytes) state rings = refl
 ringing_own (Input bytes) state rings = refl
 ringing_own (Resize cols rows) state rings = refl
 ringing_own (Restore bytes) state rings = refl
-ringing_own (Complete tag verdict) state rings = absurd (cc)
+ringing_own (Host said) state rings = absurd (cc)
 
 own_given : {A : Type 0} (state : SlotState) (what : EventKind A) (health : Health) (outcome : Outcome A)
     → IsSome state.host → told_in what ≡ None
@@ -319,9 +317,9 @@ looks_given : {A : Type 0} (state : SlotState) (what : EventKind A) (health : He
 looks_given {A} state what health new hosted free rings h =
     own_given state what health (does new) hosted (ringing_own what state rings) (rw (free, rings) (h, refl))
 
--- an event that is no completion is the guest's own
+-- an event by which the host says nothing is the guest's own
 pub own_of : {A : Type 0} (what : EventKind A)
-    → ((tag : ℕ) (verdict : Verdict) → what ≡ Complete tag verdict → ⊥) → told_in what ≡ None
+    → ((said : HostEvent) → what ≡ Host said → ⊥) → told_in what ≡ None
 own_of (Read window offset width) never = refl
 own_of (Write window offset width value) never = refl
 own_of (MemRead addr len) never = refl
@@ -329,7 +327,7 @@ own_of (MemWrite addr bytes) never = refl
 own_of (Input bytes) never = refl
 own_of (Resize cols rows) never = refl
 own_of (Restore bytes) never = refl
-own_of (Complete tag verdict) never = absurd (never tag verdict refl)
+own_of (Host said) never = absurd (never said refl)
 
 -- a notification, behind its write
 pub notified_given : {A : Type 0} (state mid new : SlotState) (what : EventKind A) (health : Health)
@@ -357,13 +355,13 @@ same_reply A (Ok done) = refl
 same_reply A (Err why) = refl
 
 pub restore_passes : (A : Type 0) (image : List ℕ) (slot new : BoardSlot) (bytes : List ℕ)
-    (r : Result (Unit {0}) RestoreFault) (told : Result (Unit {0}) RestoreRefusal) (health : Health)
-    → is_any (tags_in slot.host) ≡ false → told ≡ refusal_of r
+    (r : Result (Unit {0}) RestoreFault) (said : Result (Unit {0}) RestoreRefusal) (health : Health)
+    → is_any (tags_in slot.host) ≡ false → said ≡ refusal_of r
     → sectors_of (state_of image slot).extent ≡ slot.extent.count
     → OnOk r (IsRestored slot bytes new) → IfErr r (IsCauseOf slot bytes) → OnErr r (new ≡ slot)
     → MayGive {A = A} (state_of image slot) (Restore bytes) health health
-    (replies (state_of image new) (restore_reply told))
-restore_passes A image slot new bytes r told health rests is filled ok fault kept =
+    (replies (state_of image new) (restore_reply said))
+restore_passes A image slot new bytes r said health rests is filled ok fault kept =
     let state = state_of image slot in
     rw (is, same_reply A r)
     (passes_by state.host state (Restore bytes) health (replies (state_of image new) (taken_up_reply r))

@@ -7,7 +7,7 @@ use Rattle.mmio_window.specs.declared.device_kind.DeviceKind.{DeviceKind}
 use Rattle.mmio_window.specs.declared.device_kind.DeviceKind.TheVariants.{Block, Console}
 use Rattle.board.specs.declared.event.Event.{Event}
 use Rattle.board.specs.declared.event.EventKind.{EventKind}
-use Rattle.board.specs.declared.event.EventKind.TheVariants.{Read, Write, MemRead, MemWrite, Input, Resize, Restore, Complete}
+use Rattle.board.specs.declared.event.EventKind.TheVariants.{Read, Write, MemRead, MemWrite, Input, Resize, Restore, Host}
 use Rattle.board.specs.declared.reply.Record.{Record}
 use Rattle.board.specs.declared.pause.Service.TheVariants as service
 use Rattle.board.specs.Image.{Health}
@@ -24,7 +24,7 @@ use Rattle.board.proofs.Refusals.{Failed, Unput, Unread, Unsent, was_refused}
 use Rattle.board.specs.Backing.{HostDisk}
 use Rattle.board.specs.Machine.{GivesOverImage, readied}
 use Rattle.board.specs.World.{MayGiveBy, MayGiveOverImage}
-use Rattle.board.proofs.Ways.{Lands, Looks, Passes, Rests, Waits, Way, way}
+use Rattle.board.proofs.Ways.{Drops, Holds, Lands, Looks, Passes, Releases, Rests, Waits, Way, way}
 
 -- both stay
 pub record Fixed (old new : SlotState) : Type 0 where
@@ -53,7 +53,7 @@ readied_fixed (MemWrite addr bytes) state = both state
 readied_fixed (Input bytes) state = record { identity = refl; host = refl }
 readied_fixed (Resize cols rows) state = both state
 readied_fixed (Restore bytes) state = both state
-readied_fixed (Complete tag verdict) state = both state
+readied_fixed (Host said) state = both state
 
 behind : (a b c : SlotState) → Fixed a b → Fixed b c → Fixed a c
 behind a b c x y = record { identity = y.identity ∙ x.identity; host = y.host ∙ x.host }
@@ -92,7 +92,7 @@ served_fixed state (Restore bytes) old new outcome h = record {
   identity = restored_named state bytes outcome h.alike;
   host = restored_host state bytes outcome h.alike;
 }
-served_fixed state (Complete tag verdict) old new outcome h = fixed state outcome _ h.alike (both state)
+served_fixed state (Host said) old new outcome h = fixed state outcome _ h.alike (both state)
 
 pub given_fixed : {A : Type 0} (state : SlotState) (what : EventKind A) (old new : Health)
     (outcome : Outcome A) → MayGiveOverImage state what old new outcome → Fixed state outcome.state
@@ -115,9 +115,13 @@ on_host_named state what old outcome (Passes own free quiet h) =
     (given_fixed state what old old outcome h).identity
 on_host_named state what old outcome (Looks rings looks h) =
     ap (λ (s : SlotState). s.identity) looks.rest ∙ (readied_fixed what state).identity
-on_host_named state what old outcome (Rests told completes none h) = ap (λ o. o.state.identity) h
-on_host_named state what old outcome (Lands told completes here flies lands h) =
-    ap (λ (s : SlotState). s.identity) lands.rest
+on_host_named state what old outcome (Rests said is h) = ap (λ o. o.state.identity) h
+on_host_named state what old outcome (Lands tag verdict is completes h) =
+    ap (λ (s : SlotState). s.identity) completes.looks.rest
+    ∙ ap (λ (s : SlotState). s.identity) completes.lands.rest
+on_host_named state what old outcome (Drops is h) = ap (λ o. o.state.identity) h
+on_host_named state what old outcome (Holds is h) = ap (λ o. o.state.identity) h
+on_host_named state what old outcome (Releases is looks h) = ap (λ (s : SlotState). s.identity) looks.rest
 
 given_by : {A : Type 0} (host : Option HostDisk) (state : SlotState) (what : EventKind A) (old new : Health)
     (outcome : Outcome A) → MayGiveBy host state what old new outcome

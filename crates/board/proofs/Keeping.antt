@@ -4,18 +4,16 @@ use Rattle.std.specs.Prelude.{if◌then◌else◌, slice_set, MatchOption}
 use Rattle.std.specs.List.{AllByRecursion, slice_get}
 use Rattle.std.proofs.lemmas.List.{length-replicate}
 use Rattle.std.specs.Option.{option_map}
-use Rattle.guest_memory.specs.Memory.{Memory, SameRange, put, put_num}
+use Rattle.guest_memory.specs.Memory.{Memory, SameRange}
 use Rattle.guest_memory.proofs.Ranges.{put_range, same_trans}
-use Rattle.byteorder.specs.Endian.{little_bytes}
 use Rattle.chain.specs.Bytes.{readable_of, writable_of}
-use Rattle.chain.specs.Service.{Entry, Given, Device, Site, Served, Ending, Refused, scattered, used_len, wrote, after, ServesAll}
+use Rattle.chain.specs.Service.{Given, Device, Site, Served, Ending, Refused, after, ServesAll}
 use Rattle.sector_cache.specs.Disk.{Disk, written}
 use Rattle.sector_cache.specs.Sector.{with_sector}
 use Rattle.sector_cache.proofs.Sectors.{length-with_sector}
 use Rattle.mmio_window.specs.declared.action.Action.TheVariants as action
 use Rattle.mmio_window.specs.declared.device_kind.DeviceKind.TheVariants.{Console}
 use Rattle.mmio_window.specs.declared.queue.Queue.{Queue}
-use Rattle.mmio_window.specs.declared.queue.Queue.TheVariants.{Split, Packed}
 use Rattle.mmio_window.specs.Queue.{queue_kind}
 use Rattle.mmio_window.specs.Window.{WindowState, queue_at}
 use Rattle.block_device.specs.declared.device.BlockDevice.{BlockDevice}

@@ -40,6 +40,7 @@ pub mod Ways
 pub mod OnHost
 pub mod Waiting
 pub mod HostedWindows
+pub mod Holding
 pub mod Honest
 pub mod Reading
 pub mod SameRange

@@ -1,5 +1,5 @@
--- What each piece of a look leaves, a look leaves too, and so does a completion; and a tag that is taken stays so.
-use Rattle.std.proofs.Common.{◌≡◌, ◌≢◌, ◌∙◌, ℕ, Option, Some, None, List, [], ◌∷◌, get_or, set, sym, ap, subst}
+-- What each piece of a look leaves, a look leaves too, and so does a landing; and a tag that is taken stays so.
+use Rattle.std.proofs.Common.{◌≡◌, ◌≢◌, ◌∙◌, ℕ, Bool, true, false, Option, Some, None, List, [], ◌∷◌, get_or, set, sym, ap, subst}
 use Rattle.std.proofs.lemmas.List.{get_or-set_other}
 use Rattle.mmio_window.specs.declared.queue.Queue.{Queue}
 use Rattle.mmio_window.specs.declared.stage.Stage.{Stage}
@@ -7,8 +7,9 @@ use Rattle.mmio_window.specs.declared.stage.Stage.TheVariants.{First, Next}
 use Rattle.mmio_window.specs.Window.{queue_at}
 use Rattle.block_device.specs.declared.device.BlockDevice.{BlockDevice}
 use Rattle.block_device.specs.declared.operation.Verdict.{Verdict}
-use Rattle.block_device.specs.Flights.{AsksNext, AsksNoMore, HostedQueue, InFlight, IsCompletion, IsGivenIn, IsLanding, IsLook, LandsBy, LookEnds, LooksFrom, free_tag}
+use Rattle.block_device.specs.Flights.{AsksNext, AsksNoMore, HostedQueue, InFlight, IsGivenIn, IsLanding, IsLook, LandsBy, LookEnds, LooksFrom, free_tag}
 use Rattle.block_device.proofs.Held.{is_free}
+use Rattle.board.specs.Hosting.{LooksUnless}
 
 -- It holds of what stays, of two steps if of each, of a chain that asks, and of the end of a look.
 pub record IsLeftByLooks (K : HostedQueue → HostedQueue → Type 0) : Type 0 where
@@ -42,6 +43,11 @@ module _ (K : HostedQueue → HostedQueue → Type 0) (left : IsLeftByLooks K) w
   pub look_left : (device : BlockDevice) (old new : HostedQueue) → IsLook device old new → K old new
   look_left device old new h = from_left device First old h.asked new h.looks
 
+  pub unless_left : (on_hold : Bool) (device : BlockDevice) (old new : HostedQueue)
+      → LooksUnless on_hold device old new → K old new
+  unless_left true device old new h = subst (K old) (sym h) (left.none old)
+  unless_left false device old new h = look_left device old new h
+
   module _ (landings : IsLeftByLandings K) where
     lands_left : (found : Option Queue) (tag : ℕ) (here : InFlight) (verdict : Verdict) (old new : HostedQueue)
         → LandsBy found tag here verdict old new → K old new
@@ -52,12 +58,6 @@ module _ (K : HostedQueue → HostedQueue → Type 0) (left : IsLeftByLooks K) w
         → K old new
     landing_left tag verdict old new h =
         lands_left (queue_at 0 old.window) tag h.here verdict old new h.lands
-
-    pub completion_left : (device : BlockDevice) (tag : ℕ) (verdict : Verdict) (old new : HostedQueue)
-        → IsCompletion device tag verdict old new → K old new
-    completion_left device tag verdict old new h =
-        left.both old h.landed new (landing_left tag verdict old h.landed h.lands)
-        (look_left device h.landed new h.looks)
 
 -- ---- a tag that is taken
 
@@ -92,7 +92,7 @@ keeps_tag tag = record {
   ends = λ device stage old new no_more. same_tags tag old new no_more.tags;
 }
 
--- a completion of another tag keeps it
+-- the landing of another tag keeps it
 others_stay : (found : Option Queue) (tag other : ℕ) (here : InFlight) (verdict : Verdict) (old new : HostedQueue)
     → tag ≢ other → LandsBy found other here verdict old new → KeepsTag tag old new
 others_stay None tag other here verdict old new differ h =
@@ -100,8 +100,7 @@ others_stay None tag other here verdict old new differ h =
 others_stay (Some queue) tag other here verdict old new differ h =
     other_set tag other old new None differ h.tags
 
-pub completion_keeps : (device : BlockDevice) (tag other : ℕ) (verdict : Verdict) (old new : HostedQueue)
-    → tag ≢ other → IsCompletion device other verdict old new → KeepsTag tag old new
-completion_keeps device tag other verdict old new differ h = λ here taken.
-    look_left (KeepsTag tag) (keeps_tag tag) device h.landed new h.looks here
-    (others_stay (queue_at 0 old.window) tag other h.lands.here verdict old h.landed differ h.lands.lands here taken)
+pub landing_keeps : (tag other : ℕ) (verdict : Verdict) (old new : HostedQueue)
+    → tag ≢ other → IsLanding other verdict old new → KeepsTag tag old new
+landing_keeps tag other verdict old new differ h = λ here taken.
+    others_stay (queue_at 0 old.window) tag other h.here verdict old new differ h.lands here taken

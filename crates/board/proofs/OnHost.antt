@@ -3,18 +3,19 @@ use Rattle.std.proofs.Common.{◌≡◌, ◌⊎◌, inl, inr, Bool, true, false,
 use Rattle.std.specs.Prelude.{◌||◌, is_some}
 use Rattle.chain.specs.declared.budget.Budget.{Budget}
 use Rattle.board.specs.declared.event.EventKind.{EventKind}
+use Rattle.board.specs.declared.event.HostEvent.{HostEvent}
 use Rattle.board.specs.declared.pause.Pause.{Pause}
 use Rattle.board.specs.declared.pause.Turn.{Turn}
 use Rattle.board.specs.declared.pause.Turn.TheVariants.{Answered, More}
 use Rattle.board.specs.declared.reply.Reply.TheVariants.{NoMemory}
 use Rattle.board.specs.Backing.{HostDisk}
-use Rattle.board.specs.Hosting.{CompletesOrGives, Told, has_part, notifies_block, told_in, waits_now}
+use Rattle.board.specs.Hosting.{HostOrGives, has_part, notifies_block, told_in, waits_now}
 use Rattle.board.specs.Image.{Health}
 use Rattle.board.specs.Outcome.{Outcome}
 use Rattle.board.specs.Pausing.{TurnsTo}
 use Rattle.board.specs.Slot.{SlotState}
 use Rattle.board.specs.World.{MayGive, MayGiveBy, MayGiveOverImage}
-use Rattle.board.proofs.Ways.{Lands, Looks, Passes, Rests, Waits, Way, way}
+use Rattle.board.proofs.Ways.{Drops, Holds, Lands, Looks, Passes, Releases, Rests, Waits, Way, way}
 
 -- ---- an event in which the host has no part
 
@@ -35,16 +36,16 @@ is_beside disk what state free = by_told (told_in what) refl free
     by_rest true rings waits is own none = absurd (cc)
     by_rest false true waits rings own none = absurd (cc)
 
-    by_told : (found : Option Told) → told_in what ≡ found
+    by_told : (found : Option HostEvent) → told_in what ≡ found
         → (is_some found || (waits_now what state.host || notifies_block what state)) ≡ false
         → IsBeside what state
     by_told None own none =
         by_rest (waits_now what state.host) (notifies_block what state) refl refl own none
-    by_told (Some told) own none = absurd (cc)
+    by_told (Some said) own none = absurd (cc)
 
 pub passes : {A : Type 0} (Beside : Outcome A → Type 0) (disk : HostDisk) (state : SlotState)
     (what : EventKind A) (outcome : Outcome A) → has_part (Some disk) what state ≡ false → Beside outcome
-    → CompletesOrGives Beside (told_in what) state what outcome
+    → HostOrGives Beside (told_in what) state what outcome
 passes Beside disk state what outcome free h =
     let is = is_beside disk what state free in
     rw (is.own, is.free, is.quiet) h
@@ -88,9 +89,15 @@ lacking_way state what before outcome lacks (Waits waits h) =
 lacking_way state what before outcome lacks (Passes own free quiet h) = h
 lacking_way state what before outcome lacks (Looks rings looks h) =
     let done = ap (λ o. o.reply) h in absurd (cc)
-lacking_way state what before outcome lacks (Rests told completes none h) =
+lacking_way state what before outcome lacks (Rests said is h) =
     let idle = ap (λ o. o.reply) h in absurd (cc)
-lacking_way state what before outcome lacks (Lands told completes here flies lands h) =
+lacking_way state what before outcome lacks (Lands tag verdict is lands h) =
+    let done = ap (λ o. o.reply) h in absurd (cc)
+lacking_way state what before outcome lacks (Drops is h) =
+    let done = ap (λ o. o.reply) h in absurd (cc)
+lacking_way state what before outcome lacks (Holds is h) =
+    let done = ap (λ o. o.reply) h in absurd (cc)
+lacking_way state what before outcome lacks (Releases is looks h) =
     let done = ap (λ o. o.reply) h in absurd (cc)
 
 lacking_by : {A : Type 0} (host : Option HostDisk) (state : SlotState) (what : EventKind A)

@@ -7,14 +7,16 @@ use Rattle.mmio_window.specs.declared.stage.Stage.TheVariants.{First}
 use Rattle.mmio_window.specs.Window.{WindowState, queue_at}
 use Rattle.block_device.specs.declared.device.BlockDevice.{BlockDevice}
 use Rattle.block_device.specs.declared.operation.Verdict.{Verdict}
-use Rattle.block_device.specs.Flights.{HostedQueue, InFlight, IsCompletion, IsLanding, IsLook, LandsBy}
+use Rattle.block_device.specs.Flights.{HostedQueue, InFlight, IsLanding, IsLook, LandsBy, is_any}
 use Rattle.block_device.proofs.OneLook.{one_completion}
 use Rattle.block_device.proofs.WholeLooks.{looks_once}
 use Rattle.board.specs.declared.event.EventKind.{EventKind}
+use Rattle.board.specs.declared.event.HostEvent.{HostEvent}
+use Rattle.board.specs.declared.event.HostEvent.TheVariants.{Complete, Drop, Hold, Release}
 use Rattle.board.specs.declared.reply.Reply.{Reply}
 use Rattle.board.specs.declared.reply.Reply.TheVariants.{Done}
-use Rattle.board.specs.Backing.{tags_in, with_tags}
-use Rattle.board.specs.Hosting.{CompletesOrGives, CompletesTag, CompletionGives, LooksAtQueue, LooksOrGives, OwnGives, Told, hosted_device, hosted_queue, notifies_block, told_in, waits_now, with_queue_of}
+use Rattle.board.specs.Backing.{tags_in}
+use Rattle.board.specs.Hosting.{CompletesTag, CompletionGives, DropGives, HoldGives, HostGives, HostOrGives, LandsTag, LooksAtQueue, LooksOrGives, LooksUnless, OwnGives, ReleaseGives, hosted_device, hosted_queue, notifies_block, released, told_in, waits_now, with_queue, with_queue_of}
 use Rattle.board.specs.Machine.{readied}
 use Rattle.board.specs.Outcome.{Outcome, replies}
 use Rattle.board.specs.Slot.{SlotState}
@@ -46,31 +48,33 @@ land_queue tag verdict old one other x y =
     lands_by (queue_at 0 old.window) tag x.here verdict old one other x.lands
     (subst (λ (h : InFlight). LandsBy (queue_at 0 old.window) tag h verdict old other) here y.lands)
 
-completed_queue : (device : BlockDevice) (tag : ℕ) (verdict : Verdict) (old one other : HostedQueue)
-    → IsCompletion device tag verdict old one → IsCompletion device tag verdict old other → one ≡ other
-completed_queue device tag verdict old one other x y =
-    let landed : y.landed ≡ x.landed = land_queue tag verdict old y.landed x.landed y.lands x.lands in
-    look_queue device x.landed one other x.looks
-    (subst (λ (q : HostedQueue). IsLook device q other) landed y.looks)
+unless_queue : (on_hold : Bool) (device : BlockDevice) (old one other : HostedQueue)
+    → LooksUnless on_hold device old one → LooksUnless on_hold device old other → one ≡ other
+unless_queue true device old one other x y = x ∙ sym y
+unless_queue false device old one other x y = look_queue device old one other x y
 
 -- and so the slot is the same
 after_queue : (old one other : SlotState) → hosted_queue one ≡ hosted_queue other
     → with_queue_of one old ≡ with_queue_of other old
-after_queue old one other same =
-    ap (λ (q : HostedQueue). record old { memory = q.memory; block = q.window; host = with_tags q.tags old.host }) same
+after_queue old one other same = ap (λ (q : HostedQueue). with_queue q old) same
 
-look_once : (old one other : SlotState) → LooksAtQueue old one → LooksAtQueue old other → one ≡ other
+pub look_once : (old one other : SlotState) → LooksAtQueue old one → LooksAtQueue old other → one ≡ other
 look_once old one other x y =
-    let same = look_queue (hosted_device old) (hosted_queue old) (hosted_queue one) (hosted_queue other)
-    x.looks y.looks in
+    let same = unless_queue old.on_hold (hosted_device old) (hosted_queue old) (hosted_queue one)
+    (hosted_queue other) x.looks y.looks in
+    x.rest ∙ after_queue old one other same ∙ sym y.rest
+
+land_once : (tag : ℕ) (verdict : Verdict) (old one other : SlotState) → LandsTag tag verdict old one
+    → LandsTag tag verdict old other → one ≡ other
+land_once tag verdict old one other x y =
+    let same = land_queue tag verdict (hosted_queue old) (hosted_queue one) (hosted_queue other) x.lands y.lands in
     x.rest ∙ after_queue old one other same ∙ sym y.rest
 
 complete_once : (tag : ℕ) (verdict : Verdict) (old one other : SlotState) → CompletesTag tag verdict old one
     → CompletesTag tag verdict old other → one ≡ other
 complete_once tag verdict old one other x y =
-    let same = completed_queue (hosted_device old) tag verdict (hosted_queue old) (hosted_queue one)
-    (hosted_queue other) x.completes y.completes in
-    x.rest ∙ after_queue old one other same ∙ sym y.rest
+    let landed : y.landed ≡ x.landed = land_once tag verdict old y.landed x.landed y.lands x.lands in
+    look_once x.landed one other x.looks (subst (λ (s : SlotState). LooksAtQueue s other) landed y.looks)
 
 -- ---- an event
 
@@ -91,19 +95,38 @@ module _ {A : Type 0} (Beside : Outcome A → Type 0) (old : SlotState) (what : 
   own_once true x y = x ∙ sym y
   own_once false x y = looking_once (notifies_block what old) x y
 
-  completion_once : (found : Option InFlight) (told : Told) → CompletionGives found told old one
-      → CompletionGives found told old other → one ≡ other
-  completion_once None told x y = x ∙ sym y
-  completion_once (Some here) told x y =
-      answered one other Done (complete_once told.tag told.verdict old one.state other.state x.0 y.0) x.1 y.1
+  completion_once : (found : Option InFlight) (tag : ℕ) (verdict : Verdict)
+      → CompletionGives found tag verdict old one → CompletionGives found tag verdict old other → one ≡ other
+  completion_once None tag verdict x y = x ∙ sym y
+  completion_once (Some here) tag verdict x y =
+      answered one other Done (complete_once tag verdict old one.state other.state x.0 y.0) x.1 y.1
 
-  once_by : (found : Option Told) → CompletesOrGives Beside found old what one
-      → CompletesOrGives Beside found old what other → one ≡ other
+  drop_once : (any : Bool) → DropGives any old one → DropGives any old other → one ≡ other
+  drop_once false x y = x ∙ sym y
+  drop_once true x y = x ∙ sym y
+
+  hold_once : (on_hold : Bool) → HoldGives on_hold old one → HoldGives on_hold old other → one ≡ other
+  hold_once true x y = x ∙ sym y
+  hold_once false x y = x ∙ sym y
+
+  release_once : (on_hold : Bool) → ReleaseGives on_hold old one → ReleaseGives on_hold old other → one ≡ other
+  release_once false x y = x ∙ sym y
+  release_once true x y =
+      answered one other Done (look_once (released old) one.state other.state x.0 y.0) x.1 y.1
+
+  host_once : (said : HostEvent) → HostGives said old one → HostGives said old other → one ≡ other
+  host_once (Complete tag verdict) x y = completion_once (get_or (tags_in old.host) tag None) tag verdict x y
+  host_once Drop x y = drop_once (is_any (tags_in old.host)) x y
+  host_once Hold x y = hold_once old.on_hold x y
+  host_once Release x y = release_once old.on_hold x y
+
+  once_by : (found : Option HostEvent) → HostOrGives Beside found old what one
+      → HostOrGives Beside found old what other → one ≡ other
   once_by None x y = own_once (waits_now what old.host) x y
-  once_by (Some told) x y = completion_once (get_or (tags_in old.host) told.tag None) told x y
+  once_by (Some said) x y = host_once said x y
 
 pub hosted_once : {A : Type 0} (Beside : Outcome A → Type 0) (old : SlotState) (what : EventKind A)
     (one other : Outcome A) → (Beside one → Beside other → one ≡ other)
-    → CompletesOrGives Beside (told_in what) old what one
-    → CompletesOrGives Beside (told_in what) old what other → one ≡ other
+    → HostOrGives Beside (told_in what) old what one
+    → HostOrGives Beside (told_in what) old what other → one ≡ other
 hosted_once Beside old what one other beside x y = once_by Beside old what one other beside (told_in what) x y

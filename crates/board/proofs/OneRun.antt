@@ -16,13 +16,14 @@ use Rattle.console_device.specs.Device.{receive, exact_transmit}
 use Rattle.console_device.specs.Input.{fitting}
 use Rattle.console_device.proofs.Services.{receive_once, receive_never_refused}
 use Rattle.board.specs.declared.event.EventKind.{EventKind}
-use Rattle.board.specs.declared.event.EventKind.TheVariants.{Read, Write, MemRead, MemWrite, Input, Resize, Restore, Complete}
+use Rattle.board.specs.declared.event.HostEvent.{HostEvent}
+use Rattle.board.specs.declared.event.EventKind.TheVariants.{Read, Write, MemRead, MemWrite, Input, Resize, Restore, Host}
 use Rattle.board.specs.declared.reply.Reply.{Reply}
 use Rattle.board.specs.declared.reply.Reply.TheVariants.{Done, Took}
 use Rattle.board.specs.declared.reply.Record.{Record}
 use Rattle.board.specs.declared.pause.Service.TheVariants.{Block, Receive, Transmit}
 use Rattle.board.specs.Backing.{HostDisk}
-use Rattle.board.specs.Hosting.{CompletesOrGives, LooksOrGives, OwnGives, Told, is_block_task, notifies_block, told_in, waits_now}
+use Rattle.board.specs.Hosting.{HostOrGives, LooksOrGives, OwnGives, is_block_task, notifies_block, told_in, waits_now}
 use Rattle.board.specs.Image.{Health, disk_with}
 use Rattle.board.specs.Machine.{task_at, with_write, with_input, Gives, GivesBy, GivesOverImage, IsNext, IsToldAlone, RunsOnItsOwn, record_of, at_rest}
 use Rattle.board.specs.Outcome.{Outcome, replies, does}
@@ -81,7 +82,7 @@ rests_over_image state (Resize cols rows) before after outcome h =
     record { after = at_rest; gives = record { alike = h.alike; image = refl } }
 rests_over_image state (Restore bytes) before after outcome h =
     record { after = at_rest; gives = record { alike = h.alike; image = refl } }
-rests_over_image state (Complete tag verdict) before after outcome h =
+rests_over_image state (Host said) before after outcome h =
     record { after = at_rest; gives = record { alike = h.alike; image = refl } }
 
 -- the same of one that doesn't notify the block device: the image has no part in it
@@ -110,13 +111,13 @@ rests_beside state (Input bytes) health outcome quiet h =
     record { notified = h.notified; is = h.is; image = refl }
 rests_beside state (Resize cols rows) health outcome quiet h = record { alike = h.alike; image = refl }
 rests_beside state (Restore bytes) health outcome quiet h = record { alike = h.alike; image = refl }
-rests_beside state (Complete tag verdict) health outcome quiet h = record { alike = h.alike; image = refl }
+rests_beside state (Host said) health outcome quiet h = record { alike = h.alike; image = refl }
 
 -- an event comes out so where the disk has no part in it, and so of a guest whose disk the host serves
 pub on_host_as : {A : Type 0} (One Other : Outcome A → Type 0) (state : SlotState) (what : EventKind A)
     (outcome : Outcome A) → (notifies_block what state ≡ false → One outcome → Other outcome)
-    → CompletesOrGives One (told_in what) state what outcome
-    → CompletesOrGives Other (told_in what) state what outcome
+    → HostOrGives One (told_in what) state what outcome
+    → HostOrGives Other (told_in what) state what outcome
 on_host_as {A} One Other state what outcome turn h = by_told (told_in what) h
   where
     by_ring : (rings : Bool) → notifies_block what state ≡ rings → LooksOrGives One rings state what outcome
@@ -128,10 +129,10 @@ on_host_as {A} One Other state what outcome turn h = by_told (told_in what) h
     by_wait true given = given
     by_wait false given = by_ring (notifies_block what state) refl given
 
-    by_told : (found : Option Told) → CompletesOrGives One found state what outcome
-        → CompletesOrGives Other found state what outcome
+    by_told : (found : Option HostEvent) → HostOrGives One found state what outcome
+        → HostOrGives Other found state what outcome
     by_told None given = by_wait (waits_now what state.host) given
-    by_told (Some told) given = given
+    by_told (Some said) given = given
 
 -- what an event gives is what comes of it for a guest alone
 next_by : {A : Type 0} (host : Option HostDisk) (state : SlotState) (what : EventKind A) (before after : Health)
@@ -312,7 +313,7 @@ over_image_once state (Input bytes) h k one other a b =
 over_image_once state (Resize cols rows) h k one other a b = a.alike ∙ sym b.alike
 over_image_once state (Restore bytes) h k one other a b =
     restored_once state bytes one other a.alike b.alike
-over_image_once state (Complete tag verdict) h k one other a b = a.alike ∙ sym b.alike
+over_image_once state (Host said) h k one other a b = a.alike ∙ sym b.alike
 
 -- and whoever has the guest's disk
 once_by : {A : Type 0} (host : Option HostDisk) (state : SlotState) (what : EventKind A) (h k : Health)

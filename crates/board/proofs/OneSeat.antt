@@ -12,7 +12,7 @@ use Rattle.console_device.specs.Device.{transmit_within}
 use Rattle.console_device.proofs.Services.{within_once}
 use Rattle.console_device.proofs.Deciding.{within_decides}
 use Rattle.board.specs.declared.event.EventKind.{EventKind}
-use Rattle.board.specs.declared.event.EventKind.TheVariants.{Read, Write, MemRead, MemWrite, Input, Resize, Restore, Complete}
+use Rattle.board.specs.declared.event.EventKind.TheVariants.{Read, Write, MemRead, MemWrite, Input, Resize, Restore, Host}
 use Rattle.board.specs.declared.reply.Reply.{Reply}
 use Rattle.board.specs.declared.pause.Service.TheVariants.{Block, Receive, Transmit}
 use Rattle.board.specs.Machine.{task_at, with_write}
@@ -167,8 +167,8 @@ left_once limit old one other (Resize cols rows) p q x y =
     quiet_once limit old one other (Resize cols rows) p q (λ h. h) x y
 left_once limit old one other (Restore bytes) p q x y =
     quiet_once limit old one other (Restore bytes) p q (λ h. h) x y
-left_once limit old one other (Complete tag verdict) p q x y =
-    quiet_once limit old one other (Complete tag verdict) p q (λ h. h) x y
+left_once limit old one other (Host said) p q x y =
+    quiet_once limit old one other (Host said) p q (λ h. h) x y
 
 same_seat : (a b : SlotState) (l k : List ℕ) → a ≡ b → l ≡ k
     → ◌≡◌ {A = Seat} (record { state = a; waiting = l }) (record { state = b; waiting = k })

@@ -6,7 +6,7 @@ use Rattle.mmio_window.specs.declared.action.Action.TheVariants as action
 use Rattle.mmio_window.specs.declared.device_kind.DeviceKind.TheVariants.{Block, Console}
 use Rattle.mmio_window.specs.Window.{WindowState}
 use Rattle.board.specs.declared.event.EventKind.{EventKind}
-use Rattle.board.specs.declared.event.EventKind.TheVariants.{Read, Write, MemRead, MemWrite, Input, Resize, Restore, Complete}
+use Rattle.board.specs.declared.event.EventKind.TheVariants.{Read, Write, MemRead, MemWrite, Input, Resize, Restore, Host}
 use Rattle.board.specs.declared.reply.Reply.TheVariants.{NoMemory}
 use Rattle.board.specs.Image.{Health}
 use Rattle.board.specs.Machine.{action_at, with_write}
@@ -92,7 +92,7 @@ was_refused state (MemWrite addr bytes) old new outcome h = absurd h
 was_refused state (Input bytes) old new outcome h = absurd h
 was_refused state (Resize cols rows) old new outcome h = absurd h
 was_refused state (Restore bytes) old new outcome h = absurd h
-was_refused state (Complete tag verdict) old new outcome h = absurd h
+was_refused state (Host said) old new outcome h = absurd h
 
 -- only what puts something out finds no memory, and a read
 pub lacking_puts : {A : Type 0} (state : SlotState) (what : EventKind A) (old new : Health) (outcome :

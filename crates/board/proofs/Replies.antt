@@ -4,13 +4,15 @@ use Rattle.std.specs.Prelude.{if◌then◌else◌}
 use Rattle.guest_memory.specs.Memory.{is_inside, part_of, stored}
 use Rattle.mmio_window.specs.declared.device_kind.DeviceKind.{DeviceKind}
 use Rattle.board.specs.declared.event.EventKind.{EventKind}
-use Rattle.board.specs.declared.event.EventKind.TheVariants.{Read, Write, MemRead, MemWrite, Input, Resize, Restore, Complete}
+use Rattle.board.specs.declared.event.HostEvent.{HostEvent}
+use Rattle.board.specs.declared.event.HostEvent.TheVariants.{Complete, Drop, Hold, Release}
+use Rattle.board.specs.declared.event.EventKind.TheVariants.{Read, Write, MemRead, MemWrite, Input, Resize, Restore, Host}
 use Rattle.board.specs.declared.reply.Reply.{Reply}
 use Rattle.board.specs.declared.reply.Reply.TheVariants.{Value, Done, Bytes, Took, BadRange, BadSlot, BadState, Busy, Idle, NoMemory}
 use Rattle.board.specs.declared.pause.Service.TheVariants.{Block, Receive, Transmit}
 use Rattle.block_device.specs.Flights.{is_any}
 use Rattle.board.specs.Backing.{HostDisk, tags_in}
-use Rattle.board.specs.Hosting.{Told, must_wait, notifies_block, told_in}
+use Rattle.board.specs.Hosting.{must_wait, notifies_block, told_in}
 use Rattle.board.specs.Image.{Health}
 use Rattle.board.specs.Machine.{memory_read, memory_written}
 use Rattle.board.specs.Outcome.{Outcome, does, replies}
@@ -20,7 +22,7 @@ use Rattle.board.specs.Slot.{SlotState}
 use Rattle.board.specs.Task.{Task, Nothing, Serve, PutOut, Finishes}
 use Rattle.board.specs.World.{MayGive, MayGiveBy, MayGiveOverImage}
 use Rattle.board.proofs.Refusals.{Failed, Unput, Unread, Unsent, WasRefused, was_refused}
-use Rattle.board.proofs.Ways.{Lands, Looks, Passes, Rests, Waits, Way, must_by, way}
+use Rattle.board.proofs.Ways.{Drops, Holds, Lands, Looks, Passes, Releases, Rests, Waits, Way, must_by, way}
 
 -- a task that is finished is done
 finished_done : {A : Type 0} (task : Task) (state : SlotState) (before after : Health)
@@ -31,9 +33,9 @@ finished_done {A} (Serve Receive) state before after outcome f = ap (λ (o : Out
 finished_done {A} (Serve Transmit) state before after outcome f = ap (λ (o : Outcome A). o.reply) f.is
 finished_done {A} (PutOut byte) state before after outcome f = ap (λ (o : Outcome A). o.reply) f.alike
 
-by_reply : {A : Type 0} (what : EventKind A) (reply told : Reply A) → reply ≡ told → MayReplyOverImage what told
+by_reply : {A : Type 0} (what : EventKind A) (reply said : Reply A) → reply ≡ said → MayReplyOverImage what said
     → MayReplyOverImage what reply
-by_reply {A} what reply told is may = subst (λ (r : Reply A). MayReplyOverImage what r) (sym is) may
+by_reply {A} what reply said is may = subst (λ (r : Reply A). MayReplyOverImage what r) (sym is) may
 
 -- what holds of an access to memory, whether or not it lies in it
 of_access : {A : Type 0} (P : Outcome A → Type 0) (state : SlotState) (hit : Outcome A) (inside : Bool)
@@ -98,7 +100,7 @@ given_over_image {A} state (Input bytes) old new outcome (inl served) =
 given_over_image state (Resize cols rows) old new outcome (inl served) = rw served.alike.alike tt
 given_over_image state (Restore bytes) old new outcome (inl served) =
     restore_replies state bytes outcome served.alike.alike
-given_over_image state (Complete tag verdict) old new outcome (inl served) = rw served.alike.alike tt
+given_over_image state (Host said) old new outcome (inl served) = rw served.alike.alike tt
 given_over_image state (Read window offset width) old new outcome (inr never) = absurd never
 given_over_image state (Write window offset width value) old new outcome (inr refused) =
     refused_replies window offset width value state old new outcome
@@ -108,7 +110,7 @@ given_over_image state (MemWrite addr bytes) old new outcome (inr never) = absur
 given_over_image state (Input bytes) old new outcome (inr never) = absurd never
 given_over_image state (Resize cols rows) old new outcome (inr never) = absurd never
 given_over_image state (Restore bytes) old new outcome (inr never) = absurd never
-given_over_image state (Complete tag verdict) old new outcome (inr never) = absurd never
+given_over_image state (Host said) old new outcome (inr never) = absurd never
 
 -- over an image no event is told that its slot is busy, and none that it isn't there
 pub never_busy : {A : Type 0} (what : EventKind A) → MayReplyOverImage what Busy → ⊥
@@ -119,7 +121,7 @@ never_busy (MemWrite addr bytes) may = may
 never_busy (Input bytes) may = may
 never_busy (Resize cols rows) may = may
 never_busy (Restore bytes) may = may
-never_busy (Complete tag verdict) may = may
+never_busy (Host said) may = may
 
 pub never_missing : {A : Type 0} (what : EventKind A) → MayReply what BadSlot → ⊥
 never_missing (Read window offset width) may = may
@@ -129,22 +131,22 @@ never_missing (MemWrite addr bytes) may = may
 never_missing (Input bytes) may = may
 never_missing (Resize cols rows) may = may
 never_missing (Restore bytes) may = may
-never_missing (Complete tag verdict) may = may
+never_missing (Host said) may = may
 
--- a completion alone finds nothing in flight, and the image has no part in it
-pub idle_completes : {A : Type 0} (state : SlotState) (what : EventKind A) (old new : Health)
+-- the host alone says what there is nothing to do for, and the image has no part in it
+pub idle_tells : {A : Type 0} (state : SlotState) (what : EventKind A) (old new : Health)
     (outcome : Outcome A) → MayReplyOverImage what Idle → MayGiveOverImage state what old new outcome
     → (outcome ≡ replies state Idle) × (new ≡ old)
-idle_completes state (Read window offset width) old new outcome may h = absurd may
-idle_completes state (Write window offset width value) old new outcome may h = absurd may
-idle_completes state (MemRead addr len) old new outcome may h = absurd may
-idle_completes state (MemWrite addr bytes) old new outcome may h = absurd may
-idle_completes state (Input bytes) old new outcome may h = absurd may
-idle_completes state (Resize cols rows) old new outcome may h = absurd may
-idle_completes state (Restore bytes) old new outcome may h = absurd may
-idle_completes state (Complete tag verdict) old new outcome may (inl served) =
+idle_tells state (Read window offset width) old new outcome may h = absurd may
+idle_tells state (Write window offset width value) old new outcome may h = absurd may
+idle_tells state (MemRead addr len) old new outcome may h = absurd may
+idle_tells state (MemWrite addr bytes) old new outcome may h = absurd may
+idle_tells state (Input bytes) old new outcome may h = absurd may
+idle_tells state (Resize cols rows) old new outcome may h = absurd may
+idle_tells state (Restore bytes) old new outcome may h = absurd may
+idle_tells state (Host said) old new outcome may (inl served) =
     (served.alike.alike, served.alike.image)
-idle_completes state (Complete tag verdict) old new outcome may (inr never) = absurd never
+idle_tells state (Host said) old new outcome may (inr never) = absurd never
 
 -- ---- whoever has the disk
 
@@ -176,16 +178,16 @@ any_reply (Restore bytes) BadRange may = may
 any_reply (Restore bytes) BadState may = may
 any_reply (Restore bytes) NoMemory may = may
 any_reply (Restore bytes) Idle may = may
-any_reply (Complete tag verdict) Done may = tt
-any_reply (Complete tag verdict) (Value v) may = may
-any_reply (Complete tag verdict) (Bytes bytes) may = may
-any_reply (Complete tag verdict) (Took taken) may = may
-any_reply (Complete tag verdict) BadSlot may = may
-any_reply (Complete tag verdict) BadRange may = may
-any_reply (Complete tag verdict) BadState may = may
-any_reply (Complete tag verdict) NoMemory may = may
-any_reply (Complete tag verdict) Busy may = may
-any_reply (Complete tag verdict) Idle may = may
+any_reply (Host said) Done may = tt
+any_reply (Host said) (Value v) may = may
+any_reply (Host said) (Bytes bytes) may = may
+any_reply (Host said) (Took taken) may = may
+any_reply (Host said) BadSlot may = may
+any_reply (Host said) BadRange may = may
+any_reply (Host said) BadState may = may
+any_reply (Host said) NoMemory may = may
+any_reply (Host said) Busy may = may
+any_reply (Host said) Idle may = may
 
 as_told : {A : Type 0} (what : EventKind A) (outcome wanted : Outcome A) → outcome ≡ wanted
     → MayReply what wanted.reply → MayReply what outcome.reply
@@ -199,7 +201,7 @@ waiting_reply (MemWrite addr bytes) waits = absurd (cc)
 waiting_reply (Input bytes) waits = absurd (cc)
 waiting_reply (Resize cols rows) waits = absurd (cc)
 waiting_reply (Restore bytes) waits = tt
-waiting_reply (Complete tag verdict) waits = absurd (cc)
+waiting_reply (Host said) waits = absurd (cc)
 
 ringing_reply : {A : Type 0} (what : EventKind A) (state : SlotState) → notifies_block what state ≡ true
     → MayReply what Done
@@ -210,18 +212,18 @@ ringing_reply (MemWrite addr bytes) state rings = absurd (cc)
 ringing_reply (Input bytes) state rings = absurd (cc)
 ringing_reply (Resize cols rows) state rings = absurd (cc)
 ringing_reply (Restore bytes) state rings = absurd (cc)
-ringing_reply (Complete tag verdict) state rings = absurd (cc)
+ringing_reply (Host said) state rings = absurd (cc)
 
-completing_reply : {A : Type 0} (what : EventKind A) (told : Told) → told_in what ≡ Some told
+told_reply : {A : Type 0} (what : EventKind A) (said : HostEvent) → told_in what ≡ Some said
     → MayReply what Done × MayReply what Idle
-completing_reply (Read window offset width) told is = absurd (cc)
-completing_reply (Write window offset width value) told is = absurd (cc)
-completing_reply (MemRead addr len) told is = absurd (cc)
-completing_reply (MemWrite addr bytes) told is = absurd (cc)
-completing_reply (Input bytes) told is = absurd (cc)
-completing_reply (Resize cols rows) told is = absurd (cc)
-completing_reply (Restore bytes) told is = absurd (cc)
-completing_reply (Complete tag verdict) told is = (tt, tt)
+told_reply (Read window offset width) said is = absurd (cc)
+told_reply (Write window offset width value) said is = absurd (cc)
+told_reply (MemRead addr len) said is = absurd (cc)
+told_reply (MemWrite addr bytes) said is = absurd (cc)
+told_reply (Input bytes) said is = absurd (cc)
+told_reply (Resize cols rows) said is = absurd (cc)
+told_reply (Restore bytes) said is = absurd (cc)
+told_reply (Host said) other is = (tt, tt)
 
 on_host_replies : {A : Type 0} (state : SlotState) (what : EventKind A) (old : Health) (outcome : Outcome A)
     → Way (λ (o : Outcome A). MayGiveOverImage state what old old o) state what outcome
@@ -233,10 +235,13 @@ on_host_replies state what old outcome (Passes own free quiet h) =
     any_reply what outcome.reply (given_over_image state what old old outcome h)
 on_host_replies state what old outcome (Looks rings looks h) =
     as_told what outcome _ h (ringing_reply what state rings)
-on_host_replies state what old outcome (Rests told completes none h) =
-    as_told what outcome _ h (completing_reply what told completes).1
-on_host_replies state what old outcome (Lands told completes here flies lands h) =
-    as_told what outcome _ h (completing_reply what told completes).0
+on_host_replies state what old outcome (Rests said is h) = as_told what outcome _ h (told_reply what said is).1
+on_host_replies state what old outcome (Lands tag verdict is lands h) =
+    as_told what outcome _ h (told_reply what (Complete tag verdict) is).0
+on_host_replies state what old outcome (Drops is h) = as_told what outcome _ h (told_reply what Drop is).0
+on_host_replies state what old outcome (Holds is h) = as_told what outcome _ h (told_reply what Hold is).0
+on_host_replies state what old outcome (Releases is looks h) =
+    as_told what outcome _ h (told_reply what Release is).0
 
 replies_by : {A : Type 0} (host : Option HostDisk) (state : SlotState) (what : EventKind A) (old new : Health)
     (outcome : Outcome A) → MayGiveBy host state what old new outcome → MayReply what outcome.reply

@@ -161,6 +161,7 @@ suits_in image slot saved counted suits = record {
   identity = suits.identity;
   block = suits.block;
   console = suits.console;
+  on_hold = suits.on_hold;
 }
 
 suits_out : (image : List ℕ) (slot : BoardSlot) (saved : SavedSlot) → IsCounted image slot
@@ -173,6 +174,7 @@ suits_out image slot saved counted suits = record {
   identity = suits.identity;
   block = suits.block;
   console = suits.console;
+  on_hold = suits.on_hold;
 }
 
 taken_in : (image : List ℕ) (slot new : BoardSlot) (bytes : List ℕ) → IsCounted image slot

@@ -110,6 +110,7 @@ suits_it slot other bytes is like offers = record {
   identity = sym like.identity;
   block = is.offers.block ∙ ap block_features (sym like.read_only) ∙ sym offers.block;
   console = is.offers.console ∙ sym offers.console;
+  on_hold = like.on_hold;
 }
 
 -- a slot that has taken it up is as the one that was saved
@@ -124,13 +125,14 @@ as_saved slot old new bytes saved is like e takes =
     let pending_saved : saved.1 ≡ slot.pending = ap (λ (x : SavedSlot × List ℕ). x.1) e in
     let cols_saved : saved.0.cols ≡ slot.cols = ap (λ (x : SavedSlot × List ℕ). x.0.cols) e in
     let rows_saved : saved.0.rows ≡ slot.rows = ap (λ (x : SavedSlot × List ℕ). x.0.rows) e in
+    let hold_saved : saved.0.on_hold ≡ slot.on_hold = ap (λ (x : SavedSlot × List ℕ). x.0.on_hold) e in
     let block : new.block ≡ slot.block
     = same_window _ _ _ (ap (block_restored old.memory) (sym block_saved)
     ∙ takes.block) (is.block old.memory like.memory) in
     let console : new.console ≡ slot.console
     = same_window _ _ _ (ap (console_restored old.memory) (sym console_saved)
     ∙ takes.console) (is.console old.memory like.memory) in
-    takes.is ∙ rw (block, console, pending_saved, cols_saved, rows_saved, like.read_only, like.identity) refl
+    takes.is ∙ rw (block, console, pending_saved, cols_saved, rows_saved, hold_saved, like.read_only, like.identity) refl
 
 pub none_some : (r : Option WindowState) (w : WindowState) → r ≡ None → r ≡ Some w → ⊥
 none_some r w a b = cc

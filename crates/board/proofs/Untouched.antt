@@ -7,13 +7,17 @@ use Rattle.mmio_window.specs.declared.device_kind.DeviceKind.TheVariants.{Block,
 use Rattle.mmio_window.specs.Window.{WindowState}
 use Rattle.snapshot.specs.declared.saved.SavedSlot.{SavedSlot}
 use Rattle.board.specs.declared.event.EventKind.{EventKind}
-use Rattle.board.specs.declared.event.EventKind.TheVariants.{Read, Write, MemRead, MemWrite, Input, Resize, Restore, Complete}
+use Rattle.board.specs.declared.event.EventKind.TheVariants.{Read, Write, MemRead, MemWrite, Input, Resize, Restore, Host}
+use Rattle.board.specs.declared.event.HostEvent.{HostEvent}
+use Rattle.board.specs.declared.event.HostEvent.TheVariants.{Complete, Drop, Hold, Release}
+use Rattle.block_device.specs.declared.operation.Verdict.{Verdict}
+use Rattle.block_device.specs.Flights.{is_any}
 use Rattle.board.specs.declared.reply.Reply.{Reply}
-use Rattle.board.specs.declared.reply.Reply.TheVariants.{Value, NoMemory}
+use Rattle.board.specs.declared.reply.Reply.TheVariants.{Value, NoMemory, Idle}
 use Rattle.board.specs.declared.saved.RestoreFault.{RestoreFault}
 use Rattle.board.specs.declared.saved.RestoreFault.TheVariants.{Snapshot, OtherSlot, BadBlock, BadConsole}
-use Rattle.board.specs.Backing.{HostDisk}
-use Rattle.board.specs.Hosting.{GivesOnHost, OwnGives, is_block_task, notifies_block, told_in, waits_now}
+use Rattle.board.specs.Backing.{HostDisk, tags_in}
+use Rattle.board.specs.Hosting.{DropGives, GivesOnHost, HoldGives, HostOrGives, OwnGives, dropped, held, is_block_task, notifies_block, told_in, waits_now}
 use Rattle.board.specs.Image.{Health}
 use Rattle.board.specs.Machine.{Gives, GivesBy, GivesOverImage, register, resized, task_at, with_write}
 use Rattle.board.specs.Outcome.{IsDetermined, Outcome, does, replies}
@@ -53,6 +57,7 @@ suits_over old m same saved h = record {
   identity = h.identity;
   block = h.block;
   console = h.console;
+  on_hold = h.on_hold;
 }
 
 module _ (old : SlotState) (m : Memory) (same : SameRange old.memory m) where
@@ -189,7 +194,8 @@ gives_over old (Resize cols rows) m before after outcome none same h =
 gives_over old (Restore bytes) m before after outcome none same h =
     let restoring = restoring_over old m same bytes outcome h.alike in
     (restoring.0, record { alike = restoring.1; image = h.image })
-gives_over old (Complete tag verdict) m before after outcome none same h = absurd (cc (none))
+gives_over old (Host said) m before after outcome none same h =
+    determined_over m outcome (replies old Idle) before after h
 
 refused_over : {A : Type 0} (old : SlotState) (what : EventKind A) (m : Memory) (before after : Health)
     (outcome : Outcome A) → touches_memory what old ≡ false → SameRange old.memory m
@@ -221,9 +227,13 @@ may_over old what m before after outcome none same (inr h) =
 pub touches_over : {A : Type 0} (what : EventKind A) (old : SlotState) (m : Memory)
     → touches_memory what (over_memory m old) ≡ touches_memory what old
 touches_over (Write window offset width value) old m = ap serves_queue (task_over window offset width value old m)
+touches_over (Host (Complete tag verdict)) old m = refl
+touches_over (Host Drop) old m = refl
+touches_over (Host Hold) old m = refl
+touches_over (Host Release) old m = refl
 touches_over what old m = refl
 
--- it doesn't notify the block device, and is no completion
+-- it doesn't notify the block device
 quiet_task : (task : Task) → serves_queue task ≡ false → is_block_task task ≡ false
 quiet_task Nothing none = refl
 quiet_task (PutOut byte) none = refl
@@ -234,9 +244,22 @@ quiet : {A : Type 0} (what : EventKind A) (old : SlotState) → touches_memory w
 quiet (Write window offset width value) old none = quiet_task (task_at window offset width value old) none
 quiet what old none = refl
 
-own : {A : Type 0} (what : EventKind A) (old : SlotState) → touches_memory what old ≡ false → told_in what ≡ None
-own (Complete tag verdict) old none = absurd (cc (none))
-own what old none = refl
+-- and is no completion, and no release
+completion_touches : {A : Type 0} (what : EventKind A) (old : SlotState) (tag : ℕ) (verdict : Verdict)
+    → told_in what ≡ Some (Complete tag verdict) → touches_memory what old ≡ true
+completion_touches (Host (Complete its found)) old tag verdict is = refl
+completion_touches (Host Drop) old tag verdict is = absurd (cc is)
+completion_touches (Host Hold) old tag verdict is = absurd (cc is)
+completion_touches (Host Release) old tag verdict is = absurd (cc is)
+completion_touches what old tag verdict is = absurd (cc is)
+
+release_touches : {A : Type 0} (what : EventKind A) (old : SlotState) → told_in what ≡ Some Release
+    → touches_memory what old ≡ true
+release_touches (Host Release) old is = refl
+release_touches (Host (Complete its found)) old is = absurd (cc is)
+release_touches (Host Drop) old is = absurd (cc is)
+release_touches (Host Hold) old is = absurd (cc is)
+release_touches what old is = absurd (cc is)
 
 module _ {A : Type 0} (Here There : Outcome A → Type 0) (old : SlotState) (m : Memory) (what : EventKind A)
     (outcome : Outcome A) (beside : Here outcome → Stays There old.memory m outcome)
@@ -250,6 +273,31 @@ module _ {A : Type 0} (Here There : Outcome A → Type 0) (old : SlotState) (m :
   own_over true h = replied_over _ h
   own_over false h = rw silent_too (beside (rw silent at h))
 
+  did_over : (new : SlotState) → new.memory ≡ old.memory → outcome ≡ does new
+      → Stays (λ (o : Outcome A). o ≡ does (over_memory m new)) old.memory m outcome
+  did_over new stays h = (ap (λ (o : Outcome A). o.state.memory) h ∙ stays, ap (outcome_over m) h)
+
+  drop_over : (any : Bool) → DropGives any old outcome
+      → Stays (DropGives any (over_memory m old)) old.memory m outcome
+  drop_over false h = replied_over _ h
+  drop_over true h = did_over (dropped old) refl h
+
+  hold_over : (on_hold : Bool) → HoldGives on_hold old outcome
+      → Stays (HoldGives on_hold (over_memory m old)) old.memory m outcome
+  hold_over true h = replied_over _ h
+  hold_over false h = did_over (held old) refl h
+
+  host_over : (found : Option HostEvent) → told_in what ≡ found → touches_memory what old ≡ false
+      → HostOrGives Here found old what outcome
+      → Stays (HostOrGives There found (over_memory m old) what) old.memory m outcome
+  host_over None is none h = own_over (waits_now what old.host) h
+  host_over (Some (Complete tag verdict)) is none h =
+      let touches = completion_touches what old tag verdict is in absurd (cc (touches, none))
+  host_over (Some Drop) is none h = drop_over (is_any (tags_in old.host)) h
+  host_over (Some Hold) is none h = hold_over old.on_hold h
+  host_over (Some Release) is none h =
+      let touches = release_touches what old is in absurd (cc (touches, none))
+
 -- ---- both kinds of disks
 
 on_host_over : {A : Type 0} (Here There : Outcome A → Type 0) (old : SlotState) (what : EventKind A)
@@ -258,10 +306,9 @@ on_host_over : {A : Type 0} (Here There : Outcome A → Type 0) (old : SlotState
     → GivesOnHost Here old what before after outcome
     → Stays (GivesOnHost There (over_memory m old) what before after) old.memory m outcome
 on_host_over Here There old what m before after outcome none beside h =
-    let owns = own what old none in
-    let given = own_over Here There old m what outcome beside (quiet what old none)
-    (quiet what (over_memory m old) (touches_over what old m ∙ none)) (waits_now what old.host) (rw owns at h.gives) in
-    (given.0, record { gives = rw owns given.1; image = h.image })
+    let given = host_over Here There old m what outcome beside (quiet what old none)
+    (quiet what (over_memory m old) (touches_over what old m ∙ none)) (told_in what) refl none h.gives in
+    (given.0, record { gives = given.1; image = h.image })
 
 module _ {A : Type 0} (what : EventKind A) (before after : Health) where
   given_over : (host : Option HostDisk) (old : SlotState) (m : Memory) (outcome : Outcome A)

@@ -1,12 +1,14 @@
 -- What waits for what is in flight, and what doesn't end it.
-use Rattle.std.proofs.Common.{◌≡◌, ◌≢◌, ℕ, true, Option, Some, None, get_or, sym, ◌∙◌, ap, subst}
-use Rattle.std.specs.Option.{option_map}
+use Rattle.std.proofs.Common.{◌≡◌, ◌≢◌, ℕ, true, false, Option, Some, None, get_or, sym, ◌∙◌, ap, subst}
+use Rattle.std.specs.Option.{option_and_then}
 use Rattle.block_device.specs.Flights.{InFlight, is_any}
 use Rattle.board.specs.declared.event.EventKind.{EventKind}
+use Rattle.board.specs.declared.event.HostEvent.TheVariants.{Complete}
+use Rattle.block_device.specs.declared.operation.Verdict.{Verdict}
 use Rattle.board.specs.declared.reply.Reply.{Reply}
 use Rattle.board.specs.declared.reply.Reply.TheVariants.{Busy, Idle}
 use Rattle.board.specs.Backing.{HostDisk, tags_in}
-use Rattle.board.specs.Hosting.{Told, hosted_device, hosted_queue, must_wait, tag_in, told_in, waits_now}
+use Rattle.board.specs.Hosting.{LeavesTag, hosted_device, hosted_queue, must_wait, released, tag_in, tag_of, told_in, waits_now}
 use Rattle.board.specs.Image.{Health}
 use Rattle.board.specs.Machine.{readied}
 use Rattle.board.specs.Outcome.{Outcome, replies}
@@ -14,9 +16,9 @@ use Rattle.board.specs.Replies.{MayReplyOverImage}
 use Rattle.board.specs.Slot.{SlotState}
 use Rattle.board.specs.World.{MayGive, MayGiveBy, MayGiveOverImage}
 use Rattle.board.proofs.Identities.{given_fixed, readied_fixed}
-use Rattle.board.proofs.Looking.{KeepsTag, completion_keeps, keeps_tag, look_left}
-use Rattle.board.proofs.Replies.{given_over_image, idle_completes, never_busy}
-use Rattle.board.proofs.Ways.{Lands, Looks, Passes, Rests, Waits, Way, must_by, way}
+use Rattle.board.proofs.Looking.{KeepsTag, keeps_tag, landing_keeps, unless_left}
+use Rattle.board.proofs.Replies.{given_over_image, idle_tells, never_busy}
+use Rattle.board.proofs.Ways.{Drops, Holds, Lands, Looks, Passes, Releases, Rests, Waits, Way, must_by, way}
 
 -- ---- what doesn't end it
 
@@ -26,13 +28,12 @@ tag_stays : (tag : ℕ) (here : InFlight) (host host' : Option HostDisk) → hos
 tag_stays tag here host host' same taken = ap (λ (h : Option HostDisk). get_or (tags_in h) tag None) same ∙ taken
 
 -- the completion is of another tag
-other_tag : {A : Type 0} (what : EventKind A) (told : Told) (tag : ℕ) → told_in what ≡ Some told
-    → tag_in what ≢ Some tag → tag ≢ told.tag
-other_tag what told tag is other = λ same.
-    other (ap (option_map (λ (t : Told). t.tag)) is ∙ ap Some (sym same))
+other_tag : {A : Type 0} (what : EventKind A) (its : ℕ) (verdict : Verdict) (tag : ℕ)
+    → told_in what ≡ Some (Complete its verdict) → tag_in what ≢ Some tag → tag ≢ its
+other_tag what its verdict tag is other = λ same. other (ap (option_and_then tag_of) is ∙ ap Some (sym same))
 
 outlasts_by : {A : Type 0} (old : SlotState) (tag : ℕ) (here : InFlight) (what : EventKind A) (before : Health)
-    (outcome : Outcome A) → get_or (tags_in old.host) tag None ≡ Some here → tag_in what ≢ Some tag
+    (outcome : Outcome A) → get_or (tags_in old.host) tag None ≡ Some here → LeavesTag tag what
     → Way (λ (o : Outcome A). MayGiveOverImage old what before before o) old what outcome
     → get_or (tags_in outcome.state.host) tag None ≡ Some here
 outlasts_by {A} old tag here what before outcome taken other (Waits waits h) =
@@ -41,17 +42,26 @@ outlasts_by old tag here what before outcome taken other (Passes own free quiet 
     tag_stays tag here old.host outcome.state.host (given_fixed old what before before outcome h).host taken
 outlasts_by old tag here what before outcome taken other (Looks rings looks h) =
     let ready = readied what old in
-    look_left (KeepsTag tag) (keeps_tag tag) (hosted_device ready) (hosted_queue ready) (hosted_queue outcome.state)
-    looks.looks here (tag_stays tag here old.host ready.host (readied_fixed what old).host taken)
-outlasts_by {A} old tag here what before outcome taken other (Rests told is none h) =
+    unless_left (KeepsTag tag) (keeps_tag tag) ready.on_hold (hosted_device ready) (hosted_queue ready)
+    (hosted_queue outcome.state) looks.looks here (tag_stays tag here old.host ready.host (readied_fixed what old).host taken)
+outlasts_by {A} old tag here what before outcome taken other (Rests said is h) =
     tag_stays tag here old.host outcome.state.host (ap (λ (o : Outcome A). o.state.host) h) taken
-outlasts_by old tag here what before outcome taken other (Lands told is there flies completes h) =
-    completion_keeps (hosted_device old) tag told.tag told.verdict (hosted_queue old) (hosted_queue outcome.state)
-    (other_tag what told tag is other) completes.completes here taken
+outlasts_by old tag here what before outcome taken other (Lands its verdict is completes h) =
+    let landed = completes.landed in
+    unless_left (KeepsTag tag) (keeps_tag tag) landed.on_hold (hosted_device landed) (hosted_queue landed)
+    (hosted_queue outcome.state) completes.looks.looks here
+    (landing_keeps tag its verdict (hosted_queue old) (hosted_queue landed)
+    (other_tag what its verdict tag is other.other) completes.lands.lands here taken)
+outlasts_by old tag here what before outcome taken other (Drops is h) = absurd (other.no_drop is)
+outlasts_by {A} old tag here what before outcome taken other (Holds is h) =
+    tag_stays tag here old.host outcome.state.host (ap (λ (o : Outcome A). o.state.host) h) taken
+outlasts_by old tag here what before outcome taken other (Releases is looks h) =
+    unless_left (KeepsTag tag) (keeps_tag tag) false (hosted_device (released old)) (hosted_queue (released old))
+    (hosted_queue outcome.state) looks.looks here taken
 
 outlasts_at : {A : Type 0} (host : Option HostDisk) (old : SlotState) (tag : ℕ) (here : InFlight)
     (what : EventKind A) (before after : Health) (outcome : Outcome A)
-    → get_or (tags_in old.host) tag None ≡ Some here → tag_in what ≢ Some tag
+    → get_or (tags_in old.host) tag None ≡ Some here → LeavesTag tag what
     → MayGiveBy host old what before after outcome → get_or (tags_in outcome.state.host) tag None ≡ Some here
 outlasts_at None old tag here what before after outcome taken other h =
     tag_stays tag here old.host outcome.state.host (given_fixed old what before after outcome h).host taken
@@ -61,7 +71,7 @@ outlasts_at {A} (Some disk) old tag here what before after outcome taken other h
 
 pub outlasts : {A : Type 0} (old : SlotState) (tag : ℕ) (here : InFlight) (what : EventKind A)
     (before after : Health) (outcome : Outcome A) → get_or (tags_in old.host) tag None ≡ Some here
-    → tag_in what ≢ Some tag → MayGive old what before after outcome
+    → LeavesTag tag what → MayGive old what before after outcome
     → get_or (tags_in outcome.state.host) tag None ≡ Some here
 outlasts old tag here what before after outcome taken other h =
     outlasts_at old.host old tag here what before after outcome taken other h
@@ -82,9 +92,13 @@ waited_by {A} old what before outcome (Passes own free quiet h) is =
     (given_over_image old what before before outcome h)))
 waited_by old what before outcome (Looks rings looks h) is =
     let done = ap (λ o. o.reply) h in absurd (cc)
-waited_by old what before outcome (Rests told completes none h) is =
+waited_by old what before outcome (Rests said tells h) is =
     let idle = ap (λ o. o.reply) h in absurd (cc)
-waited_by old what before outcome (Lands told completes here flies lands h) is =
+waited_by old what before outcome (Lands tag verdict tells completes h) is =
+    let done = ap (λ o. o.reply) h in absurd (cc)
+waited_by old what before outcome (Drops tells h) is = let done = ap (λ o. o.reply) h in absurd (cc)
+waited_by old what before outcome (Holds tells h) is = let done = ap (λ o. o.reply) h in absurd (cc)
+waited_by old what before outcome (Releases tells looks h) is =
     let done = ap (λ o. o.reply) h in absurd (cc)
 
 -- and the image has no part in it
@@ -111,7 +125,7 @@ rests_over_image : {A : Type 0} (old : SlotState) (what : EventKind A) (before a
     (outcome : Outcome A) → MayGiveOverImage old what before after outcome → outcome.reply ≡ Idle
     → (outcome ≡ replies old Idle) × (after ≡ before)
 rests_over_image {A} old what before after outcome h is =
-    idle_completes old what before after outcome
+    idle_tells old what before after outcome
     (subst (λ (r : Reply A). MayReplyOverImage what r) is
     (given_over_image old what before after outcome h)) h
 
@@ -124,8 +138,12 @@ rested_by old what before outcome (Passes own free quiet h) is =
     (rests_over_image old what before before outcome h is).0
 rested_by old what before outcome (Looks rings looks h) is =
     let done = ap (λ o. o.reply) h in absurd (cc)
-rested_by old what before outcome (Rests told completes none h) is = h
-rested_by old what before outcome (Lands told completes here flies lands h) is =
+rested_by old what before outcome (Rests said tells h) is = h
+rested_by old what before outcome (Lands tag verdict tells completes h) is =
+    let done = ap (λ o. o.reply) h in absurd (cc)
+rested_by old what before outcome (Drops tells h) is = let done = ap (λ o. o.reply) h in absurd (cc)
+rested_by old what before outcome (Holds tells h) is = let done = ap (λ o. o.reply) h in absurd (cc)
+rested_by old what before outcome (Releases tells looks h) is =
     let done = ap (λ o. o.reply) h in absurd (cc)
 
 pub rested : {A : Type 0} (host : Option HostDisk) (old : SlotState) (what : EventKind A) (before after : Health)

@@ -14,7 +14,7 @@ use Rattle.block_device.specs.Device.{block_device, exact_device}
 use Rattle.console_device.specs.Device.{receive, exact_transmit, transmit}
 use Rattle.console_device.specs.Input.{fitting}
 use Rattle.board.specs.declared.event.EventKind.{EventKind}
-use Rattle.board.specs.declared.event.EventKind.TheVariants.{Read, Write, MemRead, MemWrite, Input, Resize, Restore, Complete}
+use Rattle.board.specs.declared.event.EventKind.TheVariants.{Read, Write, MemRead, MemWrite, Input, Resize, Restore, Host}
 use Rattle.board.specs.declared.pause.Service.TheVariants.{Block, Receive, Transmit}
 use Rattle.board.specs.declared.pause.Turn.TheVariants.{Answered}
 use Rattle.board.specs.declared.reply.Reply.{Reply}
@@ -172,7 +172,7 @@ whole_over_image (Input bytes) budget state before after new output reply h =
     input_whole state bytes budget before after new output reply h
 whole_over_image (Resize cols rows) budget state before after new output reply h = h
 whole_over_image (Restore bytes) budget state before after new output reply h = h
-whole_over_image (Complete tag verdict) budget state before after new output reply h = h
+whole_over_image (Host said) budget state before after new output reply h = h
 
 -- ---- whoever has the guest's disk
 
@@ -248,7 +248,7 @@ hosted_whole disk (Input bytes) budget state before after new output reply free 
     (input_whole state bytes budget before after new output reply h)
 hosted_whole disk (Resize cols rows) budget state before after new output reply free h = h
 hosted_whole disk (Restore bytes) budget state before after new output reply free h = h
-hosted_whole disk (Complete tag verdict) budget state before after new output reply free h = h
+hosted_whole disk (Host said) budget state before after new output reply free h = h
 
 whole_by : {A : Type 0} (host : Option HostDisk) (part : Bool) (what : EventKind A) (budget : Budget)
     (state : SlotState) (before after : Health) (new : SlotState) (output : List ℕ) (reply : Reply A)

@@ -1,10 +1,10 @@
 -- What writes leave of a slot's memory, a service leaves too, and so does each event.
-use Rattle.std.proofs.Common.{◌≡◌, ◌⊎◌, inl, inr, ℕ, Bool, true, false, Option, Some, None, List, [], ◌∷◌, refl, sym, ◌∙◌, ap, subst}
+use Rattle.std.proofs.Common.{◌≡◌, inl, inr, ℕ, Bool, true, false, Option, Some, None, List, [], ◌∷◌, refl, sym, ◌∙◌, ap, subst}
 use Rattle.std.specs.Prelude.{get_or, if◌then◌else◌}
 use Rattle.byteorder.specs.Endian.{little_bytes}
 use Rattle.guest_memory.specs.Memory.{Memory, put, put_num}
 use Rattle.chain.specs.Bytes.{writable_of}
-use Rattle.chain.specs.Service.{Device, Ending, Entry, Course, Served, ServesChain, Site, after, scattered, used_len, wrote}
+use Rattle.chain.specs.Service.{Device, Ending, Entry, Course, Site, after, scattered, used_len, wrote}
 use Rattle.mmio_window.specs.declared.device_kind.DeviceKind.{DeviceKind}
 use Rattle.mmio_window.specs.declared.device_kind.DeviceKind.TheVariants.{Block, Console}
 use Rattle.mmio_window.specs.declared.queue.Queue.{Queue}
@@ -13,7 +13,7 @@ use Rattle.mmio_window.specs.declared.stage.Stage.{Stage}
 use Rattle.mmio_window.specs.declared.stage.Stage.TheVariants.{First, Next}
 use Rattle.mmio_window.specs.Pieces.{FinishesWithin, NotifiedWithin, ServesTo}
 use Rattle.mmio_window.specs.Queue.{queue_kind}
-use Rattle.mmio_window.specs.Serving.{IsNotified, Notified}
+use Rattle.mmio_window.specs.Serving.{Notified}
 use Rattle.mmio_window.specs.Window.{WindowState, queue_at}
 use Rattle.block_device.specs.declared.operation.Verdict.{Verdict}
 use Rattle.chain.specs.declared.budget.Progress.TheVariants as progress
@@ -23,21 +23,24 @@ use Rattle.block_device.specs.Request.{code_of}
 use Rattle.block_device.specs.Hosting.{CompletesIn}
 use Rattle.block_device.proofs.Unasked.{any_disk}
 use Rattle.board.specs.declared.event.EventKind.{EventKind}
-use Rattle.board.specs.declared.event.EventKind.TheVariants.{Read, Write, MemRead, MemWrite, Input, Resize, Restore, Complete}
+use Rattle.board.specs.declared.event.HostEvent.{HostEvent}
+use Rattle.board.specs.declared.event.HostEvent.TheVariants.{Complete, Drop, Hold, Release}
+use Rattle.board.specs.declared.event.EventKind.TheVariants.{Read, Write, MemRead, MemWrite, Input, Resize, Restore, Host}
 use Rattle.board.specs.declared.pause.Service.TheVariants as service
 use Rattle.board.specs.declared.reply.Reply.{Reply}
+use Rattle.block_device.specs.Flights.{is_any}
 use Rattle.board.specs.Backing.{HostDisk, tags_in}
-use Rattle.board.specs.Hosting.{CompletesOrGives, CompletesTag, CompletionGives, LooksAtQueue, LooksOrGives, OwnGives, Told, hosted_device, hosted_queue, notifies_block, told_in, waits_now}
+use Rattle.board.specs.Hosting.{CompletesTag, CompletionGives, DropGives, HoldGives, HostGives, HostOrGives, LooksAtQueue, LooksOrGives, OwnGives, ReleaseGives, hosted_device, hosted_queue, released, notifies_block, told_in, waits_now}
 use Rattle.board.specs.Image.{Health}
 use Rattle.board.specs.Marking.{IsForDevices}
-use Rattle.board.specs.Machine.{GivesOverImage, action_at, readied, task_at, with_write}
-use Rattle.board.specs.Outcome.{Outcome, does, replies}
+use Rattle.board.specs.Machine.{GivesOverImage, readied, task_at, with_write}
+use Rattle.board.specs.Outcome.{Outcome, replies}
 use Rattle.board.specs.Restoring.{IsRestoring}
 use Rattle.board.specs.Slot.{BoardSlot, SlotState}
 use Rattle.board.specs.Task.{Finishes, Nothing, PutOut, Serve, Task}
 use Rattle.board.specs.World.{IsCutShort, IsRefused, MayGive, MayGiveBy, MayGiveOverImage}
 use Rattle.board.proofs.Chains.{KeptByEach, kept, kept_by_all, kept_by_end}
-use Rattle.board.proofs.Looking.{IsLeftByLandings, IsLeftByLooks, completion_left, look_left}
+use Rattle.board.proofs.Looking.{IsLeftByLandings, IsLeftByLooks, landing_left, unless_left}
 
 -- it holds of what is left as it was, of two steps if of each, and of a write
 pub record IsLeftByWrites (K : Memory → Memory → Type 0) : Type 0 where
@@ -164,13 +167,14 @@ module _ (K : Memory → Memory → Type 0) (left : IsLeftByWrites K) where
 
   looks_left : (old new : SlotState) → LooksAtQueue old new → K old.memory new.memory
   looks_left old new h =
-      look_left MemoryLeft memory_left (hosted_device old) (hosted_queue old) (hosted_queue new) h.looks
+      unless_left MemoryLeft memory_left old.on_hold (hosted_device old) (hosted_queue old) (hosted_queue new) h.looks
 
   completes_left : (tag : ℕ) (verdict : Verdict) (old new : SlotState) → CompletesTag tag verdict old new
       → K old.memory new.memory
   completes_left tag verdict old new h =
-      completion_left MemoryLeft memory_left landings_left (hosted_device old) tag verdict (hosted_queue old)
-      (hosted_queue new) h.completes
+      left.both old.memory h.landed.memory new.memory
+      (landing_left MemoryLeft memory_left landings_left tag verdict (hosted_queue old) (hosted_queue h.landed)
+      h.lands.lands) (looks_left h.landed new h.looks)
 
   -- ---- an event
 
@@ -194,7 +198,7 @@ module _ (K : Memory → Memory → Type 0) (left : IsLeftByWrites K) where
   readied_memory (Input bytes) state = refl
   readied_memory (Resize cols rows) state = refl
   readied_memory (Restore bytes) state = refl
-  readied_memory (Complete tag verdict) state = refl
+  readied_memory (Host said) state = refl
 
   by_inside : {A : Type 0} (inside : Bool) (state : SlotState) (hit : Outcome A) (miss : Reply A)
       → K state.memory hit.state.memory → K state.memory (if inside then hit else replies state miss).state.memory
@@ -238,7 +242,7 @@ module _ (K : Memory → Memory → Type 0) (left : IsLeftByWrites K) where
       state.console outcome.state.console _ _ h.notified.notified
   gives_left state (Resize cols rows) before after outcome own h = state_left state outcome _ h.alike refl
   gives_left state (Restore bytes) before after outcome own h = restoring_left state bytes outcome h.alike
-  gives_left state (Complete tag verdict) before after outcome own h = state_left state outcome _ h.alike refl
+  gives_left state (Host said) before after outcome own h = state_left state outcome _ h.alike refl
 
   cut_left : {A : Type 0} (task : Task) (state : SlotState) (before after : Health) (outcome : Outcome A)
       → IsCutShort task state before after outcome → K state.memory outcome.state.memory
@@ -264,7 +268,7 @@ module _ (K : Memory → Memory → Type 0) (left : IsLeftByWrites K) where
   refused_left state (Input bytes) before after outcome h = absurd h
   refused_left state (Resize cols rows) before after outcome h = absurd h
   refused_left state (Restore bytes) before after outcome h = absurd h
-  refused_left state (Complete tag verdict) before after outcome h = absurd h
+  refused_left state (Host said) before after outcome h = absurd h
 
   over_image_left : {A : Type 0} (state : SlotState) (what : EventKind A) (before after : Health)
       (outcome : Outcome A) → IsForDevices what → MayGiveOverImage state what before after outcome
@@ -291,16 +295,35 @@ module _ (K : Memory → Memory → Type 0) (left : IsLeftByWrites K) where
     own_left true h = state_left state outcome _ h refl
     own_left false h = looking_left (notifies_block what state) h
 
-    completing_left : (found : Option InFlight) (told : Told) → CompletionGives found told state outcome
-        → K state.memory outcome.state.memory
-    completing_left None told h = state_left state outcome _ h refl
-    completing_left (Some here) told h = completes_left told.tag told.verdict state outcome.state h.0
+    completing_left : (found : Option InFlight) (tag : ℕ) (verdict : Verdict)
+        → CompletionGives found tag verdict state outcome → K state.memory outcome.state.memory
+    completing_left None tag verdict h = state_left state outcome _ h refl
+    completing_left (Some here) tag verdict h = completes_left tag verdict state outcome.state h.0
 
-    on_host_left : (found : Option Told)
-        → CompletesOrGives (λ o. MayGiveOverImage state what health health o) found state what outcome
+    dropping_left : (any : Bool) → DropGives any state outcome → K state.memory outcome.state.memory
+    dropping_left false h = state_left state outcome _ h refl
+    dropping_left true h = state_left state outcome _ h refl
+
+    holding_left : (on_hold : Bool) → HoldGives on_hold state outcome → K state.memory outcome.state.memory
+    holding_left true h = state_left state outcome _ h refl
+    holding_left false h = state_left state outcome _ h refl
+
+    releasing_left : (on_hold : Bool) → ReleaseGives on_hold state outcome → K state.memory outcome.state.memory
+    releasing_left false h = state_left state outcome _ h refl
+    releasing_left true h = looks_left (released state) outcome.state h.0
+
+    told_left : (said : HostEvent) → HostGives said state outcome → K state.memory outcome.state.memory
+    told_left (Complete tag verdict) h =
+        completing_left (get_or (tags_in state.host) tag None) tag verdict h
+    told_left Drop h = dropping_left (is_any (tags_in state.host)) h
+    told_left Hold h = holding_left state.on_hold h
+    told_left Release h = releasing_left state.on_hold h
+
+    on_host_left : (found : Option HostEvent)
+        → HostOrGives (λ o. MayGiveOverImage state what health health o) found state what outcome
         → K state.memory outcome.state.memory
     on_host_left None h = own_left (waits_now what state.host) h
-    on_host_left (Some told) h = completing_left (get_or (tags_in state.host) told.tag None) told h
+    on_host_left (Some said) h = told_left said h
 
   by_host_left : {A : Type 0} (host : Option HostDisk) (state : SlotState) (what : EventKind A)
       (before after : Health) (outcome : Outcome A) → IsForDevices what

@@ -1,5 +1,5 @@
 -- A host that does with a guest's disk what may become of the request that was asked for, and says so.
-use Rattle.std.specs.Prelude.{◌≡◌, ◌≢◌, ℕ, ◌-◌, true, Some, None, List, All, length, map, get_or}
+use Rattle.std.specs.Prelude.{◌≡◌, ℕ, ◌-◌, true, Some, None, List, All, length, map, get_or}
 use Rattle.guest_memory.specs.Memory.{Memory}
 use Rattle.chain.specs.declared.segment.Buffer.{Buffer}
 use Rattle.chain.specs.Bytes.{readable_of, writable_of}
@@ -12,7 +12,7 @@ use Rattle.block_device.specs.declared.operation.Verdict.{Verdict}
 use Rattle.block_device.specs.declared.request.Request.{Request}
 use Rattle.block_device.specs.Asking.{IsAsked, found_by, status_by}
 use Rattle.block_device.specs.Device.{block_device}
-use Rattle.block_device.specs.Flights.{HostedQueue, InFlight, IsCompletion, IsLook}
+use Rattle.block_device.specs.Flights.{HostedQueue, InFlight, IsLanding, IsLook}
 use Rattle.block_device.specs.Hosting.{CompletesIn, DoesLater, wants_stable}
 use Rattle.block_device.specs.Operation.{operation_of, runs_for}
 use Rattle.block_device.specs.Outcome.{Ends}
@@ -20,14 +20,14 @@ use Rattle.block_device.specs.Request.{payload_of}
 use Rattle.board.specs.declared.event.EventKind.{EventKind}
 use Rattle.board.specs.declared.reply.Record.{Record}
 use Rattle.board.specs.Backing.{tags_in}
-use Rattle.board.specs.Hosting.{hosted_queue, tag_in}
+use Rattle.board.specs.Hosting.{LeavesTag, hosted_queue}
 use Rattle.board.specs.Line.{MayBeTold}
 use Rattle.board.specs.Slot.{SlotState}
 use Rattle.board.specs.Steps.{IsAnsweredBy}
 
 -- The way of an operation: in a look of its device, from this state of the queue on, its chain took this tag; its
 -- guest did this and that, and the host completed other operations; and then it completed this one, in a window
--- that may be served. Behind it the queue stood so, and the device looked at it again.
+-- that may be served. Behind it the queue stood so.
 pub record IsFlown (A : Type 0) (device : BlockDevice) (began : HostedQueue) (tag : ℕ) (here : InFlight)
     (now : SlotState) (verdict : Verdict) (new : HostedQueue) : Type 0 where
   pub asking : SlotState
@@ -36,11 +36,11 @@ pub record IsFlown (A : Type 0) (device : BlockDevice) (began : HostedQueue) (ta
   pub takes : get_or (tags_in asking.host) tag None ≡ Some here
   pub events : List (EventKind A)
   pub records : List (Record A)
-  pub others : All (λ what. tag_in what ≢ Some tag) events
+  pub others : All (LeavesTag tag) events
   pub course : IsAnsweredBy (MayBeTold 0) asking events records now
   pub queue : Queue
   pub ready : queue_at 0 now.block ≡ Some queue
-  pub completes : IsCompletion device tag verdict (hosted_queue now) new
+  pub lands : IsLanding tag verdict (hosted_queue now) new
 
 -- The model's block device serves the chain over this disk, in two parts: it read what stood in memory as the
 -- chain asked, and it writes on the memory as it stands at the completion. So it is whatever the host did to the
@@ -55,8 +55,7 @@ pub record IsHonestlyServed {A : Type 0} (device : BlockDevice) (began : HostedQ
   pub operation : here.flight.operation ≡ operation_of (wants_stable began.window) request
   pub runs : here.runs ≡ runs_for request asked buffers
   pub completes :
-      CompletesIn here.flight verdict now.memory flown.completes.landed.memory now.block
-      flown.completes.landed.window
+      CompletesIn here.flight verdict now.memory new.memory now.block new.window
   pub serves :
       (disk disk' : Disk) (found : List ℕ)
       → Ends device.identity request (payload_of (readable_of asked buffers)) disk

@@ -1,5 +1,5 @@
 -- A guest that moves: it is saved on one board, and goes on in a slot of another.
-use Rattle.std.specs.Prelude.{◌≡◌, ℕ, List, ◌++◌, map, take, Option, Some}
+use Rattle.std.specs.Prelude.{◌≡◌, ℕ, List, ◌++◌, map, take, Some}
 use Rattle.std.specs.List.{slice_get}
 use Rattle.board.specs.declared.event.EventKind.TheVariants.{Restore}
 use Rattle.board.specs.declared.reply.Record.{Record}

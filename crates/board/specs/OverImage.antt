@@ -11,7 +11,7 @@ use Rattle.block_device.specs.Config as block
 use Rattle.console_device.specs.Config as console
 use Rattle.console_device.specs.Input.{fitting}
 use Rattle.board.specs.declared.event.EventKind.{EventKind}
-use Rattle.board.specs.declared.event.EventKind.TheVariants.{Read, Write, MemRead, MemWrite, Input, Resize, Restore, Complete}
+use Rattle.board.specs.declared.event.EventKind.TheVariants.{Read, Write, MemRead, MemWrite, Input, Resize, Restore, Host}
 use Rattle.board.specs.declared.reply.Reply.TheVariants.{Value, Bytes, BadRange, Took, Idle}
 use Rattle.board.specs.Image.{Health}
 use Rattle.board.specs.Outcome.{Outcome, replies, does, IsDetermined}
@@ -85,8 +85,8 @@ readied what state = state
 
 -- What comes of an event of a guest whose disk is of the image, where memory is found for it and no call of the
 -- image fails; the image fares so before and after it. A write to a window writes its registers, and then the
--- device does its part. What is typed is pending, and then the console serves its receive queue. Nothing is
--- in flight to be completed.
+-- device does its part. What is typed is pending, and then the console serves its receive queue. The host
+-- has nothing to say.
 abbrev pub GivesOverImage : {A : Type 0} → SlotState → EventKind A → Health → Health → Outcome A → Type 0
 GivesOverImage state (Read window offset width) before after outcome =
     IsDetermined outcome (replies state (Value (register state window offset width))) before after
@@ -102,4 +102,4 @@ GivesOverImage state (Input bytes) before after outcome =
 GivesOverImage state (Resize cols rows) before after outcome =
     IsDetermined outcome (does (resized cols rows state)) before after
 GivesOverImage state (Restore bytes) before after outcome = Restores state bytes before after outcome
-GivesOverImage state (Complete tag verdict) before after outcome = IsDetermined outcome (replies state Idle) before after
+GivesOverImage state (Host said) before after outcome = IsDetermined outcome (replies state Idle) before after

@@ -1,7 +1,7 @@
 -- Which replies a slot may give to each event.
 use Rattle.std.specs.Prelude.{⊤}
 use Rattle.board.specs.declared.event.EventKind.{EventKind}
-use Rattle.board.specs.declared.event.EventKind.TheVariants.{Read, Write, MemRead, MemWrite, Input, Resize, Restore, Complete}
+use Rattle.board.specs.declared.event.EventKind.TheVariants.{Read, Write, MemRead, MemWrite, Input, Resize, Restore, Host}
 use Rattle.board.specs.declared.reply.Reply.{Reply}
 use Rattle.board.specs.declared.reply.Reply.TheVariants.{Value, Done, Bytes, Took, BadRange, BadState, NoMemory, Busy, Idle}
 
@@ -19,12 +19,12 @@ MayReplyOverImage (Input bytes) (Took taken) = ⊤
 MayReplyOverImage (Resize cols rows) Done = ⊤
 MayReplyOverImage (Restore bytes) Done = ⊤
 MayReplyOverImage (Restore bytes) BadState = ⊤
-MayReplyOverImage (Complete tag verdict) Idle = ⊤
+MayReplyOverImage (Host said) Idle = ⊤
 MayReplyOverImage what answer = ⊥
 
--- and whoever has it: where the host does, writes and restores may wait, and completions are done
+-- and whoever has it: where the host does, writes and restores may wait, and what it says is done
 abbrev pub MayReply : {A : Type 0} → EventKind A → Reply A → Type 0
 MayReply (Write window offset width value) Busy = ⊤
 MayReply (Restore bytes) Busy = ⊤
-MayReply (Complete tag verdict) Done = ⊤
+MayReply (Host said) Done = ⊤
 MayReply what answer = MayReplyOverImage what answer

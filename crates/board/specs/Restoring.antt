@@ -16,6 +16,7 @@ slot_in state = record {
   memory = state.memory;
   extent = record { start = 0; count = sectors_of state.extent };
   host = state.host;
+  on_hold = state.on_hold;
   read_only = state.read_only;
   identity = state.identity;
   block = state.block;

@@ -1,11 +1,10 @@
 -- The snapshot of a slot, and what a slot becomes that takes one up.
-use Rattle.std.specs.Prelude.{◌≡◌, ◌≤◌, ◌++◌, ◌==◌, ℕ, IsSome, None, Option, Some, List, drop, if◌then◌else◌, length}
+use Rattle.std.specs.Prelude.{◌≡◌, ◌≤◌, ◌++◌, ◌==◌, ℕ, true, IsSome, None, Option, Some, List, drop, if◌then◌else◌, length}
 use Rattle.guest_memory.specs.Memory.{Memory, SameRange}
 use Rattle.mmio_window.specs.declared.device_kind.DeviceKind.TheVariants.{Block, Console}
 use Rattle.mmio_window.specs.declared.saved.SavedWindow.{SavedWindow}
 use Rattle.mmio_window.specs.Saved.{saved_window, window_restored}
 use Rattle.mmio_window.specs.Window.{WindowState}
-use Rattle.sector_cache.specs.Sector.{extent_of}
 use Rattle.snapshot.specs.declared.saved.SavedSlot.{SavedSlot}
 use Rattle.snapshot.specs.Faults.{IsFirstFault}
 use Rattle.snapshot.specs.Spelling.{IsSnapshot, snapshot}
@@ -27,6 +26,7 @@ saved_slot slot = record {
   console = saved_window slot.console;
   cols = slot.cols;
   rows = slot.rows;
+  on_hold = slot.on_hold;
 }
 
 -- the bytes of a slot's snapshot
@@ -69,7 +69,8 @@ pub record IsSavedTo (slot : BoardSlot) (old new : List ℕ) (len : ℕ) : Type 
 -- ---- what takes it up
 
 -- The slot is of the description that was saved: its memory begins and ends at the same addresses, its disk
--- has as many sectors, the same mode and the same identity, and its devices offer the same features.
+-- has as many sectors, the same mode and the same identity, and its devices offer the same features. One that was
+-- on hold has its disk from the host again, since no other is ever released.
 pub record Suits (saved : SavedSlot) (slot : BoardSlot) : Type 0 where
   pub base : saved.base ≡ slot.memory.base
   pub len : saved.len ≡ length slot.memory.bytes
@@ -78,8 +79,9 @@ pub record Suits (saved : SavedSlot) (slot : BoardSlot) : Type 0 where
   pub identity : saved.identity ≡ slot.identity
   pub block : saved.block.negotiation.offered ≡ slot.block.negotiation.offered
   pub console : saved.console.negotiation.offered ≡ slot.console.negotiation.offered
+  pub on_hold : saved.on_hold ≡ true → IsSome slot.host
 
--- The slot has taken up what was saved: both windows, the pending input and the size. The memory stays, and
+-- The slot has taken up what was saved: both windows, the pending input, the size, and whether it is on hold. The memory stays, and
 -- the disk with its mode and identity, and whether an event of the slot has met a refusal.
 pub record TakesUp (old : BoardSlot) (saved : SavedSlot) (pending : List ℕ) (new : BoardSlot) : Type 0 where
   pub suits : Suits saved old
@@ -93,6 +95,7 @@ pub record TakesUp (old : BoardSlot) (saved : SavedSlot) (pending : List ℕ) (n
         pending = pending;
         cols = saved.cols;
         rows = saved.rows;
+        on_hold = saved.on_hold;
       }
 
 -- The slot has taken up the snapshot that these bytes are.
@@ -127,12 +130,14 @@ IsCauseOf slot bytes why = IsPrevented slot bytes why
 
 -- ---- the round trip
 
--- Both slots have one description: memories of one range, disks of one size, mode and identity.
+-- Both slots have one description: memories of one range, disks of one size, mode and identity. Of one on hold the
+-- other has its disk from the host.
 pub record IsLike (slot other : BoardSlot) : Type 0 where
   pub memory : SameRange slot.memory other.memory
   pub sectors : sectors_in other ≡ sectors_in slot
   pub read_only : other.read_only ≡ slot.read_only
   pub identity : other.identity ≡ slot.identity
+  pub on_hold : slot.on_hold ≡ true → IsSome other.host
 
 -- the slot is as that one was, but for the memory's bytes, who has its disk and where it lies, and whether an
 -- event of it has met a refusal: those are its own

@@ -18,13 +18,15 @@ use Rattle.board.specs.Backing.{HostDisk, sectors_by}
 use Rattle.board.specs.Image.{sectors_of}
 
 -- All that one guest can see: its memory, the bytes of its extent of the image, the disk that the host
--- serves it in place of one of the image, whether its block device refuses writes and what its identity is,
+-- serves it in place of one of the image, whether that disk is on hold, so that no further chain of its queue is
+-- taken, whether its block device refuses writes and what its identity is,
 -- the windows of its two devices, and of its console what was typed and is still pending, and the size. Where
 -- the host serves its disk the extent is empty: the bytes are the host's.
 pub record SlotState : Type 0 where
   pub memory : Memory
   pub extent : List ℕ
   pub host : Option HostDisk
+  pub on_hold : Bool
   pub read_only : Bool
   pub identity : List ℕ
   pub block : WindowState
@@ -39,6 +41,7 @@ pub record BoardSlot : Type 0 where
   pub memory : Memory
   pub extent : Extent
   pub host : Option HostDisk
+  pub on_hold : Bool
   pub read_only : Bool
   pub identity : List ℕ
   pub block : WindowState
@@ -54,6 +57,7 @@ state_of bytes slot = record {
   memory = slot.memory;
   extent = extent_of bytes slot.extent.start slot.extent.count;
   host = slot.host;
+  on_hold = slot.on_hold;
   read_only = slot.read_only;
   identity = slot.identity;
   block = slot.block;
@@ -139,6 +143,7 @@ opened spec = record {
   memory = zeroed_regions spec.regions;
   extent = extent_by spec.backing spec.extent;
   host = host_by spec.backing spec.extent;
+  on_hold = false;
   read_only = spec.read_only;
   identity = spec.identity;
   block = fresh_window Block (block_features spec.read_only) 0;

@@ -2,7 +2,8 @@
 use Rattle.std.specs.Prelude.{◌≡◌, ◌↔◌, ℕ, Bool, true, false, slice_set}
 use Rattle.guest_memory.specs.Memory.{Memory, SameRange}
 use Rattle.board.specs.declared.event.EventKind.{EventKind}
-use Rattle.board.specs.declared.event.EventKind.TheVariants.{Read, Write, Resize, Restore}
+use Rattle.board.specs.declared.event.EventKind.TheVariants.{Read, Write, Resize, Restore, Host}
+use Rattle.board.specs.declared.event.HostEvent.TheVariants.{Drop, Hold}
 use Rattle.board.specs.Machine.{task_at}
 use Rattle.board.specs.Outcome.{Outcome}
 use Rattle.board.specs.Slot.{SlotState}
@@ -15,12 +16,14 @@ serves_queue (Serve service) = true
 serves_queue task = false
 
 -- Whether an event touches its guest's memory: a notification of a queue that the device may serve (4.2.3.3), input,
--- a completion, and reads and writes of the memory do.
+-- a completion, a release, and reads and writes of the memory do.
 abbrev pub touches_memory : {A : Type 0} → EventKind A → SlotState → Bool
 touches_memory (Read window offset width) state = false
 touches_memory (Write window offset width value) state = serves_queue (task_at window offset width value state)
 touches_memory (Resize cols rows) state = false
 touches_memory (Restore bytes) state = false
+touches_memory (Host Drop) state = false
+touches_memory (Host Hold) state = false
 touches_memory what state = true
 
 -- the slot over another memory, and what came of an event

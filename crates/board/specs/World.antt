@@ -13,7 +13,7 @@ use Rattle.block_device.specs.Device.{block_device}
 use Rattle.console_device.specs.Device.{transmit}
 use Rattle.board.specs.declared.event.Event.{Event}
 use Rattle.board.specs.declared.event.EventKind.{EventKind}
-use Rattle.board.specs.declared.event.EventKind.TheVariants.{Read, Write, MemRead, MemWrite, Input, Resize, Restore, Complete}
+use Rattle.board.specs.declared.event.EventKind.TheVariants.{Read, Write, MemRead, MemWrite, Input, Resize, Restore, Host}
 use Rattle.board.specs.declared.reply.Reply.{Reply}
 use Rattle.board.specs.declared.reply.Reply.TheVariants.{BadSlot, NoMemory}
 use Rattle.board.specs.declared.reply.Record.{Record}
@@ -128,7 +128,7 @@ IsRefused state (MemWrite addr bytes) old new outcome = ⊥
 IsRefused state (Input bytes) old new outcome = ⊥
 IsRefused state (Resize cols rows) old new outcome = ⊥
 IsRefused state (Restore bytes) old new outcome = ⊥
-IsRefused state (Complete tag verdict) old new outcome = ⊥
+IsRefused state (Host said) old new outcome = ⊥
 
 -- what may come of an event of a slot whose disk is of the image, which fared so before and after it
 abbrev pub MayGiveOverImage : {A : Type 0} → SlotState → EventKind A → Health → Health → Outcome A → Type 0
@@ -255,7 +255,7 @@ MayLackMemory state (MemWrite addr bytes) = ⊥
 MayLackMemory state (Input bytes) = ⊥
 MayLackMemory state (Resize cols rows) = ⊥
 MayLackMemory state (Restore bytes) = ⊥
-MayLackMemory state (Complete tag verdict) = ⊥
+MayLackMemory state (Host said) = ⊥
 
 -- What can be seen of the board stays, but for what is noted of refusals, and nothing was put out.
 pub record KeepsBoard {A : Type 0} (old : World) (written : Record A) (new : World) : Type 0 where

@@ -55,10 +55,20 @@ pub enum EventKind<A: Allocator = Global> {
     Restore {
         bytes: Bytes<A>,
     },
-    /// The operation of this tag, which the host does for the guest's disk, is done, or failed. Over an image nothing ever
-    /// is in flight.
-    Complete {
-        tag: u8,
-        verdict: Verdict,
-    },
+    /// The host says this of the guest's disk, where it serves it. Over an image there is nothing to do.
+    Host(HostEvent),
+}
+
+/// What the host says of a disk that it serves.
+#[derive(Clone, Copy, Debug, PartialEq, Eq)]
+pub enum HostEvent {
+    /// The operation of this tag is done, or failed.
+    Complete { tag: u8, verdict: Verdict },
+    /// No transfer touches the guest's memory any more: what is in flight is given up, and the device asks to be reset
+    /// (2.1.2).
+    Drop,
+    /// No further chain is taken until `Release`.
+    Hold,
+    /// Chains are taken again, first those that wait.
+    Release,
 }

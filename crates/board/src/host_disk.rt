@@ -2,10 +2,10 @@
 
 ghost use Rattle.std.specs.Prelude.{◌≡◌, ◌*◌, ◌^◌, ◌<◌, ◌≤◌, None, IfOk, get_or, replicate};
 ghost use Rattle.std.specs.Bool.{OnTrue, OnFalse};
-ghost use Rattle.guest_memory.specs.Memory.{SameRange};
+ghost use Rattle.guest_memory.specs.Memory.{Memory, SameRange};
 ghost use Rattle.mmio_window.specs.Soundness.{IsSound};
 ghost use Rattle.block_device.specs.Extent.{sector_len};
-ghost use Rattle.block_device.specs.Flights.{AreHeld, HostedQueue, IsCompletion, IsLook, is_any, operation_in, runs_in, taken_bits};
+ghost use Rattle.block_device.specs.Flights.{AreHeld, HostedQueue, IsLanding, IsLook, given_up, is_any, operation_in, runs_in, taken_bits};
 ghost use Rattle.board.specs.Backing.{HostDisk};
 
 use block_device::{BlockDevice, Flights, Operation, Verdict};
@@ -108,21 +108,17 @@ impl<A: Allocator> HostedDisk<A> {
         device.look(memory, window, &mut self.flights, room);
     }
 
-    /// Completes the operation of this tag by what came of it, and looks at the queue again. False where no operation has the
-    /// tag: nothing has changed then.
-    pub(crate) fn complete<M: Allocator>(
+    /// Completes the operation of this tag by what came of it. False where no operation has the tag: nothing has changed then.
+    pub(crate) fn land<M: Allocator>(
         &mut self,
-        device: BlockDevice,
         memory: &mut GuestMemory<M>,
         window: &mut Window,
-        room: &mut Chain,
         tag: u8,
         verdict: Verdict,
     ) -> bool
-        requires sectors { device.extent.count ≡ self.old.sectors }
         requires sound { IsSound memory.old window.old }
         requires held { AreHeld self.old.sectors (record { memory = memory.old; window = window.old; tags = self.old.tags }) }
-        ensures completes { OnTrue result (IsCompletion device tag verdict
+        ensures lands { OnTrue result (IsLanding tag verdict
             (record { memory = memory.old; window = window.old; tags = self.old.tags })
             (record { memory = memory.new; window = window.new; tags = self.new.tags })) }
         ensures idle { OnFalse result (get_or self.old.tags tag None ≡ None) }
@@ -133,7 +129,20 @@ impl<A: Allocator> HostedDisk<A> {
         ensures range { SameRange memory.old memory.new }
         ensures sound { IsSound memory.new window.new }
     {
-        let tag = tag as usize;
-        device.complete(memory, window, &mut self.flights, room, tag, verdict)
+        self.flights
+            .land(memory, window, self.sectors, tag as usize, verdict)
+    }
+
+    /// Gives up what is in flight: each tag is free, and the device asks to be reset.
+    pub(crate) fn give_up(&mut self, window: &mut Window)
+        ensures given_up { (m : Memory) → ◌≡◌ {A = HostedQueue}
+            (record { memory = m; window = window.new; tags = self.new.tags })
+            (given_up (record { memory = m; window = window.old; tags = self.old.tags })) }
+        ensures sectors { self.new.sectors ≡ self.old.sectors }
+        ensures held { (m : Memory) →
+            AreHeld self.new.sectors (record { memory = m; window = window.new; tags = self.new.tags }) }
+        ensures sound { (m : Memory) → IsSound m window.old → IsSound m window.new }
+    {
+        self.flights.give_up(window);
     }
 }

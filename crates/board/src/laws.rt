@@ -1,6 +1,6 @@
 //! What holds of every line of events, by itself: no board is made or run here.
 
-ghost use Rattle.std.specs.Prelude.{◌≡◌, ◌≢◌, ℕ, ◌+◌, ◌<◌, ◌≤◌, List, [], ◌∷◌, ◌++◌, None, Some, true, false, get_or, length};
+ghost use Rattle.std.specs.Prelude.{◌≡◌, ◌≢◌, ℕ, ◌+◌, ◌<◌, ◌≤◌, List, [], ◌∷◌, ◌++◌, None, Some, true, false, get_or, length, IsSome};
 ghost use Rattle.std.specs.List.{slice_get};
 ghost use Rattle.guest_memory.specs.Memory.{Memory, SameRange};
 ghost use Rattle.chain.specs.Service.{Served, ServesAll, Site};
@@ -16,16 +16,17 @@ ghost use Rattle.mmio_window.specs.Registers.{register_at};
 ghost use Rattle.block_device.specs.declared.device.BlockDevice.{BlockDevice};
 ghost use Rattle.block_device.specs.declared.operation.Verdict.{Verdict};
 ghost use Rattle.block_device.specs.Device.{block_device};
-ghost use Rattle.block_device.specs.Flights.{HostedQueue, InFlight};
+ghost use Rattle.block_device.specs.Flights.{HostedQueue, InFlight, is_any};
 ghost use Rattle.board.specs.declared.event.Event.{Event};
 ghost use Rattle.board.specs.declared.event.EventKind.{EventKind};
+ghost use Rattle.board.specs.declared.event.HostEvent.{HostEvent};
 ghost use Rattle.board.specs.declared.reply.Reply.{Reply};
 ghost use Rattle.board.specs.declared.reply.Record.{Record};
 ghost use Rattle.board.specs.Durable.{IsLeftAsSeen, TouchesSlot};
 ghost use Rattle.board.specs.Extent.{IsApart};
 ghost use Rattle.board.specs.Backing.{tags_in};
 ghost use Rattle.board.specs.Honest.{IsFlown, IsHonestlyServed};
-ghost use Rattle.board.specs.Hosting.{must_wait, tag_in};
+ghost use Rattle.board.specs.Hosting.{IsNoRestore, LeavesTag, dropped, held, must_wait, notifies_block, released, told_in, waits_now};
 ghost use Rattle.board.specs.Image.{Health, Tells, bytes_of};
 ghost use Rattle.board.specs.Line.{Move, IsLine, IsNoted, IsQuiet, IsAlone, IsRun, RunsAsItMay, SeesTheSame, events_of, own_events};
 ghost use Rattle.board.specs.Machine.{Gives, IsNext, RunsOnItsOwn};
@@ -200,20 +201,54 @@ pub fn each_guest_is_alone_whatever_it_meets<A: Allocator>()
 {}
 
 /// What is in flight stays in flight with its tag, whatever its guest does, and whatever else is completed: only its own
-/// completion ends it.
+/// completion ends it, and a drop.
 pub fn a_flight_outlasts_own_events<A: Allocator>()
     ensures { (old : SlotState) (tag : ℕ) (here : InFlight) (what : EventKind A) (before after : Health)
-        (outcome : Outcome A) → get_or (tags_in old.host) tag None ≡ Some here → tag_in what ≢ Some tag →
+        (outcome : Outcome A) → get_or (tags_in old.host) tag None ≡ Some here → LeavesTag tag what →
         MayGive old what before after outcome → get_or (tags_in outcome.state.host) tag None ≡ Some here }
 {}
 
-/// An event that waits changes nothing, and only the two writes and a restore may wait; nor does a completion by a free tag.
+/// An event that waits changes nothing, and only the two writes and a restore may wait; nor does what the host says for nothing.
 pub fn what_waits_changes_nothing<A: Allocator>()
     ensures busy { (old : SlotState) (what : EventKind A) (before after : Health) (outcome : Outcome A) →
         MayGive old what before after outcome → outcome.reply ≡ Reply.Busy →
         (outcome.state ≡ old) × (must_wait what ≡ true) }
     ensures idle { (old : SlotState) (what : EventKind A) (before after : Health) (outcome : Outcome A) →
         MayGive old what before after outcome → outcome.reply ≡ Reply.Idle → outcome.state ≡ old }
+{}
+
+/// A host that never answers hangs no guest: behind a drop nothing is in flight, whatever was (`free`), so that the next event
+/// doesn't wait, whichever it is (`passes`). What was in flight leaves its guest a window that asks to be reset, and the bytes
+/// of its memory as they were (`dropped`).
+pub fn a_dropped_slot_never_waits<A: Allocator>()
+    ensures free { (old : SlotState) (before after : Health) (outcome : Outcome A) →
+        MayGive old (EventKind.Host HostEvent.Drop) before after outcome → is_any (tags_in outcome.state.host) ≡ false }
+    ensures passes { (old : SlotState) (what : EventKind A) (before mid mid' after : Health) (drop outcome : Outcome A) →
+        MayGive old (EventKind.Host HostEvent.Drop) before mid drop → MayGive drop.state what mid' after outcome →
+        outcome.reply ≢ Reply.Busy }
+    ensures dropped { (old : SlotState) (before after : Health) (outcome : Outcome A) →
+        is_any (tags_in old.host) ≡ true → MayGive old (EventKind.Host HostEvent.Drop) before after outcome →
+        outcome.state ≡ dropped old }
+{}
+
+/// Of a slot on hold no further chain is taken: a free tag stays free, whatever its guest does and the host completes, until
+/// it is released (`free`). It stays on hold until then, or until it takes up a snapshot (`stays`).
+pub fn no_chain_is_taken_on_hold<A: Allocator>()
+    ensures free { (old : SlotState) (tag : ℕ) (what : EventKind A) (before after : Health) (outcome : Outcome A) →
+        old.on_hold ≡ true → told_in what ≢ Some HostEvent.Release → get_or (tags_in old.host) tag None ≡ None →
+        MayGive old what before after outcome → get_or (tags_in outcome.state.host) tag None ≡ None }
+    ensures stays { (old : SlotState) (what : EventKind A) (before after : Health) (outcome : Outcome A) →
+        old.on_hold ≡ true → told_in what ≢ Some HostEvent.Release → IsNoRestore what →
+        MayGive old what before after outcome → outcome.state.on_hold ≡ true }
+{}
+
+/// A guest that is held and released gets what it gets without, but for the moment: where it notified its block device on
+/// hold, the release comes to what the notification would have come to.
+pub fn a_release_makes_up_for_a_notification<A: Allocator>()
+    ensures { (old : SlotState) (what : EventKind A) (waited late prompt : Outcome A) → IsSome old.host →
+        notifies_block what old ≡ true → waits_now what old.host ≡ false →
+        IsNext (held old) what waited → IsNext waited.state (EventKind.Host HostEvent.Release) late →
+        IsNext (released old) what prompt → late.state ≡ prompt.state }
 {}
 
 /// Where a host did with a guest's disk what may become of the request that was asked for, and says so, the slot's block

@@ -29,7 +29,8 @@ pub enum Reply<A: Allocator = Global> {
     NoMemory,
     /// The event waits for what is in flight: make it again behind the completion. Nothing changed.
     Busy,
-    /// No operation of the slot has the tag. Nothing changed.
+    /// There was nothing to do: no operation has the tag, none is in flight, the slot is on hold already, or isn't.
+    /// Nothing changed.
     Idle,
 }
 

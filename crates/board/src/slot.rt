@@ -58,6 +58,8 @@ pub(crate) struct Slot<A: Allocator = Global> {
     block_device: BlockDevice,
     // The disk that the host serves, in place of one of the image.
     host: Option<Box<HostedDisk<A>, A>>,
+    // Whether no further chain of that disk's queue is taken.
+    on_hold: bool,
     block: Window,
     console_device: ConsoleDevice<A>,
     console: Window,
@@ -79,6 +81,7 @@ impl<A: Allocator> Model for Slot<A> {
       memory = s.memory;
       extent = s.block_device.extent;
       host = option_map (λ disk. disk.value) s.host;
+      on_hold = s.on_hold;
       read_only = s.block_device.read_only;
       identity = s.block_device.identity;
       block = s.block;
@@ -129,6 +132,7 @@ impl<A: Allocator + Copy> Slot<A> {
             memory,
             block_device: BlockDevice::new(share(spec), spec.read_only, spec.identity),
             host: host_of(alloc, spec)?,
+            on_hold: false,
             block: Window::new(DeviceKind::Block, features::of_block(spec.read_only)),
             console_device,
             console: Window::new(DeviceKind::Console, features::of_console()),

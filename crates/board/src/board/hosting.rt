@@ -48,4 +48,13 @@ impl<I: Image, A: Allocator> Board<I, A> {
         let found = self.slot(slot)?;
         Some(found.runs(tag))
     }
+
+    /// Whether a slot is on hold: no further chain of the disk that the host serves it is taken. There is no answer for a slot
+    /// that isn't there.
+    pub fn on_hold(&self, slot: u8) -> Option<bool>
+        ensures { result ≡ option_map (λ found. found.on_hold) (slice_get self.now.slots slot) }
+    {
+        let found = self.slot(slot)?;
+        Some(found.is_on_hold())
+    }
 }

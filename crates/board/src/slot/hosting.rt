@@ -12,7 +12,7 @@ ghost use Rattle.board.specs.declared.pause.Pause.{Pause};
 ghost use Rattle.board.specs.declared.pause.Service.{Service};
 ghost use Rattle.board.specs.declared.pause.Turn.{Turn};
 ghost use Rattle.board.specs.declared.reply.Reply.{Reply};
-ghost use Rattle.board.specs.Hosting.{CompletesTag, HoldsFlights, LooksAtQueue, block_beside, device_at, must_wait, notifies_block};
+ghost use Rattle.board.specs.Hosting.{HoldsFlights, LandsTag, LooksAtQueue, block_beside, dropped, device_at, must_wait, notifies_block};
 ghost use Rattle.board.specs.Image.{Health, sectors_of};
 ghost use Rattle.board.specs.Pausing.{BeginsOverImage, ComesTo, PausesByLimit, ServesTurn, readied};
 ghost use Rattle.board.specs.Slot.{state_of};
@@ -82,7 +82,7 @@ impl<A: Allocator + Copy> Slot<A> {
             EventKind::Input { bytes } => return Some(self.input(bytes.as_slice(), budget)),
             EventKind::Resize { cols, rows } => self.resize(*cols, *rows),
             EventKind::Restore { bytes } => self.answer_restore(bytes.as_slice()),
-            EventKind::Complete { .. } => Reply::Idle,
+            EventKind::Host(_) => Reply::Idle,
         };
         Some(Turn::Answered(reply))
     }
@@ -218,7 +218,22 @@ impl<A: Allocator> Slot<A> {
         }
     }
 
-    /// The block device looks at its queue, whatever is in flight. Nothing is done where the disk is of the image.
+    /// Whether no further chain of the slot's disk is taken.
+    pub(crate) fn is_on_hold(&self) -> bool
+        ensures { result ≡ self.now.on_hold }
+    {
+        self.on_hold
+    }
+
+    /// Has no further chain of the slot's disk taken, or has them taken again.
+    pub(crate) fn set_on_hold(&mut self, on_hold: bool)
+        ensures { self.new ≡ record self.old { on_hold = on_hold } }
+    {
+        self.on_hold = on_hold;
+    }
+
+    /// The block device looks at its queue, whatever is in flight, unless the slot is on hold. Nothing is done where the disk
+    /// is of the image.
     pub(crate) fn look(&mut self)
         requires held { HoldsFlights self.old }
         ensures looks { IsSome self.old.host → (image : List ℕ) →
@@ -231,6 +246,9 @@ impl<A: Allocator> Slot<A> {
           host = self.new.host;
         } }
     {
+        if self.on_hold {
+            return;
+        }
         let device = self.device();
         let Some(disk) = &mut self.host else {
             return;
@@ -238,12 +256,11 @@ impl<A: Allocator> Slot<A> {
         disk.look(device, &mut self.memory, &mut self.block, &mut self.chain);
     }
 
-    /// Completes the operation of this tag, and looks at the queue again. False where no operation has the tag: nothing has
-    /// changed then.
-    pub(crate) fn complete(&mut self, tag: u8, verdict: Verdict) -> bool
+    /// Completes the operation of this tag. False where no operation has the tag: nothing has changed then.
+    pub(crate) fn land(&mut self, tag: u8, verdict: Verdict) -> bool
         requires held { HoldsFlights self.old }
-        ensures completes { OnTrue result ((image : List ℕ) →
-            CompletesTag tag verdict (state_of image self.old) (state_of image self.new)) }
+        ensures lands { OnTrue result ((image : List ℕ) →
+            LandsTag tag verdict (state_of image self.old) (state_of image self.new)) }
         ensures idle { OnFalse result (get_or (tags_in self.old.host) tag None ≡ None) }
         ensures kept { OnFalse result (self.new ≡ self.old) }
         ensures held { HoldsFlights self.new }
@@ -253,15 +270,29 @@ impl<A: Allocator> Slot<A> {
           host = self.new.host;
         } }
     {
-        let device = self.device();
         let Some(disk) = &mut self.host else {
             return false;
         };
-        let (memory, window) = (&mut self.memory, &mut self.block);
-        let done = disk.complete(device, memory, window, &mut self.chain, tag, verdict);
+        let done = disk.land(&mut self.memory, &mut self.block, tag, verdict);
         if done {
             self.counters.completed(verdict);
         }
         done
+    }
+
+    /// Gives up what is in flight, and asks for a reset. Nothing is done where the disk is of the image.
+    pub(crate) fn give_up(&mut self)
+        ensures dropped { IsSome self.old.host → (image : List ℕ) →
+            state_of image self.new ≡ dropped (state_of image self.old) }
+        ensures kept { self.old.host ≡ None → self.new ≡ self.old }
+        ensures held { HoldsFlights self.new }
+        ensures rest { self.new ≡ record self.old {
+          block = self.new.block;
+          host = self.new.host;
+        } }
+    {
+        if let Some(disk) = &mut self.host {
+            disk.give_up(&mut self.block);
+        }
     }
 }

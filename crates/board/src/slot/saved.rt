@@ -68,6 +68,7 @@ impl<A: Allocator> Slot<A> {
             console: self.console.saved(),
             cols,
             rows,
+            on_hold: self.on_hold,
         }
     }
 
@@ -137,6 +138,7 @@ impl<A: Allocator> Slot<A> {
         self.block = block.in_place_of(&self.block);
         self.console = console.in_place_of(&self.console);
         self.console_device.restore(pending, saved.cols, saved.rows);
+        self.on_hold = saved.on_hold;
         Ok(())
     }
 
@@ -166,5 +168,6 @@ impl<A: Allocator> Slot<A> {
             && saved.identity == self.block_device.identity
             && saved.block.negotiation.offered == self.block.negotiation().offered().bits()
             && saved.console.negotiation.offered == self.console.negotiation().offered().bits()
+            && (!saved.on_hold || self.host.is_some())
     }
 }

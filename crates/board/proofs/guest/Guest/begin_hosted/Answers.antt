@@ -1,7 +1,7 @@
 use Rattle.std.proofs.Common.{◌≡◌, List, ℕ, Bool, Option, false, true, sym, ap, subst, ◌∙◌, refl}
 use Rattle.std.specs.Prelude.{IsSome}
 use Rattle.board.specs.declared.event.EventKind.{EventKind}
-use Rattle.board.specs.declared.event.EventKind.TheVariants.{Complete}
+use Rattle.board.specs.declared.event.EventKind.TheVariants.{Host}
 use Rattle.board.specs.declared.reply.Reply.TheVariants.{Busy, Done}
 use Rattle.block_device.specs.Flights.{is_any}
 use Rattle.board.specs.Backing.{HostDisk, tags_in}
@@ -9,22 +9,20 @@ use Rattle.board.specs.Hosting.{has_part, must_wait, notifies_block, waits_now}
 use Rattle.board.specs.Outcome.{replies}
 use Rattle.board.specs.Slot.{BoardSlot, state_of}
 use Rattle.board.proofs.Flights.{held_beside}
-use Rattle.board.proofs.Hosts.{busy_given, completion_given, no_part, notified_given, own_of, part_by_completion, part_by_ring, part_by_wait, ringing_silent, serves_part, serves_passing, waiting_silent, within_part, within_passing}
+use Rattle.board.proofs.Hosts.{busy_given, no_part, notified_given, own_of, part_by_host, part_by_ring, part_by_wait, ringing_silent, serves_part, serves_passing, waiting_silent, within_part, within_passing, told_given}
 use Rattle.board.proofs.Ways.{must_by}
 use Rattle.board.proofs.guest.Guest.begin_hosted.Goals as goal
 
-pub returns-in-Complete-clause-serves : goal.returns-in-Complete-clause-serves
-returns-in-Complete-clause-serves g c = λ image health filled.
+pub returns-in-Host-clause-serves : goal.returns-in-Host-clause-serves
+returns-in-Host-clause-serves g c = λ image health filled.
     let state = state_of image c.args.self.now in
-    let tag = c.in-Complete.tag in
-    let verdict = c.in-Complete.verdict in
-    rw c.in-Complete.is
-    (serves_part (Complete tag verdict) c.args.budget state health (state_of image c.complete.new.self)
-    c.complete.result (g.O.Outlet.bytes c.args.out.now)
-    (part_by_completion state.host (Complete tag verdict) state (record { tag = tag; verdict = verdict })
-    c.requires.hosted refl)
-    (completion_given state tag verdict health (replies (state_of image c.complete.new.self) c.complete.result)
-    c.requires.hosted (c.complete.ensures.gives c.requires.hosted image)))
+    let said = c.in-Host.told in
+    rw c.in-Host.is
+    (serves_part (Host said) c.args.budget state health (state_of image c.told.new.self)
+    c.told.result (g.O.Outlet.bytes c.args.out.now)
+    (part_by_host state.host (Host said) state said c.requires.hosted refl)
+    (told_given state said health (replies (state_of image c.told.new.self) c.told.result)
+    c.requires.hosted (c.told.ensures.gives c.requires.hosted image)))
 
 -- the event doesn't wait
 free_of : {A : Type 0} (what : EventKind A) (slot now : BoardSlot) (result : Bool) → slot ≡ now
@@ -83,7 +81,7 @@ returns-in-Some g c =
     c.holds_up.ensures c.if-holds_up.false in
     let passes : (image : List ℕ) → has_part slot.host c.args.what.now (state_of image slot) ≡ false =
     λ image. no_part slot.host c.args.what.now (state_of image slot)
-    (own_of c.args.what.now c.in_default.not-Complete) free (sym (handled.notified image)) in
+    (own_of c.args.what.now c.in_default.not-Host) free (sym (handled.notified image)) in
     rw (← c.self.view_is)
     (record {
       serves = λ image health filled.

@@ -4,10 +4,10 @@ use Rattle.board.specs.declared.event.EventKind.TheVariants.{Input, Restore}
 use Rattle.board.specs.Hosting.{device_at, must_wait}
 use Rattle.board.specs.Slot.{BoardSlot, state_of}
 use Rattle.board.proofs.Beside.{range_of, same_range}
-use Rattle.board.proofs.Blocks.{completion_given, read_given}
+use Rattle.board.proofs.Blocks.{read_given, told_given}
 use Rattle.board.proofs.Turns.{comes_first, silent_answer}
 use Rattle.board.proofs.slot.Slot.answer_beside_disk.Goals as goal
-use Rattle.board.proofs.slot.Slot.answer_beside_disk.Goals.{in-Read, in-MemRead, in-MemWrite, in-Resize, in-Restore, in-Complete}
+use Rattle.board.proofs.slot.Slot.answer_beside_disk.Goals.{in-Read, in-MemRead, in-MemWrite, in-Resize, in-Restore, in-Host}
 
 -- a restore waits
 waits : {A : Type 0} {what : EventKind A} {bytes : List ℕ} → what ≡ Restore bytes → must_wait what ≡ false → ⊥
@@ -49,8 +49,8 @@ returns-clause-serves g c = λ image health filled.
       | in-Restore w ↦ rw (w.self-is, w.reply-is, w.in-Restore.is, ← w.as_slice-in-Restore.ensures)
           (silent_answer _ c.args.budget _ _ _ _ _ out refl
           (w.answer_restore-reply.ensures.given image health filled))
-      | in-Complete w ↦ rw (w.self-is, w.reply-is, w.in-Complete.is)
-          (silent_answer _ c.args.budget _ _ _ _ _ out refl (completion_given (state_of image slot) _ _ health))
+      | in-Host w ↦ rw (w.self-is, w.reply-is, w.in-Host.is)
+          (silent_answer _ c.args.budget _ _ _ _ _ out refl (told_given (state_of image slot) _ health))
     ]
 
 pub returns-clause-device : goal.returns-clause-device
@@ -61,7 +61,7 @@ returns-clause-device g c =
       | in-MemWrite w ↦ rw (w.self-is) (ap device_at w.write_memory-reply.ensures.rest)
       | in-Resize w ↦ rw (w.self-is) (ap device_at w.resize-reply.ensures.rest)
       | in-Restore w ↦ rw (w.self-is) w.answer_restore-reply.ensures.device
-      | in-Complete w ↦ rw (w.self-is) refl
+      | in-Host w ↦ rw (w.self-is) refl
     ]
 
 pub returns-clause-host : goal.returns-clause-host
@@ -72,7 +72,7 @@ returns-clause-host g c =
       | in-MemWrite w ↦ rw (w.self-is) (ap (λ (slot : BoardSlot). slot.host) w.write_memory-reply.ensures.rest)
       | in-Resize w ↦ rw (w.self-is) (ap (λ (slot : BoardSlot). slot.host) w.resize-reply.ensures.rest)
       | in-Restore w ↦ rw (w.self-is) w.answer_restore-reply.ensures.host
-      | in-Complete w ↦ rw (w.self-is) refl
+      | in-Host w ↦ rw (w.self-is) refl
     ]
 
 pub returns-clause-block : goal.returns-clause-block
@@ -85,7 +85,7 @@ returns-clause-block g c free =
       | in-Resize w ↦ rw (w.self-is, w.in-Resize.is)
           (ap (λ (slot : BoardSlot). slot.block) w.resize-reply.ensures.rest)
       | in-Restore w ↦ absurd (waits w.in-Restore.is free)
-      | in-Complete w ↦ rw (w.self-is, w.in-Complete.is) refl
+      | in-Host w ↦ rw (w.self-is, w.in-Host.is) refl
     ]
 
 pub returns-clause-range : goal.returns-clause-range
@@ -97,5 +97,5 @@ returns-clause-range g c =
       | in-Resize w ↦ rw (w.self-is)
           (range_of _ _ (ap (λ (slot : BoardSlot). slot.memory) w.resize-reply.ensures.rest))
       | in-Restore w ↦ rw (w.self-is) (range_of _ _ w.answer_restore-reply.ensures.memory)
-      | in-Complete w ↦ rw (w.self-is) (same_range _)
+      | in-Host w ↦ rw (w.self-is) (same_range _)
     ]

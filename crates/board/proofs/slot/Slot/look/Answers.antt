@@ -18,6 +18,7 @@ returns-clause-looks g c = λ some image.
       memory = inside.memory;
       extent = inside.block_device.extent;
       host = option_map (λ disk. disk.value) inside.host;
+      on_hold = inside.on_hold;
       read_only = inside.block_device.read_only;
       identity = inside.block_device.identity;
       block = inside.block;
@@ -30,7 +31,7 @@ returns-clause-looks g c = λ some image.
     rw (← c.self.view_is)
     (looked image slot
     (record slot { memory = c.look.new.memory; block = c.look.new.window; host = Some c.look.new.self })
-    c.deref_mut.result.now c.look.new.self c.device-device.result
+    c.deref_mut.result.now c.look.new.self c.device-device.result c.if-self.false
     (ap (λ o. option_map (λ disk. disk.value) o) c.in-Some.is ∙ ap Some (sym c.deref_mut.ensures.value))
     (c.device-device.ensures ∙ ap device_at (sym c.self.view_is))
     c.look.ensures.sectors

@@ -1,0 +1,14 @@
+use Rattle.board.proofs.Restoring.{restore_given}
+use Rattle.board.proofs.slot.Slot.answer_restore.Goals as goal
+
+pub returns-in-Ok-clause-given : goal.returns-in-Ok-clause-given
+returns-in-Ok-clause-given g c = λ image health filled.
+    rw (c.in-Ok.is) at
+    (restore_given g.row.A.Denot image c.args.self.now c.restore.new.self c.args.from.now c.restore.result health filled
+    c.restore.ensures.ok c.restore.ensures.fault c.restore.ensures.kept)
+
+pub returns-in-Err-clause-given : goal.returns-in-Err-clause-given
+returns-in-Err-clause-given g c = λ image health filled.
+    rw (c.in-Err.is) at
+    (restore_given g.row.A.Denot image c.args.self.now c.restore.new.self c.args.from.now c.restore.result health filled
+    c.restore.ensures.ok c.restore.ensures.fault c.restore.ensures.kept)
