@@ -18,16 +18,17 @@
  *    them turns a smaller stack into a fault.
  *  - No call is made in the forked child of a process that had threads. The heap functions return: they neither jump
  *    out by longjmp nor throw.
- *  - Six calls touch a guest's memory: kalyubos_write at offset 0x050 (QueueNotify), kalyubos_input, kalyubos_go_on,
- *    kalyubos_completed, kalyubos_read_memory and kalyubos_write_memory. While one of them runs for a guest, and from a
- *    KALYUBOS_MORE until its service is done, no CPU of that guest runs, and nobody else reads or writes its memory in
- *    place (kalyubos_memory), also by DMA. Other guests' CPUs may run: a call touches its own guest's memory alone.
- *    During every other call but kalyubos_destroy the guest's CPUs and DMA may run. Each kalyubos_read is such a call,
- *    and so is each kalyubos_write at another offset; Linux's interrupt handler makes one of either. It is proved that
- *    such a call on a board changes no byte of guest memory, and that none decides what it does or tells, but for the
- *    numbers of kalyubos_counters. That it doesn't read one all the same is tested (examples/embed/untouched.c).
+ *  - Seven calls touch a guest's memory: kalyubos_write at offset 0x050 (QueueNotify), kalyubos_input, kalyubos_go_on,
+ *    kalyubos_completed, kalyubos_release, kalyubos_read_memory and kalyubos_write_memory. While one of them runs for a
+ *    guest, and from a KALYUBOS_MORE until its service is done, no CPU of that guest runs, and nobody else reads or
+ *    writes its memory in place (kalyubos_memory), also by DMA. Other guests' CPUs may run: a call touches its own
+ *    guest's memory alone. During every other call but kalyubos_destroy the guest's CPUs and DMA may run. Each
+ *    kalyubos_read is such a call, and so is each kalyubos_write at another offset; Linux's interrupt handler makes one
+ *    of either. It is proved that such a call on a board changes no byte of guest memory, and that none decides what it
+ *    does or tells, but for the numbers of kalyubos_counters. That it doesn't read one all the same is tested
+ *    (examples/embed/untouched.c).
  *  - Where the host serves a disk, it says of an operation that it is done only once it is, as kalyubos_operation has
- *    it, and ends each transfer before kalyubos_destroy.
+ *    it. It ends each transfer before kalyubos_drop, and before kalyubos_destroy.
  *
  * The library is built for x86-64-v2 (SSE4.2 and POPCNT) and Linux's calling convention.
  *
@@ -52,7 +53,7 @@
  *
  * kalyubos_create takes all memory that a board needs, and kalyubos_destroy gives it back. kalyubos_judge takes some,
  * and gives it back before it answers. No other call takes or gives any, so no guest can be refused memory for what
- * another did: what a guest sees is decided by its own slot's calls alone, the completions of its disk among them.
+ * another did: what a guest sees is decided by its own slot's calls alone, those for its disk among them.
  */
 #ifndef KALYUBOS_H
 #define KALYUBOS_H
@@ -104,7 +105,7 @@ enum {
     KALYUBOS_MORE = 18,             /* the slot's service pauses; see kalyubos_go_on */
     KALYUBOS_BUSY = 19,             /* the slot's service is paused, or this call waits for its disk; nothing changed */
     KALYUBOS_IO = 20,               /* done, and operations began; see kalyubos_in_flight */
-    KALYUBOS_IDLE = 21,             /* nothing of the slot is in flight with this tag; nothing changed */
+    KALYUBOS_IDLE = 21,             /* there is nothing to complete, drop, hold or release; nothing changed */
     KALYUBOS_NO_IMAGE = 22,         /* the image has no bytes; nothing changed */
     KALYUBOS_BAD_SNAPSHOT = 23,     /* the bytes are no snapshot; nothing changed */
     KALYUBOS_OTHER_SLOT = 24,       /* the snapshot is of a slot of another description; nothing changed */
@@ -304,8 +305,8 @@ uint32_t kalyubos_read(const struct kalyubos *board, uint8_t slot, uint8_t windo
  *
  * Of a disk that the host serves: IO says that the write is done, and that operations began with it, one at least; no
  * other answer says so. BUSY: the write, to Status (0x070) or QueueReady (0x044) of the block window, waits for all
- * that is in flight. The CPU that made it waits with it; make the same write again once all is completed. All else
- * goes on meanwhile.
+ * that is in flight. The CPU that made it waits with it; make the same write again once all is completed or dropped.
+ * All else goes on meanwhile.
  */
 KALYUBOS_LOOK_AT_IT
 uint32_t kalyubos_write(struct kalyubos *board, uint8_t slot, uint8_t window, uint16_t offset, uint8_t width,
@@ -329,8 +330,8 @@ uint32_t kalyubos_go_on(struct kalyubos *board, uint8_t slot, struct kalyubos_pe
  * Tells which operations of the slot's disk are in flight. Each has a tag, a number below the slot's `depth`: bit n of
  * `tags` is set where the operation of tag n is in flight. It is 0 for a slot whose disk is of the image.
  *
- * An operation keeps its tag until it is completed; then the tag is free for another. Several may begin with one call,
- * each with the lowest tag that is free then. The host remembers the tags that it has begun. After IO it asks
+ * An operation keeps its tag until it is completed or dropped; then the tag is free for another. Several may begin with
+ * one call, each with the lowest tag that is free then. The host remembers the tags that it has begun. After IO it asks
  * kalyubos_operation for each tag that is in flight and not begun, and begins it. It forgets a tag before it calls
  * kalyubos_completed, which may use it again.
  */
@@ -338,8 +339,8 @@ uint32_t kalyubos_in_flight(const struct kalyubos *board, uint8_t slot, uint64_t
 
 /*
  * Tells what the slot's disk is asked for with a tag: the operation, and its first runs, as many as find room in
- * `runs`. There is room for all in KALYUBOS_RUNS. It tells the same until kalyubos_completed of this tag, whatever else
- * begins and is completed. IDLE where nothing is in flight with this tag.
+ * `runs`. There is room for all in KALYUBOS_RUNS. It tells the same until kalyubos_completed of this tag, or
+ * kalyubos_drop, whatever else begins and is completed. IDLE where nothing is in flight with this tag.
  *
  * Each run lies inside the guest's memory, or of a ZEROES inside its disk, and none is empty; `start` and `len` lie
  * inside the disk. They were judged when the operation began, and nothing is read again from guest memory: a guest that
@@ -354,7 +355,7 @@ uint32_t kalyubos_in_flight(const struct kalyubos *board, uint8_t slot, uint64_t
  *  - FLUSH: all that was completed before it began is on the medium, as after fdatasync. It needs to wait for nothing
  *    that is in flight beside it.
  * A host that moves bytes between the file and the guest's memory in place keeps the duty above: no transfer touches
- * the memory while one of the six calls runs for this guest. examples/embed/file_disk.c has buffers of its own, so
+ * the memory while one of the seven calls runs for this guest. examples/embed/file_disk.c has buffers of its own, so
  * that the guest's calls go on during its transfers.
  */
 uint32_t kalyubos_operation(const struct kalyubos *board, uint8_t slot, uint8_t tag,
@@ -363,8 +364,9 @@ uint32_t kalyubos_operation(const struct kalyubos *board, uint8_t slot, uint8_t 
 /*
  * Says that the slot's operation of a tag is done, or that it failed: then the guest is told IOERR, and what it asked
  * to be read may stand in its memory in part. Operations are completed in any order. The guest's request is completed,
- * the tag is free, and the queue is looked at again, as after a notification: the answer is IO where operations began
- * with that, else DONE. `pending` is what then waits. IDLE where nothing is in flight with this tag.
+ * the tag is free, and the queue is looked at again, as after a notification, unless the slot is on hold: the answer is
+ * IO where operations began with that, else DONE. `pending` is what then waits. IDLE where nothing is in flight with
+ * this tag.
  *
  * In a window that asks for a reset (DEVICE_NEEDS_RESET) a completion only frees its tag: it writes nothing into the
  * guest's memory, and nothing begins. The answer is DONE.
@@ -374,11 +376,41 @@ uint32_t kalyubos_completed(struct kalyubos *board, uint8_t slot, uint8_t tag, b
                             struct kalyubos_pending *pending);
 
 /*
+ * Gives up all that is in flight of the slot, where the host can't complete it. All tags are free, none of the requests
+ * is completed, and nothing is written into the guest's memory. The block window asks for a reset, as after a fault,
+ * though kalyubos_last_fault stays; nothing begins until the driver has reset it. A write or a restore that was BUSY
+ * passes when it is made again. `pending` is what then waits. IDLE where nothing is in flight.
+ *
+ * By this call the host promises that no transfer touches the slot's memory any more, neither to write nor to read it:
+ * before it, the host has cancelled each, or waited for its end. What was to be written may stand on the disk in part.
+ * A write that reaches the disk later would overwrite what the guest writes behind its reset.
+ */
+KALYUBOS_LOOK_AT_IT
+uint32_t kalyubos_drop(struct kalyubos *board, uint8_t slot, struct kalyubos_pending *pending);
+
+/*
+ * Puts the slot on hold: no further chain of its disk's queue is taken, until kalyubos_release. All else goes on:
+ * the guest runs, its notifications are DONE, and what is in flight is completed as ever. So a host that saves the
+ * guest waits for that alone, and the requests behind it stay on offer. Neither a reset nor kalyubos_drop ends a hold.
+ * `pending` is what then waits. IDLE where the slot is on hold already, or its disk is of the image.
+ */
+KALYUBOS_LOOK_AT_IT
+uint32_t kalyubos_hold(struct kalyubos *board, uint8_t slot, struct kalyubos_pending *pending);
+
+/*
+ * Ends a hold: the queue is looked at, as after a notification, and the answer is IO where operations began with that,
+ * else DONE. `pending` is what then waits. IDLE where the slot isn't on hold.
+ */
+KALYUBOS_LOOK_AT_IT
+uint32_t kalyubos_release(struct kalyubos *board, uint8_t slot, struct kalyubos_pending *pending);
+
+/*
  * Lends the slot's memory in place, from address `addr` to the end of the region that holds it: `bytes` is where the
  * byte of `addr` lies, and `len` how many there are from it on. BAD_RANGE where no region holds `addr`. Both stay until
- * kalyubos_destroy. Read and write the bytes as you like, but during the six calls that touch them, or map them to the
- * slot's CPUs; what is written in place is the event of a memory write of that guest. Each region that isn't lent is
- * one block of the heap, of exactly as many bytes: a heap that begins such blocks at a page makes it fit to be mapped.
+ * kalyubos_destroy. Read and write the bytes as you like, but during the seven calls that touch them, or map them to
+ * the slot's CPUs; what is written in place is the event of a memory write of that guest. Each region that isn't lent
+ * is one block of the heap, of exactly as many bytes: a heap that begins such blocks at a page makes it fit to be
+ * mapped.
  */
 uint32_t kalyubos_memory(struct kalyubos *board, uint8_t slot, uint64_t addr, uint8_t **bytes, size_t *len);
 
@@ -391,7 +423,7 @@ uint32_t kalyubos_write_memory(struct kalyubos *board, uint8_t slot, uint64_t ad
 /*
  * Has the pages of the slot's memory marked in `bits` that its devices write to, for a host that moves the guest: KVM's
  * dirty log doesn't see what the library writes. Bit k % 8 of byte k / 8 stands for the page of 4096 bytes that begins
- * 4096 k bytes behind the base of the first region. The six calls that touch guest memory set bits, but for
+ * 4096 k bytes behind the base of the first region. The seven calls that touch guest memory set bits, but for
  * kalyubos_write_memory, and no call clears one: between two of them the host reads the bits, and clears what it has
  * seen. A page whose bit stays clear is as it was, but for what the host wrote itself: by kalyubos_write_memory, in
  * place, by an operation of a disk that it serves, or by DMA.
@@ -483,7 +515,8 @@ uint32_t kalyubos_saved_len(const struct kalyubos *board, uint8_t slot, size_t *
  *
  * A snapshot has neither memory nor disk, nor the output that waits. Before it the host
  *  - stops the guest's CPUs, and keeps a write that was answered NO_ROOM: its CPU makes it again behind the restore;
- *  - brings a paused service to its end by kalyubos_go_on, and completes all that is in flight by kalyubos_completed;
+ *  - brings a paused service to its end by kalyubos_go_on;
+ *  - puts the slot on hold by kalyubos_hold, and completes all that is in flight by kalyubos_completed;
  *  - takes the output.
  * Then, with no call for the slot between, it saves the devices, and copies the memory and the disk.
  */
@@ -495,6 +528,9 @@ uint32_t kalyubos_save(const struct kalyubos *board, uint8_t slot, uint8_t *into
  * The slot may be of any board, whoever has its disk. Where its memory begins and ends, `count`, `read_only` and
  * `identity` are as of the slot that was saved, or the answer is OTHER_SLOT. That its regions are the same is the
  * host's to see. The console's size is the snapshot's. `pending` is what then waits.
+ *
+ * A slot that was on hold when it was saved is on hold behind this call, and kalyubos_release begins there what stayed
+ * on offer. Only a slot whose disk the host serves takes such a snapshot; for another it is OTHER_SLOT.
  *
  * Each snapshot that kalyubos_save wrote of such a slot is taken. Of other bytes the first of BAD_SNAPSHOT, OTHER_SLOT
  * and BAD_STATE that holds is answered, or they are taken as they spell: there is no checksum. A snapshot that was

@@ -148,8 +148,8 @@ impl Board {
     /// share one. Nobody else reads or writes them while a call touches them, while [`memory`](Board::memory) lends
     /// them, or while a service of their guest is paused. The calls that touch a guest's memory are
     /// [`write`](Board::write) to QueueNotify (0x050), [`input`](Board::input), [`go_on`](Board::go_on),
-    /// [`complete`](Board::complete), [`read_memory`](Board::read_memory) and [`write_memory`](Board::write_memory).
-    /// During others the guest's CPUs may run.
+    /// [`complete`](Board::complete), [`release`](Board::release), [`read_memory`](Board::read_memory) and
+    /// [`write_memory`](Board::write_memory). During others the guest's CPUs may run.
     ///
     /// ```
     /// # use kalyubos::{Board, Config, CreateError, Slot};
@@ -230,7 +230,7 @@ impl Board {
     ///
     /// [`Error::Busy`]: a service of the slot is paused. Or the write, to Status or QueueReady of the block window,
     /// waits for all that is in flight of a disk that the host serves. The guest's CPU waits with it; make the same write
-    /// again once all is completed.
+    /// again once all is completed or [dropped](Board::drop_operations).
     ///
     /// ```
     /// # use kalyubos::{Board, Config, Error, Slot, Window};

@@ -9,8 +9,9 @@ use crate::tags::Tags;
 impl Board {
     /// Which operations of a slot's disk are in flight, by their tags: numbers below the slot's [`depth`](crate::Slot::depth).
     ///
-    /// An operation keeps its tag until it is completed; then the tag is free for another. A host remembers those that it
-    /// has begun, begins the others after each call that tells [`Pending::io`], and forgets a tag before it completes it:
+    /// An operation keeps its tag until it is completed or dropped; then the tag is free for another. A host remembers
+    /// those that it has begun, begins the others after each call that tells [`Pending::io`], and forgets a tag before it
+    /// completes it:
     ///
     /// ```
     /// use kalyubos::{Board, Config, Error, Kind, Operation, Outcome, Slot, Tags};
@@ -49,8 +50,9 @@ impl Board {
     }
 
     /// What a slot's disk is asked for with a tag, or nothing where nothing of it is in flight with this tag. It may be
-    /// asked for again and again, and stays the same until [`complete`](Board::complete). The operation borrows no board,
-    /// so its runs are read while guest memory is lent.
+    /// asked for again and again, and stays the same until [`complete`](Board::complete) or
+    /// [`drop_operations`](Board::drop_operations). The operation borrows no board, so its runs are read while guest memory
+    /// is lent.
     pub fn operation(&self, slot: u8, tag: u8) -> Result<Option<Operation>, Error> {
         let mut told = ffi::Operation::default();
         let mut runs = [Run::default(); ffi::RUNS];
@@ -72,7 +74,7 @@ impl Board {
     }
 
     /// Says what came of the slot's operation with a tag. The guest's request is completed, the tag is free, and the queue
-    /// is looked at again. Operations are completed in any order.
+    /// is looked at again, unless the slot is [on hold](Board::hold). Operations are completed in any order.
     ///
     /// Of [`Outcome::Done`] the bytes of an IN stand in the runs, those of an OUT are found by each later IN, and after
     /// a flush, or where the operation is `stable`, they are on the medium. In a window that asks for a reset a completion
@@ -88,6 +90,37 @@ impl Board {
                 &mut told,
             )
         };
+        Pending::told(number, told)
+    }
+
+    /// Gives up all that is in flight of a slot, where the host can't complete it. All tags are free, none of the requests is
+    /// completed, and nothing is written into the guest's memory. The block window asks for a reset, as after a fault; nothing
+    /// begins until the driver has reset it. A write or a restore that was [`Error::Busy`] passes when it is made again.
+    /// [`Error::Idle`]: nothing is in flight.
+    ///
+    /// Before this call the host has cancelled each transfer, or waited for its end: none touches the guest's memory any
+    /// more. One that reached the disk later would overwrite what the guest writes behind its reset.
+    pub fn drop_operations(&mut self, slot: u8) -> Result<Pending, Error> {
+        let mut told = ffi::Pending::default();
+        let number = unsafe { ffi::kalyubos_drop(self.handle_mut(), slot, &mut told) };
+        Pending::told(number, told)
+    }
+
+    /// Puts a slot on hold: no further chain of its disk's queue is taken until [`release`](Board::release). What is in flight is
+    /// completed as ever, and the guest runs on. So a guest is [saved](Board::save) with requests on offer. Neither a reset
+    /// nor [`drop_operations`](Board::drop_operations) ends a hold. [`Error::Idle`]: the slot is on hold already, or its
+    /// disk is of the image.
+    pub fn hold(&mut self, slot: u8) -> Result<Pending, Error> {
+        let mut told = ffi::Pending::default();
+        let number = unsafe { ffi::kalyubos_hold(self.handle_mut(), slot, &mut told) };
+        Pending::told(number, told)
+    }
+
+    /// Ends a [hold](Board::hold): the queue is looked at, as after a notification, and operations may begin with that
+    /// ([`Pending::io`]). [`Error::Idle`]: the slot isn't on hold.
+    pub fn release(&mut self, slot: u8) -> Result<Pending, Error> {
+        let mut told = ffi::Pending::default();
+        let number = unsafe { ffi::kalyubos_release(self.handle_mut(), slot, &mut told) };
         Pending::told(number, told)
     }
 }

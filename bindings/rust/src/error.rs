@@ -18,7 +18,9 @@ pub enum Error {
     /// A service of the slot is paused; see [`Board::go_on`](crate::Board::go_on). Or the write waits for the slot's
     /// disk, which the host serves; see [`Board::write`](crate::Board::write). So do a save and a restore.
     Busy,
-    /// Nothing of the slot is in flight with this tag; see [`Board::complete`](crate::Board::complete).
+    /// There is nothing to complete, drop, hold or release; see [`Board::complete`](crate::Board::complete),
+    /// [`Board::drop_operations`](crate::Board::drop_operations), [`Board::hold`](crate::Board::hold) and
+    /// [`Board::release`](crate::Board::release).
     Idle,
     /// The board has no image, or one of no bytes.
     NoImage,
@@ -38,7 +40,8 @@ pub enum RestoreError {
     Busy,
     /// The bytes are no snapshot.
     BadSnapshot,
-    /// The snapshot is of a slot with another memory, another disk or other devices.
+    /// The snapshot is of a slot with another memory, another disk or other devices; or it was [on
+    /// hold](crate::Board::hold), and this slot's disk is of the image.
     OtherSlot,
     /// The snapshot has a state that no driver can bring a window into.
     BadState,
@@ -174,7 +177,7 @@ impl fmt::Display for Error {
                 f.write_str("the console's next output does not fit behind what waits")
             }
             Error::Busy => f.write_str("a service of the slot is paused, or its disk is at work"),
-            Error::Idle => f.write_str("nothing of the slot is in flight with this tag"),
+            Error::Idle => f.write_str("there is nothing to complete, drop, hold or release"),
             Error::NoImage => f.write_str("the board has no image, or one of no bytes"),
             Error::ShortBuffer => f.write_str("the buffer is shorter than the snapshot"),
             Error::Other(number) => write!(f, "the library answered {number}"),

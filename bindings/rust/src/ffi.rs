@@ -135,6 +135,9 @@ unsafe extern "C" {
         failed: bool,
         pending: *mut Pending,
     ) -> u32;
+    pub fn kalyubos_drop(board: *mut Handle, slot: u8, pending: *mut Pending) -> u32;
+    pub fn kalyubos_hold(board: *mut Handle, slot: u8, pending: *mut Pending) -> u32;
+    pub fn kalyubos_release(board: *mut Handle, slot: u8, pending: *mut Pending) -> u32;
     pub fn kalyubos_go_on(board: *mut Handle, slot: u8, pending: *mut Pending) -> u32;
     pub fn kalyubos_memory(
         board: *mut Handle,

@@ -16,8 +16,9 @@ impl Board {
     /// A slot's snapshot: what its two devices keep, the pending input, and the description of the slot.
     ///
     /// It has neither memory nor disk, nor the output that waits. Before it the host stops the guest's CPUs, brings a paused
-    /// service to its end, completes what is in flight, and takes the output. Then, with no call for the slot between, it
-    /// saves the devices, and copies the memory and the disk. [`Error::Busy`] as [`saved_len`](Board::saved_len).
+    /// service to its end, puts the slot [on hold](Board::hold), completes what is in flight, and takes the output. Then,
+    /// with no call for the slot between, it saves the devices, and copies the memory and the disk. [`Error::Busy`] as
+    /// [`saved_len`](Board::saved_len).
     ///
     /// ```
     /// use kalyubos::{Board, Config, RestoreError, Slot};
@@ -34,7 +35,7 @@ impl Board {
     /// let pending = second.restore(0, &devices)?;
     /// assert_eq!(pending.interrupts.console, 0);
     ///
-    /// // A slot takes it whoever has its disk, where that has as many sectors.
+    /// // A slot takes it whoever has its disk, where that has as many sectors. One of a slot on hold is for hosted ones.
     /// let hosted = [Slot::hosted(0x8000_0000, 0x1_0000, 2)];
     /// let pending = Board::create(&Config::new(&hosted))?.restore(0, &devices)?;
     /// assert!(!pending.io);
@@ -67,7 +68,8 @@ impl Board {
     }
 
     /// Puts a slot's devices into the state of a [snapshot](Board::save) of a slot of the same description, of any
-    /// board, and tells what then waits. Memory and disk stay.
+    /// board, and tells what then waits. Memory and disk stay. A slot that was on hold when it was saved is so behind it:
+    /// [`release`](Board::release) begins there what stayed on offer.
     ///
     /// Before it the host puts back the guest's memory and its disk. Behind it the host moves both lines by what is told,
     /// makes a write again that was [`Error::NoRoom`], and starts the guest's CPUs.

@@ -209,6 +209,71 @@ fn a_completion_behind_a_fault_frees_its_tag() {
     assert_eq!(board.memory(0, MEMORY).unwrap(), before);
 }
 
+/// What the host gives up frees its tags, and changes nothing of the guest's memory. The reset that waited passes, and the
+/// next request is served.
+#[test]
+fn a_drop_gives_up_all_that_is_in_flight() {
+    let mut board = reads_on_offer(2, 3);
+    assert_eq!(board.drop_operations(0), Err(Error::Idle));
+    assert!(board.write(0, Window::Block, NOTIFY, 4, 0).unwrap().io);
+    let before = board.memory(0, MEMORY).unwrap().to_vec();
+    assert_eq!(
+        board.write(0, Window::Block, STATUS, 4, 0),
+        Err(Error::Busy)
+    );
+    let pending = board.drop_operations(0).unwrap();
+    assert!(!pending.io && pending.interrupts.block == 2);
+    assert!(board.in_flight(0).unwrap().is_empty());
+    assert_eq!(board.complete(0, 1, Outcome::Done), Err(Error::Idle));
+    assert_eq!(board.drop_operations(0), Err(Error::Idle));
+    assert_eq!(board.read(0, Window::Block, STATUS, 4), Ok(15 | 64));
+    assert_eq!(board.last_fault(0, Window::Block), Ok(None));
+    assert!(!board.write(0, Window::Block, NOTIFY, 4, 0).unwrap().io);
+    assert_eq!(board.memory(0, MEMORY).unwrap(), before);
+
+    let reset = board.write(0, Window::Block, STATUS, 4, 0).unwrap();
+    assert_eq!(reset.interrupts.block, 0);
+    offer_read(&mut board, 0);
+    assert!(board.write(0, Window::Block, NOTIFY, 4, 0).unwrap().io);
+    assert!(!board.complete(0, 0, Outcome::Done).unwrap().io);
+    assert_eq!(board.memory(0, MEMORY).unwrap()[0x302], 1); // the used idx
+}
+
+/// Of three requests two are in flight when the slot is held: the third begins with the release.
+#[test]
+fn a_held_slot_takes_no_request() {
+    let mut board = reads_on_offer(2, 3);
+    assert_eq!(board.release(0), Err(Error::Idle));
+    assert!(!board.hold(0).unwrap().io);
+    assert_eq!(board.hold(0), Err(Error::Idle));
+    assert!(!board.write(0, Window::Block, NOTIFY, 4, 0).unwrap().io);
+    assert!(board.in_flight(0).unwrap().is_empty());
+    assert!(board.release(0).unwrap().io);
+    assert_eq!(board.in_flight(0).unwrap().len(), 2);
+
+    assert!(!board.hold(0).unwrap().io);
+    assert!(!board.complete(0, 1, Outcome::Done).unwrap().io);
+    assert!(!board.complete(0, 0, Outcome::Done).unwrap().io);
+    assert_eq!(board.memory(0, MEMORY).unwrap()[0x302], 2); // the used idx
+    assert!(board.in_flight(0).unwrap().is_empty());
+    assert!(board.release(0).unwrap().io);
+    assert_eq!(board.in_flight(0).unwrap().first(), Some(0));
+    assert_eq!(board.release(0), Err(Error::Idle));
+}
+
+/// A reset and a drop leave a held slot held.
+#[test]
+fn a_hold_ends_with_its_release_alone() {
+    let mut board = reads_on_offer(1, 2);
+    assert!(board.write(0, Window::Block, NOTIFY, 4, 0).unwrap().io);
+    assert!(!board.hold(0).unwrap().io);
+    assert!(!board.drop_operations(0).unwrap().io);
+    assert!(!board.write(0, Window::Block, STATUS, 4, 0).unwrap().io);
+    offer_read(&mut board, 0);
+    assert!(!board.write(0, Window::Block, NOTIFY, 4, 0).unwrap().io);
+    assert!(board.release(0).unwrap().io);
+}
+
 #[test]
 fn a_failure_is_an_error_of_the_request() {
     let mut board = one_read_on_offer();
@@ -228,6 +293,9 @@ fn refusals_are_told() {
     let mut board = one_read_on_offer();
     assert_eq!(board.operation(1, 0), Err(Error::BadSlot));
     assert_eq!(board.complete(1, 0, Outcome::Done), Err(Error::BadSlot));
+    assert_eq!(board.drop_operations(1), Err(Error::BadSlot));
+    assert_eq!(board.hold(1), Err(Error::BadSlot));
+    assert_eq!(board.release(1), Err(Error::BadSlot));
     assert_eq!(board.image_len(), Err(Error::NoImage));
     assert_eq!(board.image().unwrap_err(), Error::NoImage);
     assert_eq!(board.in_flight(1), Err(Error::BadSlot));
@@ -257,6 +325,9 @@ fn a_board_has_both_kinds_of_disk() {
     assert!(!pending.io && pending.interrupts.block == 1);
     assert_eq!(board.operation(0, 0), Ok(None));
     assert_eq!(board.complete(0, 0, Outcome::Done), Err(Error::Idle));
+    assert_eq!(board.drop_operations(0), Err(Error::Idle));
+    assert_eq!(board.hold(0), Err(Error::Idle));
+    assert_eq!(board.release(0), Err(Error::Idle));
     assert_eq!(board.memory(0, MEMORY + 0x400).unwrap()[0], 7);
 
     let asked = board.operation(1, 0).unwrap().expect("an operation");
@@ -289,6 +360,9 @@ fn a_console_pauses_beside_a_disk_at_work() {
     assert!(pending.more && !pending.io && pending.output == 1);
     assert!(board.operation(0, 0).unwrap().is_some());
     assert_eq!(board.complete(0, 0, Outcome::Done), Err(Error::Busy));
+    assert_eq!(board.drop_operations(0), Err(Error::Busy));
+    assert_eq!(board.hold(0), Err(Error::Busy));
+    assert_eq!(board.release(0), Err(Error::Busy));
     let pending = board.go_on(0).unwrap();
     assert!(!pending.more && pending.output == 2);
     assert!(!board.complete(0, 0, Outcome::Done).unwrap().io);

@@ -65,8 +65,9 @@ fn a_guest_goes_on_where_it_was_saved() {
         .expect("a store");
     assert_eq!(first.input(0, b"ls").expect("input").0, 2);
 
-    // 61 bytes of description, 96 of a window and 8 more of one whose queue is ready, the count, and one byte of input
-    assert_eq!(first.saved_len(0), Ok(61 + 96 + 96 + 8 + 4 + 1));
+    // 61 bytes of description, whether the slot is held, 96 of a window and 8 more of one whose queue is ready, the count,
+    // and one byte of input
+    assert_eq!(first.saved_len(0), Ok(61 + 1 + 96 + 96 + 8 + 4 + 1));
     let devices = first.save(0).expect("a snapshot");
     let memory = first.memory(0, MEMORY).expect("a memory").to_vec();
     let disk = first.image().expect("an image").to_vec();
@@ -124,7 +125,9 @@ fn each_refusal_of_a_restore_is_told() {
         (0, vec![], RestoreError::BadSnapshot),
         (0, with(0, b'L'), RestoreError::BadSnapshot),
         (0, with(28, 3), RestoreError::OtherSlot), // three sectors
-        (0, with(69, 16), RestoreError::BadState), // a bit of Status that has no name
+        (0, with(61, 1), RestoreError::OtherSlot), // held
+        (0, with(61, 2), RestoreError::BadSnapshot),
+        (0, with(70, 16), RestoreError::BadState), // a bit of Status that has no name
     ];
     for (slot, bytes, why) in rows {
         assert_eq!(board.restore(slot, &bytes), Err(why));
@@ -196,4 +199,40 @@ fn a_disk_at_work_is_busy() {
     let mut over_image = over_image(&[7; 1024]);
     let pending = over_image.restore(0, &devices).expect("a restore");
     assert_eq!(pending.interrupts.block, 1);
+}
+
+/// A slot is held, and its guest saved with a request on offer. Where it goes on, the request begins with the release.
+#[test]
+fn a_held_guest_goes_on_elsewhere() {
+    let hosted = [Slot::hosted(MEMORY, LEN, 2)];
+    let mut first = Board::create(&Config::new(&hosted)).expect("a board");
+    for (offset, value) in BRING_UP {
+        let _ = first
+            .write(0, Window::Block, offset, 4, value)
+            .expect("a store");
+    }
+    let memory = first.memory(0, MEMORY).expect("a memory");
+    let request = [(0x400, 16, 1, 1), (0x600, 512, 3, 2), (0x410, 1, 2, 0)];
+    offer(memory, &request, 1);
+    memory[0x202] = 2;
+    assert!(first.write(0, Window::Block, NOTIFY, 4, 0).unwrap().io);
+    assert!(!first.hold(0).unwrap().io);
+    assert_eq!(first.save(0), Err(Error::Busy));
+    assert!(!first.complete(0, 0, Outcome::Done).unwrap().io);
+    let devices = first.save(0).expect("a snapshot");
+    assert_eq!(devices[61], 1);
+    assert_eq!(
+        over_image(&[7; 1024]).restore(0, &devices),
+        Err(RestoreError::OtherSlot)
+    );
+
+    let mut second = Board::create(&Config::new(&hosted)).expect("a board");
+    let memory = second.memory(0, MEMORY).expect("a memory");
+    memory.copy_from_slice(first.memory(0, MEMORY).expect("a memory"));
+    assert!(!second.restore(0, &devices).expect("a restore").io);
+    assert!(!second.write(0, Window::Block, NOTIFY, 4, 0).unwrap().io);
+    assert!(second.release(0).unwrap().io);
+    assert!(!second.complete(0, 0, Outcome::Done).unwrap().io);
+    assert_eq!(second.release(0), Err(Error::Idle));
+    assert_eq!(second.memory(0, MEMORY).expect("a memory")[0x302], 2); // the used idx
 }

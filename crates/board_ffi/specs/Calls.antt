@@ -12,7 +12,7 @@ use Rattle.board_ffi.specs.Handle.{Held}
 pub use Rattle.board.specs.declared.event.EventKind.{EventKind}
 pub use Rattle.board.specs.declared.reply.Reply.{Reply}
 pub use Rattle.board_ffi.specs.Disk.{IsAskedFor, IsAtRest}
-pub use Rattle.board_ffi.specs.Events.{Completes, CopiesImage, GoesOn, HasImage, HasMemory, HasNoRegion, IsBusy, IsOutside, KeepsPages, MovesOutput, PausesBehind, Restores, Takes, Writes}
+pub use Rattle.board_ffi.specs.Events.{Completes, CopiesImage, Drops, GoesOn, HasImage, HasMemory, HasNoRegion, Holds, IsBusy, IsOutside, KeepsPages, MovesOutput, PausesBehind, Releases, Restores, Takes, Writes}
 pub use Rattle.board_ffi.specs.Kept.{HasInFlight, HasSavedLen, HasWords, IsMissing, IsThere, IsUndisturbed, Saves}
 
 -- A call on a handle: where it holds no board it answers 1 and goes on holding none; a board does this, and

@@ -7,6 +7,8 @@ use Rattle.guest_memory.specs.Pages.{bits_of}
 use Rattle.block_device.specs.declared.operation.Verdict.{Verdict}
 use Rattle.block_device.specs.declared.operation.Verdict.TheVariants as verdict
 use Rattle.board.specs.declared.event.EventKind.{EventKind}
+use Rattle.board.specs.declared.event.HostEvent.{HostEvent}
+use Rattle.board.specs.declared.event.HostEvent.TheVariants as host
 use Rattle.board.specs.declared.reply.Reply.{Reply}
 use Rattle.board.specs.declared.reply.Reply.TheVariants as reply
 use Rattle.board.specs.declared.saved.RestoreFault.{RestoreFault}
@@ -21,7 +23,7 @@ use Rattle.session.specs.Course.{IsTaken}
 use Rattle.session.specs.declared.progress.Progress.{Progress}
 use Rattle.session.specs.declared.refusal.Refusal.{Refusal}
 use Rattle.session.specs.declared.response.Response.{Response}
-use Rattle.session.specs.Operations.{HasAsked, HasAskedBeside, HasFlight, operation_at}
+use Rattle.session.specs.Operations.{HasAsked, HasAskedBeside, HasFlight, HasNothing, operation_at}
 use Rattle.session.specs.Pausing.{IsCall, IsWhole, WentOn, taken_at}
 use Rattle.session.specs.Session.{IsIdle, SessionState, output_of}
 use Rattle.session.specs.Pacing.{Handle, paused_at}
@@ -64,10 +66,27 @@ verdict_of failed = if failed then verdict.Failed else verdict.Done
 -- What is in flight of a slot with this tag is completed. Where nothing is, nothing changes.
 pub record Completes (slot tag : ℕ) (failed : Bool) (code : ℕ) (old new : SessionState) : Type 0 where
   pub completed :
-      IsSome (operation_at slot tag old.slots) → MayAsk slot (EventKind.Complete tag (verdict_of failed))
-      (HasAskedBeside slot tag old new) code old new
+      IsSome (operation_at slot tag old.slots) →
+      MayAsk slot (EventKind.Host (host.Complete tag (verdict_of failed))) (HasAskedBeside slot tag old new) code old new
   pub code_is : operation_at slot tag old.slots ≡ None → code ≡ code_at slot (length old.slots) 21
   pub kept : operation_at slot tag old.slots ≡ None → new ≡ old
+
+-- The board takes a call for what the host says of a slot's disk: it is idle exactly where there is nothing to do.
+pub record Says (slot : ℕ) (told : HostEvent) (Asks : Type 0) (code : ℕ) (old new : SessionState) : Type 0 where
+  pub taken : MayAsk slot (EventKind.Host told) Asks code old new
+  pub idle : (code ≡ 21) ↔ (IsIdle slot old × HasNothing slot told old.slots)
+
+-- what is in flight is given up, with which nothing begins
+abbrev pub Drops : ℕ → ℕ → SessionState → SessionState → Type 0
+Drops slot code old new = Says slot host.Drop ⊥ code old new
+
+-- no further chain is taken
+abbrev pub Holds : ℕ → ℕ → SessionState → SessionState → Type 0
+Holds slot code old new = Says slot host.Hold ⊥ code old new
+
+-- and chains are taken again
+abbrev pub Releases : ℕ → ℕ → SessionState → SessionState → Type 0
+Releases slot code old new = Says slot host.Release (HasAsked slot old new) code old new
 
 -- The service of a slot goes on, and this is told of it.
 pub record GoesOn (slot code : ℕ) (old new : SessionState) : Type 0 where

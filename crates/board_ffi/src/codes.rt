@@ -3,6 +3,7 @@
 ghost use Rattle.std.specs.Prelude.{◌≡◌, ◌≢◌, ◌↔◌, IfOk, IsErr, IsErrOf, IsOk, IsTrue, Ok, OnErr};
 ghost use Rattle.board.specs.declared.saved.RestoreRefusal.{RestoreRefusal};
 ghost use Rattle.board.specs.declared.saved.SaveRefusal.{SaveRefusal};
+ghost use Rattle.session.specs.declared.refusal.Refusal.{Refusal};
 ghost use Rattle.board_ffi.specs.Codes.{board_code, code_by, fault_code, is_saving, memory_code, progress_code, refusal_code, restore_code, restore_fault_code, save_code, slot_fault_code, went_on_code};
 
 use session::{
@@ -112,7 +113,8 @@ pub(crate) fn told(answer: Result<u32, Refusal>, value: &mut u32) -> u32
 
 /// The number of a call whose service may pause, or ask the host for something.
 pub(crate) fn of_served(answer: Result<Progress, Refusal>) -> u32
-    ensures { result ≡ went_on_code answer }
+    ensures number { result ≡ went_on_code answer }
+    ensures idle { (result ≡ 21) ↔ IsErrOf answer Refusal.Idle }
 {
     match answer {
         Ok(progress) => of_progress(progress),

@@ -1,7 +1,7 @@
 //! A disk that the host serves: what the board asks of it, and what the host did.
 
 ghost use Rattle.std.specs.Prelude.{◌≡◌, ◌≢◌};
-ghost use Rattle.board_ffi.specs.Calls.{Calls, Completes, HasInFlight, IsAskedFor, IsAtRest, IsMissing, Tells};
+ghost use Rattle.board_ffi.specs.Calls.{Calls, Completes, Drops, HasInFlight, Holds, IsAskedFor, IsAtRest, IsMissing, Releases, Tells};
 
 use crate::answers::disk;
 use crate::handle::{Handle, session_of};
@@ -49,4 +49,31 @@ pub extern "C" fn kalyubos_completed(
     ensures pending { Tells slot board.new.session pending.old pending.new }
 {
     disk::completed(session_of!(board), slot, tag, failed, pending)
+}
+
+/// Gives up all that is in flight of a guest, and tells what then waits.
+#[unsafe(no_mangle)]
+pub extern "C" fn kalyubos_drop(board: &mut Handle, slot: u8, pending: &mut Pending) -> u32
+    ensures step { Calls board.old.session board.new.session result (Drops slot result) }
+    ensures pending { Tells slot board.new.session pending.old pending.new }
+{
+    disk::dropped(session_of!(board), slot, pending)
+}
+
+/// Takes no further chain of a guest's disk, and tells what then waits.
+#[unsafe(no_mangle)]
+pub extern "C" fn kalyubos_hold(board: &mut Handle, slot: u8, pending: &mut Pending) -> u32
+    ensures step { Calls board.old.session board.new.session result (Holds slot result) }
+    ensures pending { Tells slot board.new.session pending.old pending.new }
+{
+    disk::hold(session_of!(board), slot, pending)
+}
+
+/// Takes chains of a guest's disk again, and tells what then waits.
+#[unsafe(no_mangle)]
+pub extern "C" fn kalyubos_release(board: &mut Handle, slot: u8, pending: &mut Pending) -> u32
+    ensures step { Calls board.old.session board.new.session result (Releases slot result) }
+    ensures pending { Tells slot board.new.session pending.old pending.new }
+{
+    disk::release(session_of!(board), slot, pending)
 }

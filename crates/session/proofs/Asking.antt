@@ -157,7 +157,7 @@ pausing_asks {A} old new slot what response call is asks =
     (pausing_keeps taken_of old new (record { slot = slot; what = what }) (slice_get old.paused slot)
     (subst (λ (r : Response A). IsCall old (Handle (record { slot = slot; what = what })) r new) is call)) asks
 
--- ---- what a write or a completion is answered
+-- ---- what a write and what the host says are answered
 
 pub asks_where : {A : Type 0} (response : Response A) (r : Result Progress Refusal) (asks : Bool) (P : Type 0)
     → IfOk r (λ came. (came ≡ progress.Asks) ↔ (IsTrue asks × (response ≢ More)))
@@ -165,6 +165,13 @@ pub asks_where : {A : Type 0} (response : Response A) (r : Result Progress Refus
 asks_where response (Ok came) asks P says same never =
     (λ is. same.0 ((says.0 is).0), λ p. says.1 (same.1 p, λ more. never more p))
 asks_where response (Err why) asks P says same never = tt
+
+-- nothing began
+pub asks_never : {A : Type 0} (response : Response A) (r : Result Progress Refusal)
+    → IfOk r (λ came. (came ≡ progress.Asks) ↔ (IsTrue false × (response ≢ More)))
+    → IfOk r (λ came. came ≢ progress.Asks)
+asks_never response (Ok came) says = λ is. absurd (cc ((says.0 is).0))
+asks_never response (Err why) says = tt
 
 -- the tags that a call found in flight, and left so, say whether something began
 pub asked_where : (before after old new : Option ℕ) (asks : Bool) → before ≡ old → after ≡ new

@@ -9,7 +9,9 @@ use Rattle.guest_memory.specs.Memory.{Inside}
 use Rattle.block_device.specs.declared.operation.Verdict.{Verdict}
 use Rattle.board.specs.declared.event.Event.{Event}
 use Rattle.board.specs.declared.event.EventKind.{EventKind}
-use Rattle.board.specs.declared.event.EventKind.TheVariants.{Read, Write, MemRead, MemWrite, Input, Resize, Restore, Complete}
+use Rattle.board.specs.declared.event.EventKind.TheVariants.{Read, Write, MemRead, MemWrite, Input, Resize, Restore, Host}
+use Rattle.board.specs.declared.event.HostEvent.{HostEvent}
+use Rattle.board.specs.declared.event.HostEvent.TheVariants.{Complete, Drop, Hold, Release}
 use Rattle.board.specs.declared.pause.Pause.{Pause}
 use Rattle.board.specs.declared.pause.Turn.{Turn}
 use Rattle.board.specs.declared.pause.Turn.TheVariants as turn
@@ -18,9 +20,9 @@ use Rattle.board.specs.declared.reply.Reply.TheVariants as reply
 use Rattle.board.specs.declared.reply.Record.{Record}
 use Rattle.block_device.specs.Flights.{InFlight, is_any}
 use Rattle.board.specs.Backing.{HostDisk, tags_in}
-use Rattle.board.specs.Hosting.{CompletesOrGives, CompletionGives, OwnGives, Told, has_part, must_wait, told_in, waits_now}
+use Rattle.board.specs.Hosting.{CompletionGives, DropGives, HoldGives, HostGives, HostOrGives, OwnGives, ReleaseGives, has_part, must_wait, told_in, waits_now}
 use Rattle.board.specs.Image.{Health}
-use Rattle.board.specs.Outcome.{Outcome}
+use Rattle.board.specs.Outcome.{Outcome, replies}
 use Rattle.board.specs.Pausing.{Begins, asked}
 use Rattle.board.specs.Slot.{BoardSlot, SlotState, state_of}
 use Rattle.board.specs.Within.{MayPutOut}
@@ -35,7 +37,7 @@ use Rattle.session.specs.declared.response.Response.{Response}
 use Rattle.session.specs.declared.response.Response.TheVariants.{Answered, More, Busy, Idle}
 use Rattle.session.specs.declared.typed.Typed.{Typed}
 use Rattle.session.specs.Answering.{Means, RefusalMeans, served_response, typed_by, typed_response}
-use Rattle.session.specs.Operations.{HasFree, HoldsUp}
+use Rattle.session.specs.Operations.{HasNothing, HoldsUp, IsSpare}
 use Rattle.session.specs.Pacing.{Handle, response_to}
 use Rattle.session.specs.Pausing.{ComesTo, IsBegun, IsEventCall, IsWhole}
 use Rattle.session.specs.Session.{HasNoRead, IsIdle, IsOutside, IsStep, SessionState, world_of}
@@ -56,26 +58,26 @@ busy_by : {A : Type 0} (state : SlotState) (what : EventKind A) (old new : Healt
     → MayGive state what old new outcome → outcome.reply ≡ reply.Busy → waits_now what state.host ≡ true
 busy_by state what old new outcome h is = (waited state.host state what old new outcome h is).0.waits
 
--- a completion waits for nothing
-completion_free : {A : Type 0} (told : Told) (what : EventKind A) → told_in what ≡ Some told
+-- what the host says waits for nothing
+said_free : {A : Type 0} (found : HostEvent) (what : EventKind A) → told_in what ≡ Some found
     → must_wait what ≡ true → ⊥
-completion_free told (Read window offset width) is waits = cc
-completion_free told (Write window offset width value) is waits = cc
-completion_free told (MemRead addr len) is waits = cc
-completion_free told (MemWrite addr bytes) is waits = cc
-completion_free told (Input bytes) is waits = cc
-completion_free told (Resize cols rows) is waits = cc
-completion_free told (Restore bytes) is waits = cc
-completion_free told (Complete tag verdict) is waits = cc
+said_free found (Read window offset width) is waits = cc
+said_free found (Write window offset width value) is waits = cc
+said_free found (MemRead addr len) is waits = cc
+said_free found (MemWrite addr bytes) is waits = cc
+said_free found (Input bytes) is waits = cc
+said_free found (Resize cols rows) is waits = cc
+said_free found (Restore bytes) is waits = cc
+said_free found (Host said) is waits = cc
 
 waits_gives : {A : Type 0} (Beside : Outcome A → Type 0) (state : SlotState) (what : EventKind A)
-    (outcome : Outcome A) (told : Option Told) → told_in what ≡ told → waits_now what state.host ≡ true
-    → CompletesOrGives Beside told state what outcome → outcome.reply ≡ reply.Busy
+    (outcome : Outcome A) (said : Option HostEvent) → told_in what ≡ said → waits_now what state.host ≡ true
+    → HostOrGives Beside said state what outcome → outcome.reply ≡ reply.Busy
 waits_gives {A} Beside state what outcome None own holds h =
     ap (λ (o : Outcome A). o.reply)
     (subst (λ (waits : Bool). OwnGives Beside waits state what outcome) holds h)
-waits_gives Beside state what outcome (Some told) is holds h =
-    absurd (completion_free told what is (both_true (is_any (tags_in state.host)) (must_wait what) holds).1)
+waits_gives Beside state what outcome (Some said) is holds h =
+    absurd (said_free said what is (both_true (is_any (tags_in state.host)) (must_wait what) holds).1)
 
 waits_by : {A : Type 0} (host : Option HostDisk) (state : SlotState) (what : EventKind A) (old new : Health)
     (outcome : Outcome A) → state.host ≡ host → waits_now what state.host ≡ true
@@ -93,33 +95,76 @@ held_part {A} None state what is holds =
     let none : waits_now {A = A} what None ≡ true = ap (waits_now what) (sym is) ∙ holds in absurd (cc (none))
 held_part {A} (Some disk) state what is holds = rw holds (by_told (told_in what))
   where
-    by_told : (told : Option Told) → (is_some told || true) ≡ true
+    by_told : (said : Option HostEvent) → (is_some said || true) ≡ true
     by_told None = refl
-    by_told (Some told) = refl
+    by_told (Some said) = refl
 
 held_asks : {A : Type 0} (state : SlotState) (what : EventKind A) → waits_now what state.host ≡ true
     → asked what state ≡ None
 held_asks state what holds = rw (held_part state.host state what refl holds) refl
 
--- what a completion finds
-rests_at : {A : Type 0} (state : SlotState) (told : Told) (outcome : Outcome A) (flight : Option InFlight)
-    → CompletionGives flight told state outcome → (outcome.reply ≡ reply.Idle) ↔ (flight ≡ None)
-rests_at {A} state told outcome None h = (λ is. refl, λ is. ap (λ (o : Outcome A). o.reply) h)
-rests_at {A} state told outcome (Some here) h =
-    let done : outcome.reply ≡ reply.Done = ap (λ (o : Outcome A). o.reply) h.1 in
-    (λ is. absurd (cc (done, is)), λ none. absurd (cc (none)))
+-- where there is nothing to do for what the host says
+module _ {A : Type 0} (state : SlotState) (outcome : Outcome A) where
+  abbrev Rests : Type 0
+  Rests = outcome.reply ≡ reply.Idle
 
-rests_by : {A : Type 0} (host : Option HostDisk) (state : SlotState) (tag : ℕ) (verdict : Verdict)
-    (old new : Health) (outcome : Outcome A) → state.host ≡ host
-    → MayGiveBy host state (Complete tag verdict) old new outcome
-    → (outcome.reply ≡ reply.Idle) ↔ (get_or (tags_in state.host) tag None ≡ None)
-rests_by {A} None state tag verdict old new outcome is (inl served) = (
-  λ idle. ap (λ (host : Option HostDisk). get_or (tags_in host) tag None) is,
-  λ none. ap (λ (o : Outcome A). o.reply) served.alike.alike,
-)
-rests_by None state tag verdict old new outcome is (inr never) = absurd never
-rests_by (Some disk) state tag verdict old new outcome is h =
-    rests_at state (record { tag = tag; verdict = verdict }) outcome (get_or (tags_in state.host) tag None) h.gives
+  idles : outcome ≡ replies state reply.Idle → {P : Type 0} → P → Rests ↔ P
+  idles h p = (λ is. p, λ q. ap (λ (o : Outcome A). o.reply) h)
+
+  is_done : outcome.reply ≡ reply.Done → {P : Type 0} → (P → ⊥) → Rests ↔ P
+  is_done done never = (λ is. absurd (cc (done, is)), λ p. absurd (never p))
+
+  completion_rests : (tag : ℕ) (verdict : Verdict) (flight : Option InFlight)
+      → CompletionGives flight tag verdict state outcome → Rests ↔ (flight ≡ None)
+  completion_rests tag verdict None h = idles h refl
+  completion_rests tag verdict (Some here) h =
+      is_done (ap (λ (o : Outcome A). o.reply) h.1) (λ none. absurd (cc (none)))
+
+  drop_rests : (any : Bool) → DropGives any state outcome → Rests ↔ (any ≡ false)
+  drop_rests false h = idles h refl
+  drop_rests true h = is_done (ap (λ (o : Outcome A). o.reply) h) (λ none. absurd (cc (none)))
+
+  -- a hold and a release, of a disk that the host serves
+  module _ (disk : HostDisk) (here : state.host ≡ Some disk) where
+    no_image : state.host ≡ None → ⊥
+    no_image none = cc (here, none)
+
+    hold_rests : (on_hold : Bool) → HoldGives on_hold state outcome
+        → Rests ↔ ((state.host ≡ None) ⊎ (on_hold ≡ true))
+    hold_rests true h = idles h (inr refl)
+    hold_rests false h =
+        is_done (ap (λ (o : Outcome A). o.reply) h) (λ either. elim either [
+          | inl none ↦ no_image none
+          | inr on ↦ absurd (cc (on))
+        ])
+
+    release_rests : (on_hold : Bool) → ReleaseGives on_hold state outcome
+        → Rests ↔ ((state.host ≡ None) ⊎ (on_hold ≡ false))
+    release_rests false h = idles h (inr refl)
+    release_rests true h =
+        is_done (ap (λ (o : Outcome A). o.reply) h.1) (λ either. elim either [
+          | inl none ↦ no_image none
+          | inr off ↦ absurd (cc (off))
+        ])
+
+    said_rests : (said : HostEvent) → HostGives said state outcome → Rests ↔ IsSpare said state.host state.on_hold
+    said_rests (Complete tag verdict) h = completion_rests tag verdict (get_or (tags_in state.host) tag None) h
+    said_rests Drop h = drop_rests (is_any (tags_in state.host)) h
+    said_rests Hold h = hold_rests state.on_hold h
+    said_rests Release h = release_rests state.on_hold h
+
+  -- over an image there never is anything
+  over_image : (said : HostEvent) → state.host ≡ None → IsSpare said state.host state.on_hold
+  over_image (Complete tag verdict) is = ap (λ (host : Option HostDisk). get_or (tags_in host) tag None) is
+  over_image Drop is = ap (λ (host : Option HostDisk). is_any (tags_in host)) is
+  over_image Hold is = inl is
+  over_image Release is = inl is
+
+  rests_by : (host : Option HostDisk) (said : HostEvent) (old new : Health) → state.host ≡ host
+      → MayGiveBy host state (Host said) old new outcome → Rests ↔ IsSpare said state.host state.on_hold
+  rests_by None said old new is (inl served) = idles served.alike.alike (over_image said is)
+  rests_by None said old new is (inr never) = absurd never
+  rests_by (Some disk) said old new is h = said_rests disk is said h.gives
 
 -- ---- the refusal that a response says
 
@@ -155,7 +200,7 @@ is_err (Ok value) why is = absurd (cc (is))
 is_err (Err w) why is = ap (λ x. Err x) (same_Some w why is)
 
 -- an answer is this refusal where the response says it
-pub refused_when : {A T : Type 0} (wanted : T → Response A) (told : Response A) (r : Result T Refusal)
+refused_when : {A T : Type 0} (wanted : T → Response A) (told : Response A) (r : Result T Refusal)
     (why : Refusal) {P : Type 0} → ((value : T) → refusal_of (wanted value) ≡ None) → Means wanted r told
     → (refusal_of told ≡ Some why) ↔ P → IsErrOf r why ↔ P
 refused_when {A} {T} wanted told r why {P} pure means says =
@@ -436,61 +481,76 @@ only_paused old slot what free says = (
     free_holds (Some s) waits =
         let never = (both_true (is_any (tags_in s.host)) (must_wait what) waits).1 in cc (never, free)
 
--- ---- a completion
+-- ---- what the host says
 
-module _ {A : Type 0} (old new : SessionState) (slot tag : ℕ) (verdict : Verdict)
+module _ {A : Type 0} (old new : SessionState) (slot : ℕ) (said : HostEvent)
     (many : length old.paused ≡ length old.slots) where
-  abbrev completion : Event A
-  completion = record { slot = slot; what = Complete tag verdict }
+  abbrev event : Event A
+  event = record { slot = slot; what = Host said }
 
-  completed : (here : slice_get old.paused slot ≡ Some None) (answer : Reply A)
-      → IsStep old completion answer new
-      → (refusal_of (Answered answer) ≡ Some refusal.Idle) ↔ (IsIdle slot old × HasFree slot tag old.slots)
-  completed here answer h =
-      let slot_there = there old new completion many here in
-      let one = found old new completion many here in
-      let came = gave old new completion answer one slot_there h in
+  abbrev IsIdleSaid : Response A → Type 0
+  IsIdleSaid response =
+      (refusal_of response ≡ Some refusal.Idle) ↔ (IsIdle slot old × HasNothing slot said old.slots)
+
+  said_idle : (here : slice_get old.paused slot ≡ Some None) (answer : Reply A) → IsStep old event answer new
+      → IsIdleSaid (Answered answer)
+  said_idle here answer h =
+      let slot_there = there old new event many here in
+      let one = found old new event many here in
+      let came = gave old new event answer one slot_there h in
       let says = says_idle answer in
-      let rests = rests_by one.host (state_of old.image one) tag verdict _ came.after came.outcome refl came.given in (
-        λ is. (idle old new completion many here, rw slot_there (rests.0 (came.said ∙ says.0 is))),
+      let rests = rests_by (state_of old.image one) came.outcome one.host said _ came.after refl came.given in (
+        λ is. (idle old new event many here, rw slot_there (rests.0 (came.said ∙ says.0 is))),
         λ rest. says.1 (sym came.said ∙ rests.1 (rw slot_there at (rest.1))),
       )
 
   idle_exact_at : (response : Response A) (o : Option (Option Pause)) → slice_get old.paused slot ≡ o
-      → ComesTo (Handle completion) o old response new → IsWhole old completion response new
-      → (refusal_of response ≡ Some refusal.Idle) ↔ (IsIdle slot old × HasFree slot tag old.slots)
+      → ComesTo (Handle event) o old response new → IsWhole old event response new → IsIdleSaid response
   idle_exact_at response None is comes whole =
       let past : length old.slots ≤ slot = grind (arith, many, slice_get_cases old.paused slot) in
       rw (comes.0) (
-        λ told. absurd (cc (told)),
+        λ is. absurd (cc (is)),
         λ rest. absurd (past_rests (slice_get old.slots slot) refl past (rest.1)),
       )
     where
       past_rests : (o : Option BoardSlot) → slice_get old.slots slot ≡ o → length old.slots ≤ slot
-          → IsSomeAnd o (λ s. get_or (tags_in s.host) tag None ≡ None) → ⊥
+          → IsSomeAnd o (λ s. IsSpare said s.host s.on_hold) → ⊥
       past_rests None is far rests = rests
       past_rests (Some s) is far rests =
           let fits = slice_get_within old.slots slot s is in omega (arith, fits, far)
   idle_exact_at response (Some (Some pause)) is comes whole =
       rw (comes.0) (λ told. absurd (cc (told)), λ rest. absurd (paused_not old slot pause is (rest.0)))
-  idle_exact_at (Answered answer) (Some None) is comes whole = completed is answer whole
+  idle_exact_at (Answered answer) (Some None) is comes whole = said_idle is answer whole
   idle_exact_at More (Some None) is comes whole = absurd (pauses_never comes.turn.taken.state _ _
       comes.turn.taken.after comes.turn.output comes.turn.turn comes.turn.told comes.turn.taken.comes)
     where
       pauses_never : (state : SlotState) (before after : Health) (last : SlotState) (output : List ℕ)
           (t : Turn A) → More ≡ response_to t
-          → Begins (Complete tag verdict) old.budget state before after last output t → ⊥
-      pauses_never state before after last output (turn.Answered reply) told h = cc (told)
-      pauses_never state before after last output (turn.More pause) told h =
-          asks_none (Complete tag verdict) old.budget state before after last output pause refl h
+          → Begins (Host said) old.budget state before after last output t → ⊥
+      pauses_never state before after last output (turn.Answered reply) more h = cc (more)
+      pauses_never state before after last output (turn.More pause) more h =
+          asks_none (Host said) old.budget state before after last output pause refl h
   idle_exact_at Busy (Some None) is comes whole = absurd (never_busy comes.turn.turn (sym comes.turn.told))
   idle_exact_at Idle (Some None) is comes whole = absurd (never_idle comes.turn.turn (sym comes.turn.told))
 
-pub idle_exact : {A : Type 0} (old new : SessionState) (slot tag : ℕ) (verdict : Verdict) (response : Response A)
-    → length old.paused ≡ length old.slots → IsEventCall old slot (Complete tag verdict) response new
-    → (refusal_of response ≡ Some refusal.Idle) ↔ (IsIdle slot old × HasFree slot tag old.slots)
-idle_exact old new slot tag verdict response many call =
-    idle_exact_at old new slot tag verdict many response (slice_get old.paused slot) refl call.turn call.whole
+-- what each refusal says that is answered to what the host says
+pub record HostRefuses {T : Type 0} (old : SessionState) (slot : ℕ) (said : HostEvent) (r : Result T Refusal)
+    : Type 0 where
+  pub bad_slot : IsErrOf r refusal.BadSlot ↔ (length old.slots ≤ slot)
+  pub busy : IsErrOf r refusal.Busy ↔ (¬ IsIdle slot old)
+  pub idle : IsErrOf r refusal.Idle ↔ (IsIdle slot old × HasNothing slot said old.slots)
+
+pub host_refuses : {A : Type 0} (old new : SessionState) (slot : ℕ) (said : HostEvent) (response : Response A)
+    (r : Result Progress Refusal) → Means served_response r response → length old.paused ≡ length old.slots
+    → IsEventCall old slot (Host said) response new → HostRefuses old slot said r
+host_refuses {A} old new slot said response r means many call =
+    let says = refuses old new slot (Host said) response served_response r (served_pure A) means many call in
+    record {
+      bad_slot = says.bad_slot;
+      busy = only_paused {A = A} old slot (Host said) refl says.busy;
+      idle = refused_when served_response response r refusal.Idle (served_pure A) means
+          (idle_exact_at old new slot said many response (slice_get old.paused slot) refl call.turn call.whole);
+    }
 
 -- ---- a range that doesn't lie in the memory
 

@@ -11,7 +11,7 @@ use Rattle.board.specs.declared.reply.Reply.TheVariants as reply
 use Rattle.board.specs.declared.reply.Record.{Record}
 use Rattle.block_device.specs.Flights.{InFlight}
 use Rattle.board.specs.Backing.{HostDisk, tags_in}
-use Rattle.board.specs.Hosting.{must_wait, tag_in}
+use Rattle.board.specs.Hosting.{LeavesTag, must_wait}
 use Rattle.board.specs.Image.{Health}
 use Rattle.board.specs.Outcome.{Outcome, replies}
 use Rattle.board.specs.Slot.{BoardSlot, SlotState}
@@ -156,7 +156,7 @@ flight_of tag host = get_or (tags_in host) tag None
 -- an event that is answered keeps what is in flight of its slot
 step_flies : {A : Type 0} (old new : SessionState) (event : Event A) (told : Reply A) (tag : ℕ) (here : InFlight)
     (o : Option SlotState) (h : IsStep old event told new) → slice_get (world_of old).slots event.slot ≡ o
-    → tag_in event.what ≢ Some tag → option_and_then (λ (state : SlotState). flight_of tag state.host) o ≡ Some here
+    → LeavesTag tag event.what → option_and_then (λ (state : SlotState). flight_of tag state.host) o ≡ Some here
     → MatchOption o (MissingStep (world_of old) event.slot h.answers.written (world_of new))
     (λ state. SlotStep (world_of old) event.slot state event.what h.answers.written (world_of new))
     → option_and_then (λ (state : SlotState). flight_of tag state.host)
@@ -170,7 +170,7 @@ step_flies old new event told tag here (Some state) h there other flies step =
     step.given
 
 own_flies : {A : Type 0} (old new : SessionState) (event : Event A) (response : Response A) (tag : ℕ)
-    (here : InFlight) (o : Option (Option Pause)) → tag_in event.what ≢ Some tag
+    (here : InFlight) (o : Option (Option Pause)) → LeavesTag tag event.what
     → ComesTo (Handle event) o old response new → IsWhole old event response new
     → flight_at event.slot tag old.slots ≡ Some here → flight_at event.slot tag new.slots ≡ Some here
 own_flies old new event (Answered told) tag here o other comes whole flies =
@@ -192,9 +192,9 @@ own_flies old new event Idle tag here (Some None) other comes whole flies =
 own_flies old new event Idle tag here (Some (Some pause)) other comes whole flies =
     ap (λ (s : SessionState). flight_at event.slot tag s.slots) comes.1 ∙ flies
 
--- no completion of this tag of a slot
+-- no completion of this tag of a slot, and no drop of it
 abbrev IsOther : {A : Type 0} → ℕ → ℕ → Call A → Type 0
-IsOther slot tag call = IfEvent call (λ event. event.slot ≡ slot → tag_in event.what ≢ Some tag)
+IsOther slot tag call = IfEvent call (λ event. event.slot ≡ slot → LeavesTag tag event.what)
 
 called_flies : {A : Type 0} (old new : SessionState) (call : Call A) (response : Response A) (slot tag : ℕ)
     (here : InFlight) → slot_in call ≡ slot → IsOther slot tag call → IsCalled old call response new

@@ -22,7 +22,7 @@ use Rattle.block_device.proofs.Guests.{exact_same}
 use Rattle.console_device.specs.Device.{receive, exact_transmit}
 use Rattle.console_device.specs.Input.{fitting}
 use Rattle.board.specs.declared.event.EventKind.{EventKind}
-use Rattle.board.specs.declared.event.EventKind.TheVariants.{Read, Write, MemRead, MemWrite, Input, Resize, Restore, Complete}
+use Rattle.board.specs.declared.event.EventKind.TheVariants.{Read, Write, MemRead, MemWrite, Input, Resize, Restore, Host}
 use Rattle.board.specs.declared.pause.Pause.{Pause}
 use Rattle.board.specs.declared.pause.Service.{Service}
 use Rattle.board.specs.declared.pause.Service.TheVariants.{Block, Receive, Transmit}
@@ -424,7 +424,7 @@ gave {A} (Input bytes) state pause new out asks e =
     }) e
 gave (Resize cols rows) state pause new out asks e = absurd (cc)
 gave (Restore bytes) state pause new out asks e = absurd (cc)
-gave (Complete tag verdict) state pause new out asks e = absurd (cc)
+gave (Host said) state pause new out asks e = absurd (cc)
 
 -- and whoever has the guest's disk
 next_by : {A : Type 0} (host : Option HostDisk) (what : EventKind A) (state : SlotState) (outcome : Outcome A)

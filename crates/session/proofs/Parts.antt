@@ -1,9 +1,9 @@
 -- Events in which the host of a guest's disk has no part.
 use Rattle.std.proofs.Common.{◌≡◌, Bool, true, false, Option, Some, None, refl, sym, ◌∙◌, ap}
-use Rattle.std.specs.Prelude.{◌&&◌, ◌||◌, is_some, if◌then◌else◌}
+use Rattle.std.specs.Prelude.{◌&&◌, ◌||◌, if◌then◌else◌}
 use Rattle.std.proofs.lemmas.Option.{same_Some}
 use Rattle.board.specs.declared.event.EventKind.{EventKind}
-use Rattle.board.specs.declared.event.EventKind.TheVariants.{Read, Write, MemRead, MemWrite, Input, Resize, Restore, Complete}
+use Rattle.board.specs.declared.event.EventKind.TheVariants.{Read, Write, MemRead, MemWrite, Input, Resize, Restore, Host}
 use Rattle.board.specs.declared.pause.Pause.{Pause}
 use Rattle.board.specs.declared.pause.Service.{Service}
 use Rattle.board.specs.declared.pause.Service.TheVariants.{Block, Receive, Transmit}
@@ -87,7 +87,7 @@ block_rings (Input bytes) state pause asks is =
     absurd (cc (other))
 block_rings (Resize cols rows) state pause asks is = absurd (cc (asks))
 block_rings (Restore bytes) state pause asks is = absurd (cc (asks))
-block_rings (Complete tag verdict) state pause asks is = absurd (cc (asks))
+block_rings (Host said) state pause asks is = absurd (cc (asks))
 
 -- so the host has no disk that such a service serves
 pub serves_itself : {A : Type 0} (what : EventKind A) (state : SlotState) (pause : Pause)

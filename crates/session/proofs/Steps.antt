@@ -9,7 +9,7 @@ use Rattle.sector_cache.specs.Disk.{Disk}
 use Rattle.block_device.specs.declared.extent.Extent.{Extent}
 use Rattle.board.specs.declared.event.Event.{Event}
 use Rattle.board.specs.declared.event.EventKind.{EventKind}
-use Rattle.board.specs.declared.event.EventKind.TheVariants.{Read, Write, MemRead, MemWrite, Input, Resize, Restore, Complete}
+use Rattle.board.specs.declared.event.EventKind.TheVariants.{Read, Write, MemRead, MemWrite, Input, Resize, Restore, Host}
 use Rattle.board.specs.declared.pause.Pause.{Pause}
 use Rattle.board.specs.declared.pause.Turn.{Turn}
 use Rattle.board.specs.declared.pause.Turn.TheVariants as turn
@@ -112,7 +112,7 @@ lacks_puts state (MemWrite addr bytes) why h = h
 lacks_puts state (Input bytes) why h = h
 lacks_puts state (Resize cols rows) why h = h
 lacks_puts state (Restore bytes) why h = h
-lacks_puts state (Complete tag verdict) why h = h
+lacks_puts state (Host said) why h = h
 
 lacks_at : {A : Type 0} (o : Option BoardSlot) (image : List ℕ) (slot : BoardSlot) (what : EventKind A)
     → o ≡ Some slot → IsSomeAnd o (λ s. (bytes : List ℕ) → MayLackMemory (state_of bytes s) what)

@@ -5,7 +5,9 @@ use Rattle.std.specs.List.{slice_get}
 use Rattle.chain.specs.declared.budget.Budget.{Budget}
 use Rattle.board.specs.declared.event.Event.{Event}
 use Rattle.board.specs.declared.event.EventKind.{EventKind}
-use Rattle.board.specs.declared.event.EventKind.TheVariants.{Read, Write, MemRead, MemWrite, Input, Resize, Restore, Complete}
+use Rattle.board.specs.declared.event.EventKind.TheVariants.{Read, Write, MemRead, MemWrite, Input, Resize, Restore, Host}
+use Rattle.board.specs.declared.event.HostEvent.{HostEvent}
+use Rattle.board.specs.declared.event.HostEvent.TheVariants.{Complete, Drop, Hold, Release}
 use Rattle.board.specs.declared.pause.Turn.{Turn}
 use Rattle.board.specs.declared.pause.Turn.TheVariants as turn
 use Rattle.board.specs.declared.reply.Reply.{Reply}
@@ -16,9 +18,10 @@ use Rattle.board.specs.declared.reply.Reply.TheVariants as reply
 use Rattle.board.specs.Outcome.{Outcome}
 use Rattle.board.specs.Replies.{MayReply}
 use Rattle.board.specs.declared.pause.Pause.{Pause}
-use Rattle.block_device.specs.Flights.{InFlight}
+use Rattle.block_device.specs.declared.operation.Verdict.{Verdict}
+use Rattle.block_device.specs.Flights.{InFlight, is_any}
 use Rattle.board.specs.Backing.{HostDisk, tags_in}
-use Rattle.board.specs.Hosting.{CompletesOrGives, CompletionGives, LooksOrGives, OwnGives, Told, notifies_block, told_in, waits_now}
+use Rattle.board.specs.Hosting.{CompletionGives, DropGives, HoldGives, HostGives, HostOrGives, LooksOrGives, OwnGives, ReleaseGives, notifies_block, told_in, waits_now}
 use Rattle.board.specs.Pausing.{Begins, TurnsTo, asked, asked_over_image}
 use Rattle.board.specs.Slot.{SlotState}
 use Rattle.board.specs.World.{World, Answers, MayGive, MayGiveBy, MayGiveOverImage, MissingStep, SlotStep}
@@ -83,7 +86,7 @@ silent_over_image state (MemWrite addr bytes) old new outcome may (inr never) = 
 silent_over_image state (Input bytes) old new outcome may h = absurd may
 silent_over_image state (Resize cols rows) old new outcome may h = absurd may
 silent_over_image state (Restore bytes) old new outcome may h = absurd may
-silent_over_image state (Complete tag verdict) old new outcome may h = absurd may
+silent_over_image state (Host said) old new outcome may h = absurd may
 
 module _ {A : Type 0} (Beside : Outcome A → Type 0) (state : SlotState) (what : EventKind A)
     (outcome : Outcome A) (silent : Beside outcome → outcome.output ≡ []) where
@@ -95,15 +98,34 @@ module _ {A : Type 0} (Beside : Outcome A → Type 0) (state : SlotState) (what 
   silent_own true h = ap (λ (o : Outcome A). o.output) h
   silent_own false h = silent_looks (notifies_block what state) h
 
-  silent_completion : (flight : Option InFlight) (told : Told) → CompletionGives flight told state outcome
-      → outcome.output ≡ []
-  silent_completion None told h = ap (λ (o : Outcome A). o.output) h
-  silent_completion (Some here) told h = ap (λ (o : Outcome A). o.output) h.1
+  silent_completion : (flight : Option InFlight) (tag : ℕ) (verdict : Verdict)
+      → CompletionGives flight tag verdict state outcome → outcome.output ≡ []
+  silent_completion None tag verdict h = ap (λ (o : Outcome A). o.output) h
+  silent_completion (Some here) tag verdict h = ap (λ (o : Outcome A). o.output) h.1
 
-  silent_on_host : (told : Option Told) → CompletesOrGives Beside told state what outcome
+  silent_drop : (any : Bool) → DropGives any state outcome → outcome.output ≡ []
+  silent_drop false h = ap (λ (o : Outcome A). o.output) h
+  silent_drop true h = ap (λ (o : Outcome A). o.output) h
+
+  silent_hold : (on_hold : Bool) → HoldGives on_hold state outcome → outcome.output ≡ []
+  silent_hold false h = ap (λ (o : Outcome A). o.output) h
+  silent_hold true h = ap (λ (o : Outcome A). o.output) h
+
+  silent_release : (on_hold : Bool) → ReleaseGives on_hold state outcome → outcome.output ≡ []
+  silent_release false h = ap (λ (o : Outcome A). o.output) h
+  silent_release true h = ap (λ (o : Outcome A). o.output) h.1
+
+  silent_said : (said : HostEvent) → HostGives said state outcome → outcome.output ≡ []
+  silent_said (Complete tag verdict) h =
+      silent_completion (get_or (tags_in state.host) tag None) tag verdict h
+  silent_said Drop h = silent_drop (is_any (tags_in state.host)) h
+  silent_said Hold h = silent_hold state.on_hold h
+  silent_said Release h = silent_release state.on_hold h
+
+  silent_on_host : (said : Option HostEvent) → HostOrGives Beside said state what outcome
       → outcome.output ≡ []
   silent_on_host None h = silent_own (waits_now what state.host) h
-  silent_on_host (Some told) h = silent_completion (get_or (tags_in state.host) told.tag None) told h
+  silent_on_host (Some said) h = silent_said said h
 
 silent_by : {A : Type 0} (host : Option HostDisk) (state : SlotState) (what : EventKind A) (old new : Health)
     (outcome : Outcome A) → MayReply what BadRange → MayGiveBy host state what old new outcome
@@ -169,5 +191,5 @@ paused_suits (Resize cols rows) budget state before after new output (turn.More 
     asks_none (Resize cols rows) budget state before after new output pause refl h
 paused_suits (Restore bytes) budget state before after new output (turn.More pause) told h =
     asks_none (Restore bytes) budget state before after new output pause refl h
-paused_suits (Complete tag verdict) budget state before after new output (turn.More pause) told h =
-    asks_none (Complete tag verdict) budget state before after new output pause refl h
+paused_suits (Host said) budget state before after new output (turn.More pause) told h =
+    asks_none (Host said) budget state before after new output pause refl h

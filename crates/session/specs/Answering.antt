@@ -39,7 +39,7 @@ IsRefusing (response.Answered reply.Idle) = ⊤
 IsRefusing response.Busy = ⊤
 IsRefusing told = ⊥
 
--- or one that says that a write or a completion is done, or that its service is paused
+-- or one that says that a write or what the host says is done, or that its service is paused
 abbrev pub IsServing : {A : Type 0} → Response A → Type 0
 IsServing (response.Answered reply.Done) = ⊤
 IsServing response.More = ⊤

@@ -1,11 +1,13 @@
 -- What the host is asked to do for a slot, which events wait for it, and when an operation began.
-use Rattle.std.specs.Prelude.{◌≡◌, ◌≢◌, ℕ, ◌+◌, ◌^◌, List, Option, None, IsSomeAnd, IsTrue, get_or}
+use Rattle.std.specs.Prelude.{◌≡◌, ◌≢◌, ◌⊎◌, ℕ, ◌+◌, ◌^◌, Bool, true, false, List, Option, None, IsSomeAnd, IsTrue, get_or}
 use Rattle.std.specs.List.{slice_get}
 use Rattle.std.specs.Option.{option_and_then, option_map}
 use Rattle.block_device.specs.declared.operation.Operation.{Operation}
 use Rattle.block_device.specs.Flights.{InFlight, is_any, operation_in, taken_bits}
 use Rattle.board.specs.declared.event.EventKind.{EventKind}
-use Rattle.board.specs.Backing.{tags_in}
+use Rattle.board.specs.declared.event.HostEvent.{HostEvent}
+use Rattle.board.specs.declared.event.HostEvent.TheVariants.{Complete, Drop, Hold, Release}
+use Rattle.board.specs.Backing.{HostDisk, tags_in}
 use Rattle.board.specs.Hosting.{waits_now}
 use Rattle.board.specs.Slot.{BoardSlot}
 use Rattle.session.specs.Session.{SessionState}
@@ -41,6 +43,18 @@ HasFlight slot slots = IsSomeAnd (slice_get slots slot) (λ found. IsTrue (is_an
 abbrev pub HasFree : ℕ → ℕ → List BoardSlot → Type 0
 HasFree slot tag slots =
     IsSomeAnd (slice_get slots slot) (λ found. get_or (tags_in found.host) tag None ≡ None)
+
+-- Nothing is to be done for what the host says, by who has the disk and whether the slot is on hold: no operation
+-- has the tag, none is in flight, the slot is on hold already, or it isn't. Over an image nothing ever is.
+abbrev pub IsSpare : HostEvent → Option HostDisk → Bool → Type 0
+IsSpare (Complete tag verdict) host on_hold = get_or (tags_in host) tag None ≡ None
+IsSpare Drop host on_hold = is_any (tags_in host) ≡ false
+IsSpare Hold host on_hold = (host ≡ None) ⊎ (on_hold ≡ true)
+IsSpare Release host on_hold = (host ≡ None) ⊎ (on_hold ≡ false)
+
+-- the slot is there, and nothing is to be done for what the host says of it
+abbrev pub HasNothing : ℕ → HostEvent → List BoardSlot → Type 0
+HasNothing slot told slots = IsSomeAnd (slice_get slots slot) (λ found. IsSpare told found.host found.on_hold)
 
 -- the slot is there, and an event of it waits for what is in flight
 abbrev pub HoldsUp : {A : Type 0} → ℕ → EventKind A → List BoardSlot → Type 0

@@ -9,7 +9,7 @@ ghost use Rattle.board.specs.declared.event.EventKind.{EventKind};
 ghost use Rattle.board.specs.declared.reply.Reply.{Reply};
 ghost use Rattle.block_device.specs.Flights.{InFlight};
 ghost use Rattle.board.specs.Fault.{IsAccepted};
-ghost use Rattle.board.specs.Hosting.{must_wait, tag_in};
+ghost use Rattle.board.specs.Hosting.{LeavesTag, must_wait};
 ghost use Rattle.board.specs.Pausing.{HasLimit};
 ghost use Rattle.board.specs.Slot.{BoardSlot, SlotState, state_of};
 ghost use Rattle.board.specs.Untouched.{touches_memory};
@@ -128,15 +128,15 @@ pub fn a_write_in_place_is_an_event<A: Allocator>()
 {}
 
 /// What is in flight of a slot stays in flight, whatever is called, for its guest or for others, and whatever else is
-/// completed: only the completion of its tag ends it.
+/// completed: only the completion of its tag ends it, and a drop of its slot.
 pub fn a_flight_outlasts_own_events<A: Allocator>()
     ensures { (old new : SessionState) (call : Call A) (response : Response A) (slot tag : ℕ) (here : InFlight) →
-        IfEvent call (λ event. event.slot ≡ slot → tag_in event.what ≢ Some tag) → IsCalled old call response new →
+        IfEvent call (λ event. event.slot ≡ slot → LeavesTag tag event.what) → IsCalled old call response new →
         flight_at slot tag old.slots ≡ Some here → flight_at slot tag new.slots ≡ Some here }
 {}
 
-/// An event that waits for what is in flight changes nothing, and only two writes and a restore may wait; nor does a
-/// completion of a free tag.
+/// An event that waits for what is in flight changes nothing, and only two writes and a restore may wait; nor does what the
+/// host says where there is nothing to do.
 pub fn what_waits_changes_nothing<A: Allocator>()
     ensures busy { (old new : SessionState) (event : Event A) →
         IsStep old event Reply.Busy new → IsKept old new × (must_wait event.what ≡ true) }

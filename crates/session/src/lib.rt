@@ -27,8 +27,8 @@ mod typed;
 pub use block_device::{Operation, OperationKind, Verdict};
 pub use board::{
     Backing, Board, BoardFault, Budget, CacheFault, Counters, DeviceKind, Event, EventKind, Extent,
-    Fault, FaultNote, GuestMemory, MemoryFault, Outlet, Pause, RegionSpec, Regions, Reply,
-    RestoreFault, RestoreRefusal, SaveRefusal, Service, SlotFault, SlotSpec,
+    Fault, FaultNote, GuestMemory, HostEvent, MemoryFault, Outlet, Pause, RegionSpec, Regions,
+    Reply, RestoreFault, RestoreRefusal, SaveRefusal, Service, SlotFault, SlotSpec,
 };
 pub use chain::Segment;
 pub use fault::SessionFault;

@@ -23,7 +23,7 @@ pub enum Progress {
     Asks,
 }
 
-/// What a write or a completion is answered, by whether an operation began with it.
+/// What a write or what the host says of its disk is answered, by whether an operation began with it.
 #[inline(always)]
 pub(crate) fn served<A: Allocator>(response: Response<A>, asks: bool) -> Result<Progress, Refusal>
     requires { IsServing response }

@@ -24,8 +24,9 @@ pub enum Refusal {
     /// A service of the slot is paused, or the event waits for what is in flight of it. Nothing has changed.
     #[error("a service of the guest is paused, or its disk is at work")]
     Busy,
-    /// Nothing of the slot is in flight with this tag. Nothing has changed.
-    #[error("nothing that the host does for the guest is in flight with this tag")]
+    /// There was nothing to do for what the host says of the slot's disk: nothing is in flight, or not with this tag, the slot
+    /// is on hold already, or isn't, or the disk is of the image. Nothing has changed.
+    #[error("there was nothing to do for what the host says of the guest's disk")]
     Idle,
 }
 

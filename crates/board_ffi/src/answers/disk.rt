@@ -1,7 +1,7 @@
 //! What a guest's disk is asked for, and what came of it.
 
 ghost use Rattle.std.specs.Prelude.{◌≡◌, ◌≢◌};
-ghost use Rattle.board_ffi.specs.Calls.{Completes, HasInFlight, IsAskedFor, IsAtRest, IsMissing, TellsOf};
+ghost use Rattle.board_ffi.specs.Calls.{Completes, Drops, HasInFlight, Holds, IsAskedFor, IsAtRest, IsMissing, Releases, TellsOf};
 ghost use Rattle.board_ffi.specs.Codes.{code_at};
 ghost use Rattle.board_ffi.specs.Events.{verdict_of};
 
@@ -60,6 +60,39 @@ pub(crate) fn completed(
         return idle(slot, session.slots());
     }
     let Told { answer, waits } = session.completed(slot, tag, verdict(failed));
+    pending.tell_waits(waits);
+    of_served(answer)
+}
+
+/// Gives up all that is in flight of a slot.
+#[tactic(auto, using(crate::proofs::Telling::tells))]
+pub(crate) fn dropped(session: &mut Session, slot: u8, pending: &mut Pending) -> u32
+    ensures drops { Drops slot result session.old session.new }
+    ensures pending { TellsOf slot session.new pending.old pending.new }
+{
+    let Told { answer, waits } = session.dropped(slot);
+    pending.tell_waits(waits);
+    of_served(answer)
+}
+
+/// Takes no further chain of a slot's disk.
+#[tactic(auto, using(crate::proofs::Telling::tells))]
+pub(crate) fn hold(session: &mut Session, slot: u8, pending: &mut Pending) -> u32
+    ensures holds { Holds slot result session.old session.new }
+    ensures pending { TellsOf slot session.new pending.old pending.new }
+{
+    let Told { answer, waits } = session.hold(slot);
+    pending.tell_waits(waits);
+    of_served(answer)
+}
+
+/// Takes chains of a slot's disk again.
+#[tactic(auto, using(crate::proofs::Telling::tells))]
+pub(crate) fn release(session: &mut Session, slot: u8, pending: &mut Pending) -> u32
+    ensures releases { Releases slot result session.old session.new }
+    ensures pending { TellsOf slot session.new pending.old pending.new }
+{
+    let Told { answer, waits } = session.release(slot);
     pending.tell_waits(waits);
     of_served(answer)
 }

@@ -1,26 +1,27 @@
-//! What the host is asked to do with a guest's disk that it serves, and what came of it.
+//! What the host is asked to do with a guest's disk that it serves, and what it says of it.
 
-ghost use Rattle.std.specs.Prelude.{◌≡◌, ◌↔◌, ◌≤◌, None, get_or, length, IfOk, IfSome, IsErrOf, IsSome, IsSomeAnd};
+ghost use Rattle.std.specs.Prelude.{◌≡◌, ◌≢◌, ◌↔◌, ◌≤◌, None, get_or, length, IfOk, IfSome, IsErrOf, IsSome, IsSomeAnd};
 ghost use Rattle.std.specs.List.{slice_get};
 ghost use Rattle.block_device.specs.Flights.{runs_in};
 ghost use Rattle.block_device.specs.Operation.{LiesInside};
 ghost use Rattle.board.specs.declared.event.EventKind.{EventKind};
+ghost use Rattle.board.specs.declared.event.HostEvent.{HostEvent};
 ghost use Rattle.board.specs.Backing.{tags_in};
 ghost use Rattle.board.specs.Slot.{sectors_in};
 ghost use Rattle.session.specs.declared.progress.Progress.{Progress};
 ghost use Rattle.session.specs.declared.refusal.Refusal.{Refusal};
-ghost use Rattle.session.specs.Answering.{Means, served_response};
-ghost use Rattle.session.specs.Operations.{HasAskedBeside, HasFree, in_flight_at, operation_at};
-ghost use Rattle.session.specs.Pausing.{IsToldCall};
+ghost use Rattle.session.specs.Answering.{Means, SuitsCall, served_response};
+ghost use Rattle.session.specs.Operations.{HasAsked, HasAskedBeside, HasFree, HasNothing, in_flight_at, operation_at};
+ghost use Rattle.session.specs.Pausing.{IsEventCall, IsToldCall};
 ghost use Rattle.session.specs.Session.{IsIdle, waits_at};
 
 use crate::paced::TurnKind;
-use crate::progress::{Progress, has_asked_beside, served};
+use crate::progress::{Progress, has_asked, has_asked_beside, served};
 use crate::response::Turned;
 use crate::session::Session;
 use crate::told::Told;
 use block_device::{Operation, Verdict};
-use board::EventKind;
+use board::{EventKind, HostEvent};
 use chain::Segment;
 use std::alloc::Allocator;
 
@@ -29,7 +30,7 @@ impl<A: Allocator + Copy> Session<A> {
     /// operations may begin, this tag's among them. It is refused for a bad slot, while a service of the slot is paused,
     /// and where the tag is free.
     pub fn completed(&mut self, slot: u8, tag: u8, verdict: Verdict) -> Told<Progress>
-        ensures call { IsToldCall {A = A} self.old slot (EventKind.Complete tag verdict)
+        ensures call { IsToldCall {A = A} self.old slot (EventKind.Host (HostEvent.Complete tag verdict))
             (Means served_response result.answer) self.new }
         ensures asks { IfOk result.answer (λ progress.
             (progress ≡ Progress.Asks) ↔ HasAskedBeside slot tag self.old self.new) }
@@ -39,15 +40,88 @@ impl<A: Allocator + Copy> Session<A> {
             (IsIdle slot self.old × HasFree slot tag self.old.slots) }
         ensures waits { result.waits ≡ waits_at slot self.new }
     {
-        let what = EventKind::Complete { tag, verdict };
         let before = self.in_flight(slot);
-        let Turned { response, waits } = self.turn(slot, TurnKind::Begin(&what));
+        let told = HostEvent::Complete { tag, verdict };
+        let Turned { response, waits } = self.host_event(slot, told);
         let after = self.in_flight(slot);
         let asks = has_asked_beside(tag, before, after);
         Told {
             answer: served(response, asks),
             waits,
         }
+    }
+
+    /// Gives up what is in flight of a slot, as no transfer touches its memory any more: its tags are free, and the device asks
+    /// to be reset. It is refused for a bad slot, while a service of the slot is paused, and where nothing is in flight.
+    pub fn dropped(&mut self, slot: u8) -> Told<Progress>
+        ensures call { IsToldCall {A = A} self.old slot (EventKind.Host HostEvent.Drop)
+            (Means served_response result.answer) self.new }
+        ensures never_asks { IfOk result.answer (λ progress. progress ≢ Progress.Asks) }
+        ensures bad_slot { IsErrOf result.answer Refusal.BadSlot ↔ (length self.old.slots ≤ slot) }
+        ensures busy { IsErrOf result.answer Refusal.Busy ↔ ¬ IsIdle slot self.old }
+        ensures idle { IsErrOf result.answer Refusal.Idle ↔
+            (IsIdle slot self.old × HasNothing slot HostEvent.Drop self.old.slots) }
+        ensures waits { result.waits ≡ waits_at slot self.new }
+    {
+        let Turned { response, waits } = self.host_event(slot, HostEvent::Drop);
+        Told {
+            answer: served(response, false),
+            waits,
+        }
+    }
+
+    /// Has no further chain of a slot's disk taken until `release`. What is in flight is completed as ever. It is refused for a
+    /// bad slot, while a service of the slot is paused, and where the slot is on hold or its disk is of the image.
+    pub fn hold(&mut self, slot: u8) -> Told<Progress>
+        ensures call { IsToldCall {A = A} self.old slot (EventKind.Host HostEvent.Hold)
+            (Means served_response result.answer) self.new }
+        ensures never_asks { IfOk result.answer (λ progress. progress ≢ Progress.Asks) }
+        ensures bad_slot { IsErrOf result.answer Refusal.BadSlot ↔ (length self.old.slots ≤ slot) }
+        ensures busy { IsErrOf result.answer Refusal.Busy ↔ ¬ IsIdle slot self.old }
+        ensures idle { IsErrOf result.answer Refusal.Idle ↔
+            (IsIdle slot self.old × HasNothing slot HostEvent.Hold self.old.slots) }
+        ensures waits { result.waits ≡ waits_at slot self.new }
+    {
+        let Turned { response, waits } = self.host_event(slot, HostEvent::Hold);
+        Told {
+            answer: served(response, false),
+            waits,
+        }
+    }
+
+    /// Has chains of a slot's disk taken again: the device looks at its queue, and operations may begin. It is refused for a bad
+    /// slot, while a service of the slot is paused, and where the slot isn't on hold or its disk is of the image.
+    pub fn release(&mut self, slot: u8) -> Told<Progress>
+        ensures call { IsToldCall {A = A} self.old slot (EventKind.Host HostEvent.Release)
+            (Means served_response result.answer) self.new }
+        ensures asks { IfOk result.answer (λ progress.
+            (progress ≡ Progress.Asks) ↔ HasAsked slot self.old self.new) }
+        ensures bad_slot { IsErrOf result.answer Refusal.BadSlot ↔ (length self.old.slots ≤ slot) }
+        ensures busy { IsErrOf result.answer Refusal.Busy ↔ ¬ IsIdle slot self.old }
+        ensures idle { IsErrOf result.answer Refusal.Idle ↔
+            (IsIdle slot self.old × HasNothing slot HostEvent.Release self.old.slots) }
+        ensures waits { result.waits ≡ waits_at slot self.new }
+    {
+        let before = self.in_flight(slot);
+        let Turned { response, waits } = self.host_event(slot, HostEvent::Release);
+        let after = self.in_flight(slot);
+        let asks = has_asked(before, after);
+        Told {
+            answer: served(response, asks),
+            waits,
+        }
+    }
+
+    // The host says this of the disk that it serves a slot.
+    #[inline(always)]
+    fn host_event(&mut self, slot: u8, told: HostEvent) -> Turned<A>
+        ensures call { IsEventCall {A = A} self.old slot (EventKind.Host told) result.response self.new }
+        ensures suits { SuitsCall {A = A} (EventKind.Host told) result.response }
+        ensures as_many { length self.old.paused ≡ length self.old.slots }
+        ensures waits { result.waits ≡ waits_at slot self.new }
+    {
+        let what = EventKind::Host(told);
+        self.turn(slot, TurnKind::Begin(&what))
     }
 }
 
