@@ -262,7 +262,8 @@ fn words_for(format: Format, number: u64) -> &'static str {
     match (format, number) {
         (_, 2) => "the second line is the cache's, as \"cache 8\"",
         (Format::Plain(_), _) => "a line begins with slot, r, w, mr, mw, in or sz",
-        (Format::Extended, _) => "a line begins with slot, r, w, mr, mw, in, sz, st or io",
+        (Format::Extended, _) =>
+            "a line begins with slot, r, w, mr, mw, in, sz, st, io, drop, hold or release",
     }
 }
 
@@ -274,9 +275,10 @@ fn write_fields<W: fmt::Write>(f: &mut Formatter<W>, line: &[u8], format: Format
     };
     let count = fields_after(format, word).len();
     let (word, example) = example_of(format, word);
+    let fields = if count == 1 { "field" } else { "fields" };
     write!(
         f,
-        "{word} has {count} fields after it, each after one space, as \"{word} {example}\"; found {shown}"
+        "{word} has {count} {fields} after it, each after one space, as \"{word} {example}\"; found {shown}"
     )
 }
 

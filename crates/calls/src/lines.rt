@@ -20,6 +20,9 @@ pub fn example_of(format: Format, word: Word) -> (&'static str, &'static str)
         Word::Resize => ("sz", "0 50 19"),
         Word::Restore => ("st", "0 4b414c59"),
         Word::Complete => ("io", "0 0 done"),
+        Word::Drop => ("drop", "0"),
+        Word::Hold => ("hold", "0"),
+        Word::Release => ("release", "0"),
     }
 }
 

@@ -5,7 +5,7 @@ use Rattle.std.proofs.lemmas.Bool.{cases_Bool}
 use Rattle.std.proofs.lemmas.Option.{slice_get_cases, slice_get-map}
 use Rattle.std.specs.List.{slice_get}
 use Rattle.std.specs.Option.{option_map}
-use Rattle.std.specs.Prelude.{IsSomeAnd, MatchOption, if◌then◌else◌, is_none, is_some, slice_set}
+use Rattle.std.specs.Prelude.{IsSomeAnd, MatchOption, slice_set}
 use Rattle.guest_memory.specs.Memory.{Inside, Memory, is_inside, stored}
 use Rattle.guest_memory.proofs.Ranges.{is_inside-tells}
 use Rattle.mmio_window.specs.declared.device_kind.DeviceKind.{DeviceKind}

@@ -8,7 +8,7 @@ use Rattle.std.proofs.lemmas.Nat.Bits.{bit_at-suc, bit_at-zero, bit_at_above, bi
 use Rattle.std.proofs.lemmas.Nat.{and_le_l}
 use Rattle.block_device.specs.Flights.{InFlight, taken_bits}
 use Rattle.replay.specs.Asking.{TakesOne, begun_text}
-use Rattle.replay.specs.Telling.{begun_between, begun_by_tag, begun_from, staying, told_by_tag}
+use Rattle.replay.specs.Telling.{begun_between, begun_by_tag, begun_from, told_by_tag}
 use Rattle.trace.specs.Asked.{Begun, asked_field, begun_field, none_mark, other_begun, sign_before}
 use Rattle.trace.specs.Sends.{Sends}
 use Rattle.trace.proofs.Passing.{sends_more, sends_none, sends_same}

@@ -13,7 +13,7 @@ ghost use Rattle.replay.specs.Telling.{begun_from, staying, told_by_tag};
 ghost use Rattle.trace.specs.Asked.{asked_field};
 ghost use Rattle.trace.specs.Sends.{Sends, waiting};
 
-use board::{Board, Event, EventKind};
+use board::{Board, Event, EventKind, HostEvent};
 use sector_cache::Image;
 use std::alloc::Allocator;
 use std::io::Write;
@@ -35,7 +35,7 @@ pub(crate) fn staying<I: Image, A: Allocator>(
 {
     match event.what {
         _ if !hosted => 0,
-        EventKind::Complete { tag, .. } => without(taken(board, event.slot), tag),
+        EventKind::Host(HostEvent::Complete { tag, .. }) => without(taken(board, event.slot), tag),
         _ => taken(board, event.slot),
     }
 }

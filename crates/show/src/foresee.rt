@@ -8,7 +8,7 @@ use crate::trial::Trial;
 use crate::watched::Watched;
 use crate::weave::Text;
 use crate::wording::{Ahead, ChainSeen, Lookout};
-use board::EventKind;
+use board::{EventKind, HostEvent};
 use chain::Chain;
 use std::alloc::Global;
 
@@ -46,7 +46,8 @@ impl Steps {
     }
 }
 
-/// What a look should take, once this chain is back, up to the last free tag; and what it then meets.
+/// What a look should take, once this chain is back, up to the last free tag; and what it then meets. A queue on hold isn't
+/// looked at until its release.
 pub fn foresee(
     board: &mut Watched,
     served: SlotQueue,
@@ -55,11 +56,14 @@ pub fn foresee(
     chain: &mut Chain,
     steps: &mut Steps,
 ) -> Ahead {
+    if board.is_on_hold(served) && !matches!(what, EventKind::Host(HostEvent::Release)) {
+        return Ahead::Nothing;
+    }
     let Some(mut lookout) = lookout_behind(board, served, landed) else {
         return Ahead::Nothing;
     };
     let mut trial = Trial::new(steps.alloc, board, served);
-    if let (Some(seen), EventKind::Complete { verdict, .. }) = (landed, what) {
+    if let (Some(seen), EventKind::Host(HostEvent::Complete { verdict, .. })) = (landed, what) {
         trial.land(board, &seen, *verdict);
     }
     let end = walk(board, served.slot, &mut lookout, chain, steps, &mut trial);

@@ -8,11 +8,11 @@ use crate::served::{Service, needs_reset, opened_at, place_of, reply_of, say_end
 use crate::watched::Watched;
 use crate::weave::Text;
 use crate::wording::{Ahead, ChainSeen, Mistake, place_behind, say_asked, say_request, size_of};
-use board::EventKind;
+use board::{EventKind, HostEvent};
 use chain::{Budget, Chain};
 use std::alloc::Global;
 
-/// Handles a notify or a completion of a disk that the host serves, and says of each chain what came of it.
+/// Handles a notify, a completion or a release of a disk that the host serves, and says of each chain what came of it.
 pub fn look(
     board: &mut Watched,
     served: SlotQueue,
@@ -26,7 +26,7 @@ pub fn look(
     let first = opened_at(board, served);
     let place = place_of(board, served).unwrap_or(0);
     let landed = match what {
-        EventKind::Complete { tag, .. } => board.take_flight(served.slot, *tag),
+        EventKind::Host(HostEvent::Complete { tag, .. }) => board.take_flight(served.slot, *tag),
         _ => None,
     };
     let end = foresee(board, served, what, landed, chain, &mut steps);
@@ -55,7 +55,7 @@ fn say_landed(
     place: u16,
     text: &mut Text,
 ) -> u16 {
-    let (Some(seen), EventKind::Complete { tag, .. }) = (landed, what) else {
+    let (Some(seen), EventKind::Host(HostEvent::Complete { tag, .. })) = (landed, what) else {
         return place;
     };
     text.say("  the chain of tag ");

@@ -65,7 +65,7 @@ const at=[],ends=[],guest=[],place=[],kind=[],number=[],said=new Map(),board=[],
 const flight=[],asked=new Map(),flights=[];
 const tags=g=>{let m=asked.get(g);if(!m)asked.set(g,m=new Map());return m};
 let guests=0,summary="";
-function keyOf(line){const m=/^ {2}state (\w+) (status|features|generation|queue \d( descriptor \d+| used \d+| on offer)?)/.exec(line);return m?m[1]+" "+m[2]:null}
+function keyOf(line){const m=/^ {2}state (\w+) (status|features|generation|hold|queue \d( descriptor \d+| used \d+| on offer)?)/.exec(line);return m?m[1]+" "+m[2]:null}
 function read(){
   let p=0,e=-1,over=false;
   while(p<raw.length){
@@ -79,7 +79,10 @@ function read(){
         let k=m[3]==="memory"?2:m[4]==="reads"?0:m[4]==="types"||m[4]==="is"?4:1;
         const whole=raw.slice(p,q);
         if(/ -> (outside memory|no |busy|idle)/.test(whole))k=5;
-        else if(m[3]==="disk"){const tag=/: tag (\d+)/.exec(line)[1],from=tags(g).get(tag);if(tags(g).delete(tag))flights.push([g,from,e,tag])}
+        else if(m[3]==="disk"){
+          const over=m[4]==="tag"?[/: tag (\d+)/.exec(line)[1]]:m[4]==="drops"?[...tags(g).keys()]:[];
+          for(const tag of over){const from=tags(g).get(tag);if(tags(g).delete(tag))flights.push([g,from,e,tag])}
+        }
         kind.push(k);
       }else board.push(raw.slice(p,q));
     }else if(c===32&&e>=0&&!over){

@@ -4,7 +4,7 @@ use crate::guest::{SlotQueue, queue_of};
 use crate::watched::Watched;
 use crate::weave::Text;
 use crate::wording::{
-    Change, NEW_WINDOW, Table, WindowSeen, say_changes, say_on_offer, window_seen,
+    Change, NEW_WINDOW, Table, WindowSeen, say_changes, say_hold_change, say_on_offer, window_seen,
 };
 use board::DeviceKind;
 use std::alloc::Global;
@@ -14,6 +14,7 @@ use std::alloc::Global;
 pub struct Guest {
     pub block: WindowSeen,
     pub console: WindowSeen,
+    is_on_hold: bool,
     requests: Table,
     receive: Table,
     transmit: Table,
@@ -25,6 +26,7 @@ impl Guest {
         Guest {
             block: seen(board, slot, DeviceKind::Block),
             console: seen(board, slot, DeviceKind::Console),
+            is_on_hold: false,
             requests: Table::new(alloc),
             receive: Table::new(alloc),
             transmit: Table::new(alloc),
@@ -40,6 +42,9 @@ impl Guest {
         say_changes(text, DeviceKind::Block, &block, &self.block);
         say_changes(text, DeviceKind::Console, &console, &self.console);
         let at = SlotQueue::new(slot, DeviceKind::Block, 0);
+        let was_on_hold = self.is_on_hold;
+        self.is_on_hold = board.is_on_hold(at);
+        say_hold_change(text, was_on_hold, self.is_on_hold);
         let requests = say_queue(text, board, at, &mut self.requests, &block, &self.block);
         let at = SlotQueue::new(slot, DeviceKind::Console, 0);
         let receive = say_queue(text, board, at, &mut self.receive, &console, &self.console);

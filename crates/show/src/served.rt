@@ -126,6 +126,9 @@ fn plain_end(board: &Watched, served: SlotQueue) -> &'static str {
     if needs_reset(board, served) {
         return "a fault of the next chain";
     }
+    if board.is_on_hold(served) {
+        return "the queue is on hold";
+    }
     if board.is_full(served) {
         return "no tag is free";
     }

@@ -10,7 +10,7 @@ use crate::weave::Text;
 use crate::wording::{
     Mistake, SHOWN, read_mistake, say_event, say_interrupts, say_place, say_value, write_mistake,
 };
-use board::{Backing, DeviceKind, Event, EventKind, Reply, SlotSpec};
+use board::{Backing, DeviceKind, Event, EventKind, HostEvent, Reply, SlotSpec};
 use chain::{Chain, Fault};
 use guest_memory::RegionSpec;
 use mmio_window::Queue;
@@ -20,6 +20,9 @@ use trace::{Format, Trace, Version};
 
 /// The offset of QueueNotify (4.2.2).
 const QUEUE_NOTIFY: u16 = 0x050;
+
+/// How many tags a slot has at most.
+const MOST_TAGS: u8 = 64;
 
 /// How many mistakes are listed.
 const MOST_LISTED: u64 = 1000;
@@ -132,10 +135,13 @@ impl Watcher {
                 service.reply
             }
             None => {
-                say_lost(&mut self.board, event, tail);
+                say_left(&mut self.board, event, tail);
                 self.board.step(event, &mut self.output)
             }
         };
+        if matches!(&reply, Reply::Idle) {
+            head.say(idle_words(&self.board, event));
+        }
         self.say_answer(slot, &reply, words, head);
         if fault.is_some() {
             self.faults = self.faults.saturating_add(1);
@@ -169,7 +175,6 @@ impl Watcher {
             Reply::BadRange => head.say(" -> outside memory"),
             Reply::BadState => head.say(" -> no such snapshot"),
             Reply::Busy => head.say(" -> busy, until nothing is in flight"),
-            Reply::Idle => head.say(" -> idle, no chain has this tag"),
             Reply::NoMemory => head.say(" -> no memory"),
             Reply::BadSlot => head.say(" -> no such guest"),
             _ => {}
@@ -295,8 +300,36 @@ fn say_regions(text: &mut Text, regions: &[RegionSpec]) {
     }
 }
 
-// The queue that an event serves, where it may serve one. Where no tag of a disk is free, a completion alone serves its queue.
+// The queue that an event serves, where it serves one.
 fn served_of(board: &Watched, event: &Event) -> Option<SlotQueue> {
+    let at = named_by(board, event)?;
+    if is_ready(board, at) && serves(board, at, &event.what) {
+        Some(at)
+    } else {
+        None
+    }
+}
+
+// Whether an event that names a queue serves it. Where no tag of a disk is free, a completion alone does, and where the queue is
+// on hold a completion and a release.
+fn serves(board: &Watched, at: SlotQueue, what: &EventKind) -> bool {
+    match what {
+        EventKind::Host(HostEvent::Complete { tag, .. }) => board.is_taken(at.slot, *tag),
+        EventKind::Host(_) => board.is_on_hold(at) && !board.is_full(at),
+        _ => !board.is_on_hold(at) && !board.is_full(at),
+    }
+}
+
+// Whether a queue is ready, of a window that is live.
+fn is_ready(board: &Watched, at: SlotQueue) -> bool {
+    let Some(window) = board.window(at.slot, at.kind) else {
+        return false;
+    };
+    window.negotiation().live() && ring_of(board, at).is_some()
+}
+
+// The queue that an event names, where it may serve one.
+fn named_by(board: &Watched, event: &Event) -> Option<SlotQueue> {
     let slot = event.slot;
     let (kind, queue) = match &event.what {
         EventKind::Write {
@@ -306,32 +339,50 @@ fn served_of(board: &Watched, event: &Event) -> Option<SlotQueue> {
             value,
         } => (*window, queue_named(board, slot, *window, *value)?),
         EventKind::Input { .. } => (DeviceKind::Console, 0),
-        EventKind::Complete { .. } => (DeviceKind::Block, 0),
+        EventKind::Host(HostEvent::Complete { .. } | HostEvent::Release) => (DeviceKind::Block, 0),
         _ => return None,
     };
-    let window = board.window(slot, kind)?;
-    let registers = window.registers(queue)?;
-    let at = SlotQueue { slot, kind, queue };
-    let looks = match &event.what {
-        EventKind::Complete { tag, .. } => board.is_taken(slot, *tag),
-        _ => !board.is_full(at),
-    };
-    if looks && window.negotiation().live() && registers.ring.is_some() {
-        Some(at)
-    } else {
-        None
+    Some(SlotQueue { slot, kind, queue })
+}
+
+// Says what an event leaves undone that serves no queue: a chain that isn't given back, or a notify of a queue on hold.
+fn say_left(board: &mut Watched, event: &Event, text: &mut Text) {
+    match &event.what {
+        EventKind::Host(HostEvent::Complete { tag, .. }) => say_lost(board, event.slot, *tag, text),
+        EventKind::Host(HostEvent::Drop) => {
+            for tag in 0..MOST_TAGS {
+                say_lost(board, event.slot, tag, text);
+            }
+        }
+        EventKind::Write { .. } => {
+            if let Some(at) = named_by(board, event) {
+                if board.is_on_hold(at) && is_ready(board, at) {
+                    text.say("  no chain is taken: the queue is on hold\n");
+                }
+            }
+        }
+        _ => {}
     }
 }
 
-// Says that a chain in flight isn't given back which is completed on a queue that isn't served.
-fn say_lost(board: &mut Watched, event: &Event, text: &mut Text) {
-    let EventKind::Complete { tag, .. } = &event.what else {
-        return;
-    };
-    if board.take_flight(event.slot, *tag).is_some() {
+// Says that the chain in flight of a tag isn't given back, where there is one.
+fn say_lost(board: &mut Watched, slot: u8, tag: u8, text: &mut Text) {
+    if board.take_flight(slot, tag).is_some() {
         text.say("  the chain of tag ");
-        text.count(u64::from(*tag));
+        text.count(u64::from(tag));
         text.say(" isn't given back: the device asks to be reset\n");
+    }
+}
+
+// Why there was nothing to do of what the host says.
+fn idle_words(board: &Watched, event: &Event) -> &'static str {
+    let at = SlotQueue::new(event.slot, DeviceKind::Block, 0);
+    match &event.what {
+        EventKind::Host(HostEvent::Drop) => " -> idle, nothing is in flight",
+        EventKind::Host(HostEvent::Hold) if board.is_on_hold(at) => " -> idle, it is on hold",
+        EventKind::Host(HostEvent::Hold) => " -> idle, the host doesn't serve this disk",
+        EventKind::Host(HostEvent::Release) => " -> idle, it isn't on hold",
+        _ => " -> idle, no chain has this tag",
     }
 }
 

@@ -126,6 +126,11 @@ impl Watched {
         self.is_hosted(at) && self.free_tags(at.slot) == 0
     }
 
+    /// Whether the host has the queue of a disk that it serves on hold.
+    pub fn is_on_hold(&self, at: SlotQueue) -> bool {
+        self.is_hosted(at) && self.board.on_hold(at.slot) == Some(true)
+    }
+
     /// How many tags of a slot have no chain that was kept.
     pub fn free_tags(&self, slot: u8) -> usize {
         let mut free: usize = 0;

@@ -27,7 +27,8 @@ pub use notification::say_notification;
 pub use places::{next_place, place_behind, size_of, used_place};
 pub use request::{RequestSeen, say_asked, say_request};
 pub use state::{
-    NEW_WINDOW, QueueSeen, RingSeen, WindowSeen, say_changes, say_queue_head, window_seen,
+    NEW_WINDOW, QueueSeen, RingSeen, WindowSeen, say_changes, say_hold_change, say_queue_head,
+    window_seen,
 };
 pub use tables::{Change, Table, say_on_offer};
 pub use used::{Used, say_received, say_used, used_entry};

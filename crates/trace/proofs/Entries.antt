@@ -8,6 +8,8 @@ use Rattle.mmio_window.specs.declared.device_kind.DeviceKind.TheVariants.{Block,
 use Rattle.board.specs.declared.event.Event.{Event}
 use Rattle.board.specs.declared.event.EventKind.{EventKind}
 use Rattle.board.specs.declared.event.EventKind.TheVariants as what
+use Rattle.board.specs.declared.event.HostEvent.{HostEvent}
+use Rattle.board.specs.declared.event.HostEvent.TheVariants as host
 use Rattle.board.specs.declared.spec.SlotSpec.{SlotSpec}
 use Rattle.board.specs.declared.spec.Backing.{Backing}
 use Rattle.board.specs.declared.spec.Backing.TheVariants.{Image, Host}
@@ -19,14 +21,14 @@ use Rattle.guest_memory.specs.declared.spec.RegionSpec.{RegionSpec}
 use Rattle.trace.specs.declared.table.Field.{Field}
 use Rattle.trace.specs.declared.table.Field.TheVariants.{Identity}
 use Rattle.trace.specs.declared.word.Word.{Word}
-use Rattle.trace.specs.declared.word.Word.TheVariants.{Cache, Slot, Read, Write, MemRead, MemWrite, Input, Resize, Restore, Complete}
+use Rattle.trace.specs.declared.word.Word.TheVariants.{Cache, Slot, Read, Write, MemRead, MemWrite, Input, Resize, Restore, Complete, Drop, Hold, Release}
 use Rattle.trace.specs.Cuts.{fields_of}
 use Rattle.trace.specs.Faults.{AllSay, AreAsMany, MayStand, order, fault_of}
-use Rattle.trace.specs.Printable.{KindInRange, IsPrintableKind, IsPrintableMemory, SlotInRange}
+use Rattle.trace.specs.Printable.{HostInRange, KindInRange, IsPrintableKind, IsPrintableMemory, SlotInRange}
 use Rattle.trace.specs.Refusals.{IsFine, IsFineSlot}
 use Rattle.hexadecimal.specs.Spelling.{num, fixed, bytes}
 use Rattle.trace.specs.Spelling.{window, disk, mode, verdict, width_digit, region_text, regions_text}
-use Rattle.trace.specs.Text.{line, cache_fields, cache_line, disk_fields, memory_fields, slot_fields, slot_line, event_fields, event_line, what_fields, word_for}
+use Rattle.trace.specs.Text.{line, cache_fields, cache_line, disk_fields, memory_fields, slot_fields, slot_line, event_fields, event_line, host_fields, host_word, what_fields, word_for}
 use Rattle.trace.specs.Format.{unless_version_1}
 use Rattle.hexadecimal.specs.Fields.{IsBytesField, IsFixed}
 use Rattle.trace.specs.Words.{RegionInRange, Shape, Num, Disk as ByDisk, Offset, Window, Width, Value, Mode, Verdict as ByVerdict, Bytes, Identity as ByIdentity, DiskInRange, Says, behind_disk, disk_in, memory_in, shape_of, shapes, spelled, width_among, IsWidth, IsWordOf}
@@ -48,7 +50,9 @@ word_at n = cond (eqb n 99097) Cache
     (cond (eqb n 109114) MemRead
     (cond (eqb n 109119) MemWrite
     (cond (eqb n 105110) Input
-    (cond (eqb n 115116) Restore (cond (eqb n 105111) Complete Resize))))))))
+    (cond (eqb n 115116) Restore
+    (cond (eqb n 105111) Complete
+    (cond (eqb n 100114) Drop (cond (eqb n 104111) Hold (cond (eqb n 114101) Release Resize)))))))))))
 
 found : (w : Word) → word_at (key (spelled w)) ≡ w
 found Cache = refl
@@ -290,22 +294,43 @@ pub record EnteredEvent (format : Format) (l : List ℕ) : Type 0 where
   pub other : word ≢ Slot
   pub entry : Entered format l word
 
+host_late : (said : HostEvent) → MayStand 3 (host_word said)
+host_late (host.Complete tag came) = omega arith
+host_late said = omega arith
+
 may_be_late : {A : Type 0} (w : EventKind A) → MayStand 3 (word_for w)
-may_be_late (what.Read kind offset width) = omega arith
+may_be_late (what.Host said) = host_late said
 may_be_late w = omega arith
 
+host_no_slot : (said : HostEvent) → host_word said ≢ Slot
+host_no_slot (host.Complete tag came) e = absurd cc
+host_no_slot said e = absurd cc
+
 no_slot : {A : Type 0} (w : EventKind A) → word_for w ≢ Slot
-no_slot (what.Read kind offset width) e = absurd cc
+no_slot (what.Host said) e = host_no_slot said e
 no_slot w e = absurd cc
 
 -- the fields after its word
 abbrev event_rest : {A : Type 0} → ℕ → EventKind A → List (List ℕ)
 event_rest slot w = drop 1 (what_fields slot w)
 
+host_first : (slot : ℕ) (said : HostEvent)
+    → spelled (host_word said) ∷ drop 1 (host_fields slot said) ≡ host_fields slot said
+host_first slot (host.Complete tag came) = refl
+host_first slot said = refl
+
 word_first : {A : Type 0} (slot : ℕ) (w : EventKind A)
     → spelled (word_for w) ∷ event_rest slot w ≡ what_fields slot w
-word_first slot (what.Read kind offset width) = refl
+word_first slot (what.Host said) = host_first slot said
 word_first slot w = refl
+
+-- what a host says of its disk
+host_stands : (format : Format) (slot : ℕ) (said : HostEvent) → slot < 2 ^ 8 → HostInRange said
+    → EachStands (shapes format (host_word said) (drop 1 (host_fields slot said)))
+    (drop 1 (host_fields slot said))
+host_stands format slot (host.Complete tag came) lt range =
+    (a_number 8 slot lt, (a_number 8 tag range.small, (a_verdict came, tt)))
+host_stands format slot said lt range = (a_number 8 slot lt, tt)
 
 event_stands : {A : Type 0} (format : Format) (slot : ℕ) (w : EventKind A) → slot < 2 ^ 8 → KindInRange w
     → IsPrintableKind w → EachStands (shapes format (word_for w) (event_rest slot w)) (event_rest slot w)
@@ -334,8 +359,7 @@ event_stands format slot (what.Resize cols rows) lt range fine =
     (a_number 8 slot lt, (a_number 16 cols range.across, (a_number 16 rows range.down, tt)))
 event_stands format slot (what.Restore bs) lt range fine =
     (a_number 8 slot lt, (some_bytes bs range.each, tt))
-event_stands format slot (what.Complete tag came) lt range fine =
-    (a_number 8 slot lt, (a_number 8 tag range.small, (a_verdict came, tt)))
+event_stands format slot (what.Host said) lt range fine = host_stands format slot said lt range
 
 pub entered_event : {A : Type 0} (format : Format) (e : Event A) → IsFine e
     → IsWordOf format (word_for e.what) → EnteredEvent format (event_line e)

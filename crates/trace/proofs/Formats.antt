@@ -7,7 +7,7 @@ use Rattle.trace.specs.declared.format.Format.{Format}
 use Rattle.trace.specs.declared.format.Format.TheVariants.{Plain, Extended}
 use Rattle.trace.specs.declared.format.Version.TheVariants.{One, Two}
 use Rattle.trace.specs.declared.word.Word.{Word}
-use Rattle.trace.specs.declared.word.Word.TheVariants.{Restore, Complete}
+use Rattle.trace.specs.declared.word.Word.TheVariants.{Restore, Complete, Drop, Hold, Release}
 use Rattle.trace.specs.Format.{GoesInto, if_extended, unless_version_1}
 use Rattle.trace.specs.Printable.{IsPrintable, IsPrintableDisk, IsPrintableMemory, IsPrintableSlot}
 use Rattle.trace.specs.Text.{Content, as_format, word_for}
@@ -30,6 +30,9 @@ map_if_extended f Extended xs = refl
 pub word_of_extended : (word : Word) → IsWordOf Extended word
 word_of_extended Restore = refl
 word_of_extended Complete = refl
+word_of_extended Drop = refl
+word_of_extended Hold = refl
+word_of_extended Release = refl
 word_of_extended word = tt
 
 -- ---- from one format into another
@@ -47,6 +50,9 @@ goes_extended old Extended goes is = refl
 word_goes : (old new : Format) (word : Word) → GoesInto old new → IsWordOf old word → IsWordOf new word
 word_goes old new Restore goes h = goes_extended old new goes h
 word_goes old new Complete goes h = goes_extended old new goes h
+word_goes old new Drop goes h = goes_extended old new goes h
+word_goes old new Hold goes h = goes_extended old new goes h
+word_goes old new Release goes h = goes_extended old new goes h
 word_goes old new word goes h = tt
 
 some_regions : (format : Format) (count : ℕ) → IsPrintableMemory format count → 1 ≤ count

@@ -10,6 +10,7 @@ use Rattle.mmio_window.specs.declared.device_kind.DeviceKind.TheVariants.{Block,
 use Rattle.board.specs.declared.event.Event.{Event}
 use Rattle.board.specs.declared.event.EventKind.{EventKind}
 use Rattle.board.specs.declared.event.EventKind.TheVariants as what
+use Rattle.board.specs.declared.event.HostEvent.TheVariants as host
 use Rattle.hexadecimal.specs.Fields.{IsBytesField, IsDigit, IsFixed, IsValue, SpellsFixed}
 use Rattle.hexadecimal.specs.Spelling.{bytes, digit, fixed, num}
 use Rattle.hexadecimal.proofs.Digits.{digit_above, digit_cases, same_digit}
@@ -69,6 +70,10 @@ not_last text field after h last =
 
 -- ---- the parts of a line, by its word
 
+-- the first two bytes of a line
+abbrev front : List ℕ → ℕ
+front xs = get_or xs 0 0 * 1000 + get_or xs 1 0
+
 pub record ReadParts (A : Type 0) (rest : List ℕ) : Type 0 where
   pub slot : ℕ
   pub kind : DeviceKind
@@ -109,6 +114,7 @@ by_read A rest slot (what.Read kind offset width) after h =
       };
       line = h;
     }
+by_read A rest slot (what.Host host.Release) after h = absurd (omega (arith, ap front h.is))
 by_read A rest slot w after h = absurd (omega (arith, ap (λ (xs : List ℕ). get_or xs 0 0) h.is))
 
 pub read_parts : (A : Type 0) (rest : List ℕ) → BeginsWithEvent A (spelled Read ++ 32 ∷ rest)
@@ -163,15 +169,12 @@ by_write A rest slot (what.Write kind offset width value) after h =
       };
       line = h;
     }
+by_write A rest slot (what.Host host.Release) after h = absurd (omega (arith, ap front h.is))
 by_write A rest slot w after h = absurd (omega (arith, ap (λ (xs : List ℕ). get_or xs 0 0) h.is))
 
 pub write_parts : (A : Type 0) (rest : List ℕ) → BeginsWithEvent A (spelled Write ++ 32 ∷ rest)
     → WriteParts A rest
 write_parts A rest h = by_write A rest h.event.slot h.event.what h.after h.begins
-
--- the first two bytes of a line
-abbrev front : List ℕ → ℕ
-front xs = get_or xs 0 0 * 1000 + get_or xs 1 0
 
 pub record MemWriteParts (A : Type 0) (rest : List ℕ) : Type 0 where
   pub slot : ℕ
@@ -207,6 +210,7 @@ by_mem_write A rest slot (what.MemWrite addr bs) after h = record {
   has_bytes = record { bs = bs; says = record { fits = h.fine.fits.what.each; spelled = refl }; is = refl };
   line = h;
 }
+by_mem_write A rest slot (what.Host host.Release) after h = absurd (omega (arith, ap front h.is))
 by_mem_write A rest slot w after h = absurd (omega (arith, ap front h.is))
 
 pub mem_write_parts : (A : Type 0) (rest : List ℕ) → BeginsWithEvent A (spelled MemWrite ++ 32 ∷ rest)
@@ -239,6 +243,7 @@ by_input A rest slot (what.Input bs) after h = record {
   has_bytes = record { bs = bs; says = record { fits = h.fine.fits.what.each; spelled = refl }; is = refl };
   line = h;
 }
+by_input A rest slot (what.Host host.Release) after h = absurd (omega (arith, ap front h.is))
 by_input A rest slot w after h = absurd (omega (arith, ap front h.is))
 
 pub input_parts : (A : Type 0) (rest : List ℕ) → BeginsWithEvent A (spelled Input ++ 32 ∷ rest)

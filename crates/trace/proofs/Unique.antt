@@ -14,6 +14,8 @@ use Rattle.mmio_window.specs.declared.device_kind.DeviceKind.TheVariants.{Block,
 use Rattle.board.specs.declared.event.Event.{Event}
 use Rattle.board.specs.declared.event.EventKind.{EventKind}
 use Rattle.board.specs.declared.event.EventKind.TheVariants as what
+use Rattle.board.specs.declared.event.HostEvent.{HostEvent}
+use Rattle.board.specs.declared.event.HostEvent.TheVariants as host
 use Rattle.board.specs.declared.spec.Backing.{Backing}
 use Rattle.board.specs.declared.spec.Backing.TheVariants.{Image, Host}
 use Rattle.board.specs.declared.spec.SlotSpec.{SlotSpec}
@@ -30,7 +32,7 @@ use Rattle.trace.specs.Printable.{IsPrintableKind, IsPrintableMemory, IsWriteAcc
 use Rattle.trace.specs.Refusals.{IsFine, IsFineSlot}
 use Rattle.hexadecimal.specs.Spelling.{bytes, fixed}
 use Rattle.trace.specs.Spelling.{disk, mode, region_text, verdict, window}
-use Rattle.trace.specs.Text.{Content, cache_line, disk_fields, event_fields, event_line, memory_fields, region_fields, slot_fields, slot_line, text, trace_lines, what_fields, word_for}
+use Rattle.trace.specs.Text.{Content, cache_line, disk_fields, event_fields, event_line, memory_fields, region_fields, slot_fields, slot_line, text, trace_lines, host_fields, what_fields, word_for}
 use Rattle.trace.specs.Words.{spelled}
 use Rattle.hexadecimal.proofs.ByteFields.{AreBytes, is_bytes}
 use Rattle.trace.proofs.FaultKinds.{same_kind}
@@ -223,6 +225,27 @@ same_value w x u v o p same one other e =
     (fits_digits w u one.access.wide one.within)) (fits_digits x v other.access.wide other.within)
     (ap (λ (k : ℕ). fixed (2 * k) u) (sym same) ∙ e)
 
+same_said : (m n : ℕ) (v w : HostEvent) → host_fields m v ≡ host_fields n w → (m ≡ n) × (v ≡ w)
+unfolding sign
+same_said m n (host.Complete t a) (host.Complete u b) e =
+    let tag = same_num t u (same_at e 2) in
+    let came = same_verdict a b (same_at e 3) in
+    (same_num m n (same_at e 1), cc)
+same_said m n host.Drop host.Drop e = (same_num m n (same_at e 1), refl)
+same_said m n host.Hold host.Hold e = (same_num m n (same_at e 1), refl)
+same_said m n host.Release host.Release e = (same_num m n (same_at e 1), refl)
+same_said m n v w e = absurd (omega (arith, ap sign e))
+
+-- what a host says is nothing else
+other_said : {A : Type 0} (m : ℕ) (v : HostEvent) (n : ℕ) (w : EventKind A)
+    → ((x : HostEvent) → w ≡ what.Host x → ⊥) → host_fields m v ≡ what_fields n w → ⊥
+unfolding sign
+other_said m v n (what.Host x) none e = none x refl
+other_said m (host.Complete t a) n w none e = omega (arith, ap sign e)
+other_said m host.Drop n w none e = omega (arith, ap sign e)
+other_said m host.Hold n w none e = omega (arith, ap sign e)
+other_said m host.Release n w none e = omega (arith, ap sign e)
+
 same_what : {A : Type 0} (m n : ℕ) (v w : EventKind A) → KindInRange v → KindInRange w → IsPrintableKind v
     → IsPrintableKind w → what_fields m v ≡ what_fields n w → (m ≡ n) × (v ≡ w)
 unfolding sign
@@ -253,10 +276,11 @@ same_what m n (what.Resize a l) (what.Resize b k) rv rw' fv fw e =
     (same_num m n (same_at e 1), cc)
 same_what m n (what.Restore xs) (what.Restore ys) rv rw' fv fw e =
     (same_num m n (same_at e 1), ap what.Restore (same_bytes xs ys rv.each rw'.each (same_at e 2)))
-same_what m n (what.Complete t a) (what.Complete u b) rv rw' fv fw e =
-    let tag = same_num t u (same_at e 2) in
-    let came = same_verdict a b (same_at e 3) in
-    (same_num m n (same_at e 1), cc)
+same_what m n (what.Host v) (what.Host w) rv rw' fv fw e =
+    let both = same_said m n v w e in
+    (both.0, ap what.Host both.1)
+same_what m n (what.Host v) w rv rw' fv fw e = absurd (other_said m v n w (λ x is. absurd cc) e)
+same_what m n v (what.Host w) rv rw' fv fw e = absurd (other_said n w m v (λ x is. absurd cc) (sym e))
 same_what m n v w rv rw' fv fw e = absurd (omega (arith, ap sign e))
 
 pub same_event_fields : {A : Type 0} (d e : Event A) → IsFine d → IsFine e

@@ -2,7 +2,9 @@
 use Rattle.std.specs.Prelude.{◌≡◌, ℕ, ◌*◌, ◌^◌, ◌<◌, ◌≤◌, List, All, ⊤, length}
 use Rattle.board.specs.declared.event.Event.{Event}
 use Rattle.board.specs.declared.event.EventKind.{EventKind}
-use Rattle.board.specs.declared.event.EventKind.TheVariants.{Read, Write, MemRead, MemWrite, Input, Resize, Restore, Complete}
+use Rattle.board.specs.declared.event.EventKind.TheVariants.{Read, Write, MemRead, MemWrite, Input, Resize, Restore, Host}
+use Rattle.board.specs.declared.event.HostEvent.{HostEvent}
+use Rattle.board.specs.declared.event.HostEvent.TheVariants.{Complete}
 use Rattle.board.specs.declared.spec.SlotSpec.{SlotSpec}
 use Rattle.board.specs.declared.spec.Backing.{Backing}
 use Rattle.board.specs.declared.spec.Backing.TheVariants.{Image}
@@ -32,7 +34,7 @@ IsPrintableKind (MemWrite addr bs) = ⊤
 IsPrintableKind (Input bs) = ⊤
 IsPrintableKind (Resize cols rows) = ⊤
 IsPrintableKind (Restore bs) = ⊤
-IsPrintableKind (Complete tag verdict) = ⊤
+IsPrintableKind (Host said) = ⊤
 
 -- a memory of so many regions that has a spelling in a format: in a plain one there is one
 abbrev pub IsPrintableMemory : Format → ℕ → Type 0
@@ -87,6 +89,10 @@ pub record SizeInRange (cols rows : ℕ) : Type 0 where
 pub record TagInRange (tag : ℕ) : Type 0 where
   pub small : tag < 2 ^ 8
 
+abbrev pub HostInRange : HostEvent → Type 0
+HostInRange (Complete tag verdict) = TagInRange tag
+HostInRange said = ⊤
+
 abbrev pub KindInRange : {A : Type 0} → EventKind A → Type 0
 KindInRange (Read kind offset width) = ⊤
 KindInRange (Write kind offset width value) = ⊤
@@ -95,7 +101,7 @@ KindInRange (MemWrite addr bs) = BytesInRange addr bs
 KindInRange (Input bs) = EachInRange bs
 KindInRange (Resize cols rows) = SizeInRange cols rows
 KindInRange (Restore bs) = EachInRange bs
-KindInRange (Complete tag verdict) = TagInRange tag
+KindInRange (Host said) = HostInRange said
 
 pub record EventInRange {A : Type 0} (e : Event A) : Type 0 where
   pub slot : e.slot < 2 ^ 8

@@ -5,16 +5,17 @@ use Rattle.mmio_window.specs.declared.device_kind.DeviceKind.{DeviceKind}
 use Rattle.board.specs.declared.event.Event.{Event}
 use Rattle.board.specs.declared.event.EventKind.{EventKind}
 use Rattle.board.specs.declared.event.EventKind.TheVariants as what
+use Rattle.board.specs.declared.event.HostEvent.{HostEvent}
+use Rattle.board.specs.declared.event.HostEvent.TheVariants as host
 use Rattle.board.specs.declared.spec.SlotSpec.{SlotSpec}
 use Rattle.board.specs.declared.spec.Backing.{Backing}
 use Rattle.guest_memory.specs.declared.spec.RegionSpec.{RegionSpec}
-use Rattle.block_device.specs.declared.operation.Verdict.{Verdict}
 use Rattle.trace.specs.declared.format.Format.{Format}
 use Rattle.trace.specs.declared.format.Format.TheVariants.{Plain, Extended}
 use Rattle.trace.specs.declared.format.Version.TheVariants.{One, Two}
 use Rattle.trace.specs.declared.trace.Trace.{Trace}
 use Rattle.trace.specs.declared.word.Word.{Word}
-use Rattle.trace.specs.declared.word.Word.TheVariants.{Cache, Slot, Read, Write, MemRead, MemWrite, Input, Resize, Restore, Complete}
+use Rattle.trace.specs.declared.word.Word.TheVariants.{Cache, Slot, Read, Write, MemRead, MemWrite, Input, Resize, Restore, Complete, Drop, Hold, Release}
 use Rattle.hexadecimal.specs.Spelling.{num, fixed, bytes}
 use Rattle.trace.specs.Spelling.{window, width_digit, disk, mode, verdict, regions_text}
 use Rattle.trace.specs.Format.{if_extended, unless_version_1}
@@ -89,9 +90,19 @@ resize_fields slot cols rows = spelled Resize ∷ num slot ∷ num cols ∷ num 
 abbrev pub restore_fields : ℕ → List ℕ → List (List ℕ)
 restore_fields slot bs = spelled Restore ∷ num slot ∷ bytes bs ∷ []
 
--- an operation in flight of a slot's disk, by its tag, came to its end
-abbrev pub complete_fields : ℕ → ℕ → Verdict → List (List ℕ)
-complete_fields slot tag came = spelled Complete ∷ num slot ∷ num tag ∷ verdict came ∷ []
+-- what a host says of a slot's disk: an operation in flight, by its tag, came to its end; nothing is in flight any
+-- more; no further chain is taken; chains are taken again
+abbrev pub host_word : HostEvent → Word
+host_word (host.Complete tag came) = Complete
+host_word host.Drop = Drop
+host_word host.Hold = Hold
+host_word host.Release = Release
+
+abbrev pub host_fields : ℕ → HostEvent → List (List ℕ)
+host_fields slot (host.Complete tag came) = spelled Complete ∷ num slot ∷ num tag ∷ verdict came ∷ []
+host_fields slot host.Drop = spelled Drop ∷ num slot ∷ []
+host_fields slot host.Hold = spelled Hold ∷ num slot ∷ []
+host_fields slot host.Release = spelled Release ∷ num slot ∷ []
 
 -- the word of what a slot does
 abbrev pub word_for : {A : Type 0} → EventKind A → Word
@@ -102,7 +113,7 @@ word_for (what.MemWrite addr bs) = MemWrite
 word_for (what.Input bs) = Input
 word_for (what.Resize cols rows) = Resize
 word_for (what.Restore bs) = Restore
-word_for (what.Complete tag came) = Complete
+word_for (what.Host said) = host_word said
 
 -- the fields of what a slot does
 abbrev pub what_fields : {A : Type 0} → ℕ → EventKind A → List (List ℕ)
@@ -113,7 +124,7 @@ what_fields slot (what.MemWrite addr bs) = mem_write_fields slot addr bs
 what_fields slot (what.Input bs) = input_fields slot bs
 what_fields slot (what.Resize cols rows) = resize_fields slot cols rows
 what_fields slot (what.Restore bs) = restore_fields slot bs
-what_fields slot (what.Complete tag came) = complete_fields slot tag came
+what_fields slot (what.Host said) = host_fields slot said
 
 abbrev pub event_fields : {A : Type 0} → Event A → List (List ℕ)
 event_fields e = what_fields e.slot e.what

@@ -10,7 +10,7 @@ use Rattle.trace.specs.declared.format.Format.TheVariants.{Plain, Extended}
 use Rattle.trace.specs.declared.table.Field.{Field}
 use Rattle.trace.specs.declared.table.Field.TheVariants as field
 use Rattle.trace.specs.declared.word.Word.{Word}
-use Rattle.trace.specs.declared.word.Word.TheVariants.{Cache, Slot, Read, Write, MemRead, MemWrite, Input, Resize, Restore, Complete}
+use Rattle.trace.specs.declared.word.Word.TheVariants.{Cache, Slot, Read, Write, MemRead, MemWrite, Input, Resize, Restore, Complete, Drop, Hold, Release}
 use Rattle.hexadecimal.specs.Fields.{IsBytesField, IsFixed, SpellsBytes, SpellsNumber}
 use Rattle.trace.specs.Spelling.{window, width_digit, disk, mode, verdict, region_text, regions_text}
 use Rattle.trace.specs.Format.{IsExtended, if_extended, unless_version_1}
@@ -98,12 +98,18 @@ spelled Input = codes "in"
 spelled Resize = codes "sz"
 spelled Restore = codes "st"
 spelled Complete = codes "io"
+spelled Drop = codes "drop"
+spelled Hold = codes "hold"
+spelled Release = codes "release"
 
--- the words of a format: the extended one alone has those of restores and completions, and the others are in
--- each
+-- the words of a format: the extended one alone has those of restores and of what a host says of its disk, and
+-- the others are in each
 abbrev pub IsWordOf : Format → Word → Type 0
 IsWordOf format Restore = IsExtended format
 IsWordOf format Complete = IsExtended format
+IsWordOf format Drop = IsExtended format
+IsWordOf format Hold = IsExtended format
+IsWordOf format Release = IsExtended format
 IsWordOf format _ = ⊤
 
 abbrev pub IsInEach : Word → Type 0
@@ -136,6 +142,9 @@ fields_in format Input = field.Slot ∷ field.Bytes ∷ []
 fields_in format Resize = field.Slot ∷ field.Columns ∷ field.Rows ∷ []
 fields_in format Restore = field.Slot ∷ field.Bytes ∷ []
 fields_in format Complete = field.Slot ∷ field.Tag ∷ field.Verdict ∷ []
+fields_in format Drop = field.Slot ∷ []
+fields_in format Hold = field.Slot ∷ []
+fields_in format Release = field.Slot ∷ []
 
 -- of the fields of a line, the one by which a value is read
 abbrev pub width_among : List (List ℕ) → List ℕ

@@ -27,14 +27,14 @@ pub use crate::print::records::{print_records, put_fields, put_line, put_read};
 pub use crate::print::write::write_whole;
 use crate::trace::Trace;
 use crate::word::{Word, is_word_of, word_for};
-use board::{Backing, Event, EventKind, SlotSpec};
+use board::{Backing, Event, EventKind, HostEvent, SlotSpec};
 use guest_memory::RegionSpec;
 use std::alloc::{AllocError, Allocator};
 
 /// Whether the trace has a text. In each, the offset of a register access has three digits, its width is 1, 2 or 4, and a value
 /// that is written is within that width. In a plain trace, each memory has one region, the disks are on the image, there is no
-/// Restore and no Complete, and in version 1 each slot has the identity of that version. In an extended one, each memory has a
-/// region. Each trace that was read has a text.
+/// Restore and the host says nothing, and in version 1 each slot has the identity of that version. In an extended one, each memory
+/// has a region. Each trace that was read has a text.
 pub fn is_printable<A: Allocator>(trace: &Trace<A>) -> bool
     ensures { IsTrue result ↔ IsPrintable (content trace.now) }
 {
@@ -117,7 +117,7 @@ fn has_line<A: Allocator>(what: &EventKind<A>) -> bool
         | EventKind::Input { .. }
         | EventKind::Resize { .. }
         | EventKind::Restore { .. }
-        | EventKind::Complete { .. } => true,
+        | EventKind::Host(_) => true,
     }
 }
 
@@ -286,9 +286,12 @@ fn event_says<A: Allocator>(event: &Event<A>) -> (Word, LineFields<'_>)
             fields.bytes = bytes.as_slice();
             (Word::Restore, fields)
         }
-        EventKind::Complete { tag, verdict } => {
+        EventKind::Host(HostEvent::Complete { tag, verdict }) => {
             (fields.tag, fields.verdict) = (*tag, *verdict);
             (Word::Complete, fields)
         }
+        EventKind::Host(HostEvent::Drop) => (Word::Drop, fields),
+        EventKind::Host(HostEvent::Hold) => (Word::Hold, fields),
+        EventKind::Host(HostEvent::Release) => (Word::Release, fields),
     }
 }

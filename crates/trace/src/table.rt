@@ -64,5 +64,6 @@ pub fn fields_after(format: Format, word: Word) -> &'static [Field]
         Word::Resize => &[Slot, Columns, Rows],
         Word::Restore => &[Slot, Bytes],
         Word::Complete => &[Slot, Tag, Verdict],
+        Word::Drop | Word::Hold | Word::Release => &[Slot],
     }
 }

@@ -1,12 +1,12 @@
 //! The words that lines begin with.
 
 ghost use Rattle.std.specs.Prelude.{◌≡◌, ◌≢◌, ◌↔◌, IsTrue, IfSome, IfNone};
-ghost use Rattle.trace.specs.Text.{word_for};
+ghost use Rattle.trace.specs.Text.{host_word, word_for};
 ghost use Rattle.trace.specs.Words.{IsWordOf, spelled};
 ghost use Rattle.trace.specs.declared.word.Word.{Word};
 
 use crate::format::Format;
-use board::EventKind;
+use board::{EventKind, HostEvent};
 use std::alloc::Allocator;
 
 /// The first word of a line after the header. The second line has `Cache`, the later ones the others.
@@ -22,6 +22,9 @@ pub enum Word {
     Resize,
     Restore,
     Complete,
+    Drop,
+    Hold,
+    Release,
 }
 
 /// The word that a field is in some format.
@@ -38,6 +41,9 @@ pub(crate) fn word_of(field: &[u8]) -> Option<Word>
         b"sz" => Some(Word::Resize),
         b"st" => Some(Word::Restore),
         b"io" => Some(Word::Complete),
+        b"drop" => Some(Word::Drop),
+        b"hold" => Some(Word::Hold),
+        b"release" => Some(Word::Release),
         b"slot" => Some(Word::Slot),
         b"cache" => Some(Word::Cache),
         _ => None,
@@ -62,7 +68,9 @@ pub(crate) fn is_word_of(format: Format, word: Word) -> bool
     ensures { IsTrue result ↔ IsWordOf format word }
 {
     match word {
-        Word::Restore | Word::Complete => format == Format::Extended,
+        Word::Restore | Word::Complete | Word::Drop | Word::Hold | Word::Release => {
+            format == Format::Extended
+        }
         _ => true,
     }
 }
@@ -79,7 +87,19 @@ pub(crate) fn word_for<A: Allocator>(what: &EventKind<A>) -> Word
         EventKind::Input { .. } => Word::Input,
         EventKind::Resize { .. } => Word::Resize,
         EventKind::Restore { .. } => Word::Restore,
-        EventKind::Complete { .. } => Word::Complete,
+        EventKind::Host(said) => host_word(said),
+    }
+}
+
+// The word of what the host says of a disk that it serves.
+fn host_word(said: &HostEvent) -> Word
+    ensures { result ≡ host_word said.now }
+{
+    match said {
+        HostEvent::Complete { .. } => Word::Complete,
+        HostEvent::Drop => Word::Drop,
+        HostEvent::Hold => Word::Hold,
+        HostEvent::Release => Word::Release,
     }
 }
 
@@ -96,6 +116,9 @@ pub(crate) fn spelling_of(word: Word) -> &'static [u8]
         Word::Resize => b"sz",
         Word::Restore => b"st",
         Word::Complete => b"io",
+        Word::Drop => b"drop",
+        Word::Hold => b"hold",
+        Word::Release => b"release",
         Word::Slot => b"slot",
         Word::Cache => b"cache",
     }

@@ -2,7 +2,7 @@
 
 use crate::weave::Text;
 use crate::wording::names::{field_name, register_name, say_interrupts, say_status};
-use board::{DeviceKind, EventKind, Verdict};
+use board::{DeviceKind, EventKind, HostEvent, Verdict};
 use mmio_window::{CONFIGURATION_OFFSET, Register};
 
 /// How many bytes of a text are shown.
@@ -18,7 +18,7 @@ pub fn say_place(text: &mut Text, what: &EventKind) {
         EventKind::MemRead { .. } | EventKind::MemWrite { .. } => " memory: ",
         EventKind::Input { .. } | EventKind::Resize { .. } => " console: ",
         EventKind::Restore { .. } => " devices: ",
-        EventKind::Complete { .. } => " disk: ",
+        EventKind::Host(_) => " disk: ",
     });
 }
 
@@ -65,14 +65,24 @@ pub fn say_event(text: &mut Text, what: &EventKind) {
             text.say("are restored from ");
             text.counted(bytes.as_slice().len() as u64, "byte");
         }
-        EventKind::Complete { tag, verdict } => {
+        EventKind::Host(told) => say_told(text, *told),
+    }
+}
+
+// Says what the host says of its disk.
+fn say_told(text: &mut Text, told: HostEvent) {
+    match told {
+        HostEvent::Complete { tag, verdict } => {
             text.say("tag ");
-            text.count(u64::from(*tag));
+            text.count(u64::from(tag));
             text.say(match verdict {
                 Verdict::Done => " done",
                 Verdict::Failed => " failed",
             });
         }
+        HostEvent::Drop => text.say("drops what is in flight"),
+        HostEvent::Hold => text.say("holds the queue"),
+        HostEvent::Release => text.say("releases the queue"),
     }
 }
 

@@ -189,6 +189,19 @@ pub fn say_changes(text: &mut Text, kind: DeviceKind, old: &WindowSeen, new: &Wi
     say_queue_change(text, kind, 1, old_1, new_1);
 }
 
+/// Says whether the block device's queue is on hold, where it isn't as it was.
+pub fn say_hold_change(text: &mut Text, old: bool, new: bool) {
+    if old == new {
+        return;
+    }
+    say_head(text, DeviceKind::Block);
+    text.say(if new {
+        " hold: no further chain is taken\n"
+    } else {
+        " hold: none\n"
+    });
+}
+
 // Begins a line on the state of a device.
 fn say_head(text: &mut Text, kind: DeviceKind) {
     text.say("  state ");

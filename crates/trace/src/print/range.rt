@@ -9,7 +9,7 @@ ghost use Rattle.trace.specs.Text.{content};
 ghost use Rattle.trace.specs.Words.{DiskInRange, RegionInRange};
 
 use crate::trace::Trace;
-use board::{Backing, Event, EventKind, SlotSpec};
+use board::{Backing, Event, EventKind, HostEvent, SlotSpec};
 use guest_memory::RegionSpec;
 use std::alloc::Allocator;
 
@@ -80,7 +80,7 @@ fn kind_in_range<A: Allocator>(what: &EventKind<A>)
             let _cols = *cols;
             let _rows = *rows;
         }
-        EventKind::Complete { tag, .. } => {
+        EventKind::Host(HostEvent::Complete { tag, .. }) => {
             let _tag = *tag;
         }
         _ => {}

@@ -9,7 +9,7 @@ ghost use Rattle.trace.specs.Faults.{MayStand};
 ghost use Rattle.trace.specs.Printable.{IsPrintableDisk, IsPrintableMemory};
 ghost use Rattle.trace.specs.Refusals.{IsFineSlot};
 ghost use Rattle.trace.specs.ParsedEvent.{IsFineParsed, parsed_fields};
-ghost use Rattle.hexadecimal.specs.Spelling.{bytes as bytes_field};
+ghost use Rattle.hexadecimal.specs.Spelling.{bytes as bytes_field, num};
 ghost use Rattle.trace.specs.Spelling.{value_text};
 ghost use Rattle.trace.specs.Text.{cache_fields, disk_fields, memory_fields, slot_fields, word_for};
 ghost use Rattle.trace.specs.Values.{AreOf};
@@ -25,7 +25,7 @@ use crate::value::FieldValue::{
     self, Disk, Identity, Mode, Number, Offset, Spelled, Value, Verdict, Width, Window,
 };
 use crate::word::Word;
-use board::{Backing, Bytes, EventKind, Extent, SlotSpec};
+use board::{Backing, Bytes, EventKind, Extent, HostEvent, SlotSpec};
 use guest_memory::Regions;
 use std::alloc::Allocator;
 
@@ -113,10 +113,24 @@ fn parsed_of<'a, A: Allocator>(
                 unreachable!()
             };
             let tag = tag as u8;
-            ParsedEvent::plain(slot as u8, EventKind::Complete { tag, verdict })
+            ParsedEvent::said(slot as u8, HostEvent::Complete { tag, verdict })
         }
+        Word::Drop => ParsedEvent::said(slot_alone(values), HostEvent::Drop),
+        Word::Hold => ParsedEvent::said(slot_alone(values), HostEvent::Hold),
+        Word::Release => ParsedEvent::said(slot_alone(values), HostEvent::Release),
         Word::Cache | Word::Slot => unreachable!(),
     }
+}
+
+// The slot that is the only one of these values.
+fn slot_alone(values: &[FieldValue<'_>]) -> u8
+    requires { AreOf (Num 8 ∷ []) values.now }
+    ensures { map value_text values.now ≡ num result ∷ [] }
+{
+    let &[Number(slot)] = values else {
+        unreachable!()
+    };
+    slot as u8
 }
 
 // What those of a read of a register say.

@@ -3,6 +3,7 @@
 //! Its bytes are left in the field that spells them, so it takes no memory.
 
 ghost use Rattle.std.specs.Prelude.{◌≡◌, ◌/◌, [], IfOk};
+ghost use Rattle.board.specs.declared.event.EventKind.{EventKind};
 ghost use Rattle.trace.specs.Validating.{parsed_len};
 ghost use Rattle.trace.specs.Refusals.{IsFine};
 ghost use Rattle.trace.specs.ParsedEvent.{IsFineParsed, parsed_fields};
@@ -10,7 +11,7 @@ ghost use Rattle.trace.specs.Text.{event_fields, word_for};
 ghost use Rattle.hexadecimal.specs.Fields.{IsBytesField};
 ghost use Rattle.trace.specs.Words.{Says, Bytes as ByBytes};
 
-use board::{Bytes, Event, EventKind};
+use board::{Bytes, Event, EventKind, HostEvent};
 use hexadecimal::{read_bytes, spelled_len};
 use std::alloc::{AllocError, Allocator, Global};
 
@@ -43,6 +44,15 @@ impl<'a, A: Allocator> ParsedEvent<'a, A> {
         ensures bytes { result.bytes.now ≡ [] }
     {
         ParsedEvent::new(slot, what, &[])
+    }
+
+    /// What the host says of the slot's disk.
+    #[inline]
+    pub(crate) fn said(slot: u8, said: HostEvent) -> ParsedEvent<'a, A>
+        ensures event { result.event ≡ record { slot = slot; what = EventKind.Host said } }
+        ensures bytes { result.bytes.now ≡ [] }
+    {
+        ParsedEvent::plain(slot, EventKind::Host(said))
     }
 
     /// How many bytes it spells.
