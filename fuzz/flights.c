@@ -1,7 +1,7 @@
 /*
  * Operations are asked for again after each event, and with room for fewer runs. Each has to be as it was told first, its runs
  * inside the guest's memory, or of a ZEROES inside its disk, and its bytes inside the disk. Those that are in flight are those
- * that began and weren't completed.
+ * that began and were neither completed nor dropped. None begins while the slot is held.
  */
 #include "flights.h"
 
@@ -129,6 +129,7 @@ void take_answer(struct seat *seat, uint32_t answer)
     if (answer == KALYUBOS_IO) {
         need(kalyubos_in_flight(seat->board, seat->slot, &tags) == KALYUBOS_DONE, "in_flight", answer);
         need((before & ~tags) == 0 && tags != before, "nothing began", tags);
+        need(!seat->disk->held, "an operation of a held slot", tags);
         for (uint64_t rest = tags & ~before; rest != 0; rest &= rest - 1)
             begin(seat, (uint8_t)__builtin_ctzll(rest));
     }
@@ -193,6 +194,47 @@ void complete(struct seat *seat)
     complete_tag(seat, tag, failed);
 }
 
+/* What the host says of the disk beside completions: `is_due` where there is something to do. */
+static bool say(struct seat *seat, uint32_t (*call)(struct kalyubos *, uint8_t, struct kalyubos_pending *), bool is_due)
+{
+    struct kalyubos_pending pending = { 0 };
+    uint32_t answer = call(seat->board, seat->slot, &pending);
+    need((answer == KALYUBOS_IDLE) == !is_due, "what the host says is idle", answer);
+    need(answer == KALYUBOS_IDLE || answer == KALYUBOS_DONE || (answer == KALYUBOS_IO && call == kalyubos_release),
+         "an answer to what the host says", answer);
+    tell_number(&seat->told, answer);
+    tell_pending(&seat->told, &pending);
+    if (call == kalyubos_drop && is_due) {
+        uint32_t status = 0;
+        need(kalyubos_read(seat->board, seat->slot, KALYUBOS_BLOCK, 0x070, 4, &status) == KALYUBOS_DONE, "a read", answer);
+        need((status & 0x40) != 0 && (pending.block & 2) != 0, "a drop asks for no reset", status);
+    }
+    return answer == KALYUBOS_IO;
+}
+
+void drop(struct seat *seat)
+{
+    bool is_due = seat->disk->begun != 0;
+    seat->disk->begun = 0;
+    seat->counts.drops += is_due;
+    say(seat, kalyubos_drop, is_due);
+    take_answer(seat, KALYUBOS_DONE);
+}
+
+static void hold(struct seat *seat)
+{
+    seat->counts.holds += !seat->disk->held;
+    say(seat, kalyubos_hold, !seat->disk->held);
+    seat->disk->held = true;
+}
+
+static void release(struct seat *seat)
+{
+    bool was_held = seat->disk->held;
+    seat->disk->held = false;
+    take_answer(seat, say(seat, kalyubos_release, was_held) ? KALYUBOS_IO : KALYUBOS_DONE);
+}
+
 /* Writes over some bytes of a region's first part, where queues, tables and headers lie, or of a run. */
 static void scribble(struct seat *seat)
 {
@@ -234,6 +276,18 @@ void serve_by_chance(struct seat *seat)
         if (disk->begun != 0 && disk->is_hostile)
             scribble(seat);
         break;
+    case 10:
+        if (chance(seat, 4) == 0)
+            hold(seat);
+        break;
+    case 11: case 12:
+        if (disk->held || chance(seat, 16) == 0)
+            release(seat);
+        break;
+    case 13:
+        if (chance(seat, 4) == 0)
+            drop(seat);
+        break;
     default:
         break;
     }
@@ -242,6 +296,7 @@ void serve_by_chance(struct seat *seat)
 
 void tell_disk(struct seat *seat)
 {
+    release(seat);
     for (int i = 0; i < MOST_AT_END && seat->disk->begun != 0; i++)
         complete(seat);
     tell(&seat->told, seat->disk->bytes, (size_t)seat->guest->count * SECTOR);

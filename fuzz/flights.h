@@ -10,10 +10,10 @@ struct flight {
     struct kalyubos_run runs[KALYUBOS_RUNS];
 };
 
-/* The disk's own bytes, and what is in flight, by its tags. */
+/* The disk's own bytes, whether the slot is held, and what is in flight, by its tags. */
 struct disk {
     uint8_t *bytes;
-    bool is_hostile;
+    bool is_hostile, held;
     uint32_t depth;
     uint64_t begun;
     struct flight *flights;
@@ -30,10 +30,14 @@ void take_answer(struct seat *seat, uint32_t answer);
 /* Completes an operation in flight: done, or with bad luck failed. Now and then one that isn't, which is IDLE. */
 void complete(struct seat *seat);
 
-/* What the host does between two events: nothing, a part of a transfer, or all of it with its completion. */
+/* Gives up what is in flight. */
+void drop(struct seat *seat);
+
+/* What the host does between two events: nothing, a part of a transfer, or all of it with its completion; it gives up what is
+ * in flight, or holds the slot or releases it. */
 void serve_by_chance(struct seat *seat);
 
-/* Completes what is in flight, and what begins then, up to a hundred times; tells the disk's bytes. */
+/* Releases the slot; completes what is in flight, and what begins then, up to a hundred times; tells the disk's bytes. */
 void tell_disk(struct seat *seat);
 
 #endif

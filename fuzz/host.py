@@ -4,6 +4,7 @@ The suite's small model says which operations there are. When the host does one,
 whether it fails come of dice: what it reads into memory are `mw` lines, and a completion is an `io` line.
 """
 import os
+import random
 import sys
 
 sys.path.insert(0, os.path.join(os.path.dirname(os.path.dirname(os.path.abspath(__file__))), "crates", "conformance", "mutants"))
@@ -12,6 +13,10 @@ import model
 # Before how many of the guest's events an operation is completed. Mostly it is before the next notify: a driver that never waits fills its ring.
 DELAYS = [0, 1, 2, 3, 5, 20, 60]
 NOTIFY = "b 050 "
+# Before how many of the guest's events a slot that a late host holds is released.
+HOLDS = [0, 1, 2, 5, 20]
+# How often the host holds the slot over a notify, where it isn't late; and holds it, and drops what is in flight, where it is.
+BRIEFLY, HOLDING, DROPPING = 0.1, 0.03, 0.03
 
 
 class Host:
@@ -23,6 +28,8 @@ class Host:
         # How often it does all that is in flight before a notify.
         self.patience = 0.7 if guest.depth == 1 or not is_late else 0.3
         self.events, self.told, self.asked = [], [], []
+        # What it says besides has dice of its own, and so the rest stays as it is.
+        self.said, self.until = random.Random(f"said {guest.slot}"), 0
 
     def flights(self):
         """The tags with something in flight, in the order of asking."""
@@ -36,13 +43,19 @@ class Host:
         nothing."""
         expected = {}
         for number, (word, fields) in enumerate(self.guest.events):
-            if word == "w" and fields.startswith(NOTIFY) and self.dice.random() < self.patience:
+            is_notify = word == "w" and fields.startswith(NOTIFY)
+            if is_notify and self.dice.random() < self.patience:
                 self.complete_all()
+            is_brief = is_notify and not self.is_late and self.said.random() < BRIEFLY
+            if is_brief:
+                self.do("hold")
             if number in self.guest.expected and not self.is_late:
                 expected[len(self.events)] = self.guest.expected[number]
             if self.do(word, fields).startswith("busy ") and self.dice.random() < 0.9:
                 self.complete_all()
                 self.do(word, fields)
+            if is_brief:
+                self.do("release")
             while self.flights() and self.due == 0:
                 self.complete()
                 if self.is_late and self.dice.random() < 0.3:
@@ -50,11 +63,24 @@ class Host:
             self.due = max(0, self.due - 1)
             if self.is_late and self.dice.random() < 0.01:
                 self.do("io", f"{self.dice.randrange(self.guest.depth + 2):x} {self.dice.choice(['done', 'failed'])}")
+            if self.is_late:
+                self.say()
         self.guest.events, self.guest.told, self.guest.expected = self.events, self.told, expected
 
-    def do(self, word, fields):
+    def say(self):
+        """Now and then holds the slot, later releases it, or drops what is in flight."""
+        self.until = max(0, self.until - 1)
+        if self.board[0].held and self.until == 0 or self.said.random() < HOLDING / 4:
+            self.do("release")
+        elif self.said.random() < HOLDING:
+            self.do("hold")
+            self.until = self.said.choice(HOLDS)
+        if self.said.random() < (DROPPING if self.flights() else DROPPING / 8):
+            self.do("drop")
+
+    def do(self, word, fields=""):
         """Writes an event down; its record."""
-        record = model.hosted_record_of(self.board, word, ["0", *fields.split(" ")]).partition(" ")[2]
+        record = model.hosted_record_of(self.board, word, ["0", *fields.split()]).partition(" ")[2]
         self.events.append((word, fields))
         self.told.append(record)
         if not record.endswith(" -"):
@@ -97,12 +123,15 @@ class Host:
 
 
 def complete_nothing(guest, dice):
-    """A host completes now and then what a guest on the image never has in flight."""
-    events, expected = [], {}
+    """A host completes now and then what a guest on the image never has in flight, or drops, holds or releases it."""
+    events, expected, said = [], {}, random.Random(f"said {guest.slot}")
     for number, event in enumerate(guest.events):
         if dice.random() < 0.02:
             expected[len(events)] = "idle -"
             events.append(("io", f"{dice.choice([0, 0, 1, 63, 255]):x} {dice.choice(['done', 'failed'])}"))
+        if said.random() < 0.02:
+            expected[len(events)] = "idle -"
+            events.append((said.choice(["drop", "hold", "hold", "release"]), ""))
         if number in guest.expected:
             expected[len(events)] = guest.expected[number]
         events.append(event)

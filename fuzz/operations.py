@@ -5,6 +5,8 @@ NUM = "(?:0|[1-9a-f][0-9a-f]*)"
 ASKED = re.compile(f"({NUM})=(in|out|out-stable|flush|zeroes|zeroes-stable):({NUM}):({NUM}):(-|{NUM}[+]{NUM}(?:,{NUM}[+]{NUM})*)")
 NOTIFY, WAITING = "b 050 4 ", ("b 044 ", "b 070 ")
 MOST_RUNS = 256
+# The byte of a snapshot that says whether the slot is held.
+HELD = 61
 
 
 class Wrong(Exception):
@@ -13,16 +15,19 @@ class Wrong(Exception):
 
 def without_operations(slot, depth, events, records):
     """A guest's records without their sixth fields, which are judged; and how many operations began."""
-    plain, count, taken = [], 0, set()
+    plain, count, taken, held = [], 0, set(), False
     for number, ((word, fields), record) in enumerate(zip(events, records)):
         rest, _, asked = record.rpartition(" ")
         reply = rest.partition(" ")[0]
         try:
-            check_reply(word, fields, reply, taken)
+            check_reply(word, fields, reply, taken, held)
             if (word, reply) == ("io", "done"):
                 taken.discard(tag_of(fields))
+            if (word, reply) == ("drop", "done"):
+                taken.clear()
+            held = held_after(word, fields, reply, held)
             began = [check_operation(slot, one) for one in asked.split(";")] if asked != "-" else []
-            check_asking(word, fields, reply, began, [tag for tag in range(depth) if tag not in taken])
+            check_asking(word, fields, reply, began, held, [tag for tag in range(depth) if tag not in taken])
         except Wrong as wrong:
             raise Wrong(f"event {number}, {word} {fields}"[:120] + f": {record[:100]}: {wrong}") from None
         taken.update(began)
@@ -36,19 +41,27 @@ def tag_of(fields):
     return int(fields.partition(" ")[0], 16)
 
 
-def check_reply(word, fields, reply, taken):
-    """A completion is idle just where nothing is in flight at its tag, and just those writes wait that must."""
-    if word == "io" and reply != ("done" if tag_of(fields) in taken else "idle"):
-        raise Wrong(f"in flight are {sorted(taken)}")
+def held_after(word, fields, reply, held):
+    """Whether the slot is held behind an event."""
+    if (word, reply) == ("st", "done"):
+        return bytes.fromhex(fields)[HELD] == 1
+    return word == "hold" or held and word != "release"
+
+
+def check_reply(word, fields, reply, taken, held):
+    """What the host says is idle just where there is nothing to do, and just those writes wait that must."""
+    there_is = {"io": lambda: tag_of(fields) in taken, "drop": lambda: bool(taken), "hold": lambda: not held, "release": lambda: held}
+    if word in there_is and reply != ("done" if there_is[word]() else "idle"):
+        raise Wrong(f"in flight are {sorted(taken)}, and it is {'held' if held else 'not held'}")
     waits = bool(taken) and (word == "st" or word == "w" and fields.startswith(WAITING))
     if (reply == "busy") != waits:
         raise Wrong(f"it should wait: {waits}")
 
 
-def check_asking(word, fields, reply, began, free):
-    """Operations begin with a notify or a completion, and take the lowest free tags."""
-    begins = word == "w" and fields.startswith(NOTIFY) or (word, reply) == ("io", "done")
-    if began and not begins:
+def check_asking(word, fields, reply, began, held, free):
+    """Operations begin with a notify, a completion or a release, none while the slot is held, and take the lowest free tags."""
+    begins = word == "w" and fields.startswith(NOTIFY) or (word, reply) in (("io", "done"), ("release", "done"))
+    if began and (held or not begins):
         raise Wrong("no operation begins here")
     if began != free[:len(began)]:
         raise Wrong(f"the free tags are {free[:5]} ..")

@@ -19,6 +19,9 @@ LINES = {
     "sz": [8, 16, 16],
     "st": [8, "bytes"],
     "io": [8, 8, "verdict"],
+    "drop": [8],
+    "hold": [8],
+    "release": [8],
 }
 
 # The first line of each kind of trace: the two versions of a plain one, and an extended one.
@@ -30,7 +33,7 @@ IN_EXTENDED = {"slot": ["regions", "disk", 64, 64, "mode", 16, 16]}
 
 # What stands behind them in all but version 1, and the words that an extended trace has alone.
 ADDED = {"slot": ["identity"]}
-EXTENDED_WORDS = ["st", "io"]
+EXTENDED_WORDS = ["st", "io", "drop", "hold", "release"]
 
 CHOICES = {"win": ["b", "c"], "wid": ["1", "2", "4"], "mode": ["rw", "ro"], "verdict": ["done", "failed"]}
 

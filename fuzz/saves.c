@@ -39,7 +39,7 @@ static void write_register(const struct seat *seat, uint8_t window, uint16_t off
     need(kalyubos_write(seat->board, seat->slot, window, offset, 4, value, &pending) == KALYUBOS_DONE, "a write", seat->slot);
 }
 
-/* Resets both windows, and leaves registers, queues, a size and typed bytes of its own there. It notifies nothing. */
+/* Resets both windows, and leaves registers, queues, a size, a hold and typed bytes of its own there. It notifies nothing. */
 static void use_as_a_stranger(const struct seat *seat)
 {
     static const uint16_t offsets[] = { 0x14, 0x24, 0x20, 0x30, 0x38, 0x44, 0x64, 0x70, 0x80, 0x84, 0x90, 0x94, 0xa0, 0xa4 };
@@ -57,6 +57,8 @@ static void use_as_a_stranger(const struct seat *seat)
     memset(typed, 's', sizeof typed);
     need(kalyubos_input(seat->board, seat->slot, typed, thrown(sizeof typed), &took, &pending) == KALYUBOS_DONE, "an input", seat->slot);
     kalyubos_resize(seat->board, seat->slot, (uint16_t)thrown(300), (uint16_t)thrown(300), &pending);
+    uint32_t answer = (thrown(2) ? kalyubos_hold : kalyubos_release)(seat->board, seat->slot, &pending);
+    need(answer == KALYUBOS_IDLE || (answer == KALYUBOS_DONE && seat->disk != NULL), "a hold or a release", answer);
 }
 
 void check_no_save(struct seat *seat)

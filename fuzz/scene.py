@@ -8,6 +8,7 @@ from reader import EXTENDED, FIRST, FIRST_LINES
 BASES = [0x80000000, 0x80000000, 0, 0x40000000, (1 << 64) - 0x10000]
 CACHES = [1, 2, 3, 8, 65536]
 WILDNESS = [0, 0, 0.1, 0.4, 0.8]
+SAID = ["io {} 0 done", "drop {}", "hold {}", "release {}"]
 STRANGERS = ["r {} b 000 4", "w {} b 070 4 00000000", "w {} c 050 4 00000000", "mr {} 80000000 4", "mw {} 80000000 ff"]
 
 # How many regions a memory has behind its first one in an extended trace, how long these are, and how far from the next.
@@ -91,7 +92,7 @@ class Scene:
                 yield guest, done[guest]
                 done[guest] += 1
             if dice.random() < 0.01:
-                yield None, dice.choice(STRANGERS).format(f"{dice.randrange(len(done), 256):x}")
+                yield None, dice.choice(STRANGERS + SAID if self.is_hosted else STRANGERS).format(f"{dice.randrange(len(done), 256):x}")
 
     def trace(self, cache=None, first_line=None):
         """The whole trace."""
@@ -109,7 +110,7 @@ class Scene:
 
     def event(self, guest, number, slot):
         word, fields = self.guests[guest].events[number]
-        return f"{word} {slot:x} {fields}"
+        return f"{word} {slot:x}" + (f" {fields}" if fields else "")
 
     def outside_of_disks(self, image):
         """The sectors of an image that lie in no guest's extent."""

@@ -19,7 +19,7 @@ void tell_pending(struct told *told, const struct kalyubos_pending *pending);
 
 /* What was counted of a guest. */
 struct counts {
-    uint64_t pauses, refused, taken, operations, failures, waits, saves;
+    uint64_t pauses, refused, taken, operations, failures, drops, holds, waits, saves;
 };
 
 /* A guest on a board. */

@@ -3,8 +3,8 @@
  * with what it is told on a board of its own, without a budget. All are on a board once for each of BOARDS:
  *  - others' events are served between the pieces of a service;
  *  - where the host serves a disk, up to 64 operations are in flight; they are completed at random moments and in any
- *    order, and some fail (flights.c). The
- *    boards of one such guest are called by a thread each, all at once and without a lock.
+ *    order, some fail, some are dropped, and the slot is held for a while (flights.c). The boards of one such guest are
+ *    called by a thread each, all at once and without a lock.
  *
  *     sessions TRACE IMAGE SEED    prints what was counted, or ends with 1 and the first event that was answered otherwise
  *     sessions                     prints the features that a board offers, as records: of both windows, and the high word
@@ -130,7 +130,10 @@ static bool goes_again(struct seat *seat, uint32_t answer)
     if (answer == KALYUBOS_BUSY) {
         need(seat->disk != NULL && seat->disk->begun != 0, "a write is busy", seat->slot);
         seat->counts.waits++;
-        complete(seat);
+        if (chance(seat, 8) == 0)
+            drop(seat);
+        else
+            complete(seat);
         return true;
     }
     if (answer != KALYUBOS_NO_ROOM)
@@ -204,7 +207,10 @@ static void act(struct seat *seat, const struct event *event)
         tell_pending(told, &pending);
         break;
     case RESTORE:
-    case COMPLETE: break; /* these traces have none */
+    case COMPLETE:
+    case DROP:
+    case HOLD:
+    case RELEASE: break; /* these traces have none */
     }
     look(seat);
     if (chance(seat, 8) == 0)
@@ -421,6 +427,8 @@ static void add_counts(const struct counts *counts)
     total.taken += counts->taken;
     total.operations += counts->operations;
     total.failures += counts->failures;
+    total.drops += counts->drops;
+    total.holds += counts->holds;
     total.waits += counts->waits;
     total.saves += counts->saves;
 }
@@ -483,10 +491,10 @@ int main(int argc, char **argv)
     need(begun != NULL, "no memory", events_len);
     check_boards(image);
     printf("%zu events, %" PRIu64 " pauses, %" PRIu64 " writes without room, %" PRIu64 " bytes taken, %" PRIu64
-           " operations, %" PRIu64 " of them failed, %" PRIu64 " writes that waited for a disk, %" PRIu64
-           " guests that were saved and restored\n",
+           " operations, %" PRIu64 " of them failed, %" PRIu64 " drops, %" PRIu64 " holds, %" PRIu64
+           " writes that waited for a disk, %" PRIu64 " guests that were saved and restored\n",
            BOARDS_LEN * events_len, total.pauses, total.refused, total.taken, total.operations, total.failures,
-           total.waits, total.saves);
+           total.drops, total.holds, total.waits, total.saves);
     free(begun);
     for (size_t i = 0; i < events_len; i++)
         free(events[i].bytes);

@@ -22,7 +22,7 @@ enum { GAP = 0x1000, SECOND_LEN = 0x2000, SPAN = MEMORY_LEN + GAP + SECOND_LEN }
 static const uint64_t MEMORY = 0x80000000;
 
 /* Where the fields of a snapshot stand (crates/snapshot/README.md): in the whole, in a window, and in a queue. */
-enum { VERSION = 8, READ_ONLY = 36, DESCRIPTION = 61, BLOCK_WINDOW = DESCRIPTION };
+enum { VERSION = 8, READ_ONLY = 36, DESCRIPTION = 61, HELD = DESCRIPTION, BLOCK_WINDOW };
 enum { STATUS_AT = 8, ACCEPTED = 9, QUEUES = 33, AREAS = 4, READY = 28, PLACE = 29, AHEAD = 35, QUEUE_LEN = 29, SERVED_LEN = 8 };
 
 /* The registers that a driver uses (4.2.2). */
@@ -80,7 +80,7 @@ static bool spells(const struct snapshot *snapshot, struct layout *layout)
 {
     const uint8_t *bytes = snapshot->bytes;
     size_t at = BLOCK_WINDOW;
-    if (snapshot->len < DESCRIPTION || memcmp(bytes, "KALYUBOS\1\0\0\0", 12) != 0 || bytes[READ_ONLY] > 1)
+    if (snapshot->len < BLOCK_WINDOW || memcmp(bytes, "KALYUBOS\1\0\0\0", 12) != 0 || bytes[READ_ONLY] > 1 || bytes[HELD] > 1)
         return false;
     for (int window = 0; window < 2; window++) {
         at += QUEUES;
@@ -150,6 +150,20 @@ static bool complete_one(struct guest *guest)
     uint32_t answer = kalyubos_completed(guest->board, guest->slot, (uint8_t)__builtin_ctzll(tags), chance(4) == 0, &pending);
     need(answer == KALYUBOS_DONE || answer == KALYUBOS_IO, "completed", answer);
     return true;
+}
+
+/* The host gives up what is in flight, or holds the slot or releases it. Over an image there is nothing to do. */
+static void say_of_disk(struct guest *guest)
+{
+    static uint32_t (*const calls[])(struct kalyubos *, uint8_t, struct kalyubos_pending *) = {
+        kalyubos_drop, kalyubos_hold, kalyubos_release,
+    };
+    struct kalyubos_pending pending;
+    uint64_t which = chance(3), tags = 0;
+    uint32_t answer = calls[which](guest->board, guest->slot, &pending);
+    need(answer == KALYUBOS_IDLE || answer == (guest->is_hosted ? KALYUBOS_DONE : KALYUBOS_BUSY) ||
+         (guest->is_hosted && which == 2 && answer == KALYUBOS_IO), "an answer to what the host says", answer);
+    need(kalyubos_in_flight(guest->board, guest->slot, &tags) == KALYUBOS_DONE && (which != 0 || tags == 0), "a drop", tags);
 }
 
 /* Brings what is paused or in flight to its end. An IN leaves the guest's memory as it is, and some operations fail. */
@@ -271,6 +285,9 @@ static void act(struct guest *guest, const struct snapshot *snapshot)
         case 2:
             write_register(guest, (uint8_t)chance(2), (uint16_t)(4 * chance(0x48)), (uint32_t)chance(1 << 20));
             break;
+        case 3:
+            say_of_disk(guest);
+            break;
         default:
             write_register(guest, (uint8_t)chance(2), NOTIFY, (uint32_t)chance(2));
         }
@@ -384,11 +401,12 @@ static void hand(struct guest *guest, const struct snapshot *made, bool must_be_
     save(guest, &after);
     need(answer <= KALYUBOS_SHORT_BUFFER, "an answer", answer);
     counts[answer]++;
-    need(!must_be_taken || answer == KALYUBOS_DONE, "a saved slot is refused", tried);
+    bool is_held = made->len >= BLOCK_WINDOW && made->bytes[HELD] == 1;
+    need(!must_be_taken || (is_held && !guest->is_hosted) || answer == KALYUBOS_DONE, "a saved slot is refused", tried);
     if (!spells(made, &layout))
         need(answer == KALYUBOS_BAD_SNAPSHOT, "bytes that spell no snapshot", tried);
-    else if (!are_alike(made, &layout, &before))
-        need(answer == KALYUBOS_OTHER_SLOT, "a slot of another description", tried);
+    else if (!are_alike(made, &layout, &before) || (is_held && !guest->is_hosted))
+        need(answer == KALYUBOS_OTHER_SLOT, "a slot of another description, or a held one over an image", tried);
     else if (get(made->bytes + layout.interrupts[0] + 1, 4) != 0)
         need(answer == KALYUBOS_BAD_STATE, "a disk of another generation", tried);
     else

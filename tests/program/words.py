@@ -123,7 +123,7 @@ def version():
 EVERY_LINE = "each line ends with a line feed, and the first two are there"
 FIRST_LINE = 'the first line is "vreplay 1", "vreplay 2" or "kalyubos 1"'
 WORDS = "a line begins with slot, r, w, mr, mw, in or sz"
-WORDS_EXTENDED = "a line begins with slot, r, w, mr, mw, in, sz, st or io"
+WORDS_EXTENDED = "a line begins with slot, r, w, mr, mw, in, sz, st, io, drop, hold or release"
 NUMBER = "is lower case hexadecimal digits without zeros in front, of {} bits at most, as 1f"
 BYTES = "bytes are two lower case hexadecimal digits each, as 4142, or - for none"
 IDENTITY = "an identity is 20 bytes by two lower case hexadecimal digits each, so 40 digits"
@@ -187,6 +187,11 @@ TEXTS = [
     (b"vreplay 2\ncache 1\nio 0 0 done\n", f'line 3: {WORDS}; found "io 0 0 done"'),
     (b"kalyubos 1\ncache 1\nio 0\n", 'line 3: io has 3 fields after it, each after one space, as "io 0 0 done"; found "io 0"'),
     (b"kalyubos 1\ncache 1\nio 0 0 ok\n", 'line 3: what came of an operation is done or failed; found "ok"'),
+    (b"vreplay 2\ncache 1\ndrop 0\n", f'line 3: {WORDS}; found "drop 0"'),
+    (b"kalyubos 1\ncache 1\ndrop 0 0\n", 'line 3: drop has 1 field after it, each after one space, as "drop 0"; found "drop 0 0"'),
+    (b"kalyubos 1\ncache 1\nhold\n", 'line 3: hold has 1 field after it, each after one space, as "hold 0"; found "hold"'),
+    (b"kalyubos 1\ncache 1\nrelease 100\n", f'line 3: a slot {NUMBER.format(8)}; found "100"'),
+    (b"kalyubos 1\ncache 1\nreleases 0\n", f'line 3: {WORDS_EXTENDED}; found "releases 0"'),
     (b"kalyubos 1\ncache 1\n", "the trace's board: a board needs a slot"),
     (f"vreplay 2\ncache 1\nslot 0 1000 0 9 rw 50 19 {NAMED}\n".encode(),
      "slot 0 (line 3): an extent passes the end of the image"),

@@ -85,10 +85,15 @@ struct hosting {
     bool (*write)(unsigned guest, unsigned window, unsigned offset, unsigned width, uint32_t value);
     /* Says of the operation of a tag that it was done or that it failed. False: nothing is in flight of the guest with it. */
     bool (*complete)(unsigned guest, unsigned tag, bool failed);
-    /* The operations that began with the guest's last write or completion: bit n is set for the one of tag n. */
+    /* The operations that began with the guest's last write, completion or release: bit n is set for the one of tag n. */
     uint64_t (*began)(unsigned guest);
     /* The operation of such a tag. */
     void (*asked)(unsigned guest, unsigned tag, struct operation *operation);
+    /* Gives up what is in flight of the guest; takes no further chain of its disk; takes them again. False: there is nothing
+     * to do. Null: no trace may say so. */
+    bool (*drop)(unsigned guest);
+    bool (*hold)(unsigned guest);
+    bool (*release)(unsigned guest);
 };
 
 /* The device. What a write or an input notifies is served before the call returns. */

@@ -61,7 +61,7 @@ static void replay_both(struct trace *trace)
     struct event event;
     while (read_event(trace, &event)) {
         ours.len = theirs.len = 0;
-        if (event.kind == RESTORE && !device.restore) {
+        if (!can_be_asked(&device, trace, &event)) {
             free(event.bytes);
             continue;
         }
@@ -90,7 +90,20 @@ static size_t line_end(const uint8_t *bytes, size_t at, size_t len)
     return at < len ? at + 1 : len;
 }
 
-/* Mostly a digit becomes another one, or a line is left out or comes twice, so that it stays a trace. */
+/* Puts a line before another one: what the host says of a disk that it serves. */
+static size_t put_line(uint8_t *bytes, size_t len, size_t most, size_t at, uint32_t dice)
+{
+    static const char *const words[] = {"drop", "hold", "release", "release"};
+    char line[16];
+    size_t added = (size_t)snprintf(line, sizeof line, "%s %u\n", words[dice & 3], (unsigned)(dice >> 2 & 1));
+    if (len + added > most)
+        return len;
+    memmove(bytes + at + added, bytes + at, len - at);
+    memcpy(bytes + at, line, added);
+    return len + added;
+}
+
+/* Mostly a digit becomes another one, or a line is left out, comes twice or is put in, so that it stays a trace. */
 size_t LLVMFuzzerCustomMutator(uint8_t *bytes, size_t len, size_t most, unsigned seed)
 {
     uint32_t dice = seed * 2654435761u;
@@ -106,10 +119,12 @@ size_t LLVMFuzzerCustomMutator(uint8_t *bytes, size_t len, size_t most, unsigned
         return len;
     }
     size_t begin = line_begin(bytes, at), end = line_end(bytes, at, len);
-    if (way < 14) {
+    if (way == 12) {
         memmove(bytes + begin, bytes + end, len - end);
         return len - (end - begin);
     }
+    if (way == 13)
+        return put_line(bytes, len, most, begin, dice);
     if (len + (end - begin) > most)
         return len;
     memmove(bytes + end, bytes + begin, len - begin);

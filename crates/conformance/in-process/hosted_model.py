@@ -20,6 +20,13 @@ class ServedSlot(model.HostedSlot):
             self.complete(tag, self.is_done(self.tags[tag]))
         return output
 
+    # A trace of disks on the image has nobody who says anything of them.
+
+    def drop(self):
+        return False
+
+    hold = release = drop
+
     def is_done(self, asked):
         """Does an operation; whether no call failed."""
         kind, _, stable = asked.kind.partition("-")

@@ -25,7 +25,7 @@ static struct kalyubos board;
 static uint8_t *image;
 static size_t image_len;
 
-/* The tags of what is in flight of each guest, and of what began with the last write or completion. */
+/* The tags of what is in flight of each guest, and of what began with the last write, completion or release. */
 static uint64_t begun[MOST_SLOTS], fresh;
 
 /* Ends the program where a call doesn't answer what it must. */
@@ -174,7 +174,7 @@ static const char *restore(unsigned guest, const uint8_t *bytes, size_t len)
 
 /* --- a trace that serves the disks */
 
-/* What a write or a completion began. */
+/* What a write, a completion or a release began. */
 static void note_begun(unsigned guest, uint32_t answer)
 {
     uint64_t tags = 0;
@@ -212,6 +212,38 @@ static bool complete(unsigned guest, unsigned tag, bool failed)
     return true;
 }
 
+/* What else the host says of a disk. */
+static bool say(unsigned guest, uint32_t (*call)(struct kalyubos *, uint8_t, struct kalyubos_pending *))
+{
+    struct kalyubos_pending pending;
+    uint32_t answer = call(&board, (uint8_t)guest, &pending);
+    fresh = 0;
+    if (answer == KALYUBOS_IDLE)
+        return false;
+    note_begun(guest, answer);
+    return true;
+}
+
+static bool drop(unsigned guest)
+{
+    bool done = say(guest, kalyubos_drop);
+    if (begun[guest] != 0) {
+        fputs("something is in flight behind a drop\n", stderr);
+        exit(3);
+    }
+    return done;
+}
+
+static bool hold(unsigned guest)
+{
+    return say(guest, kalyubos_hold);
+}
+
+static bool release(unsigned guest)
+{
+    return say(guest, kalyubos_release);
+}
+
 static uint64_t began(unsigned guest)
 {
     (void)guest;
@@ -229,7 +261,7 @@ static void asked(unsigned guest, unsigned tag, struct operation *operation)
         operation->runs[i] = (struct run){runs[i].at, runs[i].len};
 }
 
-static const struct hosting hosting = {true, write_hosted, complete, began, asked};
+static const struct hosting hosting = {true, write_hosted, complete, began, asked, drop, hold, release};
 
 #ifdef OURS
 extern const struct device kalyubos;

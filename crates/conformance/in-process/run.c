@@ -48,7 +48,7 @@ static bool replay(struct trace *trace)
     struct text record = {0};
     struct event event;
     while (trace->events < trace->end) {
-        if (!read_event(trace, &event) || (event.kind == RESTORE && !device.restore))
+        if (!read_event(trace, &event) || !can_be_asked(&device, trace, &event))
             return false;
         record.len = 0;
         replay_event(&device, trace, &event, &record);
@@ -114,7 +114,7 @@ int main(int argc, char **argv)
     bool replayed = replay(&trace);
     device.end();
     if (!replayed) {
-        fputs("the text isn't a trace, or has a restore that the device can't be asked\n", stderr);
+        fputs("the text isn't a trace, or has an event that the device can't be asked\n", stderr);
         return 77;
     }
     if (saved)

@@ -278,7 +278,8 @@ static bool read_fields(const struct field *fields, size_t count, struct event *
         event->failed = is(fields[3], "failed");
         return event->failed || is(fields[3], "done");
     }
-    return false;
+    event->kind = is(fields[0], "drop") ? DROP : is(fields[0], "hold") ? HOLD : RELEASE;
+    return count == 2 && (event->kind != RELEASE || is(fields[0], "release"));
 }
 
 bool read_event(struct trace *trace, struct event *event)
@@ -288,7 +289,7 @@ bool read_event(struct trace *trace, struct event *event)
     if (!next_line(&trace->events, trace->end, &line))
         return false;
     size_t count = split(line.at, line.len, fields, 6);
-    if (count >= 3 && read_fields(fields, count, event))
+    if (count >= 2 && read_fields(fields, count, event))
         return true;
     free(event->bytes);
     event->bytes = NULL;
@@ -327,6 +328,20 @@ static void look(const struct device *device, const struct trace *trace, const s
     free(into);
 }
 
+typedef bool say(unsigned guest);
+
+/* What a device has for a drop, a hold or a release. */
+static say *call_of(const struct hosting *hosting, const struct event *event)
+{
+    return event->kind == DROP ? hosting->drop : event->kind == HOLD ? hosting->hold : hosting->release;
+}
+
+bool can_be_asked(const struct device *device, const struct trace *trace, const struct event *event)
+{
+    bool of_host = event->kind >= DROP && event->guest < trace->guests_len && trace->guests[event->guest].hosted;
+    return (event->kind != RESTORE || device->restore) && (!of_host || call_of(device->hosting, event));
+}
+
 static void reply(const struct device *device, const struct trace *trace, const struct event *event,
                   struct text *record)
 {
@@ -347,6 +362,12 @@ static void reply(const struct device *device, const struct trace *trace, const 
         break;
     case COMPLETE:
         if (!trace->guests[event->guest].hosted || !device->hosting->complete(event->guest, event->tag, event->failed))
+            strcpy(word, "idle");
+        break;
+    case DROP:
+    case HOLD:
+    case RELEASE:
+        if (!trace->guests[event->guest].hosted || !call_of(device->hosting, event)(event->guest))
             strcpy(word, "idle");
         break;
     case MEMORY_READ:
@@ -385,7 +406,7 @@ static void append_operation(const struct device *device, unsigned guest, unsign
 /* The operations that began with the event, in the order of their tags, or that none did. */
 static void append_asked(const struct device *device, bool hosted, const struct event *event, struct text *record)
 {
-    bool may_ask = hosted && (event->kind == WRITE || event->kind == COMPLETE);
+    bool may_ask = hosted && (event->kind == WRITE || event->kind == COMPLETE || event->kind == RELEASE);
     uint64_t began = may_ask ? device->hosting->began(event->guest) : 0;
     const char *before = " ";
     if (!began)

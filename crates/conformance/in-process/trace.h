@@ -17,7 +17,7 @@ struct trace {
 
 /* One event, with its bytes in `bytes`. */
 struct event {
-    enum { READ, WRITE, MEMORY_READ, MEMORY_WRITE, INPUT, RESIZE, RESTORE, COMPLETE } kind;
+    enum { READ, WRITE, MEMORY_READ, MEMORY_WRITE, INPUT, RESIZE, RESTORE, COMPLETE, DROP, HOLD, RELEASE } kind;
     bool failed;
     unsigned guest, window, offset, width, tag;
     uint64_t address;
@@ -42,7 +42,10 @@ bool read_setup(const char *text, size_t len, struct trace *trace);
 /* Reads the next event and moves `trace->events` behind it; its bytes are to be freed. False: it isn't one. */
 bool read_event(struct trace *trace, struct event *event);
 
-/* Has the device do the event, and writes its record, a line with its LF. */
+/* Whether the device can be asked for an event. */
+bool can_be_asked(const struct device *device, const struct trace *trace, const struct event *event);
+
+/* Has the device do such an event, and writes its record, a line with its LF. */
 void replay_event(const struct device *device, const struct trace *trace, const struct event *event,
                   struct text *record);
 

@@ -74,7 +74,23 @@ def completes_nothing(guest, window, setup):
         guest.do("io", f"0 {verdict}")
 
 
+def is_held(guest, window, setup):
+    """It is held, and what it has on offer is asked, and dropped, behind the release."""
+    guest.do("hold")
+    begins(guest, "a_flush")
+    guest.do("drop")
+    guest.do("release")
+    guest.do("drop")
+
+
+def stays_held(guest, window, setup):
+    """It is held while the other's request ends."""
+    guest.do("hold")
+
+
 OWN = [is_restored, restored_after_a_life, a_bad_restore, completes_nothing]
+# What its host says of it.
+SAID = [is_held, stays_held, is_held]
 WHAT = [(window, action) for window in "bc" for action in ACTIONS[window].values()] + [("b", action) for action in OWN] \
     + [(("b", "c")[turn % 2], history) for turn, history in enumerate(LIVES.values())]
 # Each request has every fourth of these beside it.
@@ -96,7 +112,7 @@ def actions_beside(turn, name, is_packed):
     def script(life):
         guest, beside = guests_of(life, setup, other)
         guest.acknowledges = beside.acknowledges = False
-        for window, action in WHAT[(turn + 2 * is_packed) % SHARE::SHARE] + [("b", action) for action in OWN]:
+        for window, action in WHAT[(turn + 2 * is_packed) % SHARE::SHARE] + [("b", action) for action in OWN + SAID]:
             guest.meanwhile = lambda _: acts(beside, window, action, other)
             guest.asks(name)
             guest.acknowledge("b")

@@ -128,7 +128,14 @@ def completes_nothing(guest):
     guest.do("io", "0 failed")
 
 
-ACTS = [*map(asking, KNOWN), offers, asking("a_read"), falls, is_reset, asking("a_write"), stops, is_restored, uses_the_console, completes_nothing]
+def held_and_dropped(guest):
+    """Over an image there is nothing to hold, to release or to drop."""
+    for word in ("hold", "drop", "release"):
+        guest.do(word)
+
+
+ACTS = [*map(asking, KNOWN), offers, asking("a_read"), falls, is_reset, asking("a_write"), stops, is_restored, uses_the_console, completes_nothing,
+        held_and_dropped, asking("a_flush")]
 
 
 def seen(guest):

@@ -28,6 +28,13 @@ OF_FORMAT = {
              [f"slot 80000000+1000 host:1 0 9 ro 50 19 {IDENTITY}", f"slot 80000000+1000,90000000+1000 image 0 8 rw 0 ffff {IDENTITY}"],
              [*EVENTS, f"st 1 {SNAPSHOT}", "io 0 0 done", "io 1 0 failed"]),
 }
+# And of the words of a disk that is dropped, held and released.
+OF_WORDS = {
+    "held": ("kalyubos 1", "cache 1",
+             [f"slot 80000000+1000 host:2 0 4 rw 50 19 {IDENTITY}", f"slot 0+1000 image 0 4 ro 0 ffff {IDENTITY}"],
+             ["drop 0", "drop 1", "hold 0", "hold 0", "hold 1", "release 0", "release 1", "drop 2", "hold ff", "release 40", "io 0 0 done", "in 0 61",
+              "w 0 b 014 4 00000001"]),
+}
 # What stands for any field, and for any line.
 OTHERS = ("1" + "0" * 16, "f" * 16, "10000", "ffff", "100", "ff", "100000000", "ffffffff", "0", "00", "b", "c", "B", "3", "4", "1", "done",
           "failed", "rw", "ro", "RO", "image", "host:1")
@@ -54,7 +61,7 @@ class Text(Story):
 
 def stories():
     yield by_hand()
-    for name, parts in OF_FORMAT.items():
+    for name, parts in {**OF_FORMAT, **OF_WORDS}.items():
         for number in range(COUNT):
             dice = Dice(f"broken {name} {number}")
             yield Text(f"broken/{name}_{number}", "A trace is broken by lot.", broken(dice, parts), [("texts broken by lot", name.replace("_", " "))])

@@ -216,8 +216,8 @@ class Guest:
 
     # --- events
 
-    def do(self, word, fields):
-        return self.life.do(f"{word} {self.slot:x} {fields}")
+    def do(self, word, fields=""):
+        return self.life.do(f"{word} {self.slot:x}" + (f" {fields}" if fields else ""))
 
     def read(self, window, offset, width=4):
         return self.do("r", f"{window} {offset:03x} {width}")

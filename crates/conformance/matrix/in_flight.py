@@ -44,6 +44,8 @@ class Asking(Guest):
     def __init__(self, life, meanwhile=None, slot=0):
         super().__init__(life, slot)
         self.meanwhile, self.completed = meanwhile, 0
+        # What the host says behind the completion.
+        self.said_then = ""
 
     def flight(self):
         return self.life.board[self.slot].tags[0]
@@ -62,10 +64,13 @@ class Asking(Guest):
         asked, verdict = self.flight(), "failed" if self.completed % 3 == 0 else "done"
         if meanwhile:
             meanwhile(self)
-        if asked.kind == "in" and verdict == "done":
+        if self.flight() and asked.kind == "in" and verdict == "done":
             for turn, (at, count) in enumerate(asked.runs):
                 self.put(at, bytes([0xc0 + self.completed % 16 + turn]) * count)
         self.do("io", f"0 {verdict}")
+        if self.said_then:
+            said, self.said_then = self.said_then, ""
+            self.do(said)
 
     def asks(self, name):
         """A request, completed, and what is seen of it."""
@@ -183,6 +188,36 @@ def over_links(guest):
         guest.put(ring.areas[0] + 16 * ((ring.place + more) % ring.number) + 12, b"\x99\x99")
 
 
+def held_and_released(guest):
+    """Nothing is looked at where no tag is free."""
+    another_offer(guest)
+    for word in ("hold", "hold", "release", "release"):
+        guest.do(word)
+        guest.write("b", NOTIFY, 0)
+
+
+def held(guest):
+    """The completion takes nothing, and the release behind it does."""
+    another_offer(guest)
+    guest.do("hold")
+    guest.said_then = "release"
+
+
+def held_at_a_fault(guest):
+    """The chain with a fault waits for the release too."""
+    a_fault_behind(guest)
+    guest.do("hold")
+    guest.said_then = "release"
+
+
+def dropped(guest):
+    """The completion finds nothing in flight."""
+    guest.do("drop")
+    guest.do("drop")
+    guest.read("b", STATUS)
+    looked_at(guest)
+
+
 def looked_at(guest):
     """Nothing of the ring is written yet."""
     guest.ring("b", 0).look()
@@ -193,7 +228,7 @@ MEANWHILE = [
     looked_at, put_over(HEADER), put_over(DATA), put_over(HEADER + 16), put_over(DONE - 8),
     put_over_ring(0, -1, b"\x11" * 12), put_over_ring(2, 0, b"\x22" * 4), over_links,
     typed, typed_for_a_chain, a_text, notified, busy, busy_at_a_stop, of_the_console, registers, moved, resized, acknowledged,
-    of_another_slot, another_offer, a_fault_behind,
+    of_another_slot, another_offer, a_fault_behind, held_and_released, held, held_at_a_fault, dropped,
 ]
 
 

@@ -61,7 +61,8 @@ def of_queue(snapshot, window, index, **changes):
 def fields_of(snapshot):
     """Snapshots with one wrong field each, as bytes."""
     wrong = [of(snapshot, base=snapshot.base + 4096), of(snapshot, span=snapshot.span + 1), of(snapshot, sectors=snapshot.sectors - 1),
-             of(snapshot, read_only=not snapshot.read_only), of(snapshot, identity=b"x" * 20), of(snapshot, pending=b"p" * 4097)]
+             of(snapshot, read_only=not snapshot.read_only), of(snapshot, identity=b"x" * 20), of(snapshot, pending=b"p" * 4097),
+             *(of(snapshot, held=one) for one in (1, 2, 0xff))]
     for window in "bc":
         one = snapshot.windows[window]
         wrong += [of_window(snapshot, window, offered=one.offered ^ 1 << bit) for bit in (0, 33, 63)]
@@ -93,7 +94,7 @@ def of_ready_queue(snapshot, window, index, queue):
 def lengths_of(snapshot):
     """The snapshot cut at each of its fields and behind its first bytes, and with bytes behind it."""
     content = snapshot.spelled()
-    cuts = sorted({0, 1, 7, 8, 11, 12, 20, 28, 36, 37, 57, 59, 61, *range(61, len(content), 9), len(content) - 1, len(content) - 2})
+    cuts = sorted({0, 1, 7, 8, 11, 12, 20, 28, 36, 37, 57, 59, 61, *range(62, len(content), 9), len(content) - 1, len(content) - 2})
     return [content[:cut] for cut in cuts] + [content + bytes(more) for more in (1, 2, 4096)] + [content + content]
 
 

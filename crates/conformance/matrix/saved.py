@@ -48,6 +48,7 @@ class Saved:
     read_only: bool
     identity: bytes
     size: typing.List[int]
+    held: int
     windows: dict
     pending: bytes
 
@@ -55,7 +56,8 @@ class Saved:
         front = b"KALYUBOS" + number(1, 4) + number(self.base, 8) + number(self.span, 8) + number(self.sectors, 8)
         size = b"".join(number(one, 2) for one in self.size)
         windows = b"".join(self.windows[name].spelled() for name in "bc")
-        return b"".join([front, bytes([self.read_only]), self.identity, size, windows, number(len(self.pending), 4), self.pending])
+        slot = [front, bytes([self.read_only]), self.identity, size, bytes([self.held])]
+        return b"".join([*slot, windows, number(len(self.pending), 4), self.pending])
 
     def but(self, change):
         """The same with a change."""
@@ -69,7 +71,7 @@ def saved(guest):
     slot = guest.life.board[guest.slot]
     base, span = slot.memory.span()
     windows = {name: saved_window(window) for name, window in slot.windows.items()}
-    return Saved(base, span, slot.count, slot.read_only, slot.identity, [slot.cols, slot.rows], windows, slot.pending)
+    return Saved(base, span, slot.count, slot.read_only, slot.identity, [slot.cols, slot.rows], slot.held, windows, slot.pending)
 
 
 def saved_window(window):

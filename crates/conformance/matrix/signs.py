@@ -14,7 +14,8 @@ EXTENDED = "kalyubos 1"
 # The lines that version 2 and an extended trace have otherwise than version 1.
 SLOT_OF_VERSION_2 = {"slot_of_version_2": [*SLOT, IDENTITY]}
 EXTENDED_LINES = {"slot_of_an_extended_trace": [("regions", "80000000+10000"), ("disk", "image"), *SLOT[2:], IDENTITY],
-                  "st": [(8, "0"), ("bytes", "aabb")], "io": [(8, "0"), (8, "0")]}
+                  "st": [(8, "0"), ("bytes", "aabb")], "io": [(8, "0"), (8, "0")],
+                  "drop": [(8, "0")], "hold": [(8, "0")], "release": [(8, "0")]}
 VERDICT = "done"
 
 # What stands before, in or behind a number that is right but for that.

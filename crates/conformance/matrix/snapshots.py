@@ -3,6 +3,7 @@ from .actions import serves
 from .first_rows import SNAPSHOT, first
 from .follows import INDICES, Guest, Life, Setup, Wide
 from .histories import a_life
+from .in_flight import Asking
 from .saved import restore, saved
 
 TITLE = "Bits of a snapshot"
@@ -22,12 +23,13 @@ def stories():
             yield bits(window, is_packed)
             yield numbers(window, is_packed)
             yield in_flight(window, is_packed)
+        yield bits("b", is_packed, hosted=True)
 
 
 def by_hand():
     """A snapshot in which bit 4 of the disk's status is set, and one in which bit 2 is."""
     content = bytearray.fromhex(SNAPSHOT)
-    at = 8 + 4 + 24 + 1 + 20 + 4 + 8
+    at = 8 + 4 + 24 + 1 + 20 + 4 + 1 + 8
     lines = ""
     for bit, reply, status in ((4, "badstate", 0), (2, "done", 0xf)):
         content[at] = 0xb | 1 << bit
@@ -38,7 +40,7 @@ def by_hand():
 
 def at_work(life, window, is_packed):
     """A slot whose window has lived, beside one that is up."""
-    guest, setup = Guest(life), Setup(True, is_packed, 4, 0)
+    guest, setup = Asking(life) if life.hosted else Guest(life), Setup(True, is_packed, 4, 0)
     guest.bring_up("c" if window == "b" else "b", Setup(False, not is_packed, 2, 1))
     a_life(guest, window, setup)
     guest.type(b"ab")
@@ -49,7 +51,7 @@ def named(window, is_packed, what):
     return f"snapshot_bits/{what}_of_a_{'packed' if is_packed else 'split'}_{'disk' if window == 'b' else 'console'}"
 
 
-def bits(window, is_packed):
+def bits(window, is_packed, hosted=False):
     def script(life):
         guest, setup = at_work(life, window, is_packed)
         snapshot = saved(guest)
@@ -62,7 +64,8 @@ def bits(window, is_packed):
                     guest.read("bc"[at % 2], offset)
                     guest.read("cb"[at % 2], offset)
                 restore(guest, snapshot)
-    return Life(named(window, is_packed, "each_bit"), "Each bit of a snapshot is turned.", script, [Wide(length=0x10000)],
+    what = "each_bit_where_the_host_serves" if hosted else "each_bit"
+    return Life(named(window, is_packed, what), "Each bit of a snapshot is turned.", script, [Wide(length=0x10000)], hosted=hosted,
                 shows=[("a slot's snapshot", "each bit")])
 
 

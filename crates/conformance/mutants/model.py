@@ -583,8 +583,9 @@ class Window:
 
 
 class Slot:
-    # What is in flight, by its tag: over an image nothing ever is.
-    tags = ()
+    # What is in flight, by its tag; whether no further chain is taken; and what a snapshot may say of that: over an image nothing
+    # is ever in flight, and a slot never held.
+    tags, held, may_be_held = (), False, (0,)
 
     def __init__(self, fields, cache, lacks):
         base, length, self.start, self.count, mode, self.cols, self.rows, *named = fields
@@ -651,6 +652,7 @@ class Slot:
         snapshot.only_value(1, int(self.read_only))
         snapshot.only(self.identity)
         cols, rows = snapshot.value(2), snapshot.value(2)
+        held = snapshot.choice(self.may_be_held) == 1
         windows = {window: self.windows[window].restored(snapshot, self.memory) for window in "bc"}
         count = snapshot.value(4)
         if count > 4096:
@@ -659,6 +661,7 @@ class Slot:
         if snapshot.rest:
             raise NoSnapshot
         self.windows, self.pending, self.cols, self.rows = windows, pending, cols, rows
+        self.held = held
 
     # --- services
 
@@ -786,8 +789,18 @@ class Slot:
             return IOERR
         return OK
 
+    # --- what a host says, each with whether there was something to do: over an image there never is
+
     def complete(self, tag, went_well):
-        """Whether something was in flight."""
+        return False
+
+    def drop(self):
+        return False
+
+    def hold(self):
+        return False
+
+    def release(self):
         return False
 
     # --- console
@@ -816,6 +829,8 @@ class Slot:
 class HostedSlot(Slot):
     """A slot whose disk the host serves: chains that ask for it are in flight, each at its tag, until the host says what came of them."""
 
+    may_be_held = (0, 1)
+
     def serve(self, window, index):
         if window == "c":
             return super().serve(window, index)
@@ -826,7 +841,8 @@ class HostedSlot(Slot):
     def look(self):
         """A service that goes on behind a chain that asks, while a tag is free; where none is, its queue stays open."""
         try:
-            super().serve("b", 0)
+            if not self.held:
+                super().serve("b", 0)
         except Asks as asked:
             self.tags[self.tags.index(None)] = asked
             self.windows["b"].queues[0].launch(asked.chain)
@@ -835,6 +851,27 @@ class HostedSlot(Slot):
                 self.look()
         else:
             self.windows["b"].queues[0].shut()
+
+    def drop(self):
+        if not any(self.tags):
+            return False
+        self.tags = [None] * len(self.tags)
+        self.windows["b"].status |= NEEDS_RESET
+        self.windows["b"].interrupts |= 2
+        return True
+
+    def hold(self):
+        if self.held:
+            return False
+        self.held = True
+        return True
+
+    def release(self):
+        if not self.held:
+            return False
+        self.held = False
+        self.notify("b", 0)
+        return True
 
     def complete(self, tag, went_well):
         if not any(self.tags[tag:tag + 1]):
@@ -1050,12 +1087,28 @@ def restored(slot, content):
     return "done", b""
 
 
+def told(was_to_do):
+    return "done" if was_to_do else "idle", b""
+
+
 def completed(slot, tag, verdict):
-    return "done" if slot.complete(int(tag, 16), verdict == "done") else "idle", b""
+    return told(slot.complete(int(tag, 16), verdict == "done"))
+
+
+def dropped(slot):
+    return told(slot.drop())
+
+
+def held(slot):
+    return told(slot.hold())
+
+
+def released(slot):
+    return told(slot.release())
 
 
 REPLIES = {"r": read, "w": write, "mr": memory_read, "mw": memory_write, "in": typed, "sz": resized, "st": restored,
-           "io": completed}
+           "io": completed, "drop": dropped, "hold": held, "release": released}
 
 
 def replay(text, content, fails=(), lacks=(), fault_of=None):

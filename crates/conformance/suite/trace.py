@@ -48,8 +48,8 @@ def bit_name(window, bit):
 EXTENDED = "kalyubos 1\n"
 
 # Every name that a scenario's features may have.
-BESIDE_BITS = {"guests", "extended", "hosted", "depth", "ro", "input", "resize", "size", "restore", "vendor", "offer", "fails",
-               "calls"}
+BESIDE_BITS = {"guests", "extended", "hosted", "depth", "held", "ro", "input", "resize", "size", "restore", "vendor", "offer",
+               "fails", "calls"}
 NAMED = BESIDE_BITS | {feature for fields in FIELDS.values() for _, _, feature in fields} \
     | {bit_name(window, bit) for window in WINDOWS for bit in range(64)}
 
@@ -101,6 +101,15 @@ class Event:
     def say_io(self, tag, verdict):
         return f"has its disk's operation of tag {tag} {verdict}"
 
+    def say_drop(self):
+        return "has what is in flight of its disk dropped"
+
+    def say_hold(self):
+        return "is held"
+
+    def say_release(self):
+        return "is released"
+
 
 def bytes_in(field):
     return 0 if field == "-" else len(field) // 2
@@ -118,7 +127,7 @@ def place(window, offset):
     return f"{REGISTERS.get(offset, f'offset {offset:03x}')} of its {WINDOWS[window]} window"
 
 
-COUNTS = {"r": 5, "w": 6, "mr": 4, "mw": 4, "in": 3, "sz": 4, "st": 3, "io": 4}
+COUNTS = {"r": 5, "w": 6, "mr": 4, "mw": 4, "in": 3, "sz": 4, "st": 3, "io": 4, "drop": 2, "hold": 2, "release": 2}
 
 
 def events_of(text):
@@ -151,8 +160,8 @@ def features_of(text, replies):
     They are the features that a driver takes or asks for (DriverFeatures), those that a device shows (the expected
     answers of DeviceFeatures), and those whose configuration fields are touched. Others are no bits: `offer`, all
     offered features are read; `vendor`, VendorID is; `resize`, `input` and `restore`, the host does that; `hosted`, it
-    serves a disk; `depth`, several operations of one may be in flight; `guests`, there are more than one; `ro`, a slot is read-only; `extended`, the trace is of no
-    version that a plain one has.
+    serves a disk; `depth`, several operations of one may be in flight; `held`, what is in flight is dropped, or a slot is held or released; `guests`,
+    there are more than one; `ro`, a slot is read-only; `extended`, the trace is of no version that a plain one has.
     """
     found = {"extended"} if text.startswith(EXTENDED) else set()
     slots = slots_of(text)
@@ -184,6 +193,8 @@ def features_in(event, reply, windows):
         return {"restore"}
     if event.word == "io":
         return {"hosted"}
+    if event.word in ("drop", "hold", "release"):
+        return {"hosted", "held"}
     if event.word not in ("r", "w") or event.fields[2] not in WINDOWS:
         return set()
     name, offset, width = event.fields[2], int(event.fields[3], 16), event.fields[4]

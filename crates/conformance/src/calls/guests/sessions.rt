@@ -4,7 +4,7 @@ use super::Guests;
 use crate::calls::answer::{put_bytes, put_number, put_result, put_word, written};
 use crate::calls::subject::{Answered, Stuck};
 use crate::calls::words::Words;
-use board::{Event, EventKind};
+use board::{Event, EventKind, HostEvent};
 use session::{Budget, GuestSpec, Progress, Refusal, Session, SessionFault, Typed};
 use std::alloc::{Allocator, Global};
 use test_support::RefusingHeap;
@@ -242,7 +242,21 @@ fn answer_event<A: Allocator + Copy>(
             session.resize(slot, *cols, *rows).answer,
         ),
         EventKind::Restore { bytes } => put_result(answer, session.restore(slot, bytes.as_slice())),
-        EventKind::Complete { .. } => Err(Stuck::Words),
+        EventKind::Host(told) => put_progress(answer, tell(session, slot, *told)),
+    }
+}
+
+// Tells a session what a host says of its disk.
+fn tell<A: Allocator + Copy>(
+    session: &mut Session<A>,
+    slot: u8,
+    told: HostEvent,
+) -> Result<Progress, Refusal> {
+    match told {
+        HostEvent::Complete { tag, verdict } => session.completed(slot, tag, verdict).answer,
+        HostEvent::Drop => session.dropped(slot).answer,
+        HostEvent::Hold => session.hold(slot).answer,
+        HostEvent::Release => session.release(slot).answer,
     }
 }
 
