@@ -3,7 +3,9 @@
  * in shuffled order. The driver offers more requests than the depth, so that the last of them wait. Checked are what is asked
  * for with which tag, each byte of the disk and of the guest's data, each status, and the used entries: their ids and lengths,
  * in the order of the completions, so that each chain is given back once. Then faults with operations in flight: from then on
- * a completion frees its tag and changes no byte of memory.
+ * a completion frees its tag and changes no byte of memory. A drop does so of all tags at once, and the reset that waited
+ * passes. A held slot takes no request, not on the board to which its guest moves either, until it is released there; each
+ * request is served once.
  */
 #include <inttypes.h>
 #include <stdio.h>
@@ -87,18 +89,23 @@ static void bring_up(void)
         need(set((uint16_t)steps[i][0], steps[i][1]) == KALYUBOS_DONE, "a step of the driver", i);
 }
 
-static void make(enum ring its_ring, uint32_t its_depth)
+static void create(uint32_t its_depth)
 {
     struct kalyubos_slot slot = {
         .size = sizeof slot, .regions = { { MEMORY, MEMORY_LEN } }, .count = SECTORS, .hosted = true, .depth = its_depth,
     };
     struct kalyubos_config config = kalyubos_config(&slot, 1);
     size_t len;
-    ring = its_ring;
     depth = its_depth;
-    flying = 0;
     need(kalyubos_create(&board, &config) == KALYUBOS_DONE, "create", 0);
     need(kalyubos_memory(&board, 0, MEMORY, &memory, &len) == KALYUBOS_DONE && len == MEMORY_LEN, "memory", len);
+}
+
+static void make(enum ring its_ring, uint32_t its_depth)
+{
+    ring = its_ring;
+    flying = 0;
+    create(its_depth);
     bring_up();
 }
 
@@ -298,30 +305,45 @@ static void complete(uint8_t tag, bool failed, uint32_t answer)
     need(kalyubos_completed(&board, 0, tag, failed, &pending) == answer, "a completion", tag);
 }
 
-static void run_round(uint32_t requests, unsigned round, enum order order)
+/* Serves one that is in flight, with which requests before `end` may begin. */
+static void serve_one(uint32_t end, enum order order)
+{
+    uint8_t tag = next_tag(order);
+    unsigned request = request_of[tag];
+    check_busy();
+    if (!fails(request))
+        move(request);
+    flying &= ~((uint64_t)1 << tag);
+    complete(tag, fails(request), begin(end) ? KALYUBOS_IO : KALYUBOS_DONE);
+    need(pending.block == 1 && set(ACK, 1) == KALYUBOS_DONE && pending.block == 0, "the line", pending.block);
+    take_used(request);
+    check_tags();
+}
+
+static void offer_all(uint32_t requests, unsigned round)
 {
     waiting = 0;
     for (unsigned request = 0; request < requests; request++)
         offer(request, round);
+}
+
+static void check_requests(uint32_t requests, unsigned round)
+{
+    need(flying == 0 && waiting == requests, "all are completed", flying);
+    for (unsigned request = 0; request < requests; request++)
+        check_request(request, round);
+}
+
+static void run_round(uint32_t requests, unsigned round, enum order order)
+{
+    offer_all(requests, round);
     begin(requests);
     need(set(NOTIFY, 0) == KALYUBOS_IO && pending.block == 0, "a notify", round);
     check_tags();
     need(set(NOTIFY, 0) == KALYUBOS_DONE, "a notify that begins nothing", round);
-    for (uint32_t left = requests; left > 0; left--) {
-        uint8_t tag = next_tag(order);
-        unsigned request = request_of[tag];
-        check_busy();
-        if (!fails(request))
-            move(request);
-        flying &= ~((uint64_t)1 << tag);
-        complete(tag, fails(request), begin(requests) ? KALYUBOS_IO : KALYUBOS_DONE);
-        need(pending.block == 1 && set(ACK, 1) == KALYUBOS_DONE && pending.block == 0, "the line", pending.block);
-        take_used(request);
-        check_tags();
-    }
-    need(flying == 0, "all are completed", flying);
-    for (unsigned request = 0; request < requests; request++)
-        check_request(request, round);
+    for (uint32_t left = requests; left > 0; left--)
+        serve_one(requests, order);
+    check_requests(requests, round);
 }
 
 static void run(enum ring its_ring, uint32_t its_depth, uint32_t requests, enum order order)
@@ -372,14 +394,26 @@ static void free_tags(const uint8_t *order, size_t len)
     need(flying == 0, "a tag is taken behind a fault", flying);
 }
 
-/* The driver resets its device, and a request is served as ever. */
-static void go_on_behind(void)
+static void tell_host(uint32_t (*call)(struct kalyubos *, uint8_t, struct kalyubos_pending *), uint32_t answer, const char *what)
+{
+    uint32_t found = call(&board, 0, &pending);
+    need(found == answer, what, found);
+}
+
+/* The driver resets its device, and a request is served as ever, in a slot that is held once it is released. */
+static void go_on_behind(bool held)
 {
     bring_up();
-    waiting = 0;
-    offer(0, 0);
+    offer_all(1, 0);
+    if (held) {
+        need(set(NOTIFY, 0) == KALYUBOS_DONE, "a notify behind a reset of a held slot", 0);
+        check_tags();
+    }
     begin(1);
-    need(set(NOTIFY, 0) == KALYUBOS_IO, "a notify behind a reset", 0);
+    if (held)
+        tell_host(kalyubos_release, KALYUBOS_IO, "a release behind a reset");
+    else
+        need(set(NOTIFY, 0) == KALYUBOS_IO, "a notify behind a reset", 0);
     move(0);
     flying = 0;
     complete(0, false, KALYUBOS_DONE);
@@ -388,19 +422,22 @@ static void go_on_behind(void)
 }
 
 /* A chain outside the memory behind three that are good, by one notify. */
-static void fault_beside_others(enum ring its_ring)
+static void make_fault(enum ring its_ring)
 {
-    static const uint8_t order[] = { 1, 2, 0 };
     make(its_ring, 8);
-    waiting = 0;
-    for (unsigned request = 0; request < 3; request++)
-        offer(request, 0);
+    offer_all(3, 0);
     offer_at(3, OUTSIDE);
     begin(3);
     need(set(NOTIFY, 0) == KALYUBOS_IO, "a notify with a fault", 0);
     check_fault();
+}
+
+static void fault_beside_others(enum ring its_ring)
+{
+    static const uint8_t order[] = { 1, 2, 0 };
+    make_fault(its_ring);
     free_tags(order, sizeof order);
-    go_on_behind();
+    go_on_behind(false);
     need(kalyubos_destroy(&board) == KALYUBOS_DONE, "destroy", 0);
     printf("%s: a fault beside three in flight, which are freed\n", RINGS[ring]);
 }
@@ -410,9 +447,7 @@ static void fault_behind_a_completion(enum ring its_ring)
 {
     static const uint8_t order[] = { 1, 0 };
     make(its_ring, 3);
-    waiting = 0;
-    for (unsigned request = 0; request < 3; request++)
-        offer(request, 0);
+    offer_all(3, 0);
     offer_at(3, OUTSIDE);
     begin(3);
     need(set(NOTIFY, 0) == KALYUBOS_IO && (status() & NEEDS_RESET) == 0, "a notify", 0);
@@ -423,9 +458,163 @@ static void fault_behind_a_completion(enum ring its_ring)
     check_request(2, 0);
     check_fault();
     free_tags(order, sizeof order);
-    go_on_behind();
+    go_on_behind(false);
     need(kalyubos_destroy(&board) == KALYUBOS_DONE, "destroy", 0);
     printf("%s: a fault behind a completion, with two in flight, which are freed\n", RINGS[ring]);
+}
+
+/* ---- what the host gives up */
+
+static void ask_beside(struct kalyubos_fault *fault, struct kalyubos_counters *counters)
+{
+    need(kalyubos_last_fault(&board, 0, KALYUBOS_BLOCK, fault) == KALYUBOS_DONE, "last_fault", 0);
+    need(kalyubos_counters(&board, 0, counters) == KALYUBOS_DONE, "counters", 0);
+}
+
+/* All tags are freed, no byte of memory changes, and the window asks for a reset; no fault is noted, and nothing is counted. */
+static void drop(void)
+{
+    static uint8_t before[MEMORY_LEN];
+    struct kalyubos_fault fault, later_fault;
+    struct kalyubos_counters counters, later_counters;
+    memcpy(before, memory, MEMORY_LEN);
+    ask_beside(&fault, &counters);
+    check_busy();
+    tell_host(kalyubos_drop, KALYUBOS_DONE, "a drop");
+    need(pending.block == 2 && (status() & NEEDS_RESET) != 0, "the window asks for no reset", pending.block);
+    flying = 0;
+    check_tags();
+    for (unsigned tag = 0; tag <= UINT8_MAX; tag++)
+        complete((uint8_t)tag, tag % 2 == 1, KALYUBOS_IDLE);
+    tell_host(kalyubos_drop, KALYUBOS_IDLE, "a drop of nothing");
+    need(set(NOTIFY, 0) == KALYUBOS_DONE, "a notify behind a drop", 0);
+    check_tags();
+    ask_beside(&later_fault, &later_counters);
+    need(memcmp(&fault, &later_fault, sizeof fault) == 0, "a fault is noted", later_fault.kind);
+    need(memcmp(&counters, &later_counters, sizeof counters) == 0, "a drop is counted", later_counters.chains);
+    need(memcmp(before, memory, MEMORY_LEN) == 0, "a byte changes by a drop", 0);
+}
+
+/* The buffers of what was dropped are the guest's: nothing of them changes behind its reset. */
+static void check_unused(void)
+{
+    for (uint32_t at = data_of(1); at < MEMORY_LEN; at++)
+        need(memory[at] == 0, "a byte of a dropped request", at);
+}
+
+/* Some requests are served; then the host's transfers are stuck, the first of them half done. It cancels them. */
+static void drop_in_flight(enum ring its_ring, bool held)
+{
+    make(its_ring, 8);
+    tell_host(kalyubos_drop, KALYUBOS_IDLE, "a drop of nothing");
+    offer_all(12, 0);
+    begin(12);
+    need(set(NOTIFY, 0) == KALYUBOS_IO, "a notify", 0);
+    for (unsigned i = 0; i < 3; i++)
+        serve_one(12, SHUFFLED);
+    if (held)
+        tell_host(kalyubos_hold, KALYUBOS_DONE, "a hold");
+    memset(memory + data_of(request_of[__builtin_ctzll(flying)]), 0xee, SECTOR);
+    drop();
+    go_on_behind(held);
+    check_unused();
+    need(kalyubos_destroy(&board) == KALYUBOS_DONE, "destroy", 0);
+    printf("%s: a drop of eight in flight%s, and a reset that waited\n", RINGS[ring], held ? " of a held slot" : "");
+}
+
+/* A drop sets both bits again that the fault has set. */
+static void drop_behind_a_fault(enum ring its_ring)
+{
+    make_fault(its_ring);
+    need(set(ACK, 3) == KALYUBOS_DONE && pending.block == 0, "the line", pending.block);
+    drop();
+    check_fault();
+    go_on_behind(false);
+    check_unused();
+    need(kalyubos_destroy(&board) == KALYUBOS_DONE, "destroy", 0);
+    printf("%s: a drop of three in flight behind a fault\n", RINGS[ring]);
+}
+
+/* ---- a slot that is held */
+
+/* The guest goes on on another board, of whose disk as many operations may be in flight. */
+static void move_guest(uint32_t its_depth)
+{
+    static uint8_t kept[MEMORY_LEN], devices[512];
+    size_t len;
+    need(kalyubos_save(&board, 0, devices, sizeof devices, &len) == KALYUBOS_DONE, "save", 0);
+    memcpy(kept, memory, MEMORY_LEN);
+    need(kalyubos_destroy(&board) == KALYUBOS_DONE, "destroy", 0);
+    create(its_depth);
+    memcpy(memory, kept, MEMORY_LEN);
+    need(kalyubos_restore(&board, 0, devices, len, &pending) == KALYUBOS_DONE, "restore", len);
+    need(pending.block == 0, "the line behind a restore", pending.block);
+}
+
+/* Nothing begins in a held slot, whatever its driver notifies. */
+static void check_held(void)
+{
+    tell_host(kalyubos_hold, KALYUBOS_IDLE, "a hold of a held slot");
+    need(set(NOTIFY, 0) == KALYUBOS_DONE, "a notify of a held slot", 0);
+    check_tags();
+}
+
+static void move_held(enum ring its_ring, uint32_t its_depth, uint32_t next_depth, uint32_t requests)
+{
+    make(its_ring, its_depth);
+    tell_host(kalyubos_release, KALYUBOS_IDLE, "a release of a slot that isn't held");
+    offer_all(requests, 0);
+    tell_host(kalyubos_hold, KALYUBOS_DONE, "a hold");
+    check_held();
+    begin(requests);
+    tell_host(kalyubos_release, KALYUBOS_IO, "a release");
+    check_tags();
+    serve_one(requests, SHUFFLED);
+    tell_host(kalyubos_hold, KALYUBOS_DONE, "a hold in flight");
+    check_held();
+    while (flying != 0)
+        serve_one(0, SHUFFLED);
+    uint32_t served = waiting;
+    move_guest(next_depth);
+    check_held();
+    begin(requests);
+    tell_host(kalyubos_release, KALYUBOS_IO, "a release behind a restore");
+    check_tags();
+    tell_host(kalyubos_release, KALYUBOS_IDLE, "a second release");
+    while (flying != 0)
+        serve_one(requests, SHUFFLED);
+    check_requests(requests, 0);
+    need(kalyubos_destroy(&board) == KALYUBOS_DONE, "destroy", 0);
+    printf("%s: %" PRIu32 " requests at depth %" PRIu32 ", and %" PRIu32 " at depth %" PRIu32 " behind a release there\n", RINGS[ring],
+           served, its_depth, requests - served, next_depth);
+}
+
+/* A request that asks nothing of the disk waits too, and is served by the release. */
+static void hold_a_refusal(enum ring its_ring)
+{
+    enum { UNKNOWN = 99, UNSUPP = 2 };
+    make(its_ring, 1);
+    tell_host(kalyubos_hold, KALYUBOS_DONE, "a hold");
+    offer_all(1, 0);
+    put(header_of(0), UNKNOWN, 4);
+    check_held();
+    need(memory[header_of(0) + 16] == UNTOLD && pending.block == 0, "a held slot serves", pending.block);
+    tell_host(kalyubos_release, KALYUBOS_DONE, "a release");
+    check_tags();
+    need(memory[header_of(0) + 16] == UNSUPP && pending.block == 1, "a request behind a release", pending.block);
+    need(kalyubos_destroy(&board) == KALYUBOS_DONE, "destroy", 0);
+    printf("%s: a request that asks nothing of the disk waits for the release\n", RINGS[ring]);
+}
+
+static void try_drops_and_holds(enum ring kind)
+{
+    drop_in_flight(kind, false);
+    drop_in_flight(kind, true);
+    drop_behind_a_fault(kind);
+    move_held(kind, 1, 8, 6);
+    move_held(kind, 8, 3, 20);
+    move_held(kind, 64, 64, MOST);
+    hold_a_refusal(kind);
 }
 
 int main(void)
@@ -437,6 +626,7 @@ int main(void)
                 run(kind, DEPTHS[i].depth, DEPTHS[i].requests, order);
         fault_beside_others(kind);
         fault_behind_a_completion(kind);
+        try_drops_and_holds(kind);
     }
     return 0;
 }

@@ -4,7 +4,8 @@
  * what a disk is asked for to the kernel, up to DEPTH operations at once, and never waits; file_ring.c has io_uring for it.
  *
  * The guests are C as well: a driver's loads and stores are a CPU's exits. Guest 0 asks for two megabytes by four requests and
- * then does other things, until guest 1 has used its disk and ended. `disk threads` does without io_uring.
+ * then does other things, until guest 1 has used its disk and ended. Of guest 1's last requests the host gives up, and its
+ * driver resets the disk. `disk threads` does without io_uring.
  */
 #define _GNU_SOURCE
 #include <poll.h>
@@ -59,6 +60,21 @@ static void go_on(struct guest *guest)
             (void)file_disk_begin(&guest->disk); /* the loop tells what the kernel doesn't take */
         need(answer == KALYUBOS_DONE || answer == KALYUBOS_IO, "a completion");
     }
+}
+
+static void open_disk(struct guest *guest, const struct file_way *way)
+{
+    const char *wrong = file_disk_open(&guest->disk, &guest->board, 0, DEPTH, guest->path, DISK_LEN, false, way);
+    need(wrong == NULL, wrong);
+}
+
+/* Gives up all that the disk is asked for, behind the end of its transfers. It is opened anew for what comes behind a reset. */
+static void give_up(struct guest *guest)
+{
+    const struct file_way *way = guest->disk.way;
+    file_disk_close(&guest->disk);
+    need(kalyubos_drop(&guest->board, 0, &guest->lines) == KALYUBOS_DONE, "a drop");
+    open_disk(guest, way);
 }
 
 /* Waits for the disk. A CPU that runs on is kicked instead, since none runs during a call: KVM_RUN ends by a signal. */
@@ -174,12 +190,27 @@ static void runs_on(struct guest *guest)
     printf("guest 0 has reset its disk\n");
 }
 
-/* Guest 1: writes by four requests at once; zeroes, flushes and reads, each to its end. */
+/* The driver finds that its device asks for a reset, and forgets what it offered. */
+static void reset(struct guest *guest, uint32_t features)
+{
+    printf("guest %u resets its disk: line %u, status %02x\n", guest->number, (unsigned)guest->lines.block,
+           (unsigned)load(guest, KALYUBOS_BLOCK, DEVICE_STATUS));
+    store(guest, KALYUBOS_BLOCK, DEVICE_STATUS, 0);
+    memset(guest->memory, 0, ZEROED);
+    guest->offered = 0;
+    bring_up(guest, features);
+}
+
+/*
+ * Guest 1: writes by four requests at once; zeroes, flushes and reads, each to its end. Of four reads the host gives up, and
+ * behind a reset one is done.
+ */
 static void works(struct guest *guest)
 {
     const struct { uint64_t sector; uint32_t count, flags; } zeroed = { 3, 2, 0 };
+    const uint32_t features = 1 << 9 | 1 << 14; /* FLUSH, WRITE_ZEROES */
     pthread_barrier_wait(&both);
-    bring_up(guest, 1 << 9 | 1 << 14); /* FLUSH, WRITE_ZEROES */
+    bring_up(guest, features);
     memset(guest->memory + DATA, 'B', 8 * SECTOR_LEN);
     ask_in_parts(guest, OUT, 0, DATA, 8 * SECTOR_LEN);
     await(guest);
@@ -189,6 +220,11 @@ static void works(struct guest *guest)
     transfer(guest, IN, 2, DATA, 4 * SECTOR_LEN);
     for (unsigned i = 0; i < 4; i++)
         printf("guest 1 finds %02x in sector %u\n", guest->memory[DATA + i * SECTOR_LEN], 2 + i);
+    ask_in_parts(guest, IN, 0, DATA, 0x200000);
+    give_up(guest);
+    reset(guest, features);
+    transfer(guest, IN, 6, DATA, SECTOR_LEN);
+    printf("guest 1 finds %02x in sector 6\n", guest->memory[DATA]);
     pthread_barrier_wait(&both);
 }
 
@@ -217,9 +253,7 @@ static void power_on(struct guest *guest, unsigned number, bool threads)
     need(file >= 0 && write(file, content, sizeof content) == DISK_LEN && close(file) == 0, "a file");
     need(kalyubos_create(&guest->board, &config) == KALYUBOS_DONE, "create");
     need(kalyubos_memory(&guest->board, 0, MEMORY, &guest->memory, &len) == KALYUBOS_DONE, "memory");
-    const char *wrong = file_disk_open(&guest->disk, &guest->board, 0, DEPTH, guest->path, DISK_LEN, false,
-                                       threads ? &file_thread : &file_ring);
-    need(wrong == NULL, wrong);
+    open_disk(guest, threads ? &file_thread : &file_ring);
 }
 
 static void power_off(struct guest *guest)

@@ -9,7 +9,8 @@
  * and by which tags, is known beforehand. The driver compares what is asked with its request, and each used entry, status and
  * read with a disk that it keeps in mind. Where its disk does several operations at once, those share no sector. Now and then
  * it resets its device in the middle, or writes over a request that is in flight: its head, descriptors, header and segment.
- * At its end it compares what the library counted with what it asked for.
+ * The host holds the slot for a while, or gives up what is in flight, and then the driver resets its device. At its end it
+ * compares what the library counted with what it asked for.
  */
 #include <inttypes.h>
 #include <pthread.h>
@@ -47,8 +48,8 @@ struct flight {
 struct guest {
     struct kalyubos *board;
     uint8_t slot, *memory, *data;
-    uint64_t state, turns, done, failures;
-    bool can_flush;
+    uint64_t state, turns, done, failures, dropped;
+    bool can_flush, held;
     uint32_t depth;
 
     /* the driver's: its requests by place, how many are offered and taken back, and the disk that it has in mind */
@@ -129,11 +130,11 @@ static uint8_t free_tag(const struct guest *guest)
     return tag;
 }
 
-/* What the device does with all on offer: as long as a tag is free, a request gets it, or is done at once. */
+/* What the device does with all on offer, unless the slot is held: as long as a tag is free, a request gets it, or is done at once. */
 static void take_answer(struct guest *guest, uint32_t answer)
 {
     uint64_t before = guest->begun, tags = 0;
-    for (uint8_t tag; guest->taken != guest->offered && (tag = free_tag(guest)) < guest->depth; guest->taken++) {
+    for (uint8_t tag; !guest->held && guest->taken != guest->offered && (tag = free_tag(guest)) < guest->depth; guest->taken++) {
         unsigned place = guest->order[guest->taken % RING];
         if (!guest->requests[place].asks) {
             end_request(guest, place);
@@ -397,6 +398,58 @@ static void move_some(struct guest *guest)
         move(guest, flight);
 }
 
+/* The driver resets its device, and forgets what is open: of that nothing was begun, or the host gave it up. */
+static void reset(struct guest *guest)
+{
+    set(guest, 0x70, 0);
+    take_back(guest);
+    for (int place = 0; place < PLACES; place++)
+        guest->requests[place].is_open = false;
+    bring_up(guest);
+}
+
+/* The host gives up what is in flight. Each operation may have been done, or not at all. */
+static void drop(struct guest *guest)
+{
+    struct kalyubos_pending pending;
+    bool is_due = guest->begun != 0;
+    take_back(guest);
+    for (uint8_t tag = 0; tag < guest->depth && tag < PLACES; tag++) {
+        if ((guest->begun >> tag & 1) == 0)
+            continue;
+        if (!guest->flights[tag].is_moved && chance(guest, 2))
+            move(guest, &guest->flights[tag]);
+        end_badly(guest, &guest->requests[guest->flights[tag].place]);
+        guest->dropped++;
+    }
+    guest->begun = 0;
+    if (is_due)
+        guest->taken = guest->offered; /* nothing more is taken before a reset */
+    uint32_t answer = kalyubos_drop(guest->board, guest->slot, &pending);
+    need(answer == (is_due ? KALYUBOS_DONE : KALYUBOS_IDLE), "a drop", answer);
+    need(!is_due || (pending.block & 2) != 0, "a drop that asks for no reset", pending.block);
+    if (is_due)
+        reset(guest);
+}
+
+static void hold(struct guest *guest)
+{
+    struct kalyubos_pending pending;
+    uint32_t answer = kalyubos_hold(guest->board, guest->slot, &pending);
+    need(answer == (guest->held ? KALYUBOS_IDLE : KALYUBOS_DONE), "a hold", answer);
+    guest->held = true;
+}
+
+static void release(struct guest *guest)
+{
+    struct kalyubos_pending pending;
+    uint32_t answer = kalyubos_release(guest->board, guest->slot, &pending);
+    need((answer == KALYUBOS_IDLE) == !guest->held, "a release", answer);
+    guest->held = false;
+    if (answer != KALYUBOS_IDLE)
+        take_answer(guest, answer);
+}
+
 /* How many requests are open. */
 static unsigned open_requests(const struct guest *guest)
 {
@@ -427,10 +480,11 @@ static void turn(struct guest *guest)
         take_back(guest);
         break;
     default:
-        if (chance(guest, 10) == 0) {
-            set(guest, 0x70, 0);
-            take_back(guest);
-            bring_up(guest);
+        switch (chance(guest, 20)) {
+        case 0: case 1: reset(guest); break;
+        case 2: drop(guest); break;
+        case 3: case 4: hold(guest); break;
+        case 5: case 6: case 7: case 8: release(guest); break;
         }
     }
     guest->turns--;
@@ -460,6 +514,7 @@ static void power_on(struct guest *guest, struct kalyubos *board, uint8_t slot, 
 
 static void end_all_requests(struct guest *guest)
 {
+    release(guest);
     while (guest->begun != 0)
         complete(guest);
     take_back(guest);
@@ -529,14 +584,15 @@ static void run_on_threads(uint64_t seed)
     end_all(boards, GUESTS);
 }
 
-/* How many requests were used, and how many operations failed. */
-static uint64_t done, failures;
+/* How many requests were used, and how many operations failed and were dropped. */
+static uint64_t done, failures, dropped;
 
 static void count(void)
 {
     for (int i = 0; i < GUESTS; i++) {
         done += guests[i].done;
         failures += guests[i].failures;
+        dropped += guests[i].dropped;
     }
 }
 
@@ -550,6 +606,6 @@ int main(int argc, char **argv)
         count();
     }
     printf("drivers: %" PRIu64 " seeds, %d guests each: each of %" PRIu64 " requests ended as its host said and was counted, %"
-           PRIu64 " operations failed\n", seeds, GUESTS, done, failures);
+           PRIu64 " operations failed, and %" PRIu64 " were dropped\n", seeds, GUESTS, done, failures, dropped);
     return 0;
 }

@@ -150,7 +150,7 @@ static bool has_result(struct file_disk *disk, uint8_t *tag, int32_t *result)
     return true;
 }
 
-const struct file_way file_thread = { "threads", open_workers, submit, has_result, close_workers };
+const struct file_way file_thread = { "threads", open_workers, submit, NULL, has_result, close_workers };
 
 /* ---- a disk */
 
@@ -165,7 +165,7 @@ static const char *open_all(struct file_disk *disk, const char *path, uint64_t l
         return strerror(errno);
     if ((uint64_t)file_len < len)
         return "is shorter than the disk";
-    disk->flights = malloc(disk->depth * sizeof *disk->flights);
+    disk->flights = aligned_alloc(FILE_ALIGN, disk->depth * sizeof *disk->flights);
     return disk->flights != NULL && disk->way->open(disk) ? NULL : strerror(errno);
 }
 
@@ -211,6 +211,8 @@ bool file_disk_begin(struct file_disk *disk)
     for (uint8_t tag = 0; tag < disk->depth; tag++)
         if ((in_flight & ~disk->begun) >> tag & 1)
             begin(disk, tag);
+    if (disk->way->hand_over != NULL)
+        disk->refused |= disk->way->hand_over(disk);
     return disk->refused == 0;
 }
 

@@ -14,8 +14,8 @@
 
 #include "kalyubos.h"
 
-/* How many bytes a call of the kernel moves at most. */
-enum { FILE_BUFFER = 1 << 20 };
+/* How many bytes a call of the kernel moves at most, and at what multiples of an address they lie. */
+enum { FILE_BUFFER = 1 << 20, FILE_ALIGN = 4096 };
 
 /* A step of an operation, one call of the kernel: `len` bytes at `at` of the disk, to or from its buffer, or to zeroes. */
 struct file_step {
@@ -30,7 +30,7 @@ struct file_flight {
     uint64_t len, done; /* how many bytes all runs have, and how many of them are done */
     bool unsynced;      /* a sync is wanted at the end */
     struct file_step step;
-    uint8_t buffer[FILE_BUFFER];
+    _Alignas(FILE_ALIGN) uint8_t buffer[FILE_BUFFER]; /* so that the file may bypass the page cache */
 };
 
 struct file_disk {
@@ -51,6 +51,7 @@ struct file_way {
     const char *name;
     bool (*open)(struct file_disk *disk);                /* sets `ready` */
     bool (*submit)(struct file_disk *disk, uint8_t tag); /* false where the kernel hasn't taken the tag's step */
+    uint64_t (*hand_over)(struct file_disk *disk);       /* what was submitted, at once: the tags that aren't taken; or NULL */
     bool (*has_result)(struct file_disk *disk, uint8_t *tag, int32_t *result); /* of a step, once: bytes done, or below 0 */
     void (*close)(struct file_disk *disk); /* behind the end of all steps that the kernel works on */
 };
@@ -63,11 +64,13 @@ extern const struct file_way file_ring;   /* of file_ring.c: io_uring, or thread
 const char *file_disk_open(struct file_disk *disk, struct kalyubos *board, uint8_t slot, uint32_t depth, const char *path,
                            uint64_t len, bool read_only, const struct file_way *way);
 
-/* Closes what was opened. It waits for the steps that the kernel works on; their operations are never completed. */
+/* Closes what was opened. It waits for the steps that the kernel works on; their operations are never completed. A host that
+ * gives up its disk's operations calls kalyubos_drop behind it, and opens the disk anew. */
 void file_disk_close(struct file_disk *disk);
 
 /* Begins all operations that aren't begun: after each call that is answered KALYUBOS_IO. False where the kernel doesn't take
- * one: then file_disk_go_on tells at once that it has failed, and `ready` doesn't. */
+ * one: then file_disk_go_on tells at once that it has failed, and `ready` doesn't. Between two calls of file_disk_go_on steps
+ * may be gathered until that is false. */
 bool file_disk_begin(struct file_disk *disk);
 
 /* Goes on where `ready` can be read: true once an operation has ended, to be completed with its tag and as `failed` says. Call

@@ -87,6 +87,7 @@ static bool fails(int why)
     }
 WRAP(off_t, lseek, EIO, -1, (int file, off_t at, int from), (file, at, from))
 WRAP(void *, malloc, ENOMEM, NULL, (size_t len), (len))
+WRAP(void *, aligned_alloc, ENOMEM, NULL, (size_t align, size_t len), (align, len))
 WRAP(int, pipe2, EMFILE, -1, (int ends[2], int flags), (ends, flags))
 WRAP(void *, mmap, ENOMEM, MAP_FAILED, (void *at, size_t len, int may, int flags, int file, off_t from), (at, len, may, flags, file, from))
 WRAP(ssize_t, read, EIO, -1, (int file, void *into, size_t len), (file, into, len))

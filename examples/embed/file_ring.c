@@ -8,6 +8,7 @@
 #include <sys/mman.h>
 #include <sys/param.h>
 #include <sys/syscall.h>
+#include <sys/uio.h>
 #include <unistd.h>
 
 #include "file_disk.h"
@@ -20,7 +21,11 @@ struct ring {
     struct io_uring_sqe *orders; /* one for each tag, or more */
     size_t orders_len;
     struct io_uring_cqe *results;
-    unsigned busy; /* how many steps the kernel works on */
+    unsigned busy;    /* how many steps the kernel works on */
+    unsigned unsent;  /* how many stand in the ring that it hasn't been told of */
+    bool gathers;     /* it is told of some at once, and of the rest once there is no further result */
+    uint64_t refused; /* the tags whose steps it refused then */
+    bool knows_file, knows_buffers; /* so it needn't look for them at each step */
     struct {
         bool writes_zeros; /* the file system has no call that zeroes */
         int tries;         /* how often this step was submitted */
@@ -30,49 +35,95 @@ struct ring {
 /* How often a step is handed over, or submitted again, while the kernel lacks memory for it. */
 enum { TRIES = 1000 };
 
-/* The call of the kernel for a tag's step. */
+/* How much of each buffer the kernel is told of beforehand, which then stays in memory. */
+enum { KNOWN = 1 << 16 };
+
+/* So many steps go to the kernel at once, so that the disk works on them while others are completed. */
+enum { AT_ONCE = 8 };
+
+/* Reads into a tag's buffer, or writes out of it. */
+static struct io_uring_sqe move(const struct file_disk *disk, uint8_t tag, bool writes)
+{
+    const struct ring *ring = disk->kept;
+    const struct file_flight *flight = &disk->flights[tag];
+    struct io_uring_sqe order = {
+        .opcode = writes ? IORING_OP_WRITE : IORING_OP_READ, .off = flight->step.at, .addr = (uintptr_t)flight->buffer,
+        .len = (uint32_t)flight->step.len,
+    };
+    if (ring->knows_buffers && flight->step.len <= KNOWN) {
+        order.opcode = writes ? IORING_OP_WRITE_FIXED : IORING_OP_READ_FIXED;
+        order.buf_index = tag;
+    }
+    return order;
+}
+
+/* The call of the kernel for a tag's step, but for its file. */
 static struct io_uring_sqe order_of(const struct file_disk *disk, uint8_t tag)
 {
     const struct ring *ring = disk->kept;
     struct file_flight *flight = &disk->flights[tag];
     const struct file_step *step = &flight->step;
-    struct io_uring_sqe order = {
-        .fd = disk->file, .off = step->at, .addr = (uintptr_t)flight->buffer, .len = (uint32_t)step->len, .user_data = tag,
-    };
     switch (step->kind) {
     case KALYUBOS_IN:
-        order.opcode = IORING_OP_READ;
-        return order;
+        return move(disk, tag, false);
     case KALYUBOS_FLUSH:
-        return (struct io_uring_sqe){ .opcode = IORING_OP_FSYNC, .fd = disk->file, .fsync_flags = IORING_FSYNC_DATASYNC,
-                                      .user_data = tag };
+        return (struct io_uring_sqe){ .opcode = IORING_OP_FSYNC, .fsync_flags = IORING_FSYNC_DATASYNC };
     case KALYUBOS_ZEROES:
         if (!ring->tags[tag].writes_zeros)
-            return (struct io_uring_sqe){ .opcode = IORING_OP_FALLOCATE, .fd = disk->file, .off = step->at,
-                                          .addr = step->len, .len = FALLOC_FL_ZERO_RANGE, .user_data = tag };
+            return (struct io_uring_sqe){ .opcode = IORING_OP_FALLOCATE, .off = step->at, .addr = step->len,
+                                          .len = FALLOC_FL_ZERO_RANGE };
         memset(flight->buffer, 0, step->len);
     }
-    order.opcode = IORING_OP_WRITE;
-    return order;
+    return move(disk, tag, true);
 }
 
+/* There is a place for each tag. */
 static bool submit(struct file_disk *disk, uint8_t tag)
 {
     struct ring *ring = disk->kept;
     unsigned sent = *ring->sent;
-    bool is_sent = false;
-    ring->orders[tag] = order_of(disk, tag);
+    struct io_uring_sqe *order = &ring->orders[tag];
+    *order = order_of(disk, tag);
+    order->user_data = tag;
+    order->fd = ring->knows_file ? 0 : disk->file;
+    order->flags = ring->knows_file ? IOSQE_FIXED_FILE : 0;
     ring->order_of_place[sent & *ring->sent_places] = tag;
     __atomic_store_n(ring->sent, sent + 1, __ATOMIC_RELEASE);
-    for (int tries = 0; tries < TRIES && !is_sent; tries++) {
-        is_sent = syscall(SYS_io_uring_enter, ring->file, 1, 0, 0, NULL, 0) == 1;
-        if (!is_sent && errno != EINTR && errno != EAGAIN)
-            break;
+    ring->unsent++;
+    return true;
+}
+
+/* Takes the first step back that the kernel hasn't been told of, and answers its tag's bit. */
+static uint64_t take_back(struct ring *ring)
+{
+    unsigned sent = *ring->sent, place = sent - ring->unsent--;
+    unsigned tag = ring->order_of_place[place & *ring->sent_places];
+    for (; place + 1 != sent; place++)
+        ring->order_of_place[place & *ring->sent_places] = ring->order_of_place[(place + 1) & *ring->sent_places];
+    __atomic_store_n(ring->sent, sent - 1, __ATOMIC_RELEASE);
+    return (uint64_t)1 << tag;
+}
+
+/* With one call of the kernel for all steps, unless it takes fewer. */
+static uint64_t send_all(struct ring *ring)
+{
+    uint64_t refused = 0;
+    for (int tries = 0; ring->unsent > 0;) {
+        long sent = syscall(SYS_io_uring_enter, ring->file, ring->unsent, 0, 0, NULL, 0);
+        if (sent > 0) {
+            ring->unsent -= (unsigned)sent;
+            ring->busy += (unsigned)sent;
+        } else if (sent == 0 || (errno != EINTR && errno != EAGAIN) || ++tries == TRIES) {
+            refused |= take_back(ring);
+        }
     }
-    if (!is_sent)
-        __atomic_store_n(ring->sent, sent, __ATOMIC_RELEASE);
-    ring->busy += is_sent;
-    return is_sent;
+    return refused;
+}
+
+static uint64_t hand_over(struct file_disk *disk)
+{
+    struct ring *ring = disk->kept;
+    return ring->gathers && ring->unsent < AT_ONCE ? 0 : send_all(ring);
 }
 
 /* Whether a tag's step is to be submitted again: it was interrupted, or zeroes have to be written. */
@@ -99,14 +150,33 @@ static bool take(struct ring *ring, uint8_t *tag, int32_t *result)
     return true;
 }
 
+/* The next result that isn't to be tried again. */
+static bool has_ended(struct file_disk *disk, uint8_t *tag, int32_t *result)
+{
+    struct ring *ring = disk->kept;
+    while (take(ring, tag, result)) {
+        if (!is_again(disk, *tag, *result)) {
+            ring->tags[*tag].tries = 0;
+            return true;
+        }
+        submit(disk, *tag);
+    }
+    return false;
+}
+
+/* Behind the last result the kernel is told of all steps that were submitted meanwhile. One that it refuses has failed. */
 static bool has_result(struct file_disk *disk, uint8_t *tag, int32_t *result)
 {
     struct ring *ring = disk->kept;
-    do {
-        if (!take(ring, tag, result))
+    ring->gathers = has_ended(disk, tag, result);
+    if (!ring->gathers) {
+        ring->refused |= send_all(ring);
+        if (ring->refused == 0)
             return false;
-    } while (is_again(disk, *tag, *result) && submit(disk, *tag));
-    ring->tags[*tag].tries = 0;
+        *tag = (uint8_t)__builtin_ctzll(ring->refused);
+        *result = -EIO;
+        ring->refused &= ring->refused - 1;
+    }
     const struct file_step *step = &disk->flights[*tag].step;
     if (*result == 0 && step->kind == KALYUBOS_ZEROES && !ring->tags[*tag].writes_zeros)
         *result = (int32_t)step->len;
@@ -142,6 +212,16 @@ static void find_parts(struct ring *ring, const struct io_uring_params *told)
     ring->results = (struct io_uring_cqe *)(at + told->cq_off.cqes);
 }
 
+/* Tells the kernel of the file and of the buffers. Without it all goes as well. */
+static void tell(const struct file_disk *disk, struct ring *ring)
+{
+    struct iovec known[KALYUBOS_TAGS];
+    for (uint8_t tag = 0; tag < disk->depth; tag++)
+        known[tag] = (struct iovec){ disk->flights[tag].buffer, KNOWN };
+    ring->knows_file = syscall(SYS_io_uring_register, ring->file, IORING_REGISTER_FILES, &disk->file, 1) == 0;
+    ring->knows_buffers = syscall(SYS_io_uring_register, ring->file, IORING_REGISTER_BUFFERS, known, disk->depth) == 0;
+}
+
 static bool open_ring(struct file_disk *disk)
 {
     struct io_uring_params told = { 0 };
@@ -162,6 +242,7 @@ static bool open_ring(struct file_disk *disk)
         return false;
     }
     find_parts(ring, &told);
+    tell(disk, ring);
     disk->kept = ring;
     disk->ready = ring->file;
     return true;
@@ -187,4 +268,4 @@ static void close_ring(struct file_disk *disk)
     free_ring(ring);
 }
 
-const struct file_way file_ring = { "io_uring", open_ring_or_threads, submit, has_result, close_ring };
+const struct file_way file_ring = { "io_uring", open_ring_or_threads, submit, hand_over, has_result, close_ring };

@@ -13,7 +13,7 @@
 
 enum { PAGE = 4096, PAGES = 32, LEN = PAGES * PAGE, BITS = PAGES / 8, SECTOR = 512, IMAGE_LEN = 64 * SECTOR };
 enum { TABLE = 0, AVAILABLE = PAGE, USED = 2 * PAGE, HEADER = 3 * PAGE, STATUS_BYTE = 4 * PAGE, DATA = 8 * PAGE };
-enum { NEXT = 1, WRITE = 2, IN = 0, OUT = 1, NOTIFY = 0x050, STATUS = 0x070 };
+enum { NEXT = 1, WRITE = 2, IN = 0, OUT = 1, UNKNOWN = 99, NOTIFY = 0x050, STATUS = 0x070 };
 static const uint64_t BASE = 0x80000000;
 
 struct descriptor {
@@ -161,6 +161,20 @@ static void check_hosted(void)
     begin();
     need(kalyubos_completed(&board, 0, 0, false, &pending) == KALYUBOS_DONE, "a completion", 0);
     marked(pages_of(USED, 1) | pages_of(STATUS_BYTE, 1), "a completion");
+    clear();
+    begin();
+    need(kalyubos_hold(&board, 0, &pending) == KALYUBOS_DONE, "a hold", 0);
+    marked(0, "a hold");
+    need(ask(UNKNOWN, 0, DATA, SECTOR) == KALYUBOS_DONE, "a request of no type", 0);
+    marked(0, "a request of a held slot");
+    begin();
+    need(kalyubos_release(&board, 0, &pending) == KALYUBOS_DONE, "a release", 0);
+    marked(pages_of(USED, 1) | pages_of(STATUS_BYTE, 1), "a release");
+    clear();
+    need(ask(IN, 0, DATA, SECTOR) == KALYUBOS_IO, "a read", 0);
+    begin();
+    need(kalyubos_drop(&board, 0, &pending) == KALYUBOS_DONE, "a drop", 0);
+    marked(0, "a drop");
 }
 
 static void check_none(void)

@@ -6,14 +6,14 @@
 
 #include "shut_heap.h"
 
-enum { MEMORY_LEN = 0x10000, SECTORS = 4, LEN = 257, WITH_QUEUE = LEN + 8 + 2, HOLD = 0xaa };
+enum { MEMORY_LEN = 0x10000, SECTORS = 4, LEN = 258, WITH_QUEUE = LEN + 8 + 2, HELD = 61, HOLD = 0xaa };
 enum { NOTIFY = 0x050, STATUS = 0x070 };
 static const uint64_t MEMORY = 0x80000000;
 
-/* The description: magic, version, base, length, sectors, read-only, identity, columns and rows. */
+/* The description: magic, version, base, length, sectors, read-only, identity, columns and rows; and that the slot isn't held. */
 #define DESCRIPTION \
     'K', 'A', 'L', 'Y', 'U', 'B', 'O', 'S', 1, 0, 0, 0, 0, 0, 0, 0x80, 0, 0, 0, 0, 0, 0, 1, 0, 0, 0, 0, 0, \
-    SECTORS, 0, 0, 0, 0, 0, 0, 0, 0, 'd', 'i', 's', 'k', '-', 'a', 0, 0, 0, 0, 0, 0, 0, 0, 0, 0, 0, 0, 0, 0, 80, 0, 25, 0
+    SECTORS, 0, 0, 0, 0, 0, 0, 0, 0, 'd', 'i', 's', 'k', '-', 'a', 0, 0, 0, 0, 0, 0, 0, 0, 0, 0, 0, 0, 0, 0, 80, 0, 25, 0, 0
 
 /* What each device offers: VERSION_1, RING_PACKED, NOTIFICATION_DATA, INDIRECT_DESC and EVENT_IDX (28, 29, 32, 34, 38), and
  * SEG_MAX, BLK_SIZE, FLUSH and WRITE_ZEROES (2, 6, 9, 14) of the disk, SIZE and EMERG_WRITE (0, 2) of the console. */
@@ -73,13 +73,14 @@ static void check_refusals(void)
 {
     static const struct { size_t place; uint8_t byte; uint32_t answer; } rows[] = {
         { 0, 'L', KALYUBOS_BAD_SNAPSHOT },   { 8, 2, KALYUBOS_BAD_SNAPSHOT },    /* magic, version */
-        { 36, 2, KALYUBOS_BAD_SNAPSHOT },    { 152, 4, KALYUBOS_BAD_SNAPSHOT },  /* a flag, interrupts */
+        { 36, 2, KALYUBOS_BAD_SNAPSHOT },    { 153, 4, KALYUBOS_BAD_SNAPSHOT },  /* a flag, interrupts */
+        { HELD, 2, KALYUBOS_BAD_SNAPSHOT },                                    /* another flag */
         { 12, 1, KALYUBOS_OTHER_SLOT },      { 22, 2, KALYUBOS_OTHER_SLOT },     /* base, length */
         { 28, 5, KALYUBOS_OTHER_SLOT },      { 36, 1, KALYUBOS_OTHER_SLOT },     /* sectors, read-only */
-        { 37, 'D', KALYUBOS_OTHER_SLOT },    { 61, 0x45, KALYUBOS_OTHER_SLOT },  /* identity, an offered feature */
-        { 69, 0x10, KALYUBOS_BAD_STATE },    { 69, 8, KALYUBOS_BAD_STATE },      /* a status bit without a name, 8 alone */
-        { 153, 1, KALYUBOS_BAD_STATE },      { 156, 0x80, KALYUBOS_BAD_STATE },  /* ConfigGeneration of the disk */
-        { 165, 0x20, KALYUBOS_BAD_STATE },                                     /* a status bit of the console */
+        { 37, 'D', KALYUBOS_OTHER_SLOT },    { 62, 0x45, KALYUBOS_OTHER_SLOT },  /* identity, an offered feature */
+        { 70, 0x10, KALYUBOS_BAD_STATE },    { 70, 8, KALYUBOS_BAD_STATE },      /* a status bit without a name, 8 alone */
+        { 154, 1, KALYUBOS_BAD_STATE },      { 157, 0x80, KALYUBOS_BAD_STATE },  /* ConfigGeneration of the disk */
+        { 166, 0x20, KALYUBOS_BAD_STATE },                                     /* a status bit of the console */
     };
     uint8_t bytes[LEN + 1];
     for (size_t i = 0; i < sizeof rows / sizeof *rows; i++) {
@@ -89,7 +90,7 @@ static void check_refusals(void)
     }
     memcpy(bytes, fresh, LEN);
     bytes[12] = 1;
-    bytes[69] = 0x10;
+    bytes[70] = 0x10;
     is_refused(bytes, LEN, KALYUBOS_OTHER_SLOT); /* the description is judged before the state */
     memcpy(bytes, fresh, LEN);
     bytes[LEN] = 0;
@@ -108,6 +109,9 @@ static void check_missing(uint8_t number, uint32_t answer)
     need(kalyubos_saved_len(&board, number, &len) == answer, "saved_len of none", number);
     need(kalyubos_save(&board, number, into, LEN, &len) == answer, "save of none", number);
     need(kalyubos_restore(&board, number, fresh, LEN, &pending) == answer, "restore of none", number);
+    need(kalyubos_drop(&board, number, &pending) == answer, "drop of none", number);
+    need(kalyubos_hold(&board, number, &pending) == answer, "hold of none", number);
+    need(kalyubos_release(&board, number, &pending) == answer, "release of none", number);
     need(len == HOLD && into[0] == HOLD && memcmp(into, into + 1, LEN - 1) == 0, "what is told", number);
     need(pending.block == HOLD && pending.console == HOLD && pending.output == HOLD, "what waits", number);
 }
@@ -147,6 +151,28 @@ static void check_busy(uint32_t first)
     need(answer == KALYUBOS_DONE && kalyubos_saved_len(&board, 0, &len) == KALYUBOS_DONE, "the end of the service", answer);
 }
 
+/* A snapshot of a held slot is for slots whose disk the host serves; such a one is then held, and saved as held, until its release. */
+static void check_held(bool hosted)
+{
+    struct kalyubos_pending pending;
+    uint8_t bytes[WITH_QUEUE];
+    memcpy(bytes, made_up, sizeof bytes);
+    bytes[HELD] = 1;
+    if (!hosted) {
+        is_refused(bytes, sizeof bytes, KALYUBOS_OTHER_SLOT);
+        return;
+    }
+    need(kalyubos_restore(&board, 0, bytes, sizeof bytes, &pending) == KALYUBOS_DONE, "restore of a held slot", 0);
+    is_saved_as(bytes, sizeof bytes);
+    need(kalyubos_hold(&board, 0, &pending) == KALYUBOS_IDLE, "hold", 0);
+    need(kalyubos_release(&board, 0, &pending) == KALYUBOS_DONE, "release", 0);
+    is_saved_as(made_up, sizeof made_up);
+    need(kalyubos_hold(&board, 0, &pending) == KALYUBOS_DONE, "hold", 0);
+    is_saved_as(bytes, sizeof bytes);
+    need(kalyubos_restore(&board, 0, made_up, sizeof made_up, &pending) == KALYUBOS_DONE, "restore", 0);
+    need(kalyubos_release(&board, 0, &pending) == KALYUBOS_IDLE, "release", 0);
+}
+
 static void check_board(uint32_t busy)
 {
     struct kalyubos_pending pending;
@@ -154,6 +180,7 @@ static void check_board(uint32_t busy)
     need(kalyubos_restore(&board, 0, made_up, sizeof made_up, &pending) == KALYUBOS_DONE, "restore", busy);
     need(pending.block == 3 && pending.console == 1 && pending.output == 0, "what waits", pending.block);
     is_saved_as(made_up, sizeof made_up);
+    check_held(busy == KALYUBOS_IO);
     check_refusals();
     check_missing(1, KALYUBOS_BAD_SLOT);
     check_busy(busy);

@@ -111,6 +111,9 @@ static void serve_other(void)
     need(kalyubos_read(&board, TALKER, KALYUBOS_BLOCK, STATUS, 4, &value) == KALYUBOS_BUSY, "a read in a pause", value);
     need(told == (hosted ? KALYUBOS_DONE : KALYUBOS_IDLE), "an operation in a pause", told);
     need(ended == (hosted ? KALYUBOS_BUSY : KALYUBOS_IDLE), "a completion in a pause", ended);
+    need(kalyubos_drop(&board, TALKER, &pending) == KALYUBOS_BUSY, "a drop in a pause", TALKER);
+    need(kalyubos_hold(&board, TALKER, &pending) == KALYUBOS_BUSY, "a hold in a pause", TALKER);
+    need(kalyubos_release(&board, TALKER, &pending) == KALYUBOS_BUSY, "a release in a pause", TALKER);
     ask_disk(OTHER);
     complete(OTHER);
 }

@@ -1,8 +1,8 @@
 /*
- * Which calls touch a guest's memory: kalyubos_write to QueueNotify, kalyubos_input, kalyubos_go_on, kalyubos_completed
- * and the two that copy. The host lends the memory and forbids each access to it, so that one ends the program. Then it
- * makes every other call: at each step of a driver's bring-up, with a service paused, with a disk at work. Children show
- * that the six calls do touch it.
+ * Which calls touch a guest's memory: kalyubos_write to QueueNotify, kalyubos_input, kalyubos_go_on, kalyubos_completed,
+ * kalyubos_release and the two that copy. The host lends the memory and forbids each access to it, so that one ends the
+ * program. Then it makes every other call: at each step of a driver's bring-up, with a service paused, with a disk at work.
+ * Children show that the seven calls do touch it.
  */
 #define _GNU_SOURCE
 #include <signal.h>
@@ -144,6 +144,14 @@ static void ask_always(void)
     kalyubos_memory(&board, 0, MEMORY, &bytes, &len);
 }
 
+/* What the host says of a disk, where there is nothing to say, or in a pause. */
+static void say_of_disk(uint32_t answer)
+{
+    need(kalyubos_drop(&board, 0, &pending) == answer, "drop");
+    need(kalyubos_hold(&board, 0, &pending) == answer, "hold");
+    need(kalyubos_release(&board, 0, &pending) == answer, "release");
+}
+
 /* The operations that are in flight: both, or none. */
 static void ask_operations(uint32_t answer)
 {
@@ -240,6 +248,8 @@ static void while_drivers_begin(enum kind kind)
     read_all(KALYUBOS_DONE);
     ask_always();
     ask_operations(KALYUBOS_IDLE);
+    if (kind == OF_IMAGE)
+        say_of_disk(KALYUBOS_IDLE);
     ask_image(kind == HOSTED ? KALYUBOS_NO_IMAGE : KALYUBOS_DONE);
     done(kalyubos_destroy(&board), "destroy");
     say(kind == HOSTED ? "hosted board, bring-up" : "image board, bring-up");
@@ -265,6 +275,12 @@ static void while_a_disk_works(void)
     ask_operations(KALYUBOS_DONE);
     need(set(KALYUBOS_BLOCK, STATUS, 4, 0) == KALYUBOS_BUSY, "a reset in flight");
     done(kalyubos_resize(&board, 0, 80, 25, &pending), "resize");
+    done(kalyubos_hold(&board, 0, &pending), "hold");
+    need(kalyubos_hold(&board, 0, &pending) == KALYUBOS_IDLE, "a hold of a held slot");
+    done(kalyubos_drop(&board, 0, &pending), "drop");
+    need(kalyubos_drop(&board, 0, &pending) == KALYUBOS_IDLE, "a drop of nothing");
+    ask_operations(KALYUBOS_IDLE);
+    save_and_restore();
     done(kalyubos_destroy(&board), "destroy");
     say("hosted board, a disk at work");
     forbid(false);
@@ -277,6 +293,7 @@ static void in_a_pause(void)
     read_all(KALYUBOS_BUSY);
     write_on();
     ask_always();
+    say_of_disk(KALYUBOS_BUSY);
     done(kalyubos_destroy(&board), "destroy");
     say("image board, a paused service");
     forbid(false);
@@ -303,6 +320,11 @@ static void go_on(void)
 static void complete(void)
 {
     (void)!kalyubos_completed(&board, 0, 0, false, &pending);
+}
+
+static void release(void)
+{
+    (void)!kalyubos_release(&board, 0, &pending);
 }
 
 static void copy_out(void)
@@ -349,6 +371,9 @@ static void control(void)
     done(kalyubos_destroy(&board), "destroy");
     notify_disk(HOSTED);
     faults("completed", complete);
+    done(kalyubos_hold(&board, 0, &pending), "hold");
+    done(kalyubos_completed(&board, 0, 0, false, &pending), "completed");
+    faults("release", release);
     done(kalyubos_destroy(&board), "destroy");
 }
 

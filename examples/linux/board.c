@@ -76,6 +76,7 @@ static void open_disk(uint8_t slot)
         fprintf(stderr, "linux-machine: %s: %s\n", path, wrong);
         exit(2);
     }
+    flights[slot].way = disks[slot].way->name;
 }
 
 /* A board of one image, with the budget, or one whose disks the host serves. */

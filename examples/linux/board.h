@@ -69,10 +69,11 @@ uint32_t board_complete(uint8_t slot, uint8_t *tag);
 void board_wait(void);
 
 /*
- * Of a slot's disk that the host serves: its operations so far, how many were in flight together at most, how many calls other
- * guests made during them, and how many of their runs lay in which region of its memory.
+ * Of a slot's disk that the host serves: by what, its operations so far, how many were in flight together at most, how many calls
+ * other guests made during them, and how many of their runs lay in which region of its memory.
  */
 struct board_flights {
+    const char *way;
     size_t operations, together, calls, runs[MEMORY_REGIONS];
 };
 struct board_flights board_flights(uint8_t slot);

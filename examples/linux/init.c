@@ -13,6 +13,11 @@ enum {
     FILES = 4,
     RAW = 0x200000,    /* the raw disk begins behind the file system, see build */
     RAW_BLOCKS = 8,
+    SCATTERED = RAW + RAW_BLOCKS * BLOCK, /* behind these: blocks whose pages are written apart, */
+    SCATTERED_BLOCKS = 16,
+    CROWD = SCATTERED + SCATTERED_BLOCKS * BLOCK, /* and a block for each process of a crowd */
+    CROWD_BLOCKS = 8,
+    PAGE = 4096,
     DIRECT = 040000    /* O_DIRECT: not from the page cache */
 };
 
@@ -120,6 +125,52 @@ static void try_zeroes(unsigned int seed)
     check(before && read_block("/dev/vda", RAW + 2 * BLOCK) && is_expected(), "its neighbours stand");
 }
 
+/* ---- many requests at once */
+
+/* Writes every other page of the scattered blocks, from the first or the second on: none of them is next to another. */
+static bool scatter(int disk, int first, unsigned int seed)
+{
+    bool done = true;
+    for (int i = 0; i < SCATTERED_BLOCKS; i++) {
+        fill(expected, seed + i);
+        for (int at = first * PAGE; at < BLOCK; at += 2 * PAGE)
+            done = lseek(disk, SCATTERED + i * BLOCK + at, SEEK_SET) >= 0 && write(disk, expected + at, PAGE) == PAGE && done;
+    }
+    return done;
+}
+
+/* Writes and reads the block of one of the crowd, first as another has it and then as its own. */
+static bool meet_crowd(int number, unsigned int seed)
+{
+    bool done = true;
+    for (int turn = 1; turn >= 0; turn--) {
+        done = write_block("/dev/vda", DIRECT, CROWD + number * BLOCK, seed + number + turn) && done;
+        done = read_block("/dev/vda", CROWD + number * BLOCK) && is_expected() && done;
+    }
+    return done;
+}
+
+/* Processes that write, sync and read beside each other, while all scattered pages go to the disk. */
+static void try_crowd(unsigned int seed)
+{
+    int status, disk = open("/dev/vda", O_RDWR, 0);
+    bool written = scatter(disk, 0, seed + FILES + RAW_BLOCKS), met = true, same = true;
+    for (int i = 0; i < CROWD_BLOCKS; i++)
+        if (fork() == 0)
+            exit(meet_crowd(i, seed + FILES + RAW_BLOCKS + SCATTERED_BLOCKS) ? 0 : 1);
+    written = flush(disk) && scatter(disk, 1, seed + FILES + RAW_BLOCKS) && flush(disk) && written;
+    for (int i = 0; i < CROWD_BLOCKS; i++)
+        met = waitpid(-1, &status, 0) > 0 && status == 0 && met;
+    close(disk);
+    for (int i = 0; i < SCATTERED_BLOCKS; i++) {
+        fill(expected, seed + FILES + RAW_BLOCKS + i);
+        same = read_block("/dev/vda", SCATTERED + i * BLOCK) && is_expected() && same;
+    }
+    check(written, "scattered pages are written");
+    check(same, "the disk has the scattered pages");
+    check(met, "each of a crowd has its bytes");
+}
+
 /* ---- the console */
 
 static void show_size(void)
@@ -150,7 +201,7 @@ static void show_file(const char *path)
 static void show_help(void)
 {
     printf("size: of the console; serial: of the disk; features: of both; interrupts, version: of the kernel;\n"
-           "lines: many of them; sync: all files go to the disk; off; all else is said again\n");
+           "lines: many of them; sync: all files go to the disk; crowd: many requests at once; off; all else is said again\n");
 }
 
 static void write_all(void)
@@ -165,7 +216,7 @@ static void show_lines(void)
         printf("%d and all that comes after it, up to the end of a line of the console\n", i);
 }
 
-static void answer(const char *line)
+static void answer(const char *line, unsigned int seed)
 {
     if (strcmp(line, "size") == 0)
         show_size();
@@ -181,6 +232,8 @@ static void answer(const char *line)
         show_lines();
     else if (strcmp(line, "sync") == 0)
         write_all();
+    else if (strcmp(line, "crowd") == 0)
+        try_crowd(seed);
     else if (strcmp(line, "help") == 0)
         show_help();
     else
@@ -211,7 +264,7 @@ int main(void)
     try_raw(seed);
     try_zeroes(seed);
     while (ask(line))
-        answer(line);
+        answer(line, seed);
     printf("going off\n");
     mount("none", "/", NULL, MS_REMOUNT | MS_RDONLY, NULL);
     reboot(LINUX_REBOOT_CMD_POWER_OFF);

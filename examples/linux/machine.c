@@ -122,21 +122,32 @@ static void note_due(struct machine *machine)
         machine->cpu.stop_at = machine->due;
 }
 
-/*
- * Operations begin, and each is done after so many instructions, or once its file is. Where one begins beside others it takes
- * once to three times as many, by turns, so that they end in another order.
- */
+/* The next number by chance (splitmix64): the same from the same seed. */
+static uint64_t by_chance(struct machine *machine)
+{
+    uint64_t number = machine->chance += 0x9e3779b97f4a7c15;
+    number = (number ^ number >> 30) * 0xbf58476d1ce4e5b9;
+    number = (number ^ number >> 27) * 0x94d049bb133111eb;
+    return number ^ number >> 31;
+}
+
+/* When an operation that begins is done; beside others after up to so many times the instructions, so that they end in any order. */
+static uint64_t due_of(struct machine *machine, bool beside)
+{
+    enum { SPREAD = 16 };
+    if (machine->latency == NEVER)
+        return NEVER;
+    uint64_t more = beside && machine->latency > 0 ? by_chance(machine) % ((SPREAD - 1) * machine->latency) : 0;
+    return machine->cpu.cycles + machine->latency + more;
+}
+
+/* Operations begin, and each is done after so many instructions, or once its file is. */
 static void take_off(struct machine *machine)
 {
-    struct cpu *cpu = &machine->cpu;
-    uint64_t fresh = board_in_flight(machine->slot) & ~machine->flies;
-    for (; fresh != 0; fresh &= fresh - 1) {
-        uint64_t times = machine->flies != 0 ? 1 + machine->flights % 3 : 1;
-        bool is_real = machine->latency == NEVER;
-        machine->dues[__builtin_ctzll(fresh)] = is_real ? NEVER : cpu->cycles + times * machine->latency;
-        machine->flies |= fresh & -fresh;
-        machine->flights++;
-    }
+    uint64_t all = board_in_flight(machine->slot), fresh = all & ~machine->flies;
+    machine->flies |= fresh;
+    for (; fresh != 0; fresh &= fresh - 1)
+        machine->dues[__builtin_ctzll(fresh)] = due_of(machine, (all & (all - 1)) != 0);
     note_due(machine);
 }
 

@@ -29,10 +29,10 @@ struct machine {
     bool late;            /* output is taken where there is no room for more, and while the guest waits */
     uint64_t timer;       /* the cycle of the timer's interrupt, or all ones */
     uint64_t latency;     /* how many cycles a disk takes that the host serves; all ones: it is done when its file is */
+    uint64_t chance;      /* by which it takes longer where several operations are in flight */
     uint64_t dues[64];    /* the cycle at which the operation of each tag is done, or all ones, */
     uint64_t due;         /* and the first of these */
-    uint64_t flies;       /* the tags of what is in flight, */
-    uint64_t flights;     /* and how many operations there were */
+    uint64_t flies;       /* the tags of what is in flight */
     uint64_t hidden;      /* feature bits of the devices that the driver isn't shown */
     uint32_t selected[2]; /* the word of the features that each window was asked for */
     struct machine_counts counts[2];

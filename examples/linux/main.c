@@ -27,8 +27,9 @@
  *                     by io_uring where that is to be had, or `threads`
  *   --depth COUNT     has up to so many operations of such a disk in flight, 1 where it isn't said, and 64 at most
  *   --latency COUNT   such an operation is done after so many of its guest's instructions, 10000 where it isn't said, so that
- *                     runs stay the same; beside others by turns after twice and three times as many. A guest whose file
- *                     takes longer waits for it. `real`: it is done when its file is
+ *                     runs stay the same; beside others after up to 16 times as many, by chance. A guest whose file takes
+ *                     longer waits for it. `real`: it is done when its file is
+ *   --seed NUMBER     of that chance, and so of the order in which operations are completed
  *
  * What a guest's drivers do wrong is told in guest-0.mistakes, and at the end on the screen.
  */
@@ -89,6 +90,7 @@ static void power_on(size_t index, struct machine_file kernel, struct machine_fi
     machine->late = words.late;
     machine->hidden = words.hidden;
     machine->latency = words.latency;
+    machine->chance = words.seed;
     machine->early = create_file(words.to, index, "early");
     machine->mistakes = create_file(words.to, index, "mistakes");
     machine->terminal.number = index;

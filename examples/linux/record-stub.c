@@ -1,7 +1,7 @@
 /*
  * What the library answers to record-test.c, for a machine where it isn't built. It is no device: over an image the disk's
  * first notify with DRIVER_OK ends in an error of the request, its second in a fault, and the console's first finds no room;
- * where the host serves the disks, guest 0's first notify asks for two operations, and its second for one.
+ * where the host serves the disks, guest 0's first notify asks for two operations, and each later one for one.
  */
 #include <stdlib.h>
 #include <string.h>
@@ -18,7 +18,7 @@ static struct guest {
 } guests[GUESTS];
 
 static uint32_t notifies[2];
-static bool hosted;
+static bool hosted, held;
 static uint64_t in_flight; /* the tags of what is */
 static uint8_t given_back; /* how many operations were completed */
 
@@ -158,6 +158,35 @@ uint32_t kalyubos_completed(struct kalyubos *board, uint8_t slot, uint8_t tag, b
     in_flight &= ~((uint64_t)1 << tag);
     give_back(guest, asked_with(tag), failed);
     return tell(guest, pending, KALYUBOS_DONE);
+}
+
+uint32_t kalyubos_drop(struct kalyubos *board, uint8_t slot, struct kalyubos_pending *pending)
+{
+    struct guest *guest = &guests[slot];
+    (void)board;
+    if (in_flight == 0)
+        return tell(guest, pending, KALYUBOS_IDLE);
+    in_flight = 0;
+    guest->status |= 0x40;
+    guest->block |= 2;
+    return tell(guest, pending, KALYUBOS_DONE);
+}
+
+uint32_t kalyubos_hold(struct kalyubos *board, uint8_t slot, struct kalyubos_pending *pending)
+{
+    uint32_t answer = held ? KALYUBOS_IDLE : KALYUBOS_DONE;
+    (void)board;
+    held = true;
+    return tell(&guests[slot], pending, answer);
+}
+
+/* Nothing was on offer meanwhile. */
+uint32_t kalyubos_release(struct kalyubos *board, uint8_t slot, struct kalyubos_pending *pending)
+{
+    uint32_t answer = held ? KALYUBOS_DONE : KALYUBOS_IDLE;
+    (void)board;
+    held = false;
+    return tell(&guests[slot], pending, answer);
 }
 
 uint32_t kalyubos_write(struct kalyubos *board, uint8_t slot, uint8_t window, uint16_t offset, uint8_t width,

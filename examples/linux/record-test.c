@@ -209,6 +209,22 @@ static void ask_for_what_fails(void)
     must(try_to_write(KALYUBOS_BLOCK, 0x050, 4, 0) == KALYUBOS_IO, "one more operation");
 }
 
+static void hold_and_release(void)
+{
+    must(record_hold(&board, 0, &pending) == KALYUBOS_DONE, "a hold");
+    must(record_hold(&board, 0, &pending) == KALYUBOS_IDLE, "a hold of a held slot");
+    must(record_release(&board, 0, &pending) == KALYUBOS_DONE, "a release");
+}
+
+/* The same read once more, which the host gives up. */
+static void ask_for_what_is_dropped(void)
+{
+    memory[AVAILABLE + 2] = 4;
+    must(try_to_write(KALYUBOS_BLOCK, 0x050, 4, 0) == KALYUBOS_IO, "an operation to be dropped");
+    must(record_drop(&board, 0, &pending) == KALYUBOS_DONE && pending.block == 3, "a drop");
+    must(record_drop(&board, 0, &pending) == KALYUBOS_IDLE, "a drop of nothing");
+}
+
 static void serve_disks(FILE *mistakes)
 {
     struct kalyubos_slot slots[] = { SLOT, SLOT };
@@ -228,6 +244,8 @@ static void serve_disks(FILE *mistakes)
     complete(1, false, KALYUBOS_IDLE);
     ask_for_what_fails();
     complete(0, true, KALYUBOS_DONE);
+    hold_and_release();
+    ask_for_what_is_dropped();
     write_register(KALYUBOS_BLOCK, 0x070, 4, 0);
     must(watch_count(0) == 1, "a mistake");
 }

@@ -409,6 +409,37 @@ uint32_t record_completed(struct kalyubos *board, uint8_t slot, uint8_t tag, boo
     return settle(board, slot, answer, pending);
 }
 
+/* Says of a disk what a word of the trace says. */
+static uint32_t say(struct kalyubos *board, uint8_t slot, struct kalyubos_pending *pending, const char *word,
+                    uint32_t (*call)(struct kalyubos *, uint8_t, struct kalyubos_pending *))
+{
+    if (!writes(slot) || !hosted || is_paused(slot))
+        return call(board, slot, pending);
+    put_changes(slot, put_write);
+    char line[16];
+    ask(slot, line, snprintf(line, sizeof line, "%s %x", word, slot));
+    strcpy(seen[slot].reply, "done");
+    uint32_t answer = call(board, slot, pending);
+    if (answer == KALYUBOS_DONE && call == kalyubos_drop)
+        seen[slot].begun = 0;
+    return settle(board, slot, answer, pending);
+}
+
+uint32_t record_drop(struct kalyubos *board, uint8_t slot, struct kalyubos_pending *pending)
+{
+    return say(board, slot, pending, "drop", kalyubos_drop);
+}
+
+uint32_t record_hold(struct kalyubos *board, uint8_t slot, struct kalyubos_pending *pending)
+{
+    return say(board, slot, pending, "hold", kalyubos_hold);
+}
+
+uint32_t record_release(struct kalyubos *board, uint8_t slot, struct kalyubos_pending *pending)
+{
+    return say(board, slot, pending, "release", kalyubos_release);
+}
+
 uint32_t record_input(struct kalyubos *board, uint8_t slot, const uint8_t *bytes, size_t bytes_len, size_t *took,
                       struct kalyubos_pending *pending)
 {

@@ -5,8 +5,8 @@
  * changed in it during a call `mr` lines with the bytes that stand there then. A write that finds no room is made again
  * before any other call for its guest.
  *
- * Where the host serves a disk, a completion is a line, each record of the board says which operations began, and what the
- * host read into memory stands as `mw` lines before.
+ * Where the host serves a disk, a completion is a line, and so are a drop, a hold and a release; each record of the board says
+ * which operations began, and what the host read into memory stands as `mw` lines before.
  *
  * One board for the process. Where record_to wasn't called nothing is written, and each call is the library's.
  */
@@ -32,6 +32,9 @@ uint32_t record_write(struct kalyubos *board, uint8_t slot, uint8_t window, uint
 uint32_t record_go_on(struct kalyubos *board, uint8_t slot, struct kalyubos_pending *pending);
 uint32_t record_completed(struct kalyubos *board, uint8_t slot, uint8_t tag, bool failed,
                           struct kalyubos_pending *pending);
+uint32_t record_drop(struct kalyubos *board, uint8_t slot, struct kalyubos_pending *pending);
+uint32_t record_hold(struct kalyubos *board, uint8_t slot, struct kalyubos_pending *pending);
+uint32_t record_release(struct kalyubos *board, uint8_t slot, struct kalyubos_pending *pending);
 uint32_t record_input(struct kalyubos *board, uint8_t slot, const uint8_t *bytes, size_t bytes_len, size_t *took,
                       struct kalyubos_pending *pending);
 uint32_t record_resize(struct kalyubos *board, uint8_t slot, uint16_t cols, uint16_t rows,

@@ -42,8 +42,8 @@ static void show_flights(uint8_t slot)
 {
     struct board_flights flights = board_flights(slot);
     if (flights.operations > 0)
-        printf("guest %u: its disk was asked %zu times, and other guests made %zu calls meanwhile\n", slot,
-               flights.operations, flights.calls);
+        printf("guest %u: its disk was asked %zu times by %s, and other guests made %zu calls meanwhile\n", slot,
+               flights.operations, flights.way, flights.calls);
     if (flights.together > 1)
         printf("guest %u: up to %zu operations of its disk were in flight together\n", slot, flights.together);
     if (board_memory(slot)->count > 1)

@@ -46,16 +46,16 @@ static const struct option OPTIONS[] = {
     { "bytes", required_argument, NULL, 'y' },   { "cache", required_argument, NULL, 'c' },
     { "chains", required_argument, NULL, 'a' },  { "copies", no_argument, NULL, 'p' },
     { "cycles", required_argument, NULL, 'n' },  { "depth", required_argument, NULL, 'f' },
-    { "hosted", required_argument, NULL, 'h' },
-    { "image", required_argument, NULL, 'm' },   { "interactive", no_argument, NULL, 'i' },
-    { "keep", required_argument, NULL, 'b' },    { "kernel", required_argument, NULL, 'k' },
-    { "large", no_argument, NULL, 'j' },         { "late", no_argument, NULL, 'l' },
-    { "latency", required_argument, NULL, 'u' },
+    { "hosted", required_argument, NULL, 'h' },  { "image", required_argument, NULL, 'm' },
+    { "interactive", no_argument, NULL, 'i' },   { "keep", required_argument, NULL, 'b' },
+    { "kernel", required_argument, NULL, 'k' },  { "large", no_argument, NULL, 'j' },
+    { "late", no_argument, NULL, 'l' },          { "latency", required_argument, NULL, 'u' },
     { "outlet", required_argument, NULL, 'o' },  { "quiet", no_argument, NULL, 'q' },
     { "record", required_argument, NULL, 'r' },  { "save", required_argument, NULL, 'v' },
     { "save-at", required_argument, NULL, 'e' }, { "script", required_argument, NULL, 's' },
-    { "show", required_argument, NULL, 'g' },    { "to", required_argument, NULL, 'd' },
-    { "tree", required_argument, NULL, 't' },    { "without", required_argument, NULL, 'w' },
+    { "seed", required_argument, NULL, 'x' },    { "show", required_argument, NULL, 'g' },
+    { "to", required_argument, NULL, 'd' },      { "tree", required_argument, NULL, 't' },
+    { "without", required_argument, NULL, 'w' },
     { NULL, 0, NULL, 0 },
 };
 
@@ -94,6 +94,7 @@ static void take(struct words *words, int option)
     case 'u': words->latency = strcmp(optarg, "real") == 0 ? UINT64_MAX : number(optarg); break;
     case 'v': words->save = optarg; break;
     case 'w': words->hidden |= feature(optarg); break;
+    case 'x': words->seed = number(optarg); break;
     case 'y': words->bytes = number(optarg); break;
     default: exit(2);
     }

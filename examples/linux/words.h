@@ -18,6 +18,7 @@ struct words {
     bool threads;      /* without io_uring */
     uint32_t depth;    /* how many operations of it may be in flight */
     uint64_t latency;  /* how many instructions such a disk takes, or all ones: as many as pass */
+    uint64_t seed;     /* of the order in which operations end that are in flight together */
     uint32_t cache, outlet;
     uint32_t chains; /* the budget of a call, or 0 for no limit */
     uint64_t bytes;

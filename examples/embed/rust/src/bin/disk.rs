@@ -153,6 +153,16 @@ impl Guest {
         self.take_in(pending)
     }
 
+    /// Gives up all that the disk is asked for, behind the end of its transfers.
+    fn give_up(&mut self) -> Result<()> {
+        while !self.begun.is_empty() {
+            let (order, _) = self.ends.recv()?;
+            self.begun.remove(order.tag);
+        }
+        let pending = self.board.drop_operations(0)?;
+        self.take_in(pending)
+    }
+
     /// A store. One that resets the device, or its queue, waits for all that is in flight.
     fn store(&mut self, window: Window, offset: u16, value: u32) -> Result<()> {
         loop {
@@ -283,10 +293,25 @@ impl Guest {
         Ok(())
     }
 
-    /// Guest 1: writes by four requests at once; zeroes, flushes and reads, each to its end.
+    /// The driver finds that its device asks for a reset, and forgets what it offered.
+    fn reset(&mut self, features: u32) -> Result<()> {
+        let status = self.board.read(0, Window::Block, 0x70, 4)?;
+        println!(
+            "guest {} resets its disk: line {}, status {status:02x}",
+            self.number, self.line
+        );
+        self.store(Window::Block, 0x70, 0)?;
+        self.board.memory(0, MEMORY)?[..ZEROED].fill(0);
+        self.offered = 0;
+        self.bring_up(features)
+    }
+
+    /// Guest 1: writes by four requests at once; zeroes, flushes and reads, each to its end. Of four reads the host gives up,
+    /// and behind a reset one is done.
     fn works(&mut self, both: &Barrier) -> Result<()> {
+        let features = 1 << 9 | 1 << 14; // FLUSH, WRITE_ZEROES
         both.wait();
-        self.bring_up(1 << 9 | 1 << 14)?; // FLUSH, WRITE_ZEROES
+        self.bring_up(features)?;
         let memory = self.board.memory(0, MEMORY)?;
         memory[DATA..DATA + 8 * SECTOR_LEN].fill(b'B');
         memory[ZEROED..ZEROED + 8].copy_from_slice(&3u64.to_le_bytes());
@@ -304,6 +329,12 @@ impl Guest {
                 2 + place
             );
         }
+        self.ask_in_parts(IN, 0, DATA, 0x20_0000)?;
+        self.give_up()?;
+        self.reset(features)?;
+        self.transfer(IN, 6, DATA, SECTOR_LEN as u32)?;
+        let found = self.board.memory(0, MEMORY)?[DATA];
+        println!("guest 1 finds {found:02x} in sector 6");
         both.wait();
         Ok(())
     }
