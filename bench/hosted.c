@@ -190,7 +190,7 @@ int main(int words_len, char **words)
         int which = strcmp(words[1], "image") == 0 ? 0 : strcmp(words[1], "host") == 0 ? 1 : strcmp(words[1], "8") == 0 ? 2 : 3;
         void (*const works[])(void) = { read_image, ask_host, ask_for_8, ask_for_32 };
         int part = which < 2 ? 1 : (int)DEPTHS[which - 2];
-        for (int i = 0; i < atoi(words[2]); i += part)
+        for (int i = 0, len = atoi(words[2]); i < len; i += part)
             works[which]();
     } else {
         time_all();

@@ -123,10 +123,15 @@ static void begin(void)
     waits = calls = 0;
 }
 
-static void end(const char *what)
+static void tell(const char *what)
 {
     printf("%-48s %4ld calls, the longest %9.1f us; longest wait %9.1f us, mean %9.1f us\n", what, calls, longest_call,
            longest, sum / (double)waits);
+}
+
+static void end(const char *what)
+{
+    tell(what);
     must(kalyubos_destroy(&board));
 }
 
@@ -311,17 +316,30 @@ static void run_hosted(const struct hostile *it, int run)
         must(kalyubos_destroy(&board));
 }
 
-static void time_hosted(const char *what, struct hostile it)
+/* Takes in the calls of the hostile guest and the waits behind them; every `but`th call, from the first on, is left out. */
+static void take_in_all(const struct hostile *it, int but)
 {
-    for (int run = 0; run < RUNS; run++)
-        run_hosted(&it, run);
     begin();
-    for (int call = 0; call < it.calls; call++) {
+    for (int call = 0; call < it->calls; call++) {
+        if (but != 0 && call % but == 0)
+            continue;
         take_in_call(call_took[call]);
         for (uint8_t guest = 1; guest < GUESTS; guest++)
             take_in(wait_took[call][guest]);
     }
-    end(what);
+}
+
+static void time_hosted(const char *what, struct hostile it)
+{
+    for (int run = 0; run < RUNS; run++)
+        run_hosted(&it, run);
+    take_in_all(&it, 0);
+    tell(what);
+    if (it.depth > 1) {
+        take_in_all(&it, 1 + RING);
+        tell("  but for the notifications, which begin them all");
+    }
+    must(kalyubos_destroy(&board));
 }
 
 int main(void)
@@ -335,7 +353,9 @@ int main(void)
     time_hosted("256 chains of 8 MiB, hosted", (struct hostile){ begin_reads, call_disk, MOST_CALLS, 1, 0, LARGE, 1 });
     time_hosted("256 chains of 8 MiB in 254 buffers, hosted",
                 (struct hostile){ begin_reads, call_disk, MOST_CALLS, 1, 0, LARGE, 254 });
-    time_hosted("the same, 64 of them in flight",
+    time_hosted("256 chains of 8 MiB, 64 in flight",
+                (struct hostile){ begin_reads, call_disk, MOST_CALLS, KALYUBOS_TAGS, 0, LARGE, 1 });
+    time_hosted("256 chains of 8 MiB in 254 buffers, 64 in flight",
                 (struct hostile){ begin_reads, call_disk, MOST_CALLS, KALYUBOS_TAGS, 0, LARGE, 254 });
     time_hosted("256 tables of 256 bytes to a console, no budget",
                 (struct hostile){ begin_texts, call_console, CHAINS / RING, 1, 0, 0, 0 });

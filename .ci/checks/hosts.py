@@ -177,7 +177,7 @@ def disks():
 
 
 # The calls of file_disk.c and file_ring.c that fail in turn.
-CALLS = ["open", "lseek", "malloc", "pipe2", "pthread_create", "mmap", "syscall", "read", "write",
+CALLS = ["open", "lseek", "malloc", "aligned_alloc", "pipe2", "pthread_create", "mmap", "syscall", "read", "write",
          "pread", "pwrite", "fdatasync", "fallocate"]
 
 
