@@ -7,7 +7,8 @@ IMAGE ?=
 SAVE ?=
 N ?= 1000
 FROM ?= 0
-# A word, as UNPROVED=1, has bench, fuzz, broken, trouble, stops and doors take what packaging/unproved builds, without a proof.
+# A word, as UNPROVED=1, has bench, fuzz, broken, trouble, stops, doors, linux and linux-test take what packaging/unproved builds,
+# without a proof.
 UNPROVED ?=
 PREFIX ?= /usr/local
 LIBDIR ?= $(PREFIX)/lib
@@ -145,7 +146,7 @@ linux:
 	@examples/linux/run
 
 # Boots Linux in many ways, and prints a line for each check.
-linux-test:
+linux-test: $(BUILT)
 	@examples/linux/test
 
 # Boots Linux, and draws both consoles as examples/linux/boot.svg.
