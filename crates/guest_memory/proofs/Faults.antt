@@ -11,7 +11,7 @@ use Rattle.guest_memory.specs.declared.fault.MemoryFault.TheVariants.{NoRegions,
 use Rattle.guest_memory.specs.declared.fault.RegionFault.{RegionFault}
 use Rattle.guest_memory.specs.declared.spec.RegionSpec.{RegionSpec}
 use Rattle.guest_memory.specs.Regions.{Region, AreApart, AreRegions, memory_of}
-use Rattle.guest_memory.specs.Faults.{IsGoodRegion, GoodBelow, AreGood, IsFaultOf, HasFaultAt, IsRefusedAt, IsRefused, size_of, spec_of, zeroed_region}
+use Rattle.guest_memory.specs.Faults.{IsGoodRegion, GoodBelow, AreGood, IsFaultOf, HasFaultAt, IsRefusedAt, size_of, spec_of, zeroed_region}
 use Rattle.guest_memory.proofs.InRegions.{some_region, one_apart, more_apart, first_base, ends_last}
 
 -- a fault of the region at this place
@@ -93,10 +93,6 @@ same_why regions i j f g (first one) (first one2) = same_first regions i j f g o
 pub one_refusal : (regions : List RegionSpec) (i j : ℕ) (f g : MemoryFault) → IsRefusedAt regions i f
     → IsRefusedAt regions j g → (i ≡ j) × (f ≡ g)
 one_refusal regions i j f g one other = same_why regions i j f g (why regions i f one) (why regions j g other)
-
-pub one_fault : (regions : List RegionSpec) (f g : MemoryFault) → IsRefused regions f
-    → IsRefused regions g → f ≡ g
-one_fault regions f g one other = (one_refusal regions one.place other.place f g one.by_it other.by_it).1
 
 -- good regions aren't refused
 pub refused_not_good : (regions : List RegionSpec) (i : ℕ) (f : MemoryFault) → IsRefusedAt regions i f

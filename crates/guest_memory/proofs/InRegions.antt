@@ -468,33 +468,14 @@ found_none rs a n m same h none inside =
     (subst (λ (m : Memory). Inside m a n) (sym same) inside) in
     cc
 
--- the test of a range in a memory of one region x, where the address lies in it or is its end
-pub one_holds : (rs : List Region) (a n room : ℕ) (x : Region) (m : Memory) → memory_of rs ≡ m → AreApart rs
-    → length rs ≡ 1 → x ≡ get_or rs 0 x → touches a x ≡ true → a + room ≡ end_of x
-    → IsTrue (nat_le n room) ↔ Inside m a n
-one_holds rs a n room x m same h one is test rest =
-    found_holds rs a n 0 room x m same h (first_found rs a x one is test) is rest
-  where
-    first_found : (rs : List Region) (a : ℕ) (x : Region) → length rs ≡ 1 → x ≡ get_or rs 0 x
-        → touches a x ≡ true
-        → position (touches a) rs ≡ Some 0
-    first_found [] a x one is test = absurd (omega (arith, one))
-    first_found (r ∷ []) a x one is test =
-        let here : touches a r ≡ true = ap (touches a) (sym is) ∙ test in
-        rw here refl
-    first_found (r ∷ (s ∷ rs)) a x one is test = absurd (omega (arith, one))
-
--- and where it doesn't
-pub one_misses : (rs : List Region) (a n : ℕ) (x : Region) (t : Bool) (m : Memory)
-    → memory_of rs ≡ m → AreApart rs
-    → length rs ≡ 1 → x ≡ get_or rs 0 x → t ≡ touches a x → t ≡ false → IsTrue t ↔ Inside m a n
-one_misses rs a n x t m same h one is tells test = (
-  λ never. cc,
-  λ inside.
-      let isin : IsIn (get_or rs 0 x) a n =
-      only_inside rs a n x h (subst (λ (m : Memory). Inside m a n) (sym same) inside) one in
-      let here : IsIn x a n = subst (λ (r : Region). IsIn r a n) (sym is) isin in
-      absurd (grind (arith, nat_tests, here.above, here.below, tells, test)),
+-- the test of a range in a memory of one region x
+pub one_tells : (rs : List Region) (a n : ℕ) (x : Region) (t : Bool) (m : Memory) → memory_of rs ≡ m → AreApart rs
+    → length rs ≡ 1 → x ≡ get_or rs 0 x → IsTrue t ↔ IsIn x a n → IsTrue t ↔ Inside m a n
+one_tells rs a n x t m same h one is tells = (
+  λ yes. subst (λ (m : Memory). Inside m a n) same (region_inside rs 0 x a n h (omega (arith, one))
+      (subst (λ (r : Region). IsIn r a n) is (tells.0 yes))),
+  λ inside. tells.1 (subst (λ (r : Region). IsIn r a n) (sym is)
+      (only_inside rs a n x h (subst (λ (m : Memory). Inside m a n) (sym same) inside) one)),
 )
 
 -- a test that tells whether a range lies inside answers as is_inside does

@@ -1,11 +1,11 @@
 -- Writes mark the pages that they change.
-use Rattle.std.proofs.Common.{◌≡◌, ◌≢◌, ◌⊎◌, inl, inr, ℕ, zero, suc, ◌+◌, ◌*◌, ◌-◌, ◌<◌, ◌≤◌, Bool, true, false, Option, Some, None, List, [], ◌∷◌, length, take, drop, refl, sym, ◌∙◌, ap, subst, arith, length-take, length-append, length-drop}
-use Rattle.std.specs.Prelude.{nat_lt, ◌&&◌, ◌||◌}
+use Rattle.std.proofs.Common.{◌≡◌, ◌⊎◌, inl, inr, ℕ, zero, suc, ◌+◌, ◌*◌, ◌-◌, ◌<◌, ◌≤◌, Bool, true, false, Option, Some, List, [], ◌∷◌, length, take, drop, refl, sym, ◌∙◌, ap, arith, length-take, length-append, length-drop}
+use Rattle.std.specs.Prelude.{◌||◌}
 use Rattle.std.specs.List.{slice_get}
 use Rattle.std.proofs.lemmas.Bool.{cases_lt}
 use Rattle.std.proofs.lemmas.Bool.Decides.{nat_tests}
 use Rattle.std.proofs.lemmas.List.{places, same_lists}
-use Rattle.guest_memory.specs.Marks.{MarksWrites, page_of}
+use Rattle.guest_memory.specs.Marks.{MarksWrites}
 use Rattle.guest_memory.specs.Memory.{Gap, Memory, put, put_at, up_to_gap}
 use Rattle.guest_memory.specs.Pages.{is_reached, marked, page_size}
 use Rattle.guest_memory.proofs.Gaps.{up_to_gap-none, up_to_gap-behind, up_to_gap-before}

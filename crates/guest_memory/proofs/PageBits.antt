@@ -1,5 +1,5 @@
 -- A bit of a page is set in its byte.
-use Rattle.std.proofs.Common.{◌≡◌, ◌≢◌, ◌⊎◌, inl, inr, ℕ, zero, suc, ◌+◌, ◌*◌, ◌^◌, ◌/◌, ◌%◌, ◌<◌, Bool, true, false, ◌-◌, ◌≤◌, min, List, [], ◌∷◌, length, get_or, refl, sym, ◌∙◌, ap, arith, w8}
+use Rattle.std.proofs.Common.{◌≡◌, ◌≢◌, ◌⊎◌, inl, inr, ℕ, zero, suc, ◌+◌, ◌*◌, ◌^◌, ◌/◌, ◌%◌, ◌<◌, Bool, true, false, ◌-◌, ◌≤◌, min, List, [], ◌∷◌, length, refl, sym, ◌∙◌, ap, arith, w8}
 use Rattle.std.specs.Prelude.{slice_index_or, slice_set, bit_or, ◌==◌, ◌||◌, ◌&&◌, nat_le, nat_lt}
 use Rattle.std.proofs.lemmas.Bool.Decides.{nat_tests}
 use Rattle.std.proofs.lemmas.Nat.Bits.{bit_at_set_same, bit_at_set_other}

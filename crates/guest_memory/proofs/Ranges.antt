@@ -66,9 +66,6 @@ stored_range m a bs = record {
   gaps = refl;
 }
 
-pub pages_range : (m : Memory) (bits : List Bool) → SameRange m (record m { pages = bits })
-pages_range m bits = record { base = refl; size = refl; gaps = refl }
-
 -- a write of nothing changes nothing
 pub put-none : (m : Memory) (a : ℕ) → put m a [] ≡ m
 put-none m a =
@@ -177,13 +174,3 @@ num_in_part m a n j k rest v bytes lent inside within room read =
     (λ i d h. grind (arith, places, inside.above)) in
     read ∙ ap (λ (bs : List ℕ). little_number k (take rest (drop j bs))) lent
     ∙ sym (little_from-take 0 k k xs (omega arith)) ∙ ap (little_number k) same
-
--- and the one at its first byte
-pub num_first : (m : Memory) (a n k v : ℕ) (bytes : List ℕ) → bytes ≡ part_of m a n → Inside m a n → k ≤ n
-    → v ≡ little_number k bytes → v ≡ num m a k
-num_first m a n k v bytes lent inside within read =
-    let same : take k (part_of m a n) ≡ part_of m a k =
-    same_lists _ _ (simp (length-take, length-drop) (omega (arith, inside.above)))
-    (λ i d h. grind (arith, places, inside.above)) in
-    read ∙ ap (little_number k) lent ∙ sym (little_from-take 0 k k (part_of m a n) (omega arith))
-    ∙ ap (little_number k) same

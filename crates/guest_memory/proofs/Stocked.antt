@@ -1,15 +1,15 @@
 -- Of a memory's own regions and lent ones there is one kind. So a memory has one list of regions, whichever
 -- it is.
 use Rattle.std.proofs.Common.{◌≡◌, ◌↔◌, ◌==◌, ◌<◌, ◌≤◌, ◌+◌, ◌-◌, ◌^◌, ℕ, Bool, true, false, List, [], ◌∷◌, length, take, drop, get_or, set, refl, sym, ◌∙◌, ap, subst, arith}
-use Rattle.std.specs.Prelude.{nat_le, IsTrue}
+use Rattle.std.specs.Prelude.{IsTrue}
 use Rattle.std.proofs.lemmas.Bool.Decides.{nat_tests}
 use Rattle.std.proofs.lemmas.List.{length-set}
 use Rattle.guest_memory.specs.Memory.{Memory, Inside, part_of, stored, with_marks}
 use Rattle.guest_memory.specs.Pages.{bits_of, marked}
-use Rattle.guest_memory.specs.Regions.{Region, AreRegions, IsIn, end_of, in_front, memory_of, touches}
+use Rattle.guest_memory.specs.Regions.{Region, AreRegions, IsIn, in_front, memory_of}
 use Rattle.guest_memory.specs.Stock.{regions_of, with_pages}
 use Rattle.guest_memory.proofs.Marking.{marked-nil}
-use Rattle.guest_memory.proofs.InRegions.{one_holds, one_misses, only_inside, part_in, place_in, put_in, region_fits, regions-put_in, with_put}
+use Rattle.guest_memory.proofs.InRegions.{one_tells, only_inside, part_in, place_in, put_in, region_fits, regions-put_in, with_put}
 
 -- none are its own: the lent ones
 pub lent_regions : (own lent : List Region) (count : ℕ) (test : Bool) → length own ≡ count
@@ -101,19 +101,16 @@ pub record IsFound (all : List Region → List Region) (rs : List Region) (m : M
   pub lies : IsIn (get_or rs i x) a n
   pub is : x ≡ get_or rs i x
 
--- of one region of its own it is that one
-pub only_found : (own lent : List Region) {bits : List Bool} {m : Memory} {a n : ℕ} {x : Region} → length own ≡ 1
-    → AreRegions (regions_of own lent) → with_pages bits (memory_of (regions_of own lent)) ≡ m
-    → Inside m a n → x ≡ get_or own 0 x → IsFound (λ ys. regions_of ys lent) own m 0 a n x
-only_found own lent {a = a} {n = n} {x = x} one regions view inside is =
-    let stock = own_stock own lent (omega (arith, one)) regions view in
-    record {
-      stock = stock;
-      place = omega (arith, one);
-      lies = only_inside own a n x stock.regions.apart
-          (inside_without stock.bits (subst (λ (m : Memory). Inside m a n) (sym stock.view) inside)) one;
-      is = is;
-    }
+-- of one region it is that one
+pub only_found : {all : List Region → List Region} {rs : List Region} {m : Memory} {a n : ℕ} {x : Region}
+    → IsStock all rs m → length rs ≡ 1 → Inside m a n → x ≡ get_or rs 0 x → IsFound all rs m 0 a n x
+only_found {rs = rs} {a = a} {n = n} {x = x} stock one inside is = record {
+  stock = stock;
+  place = omega (arith, one);
+  lies = only_inside rs a n x stock.regions.apart
+      (inside_without stock.bits (subst (λ (m : Memory). Inside m a n) (sym stock.view) inside)) one;
+  is = is;
+}
 
 -- one that was searched for, in the same list under another name
 pub search_found : {all : List Region → List Region} {xs rs : List Region} {m : Memory} {i a n : ℕ}
@@ -123,24 +120,11 @@ search_found {xs = xs} {rs = rs} {i = i} {a = a} {n = n} {x = x} stock same with
     let at = place_in xs rs i a n x same within lies in
     record { stock = stock; place = at.0; lies = at.1; is = is }
 
--- the test of a range in the only region of its own, where the address lies in it or is its end
-pub own_holds : (own lent : List Region) (n room : ℕ) {bits : List Bool} {m : Memory} {a : ℕ} {x : Region}
-    → length own ≡ 1
-    → AreRegions (regions_of own lent) → with_pages bits (memory_of (regions_of own lent)) ≡ m
-    → x ≡ get_or own 0 x → touches a x ≡ true → a + room ≡ end_of x
-    → IsTrue (nat_le n room) ↔ Inside m a n
-own_holds own lent n room {m = m} {a = a} {x = x} one regions view is test rest =
-    let stock = own_stock own lent (omega (arith, one)) regions view in
-    tells_with stock.view
-    (one_holds own a n room x (memory_of own) refl stock.regions.apart one is test rest)
-
--- and where it doesn't
-pub own_misses : (own lent : List Region) (n : ℕ) {bits : List Bool} {m : Memory} {a : ℕ} {x : Region} {t : Bool}
-    → length own ≡ 1 → AreRegions (regions_of own lent) → with_pages bits (memory_of (regions_of own lent)) ≡ m
-    → x ≡ get_or own 0 x → t ≡ touches a x → t ≡ false → IsTrue t ↔ Inside m a n
-own_misses own lent n {m = m} {a = a} {x = x} {t = t} one regions view is tells test =
-    let stock = own_stock own lent (omega (arith, one)) regions view in
-    tells_with stock.view (one_misses own a n x t (memory_of own) refl stock.regions.apart one is tells test)
+-- the test of a range in the only region
+pub only_tells : {all : List Region → List Region} {rs : List Region} {m : Memory} {a n : ℕ} {x : Region} {t : Bool}
+    → IsStock all rs m → length rs ≡ 1 → x ≡ get_or rs 0 x → IsTrue t ↔ IsIn x a n → IsTrue t ↔ Inside m a n
+only_tells {rs = rs} {a = a} {n = n} {x = x} {t = t} stock one is tells =
+    tells_with stock.view (one_tells rs a n x t (memory_of rs) refl stock.regions.apart one is tells)
 
 -- the range lies in that region, and ends by 2^64
 pub found_lies : {all : List Region → List Region} {rs : List Region} {m : Memory} {i a n : ℕ} {x : Region}

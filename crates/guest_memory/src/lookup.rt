@@ -53,8 +53,7 @@ pub(crate) fn holds<A: Allocator>(regions: &[Region<A>], addr: u64, n: u64) -> b
     ensures fits { IsTrue result → addr + n ≤ 2 ^ 64 }
 {
     if regions.len() == 1 {
-        let region = &regions[0];
-        return region.touches(addr) && n <= region.room_behind(addr);
+        return regions[0].holds(addr, n);
     }
     match place_of(regions, addr) {
         Some(place) => n <= regions[place].room_behind(addr),

@@ -201,16 +201,19 @@ impl<A: Allocator> GuestMemory<A> {
 
     /// Whether the `n` bytes from `addr` on all lie in the memory, in one region. An empty range does where its address
     /// lies in a region, or at its end. Addresses don't wrap.
+    #[inline(always)]
     pub fn holds(&self, addr: u64, n: u64) -> bool
         ensures inside { IsTrue result ↔ Inside self.now addr n }
         ensures test { result ≡ is_inside self.now addr n }
         ensures fits { IsTrue result → addr + n ≤ 2 ^ 64 }
     {
         if self.own.len() == 1 {
-            let region = &self.own[0];
-            return region.touches(addr) && n <= region.room_behind(addr);
+            return self.own[0].holds(addr, n);
         }
-        self.holds_elsewhere(addr, n)
+        if self.own.is_empty() && self.lent.len() == 1 {
+            return self.lent[0].holds(addr, n);
+        }
+        self.holds_among(addr, n)
     }
 
     /// The `n` bytes from `addr` on, which lie in the memory, end at 2^64 at most. It looks at nothing: `slice` says the same.
@@ -221,9 +224,9 @@ impl<A: Allocator> GuestMemory<A> {
         let _ = &self.own;
     }
 
-    // The same where the memory isn't one region of the library's own bytes.
+    // The same of any number of regions.
     #[inline(never)]
-    fn holds_elsewhere(&self, addr: u64, n: u64) -> bool
+    fn holds_among(&self, addr: u64, n: u64) -> bool
         ensures inside { IsTrue result ↔ Inside self.now addr n }
         ensures test { result ≡ is_inside self.now addr n }
         ensures fits { IsTrue result → addr + n ≤ 2 ^ 64 }
@@ -245,6 +248,7 @@ impl<A: Allocator> GuestMemory<A> {
     }
 
     /// The `n` bytes from `addr` on, which lie in the memory. `holds` is the test.
+    #[inline(always)]
     pub fn slice(&self, addr: u64, n: u64) -> &[u8]
         requires { Inside self.now addr n }
         ensures value { result.now ≡ part_of self.now addr n }
@@ -254,12 +258,15 @@ impl<A: Allocator> GuestMemory<A> {
         if self.own.len() == 1 {
             return self.own[0].slice(addr, n);
         }
-        self.slice_elsewhere(addr, n)
+        if self.own.is_empty() && self.lent.len() == 1 {
+            return self.lent[0].slice(addr, n);
+        }
+        self.slice_among(addr, n)
     }
 
-    // The same where the memory isn't one region of the library's own bytes.
+    // The same of any number of regions.
     #[inline(never)]
-    fn slice_elsewhere(&self, addr: u64, n: u64) -> &[u8]
+    fn slice_among(&self, addr: u64, n: u64) -> &[u8]
         requires { Inside self.now addr n }
         ensures value { result.now ≡ part_of self.now addr n }
         ensures len { length result.now ≡ n }
@@ -272,6 +279,7 @@ impl<A: Allocator> GuestMemory<A> {
     }
 
     /// The `n` bytes from `addr` on, to be written by a device: their pages are marked. `holds` is the test.
+    #[inline(always)]
     pub fn part_mut(&mut self, addr: u64, n: u64) -> &mut [u8]
         requires { Inside self.old addr n }
         ensures* writes_back { sem 𝓛 (LendsPart A.row A.Allocator self.entry addr result) }
@@ -283,6 +291,7 @@ impl<A: Allocator> GuestMemory<A> {
     }
 
     /// The same, to be written by the host: no page is marked.
+    #[inline(always)]
     pub fn lend(&mut self, addr: u64, n: u64) -> &mut [u8]
         requires { Inside self.old addr n }
         ensures* writes_back { sem 𝓛 (LendsToHost A.row A.Allocator self.entry addr result) }
@@ -294,6 +303,10 @@ impl<A: Allocator> GuestMemory<A> {
             return region.part_mut(addr, n);
         }
         if self.own.is_empty() {
+            if self.lent.len() == 1 {
+                let region = &mut self.lent[0];
+                return region.part_mut(addr, n);
+            }
             let place = lookup::place_inside(&self.lent, addr, n);
             let region = &mut self.lent[place];
             return region.part_mut(addr, n);
@@ -319,9 +332,18 @@ impl<A: Allocator> GuestMemory<A> {
         ensures { self.new ≡ with_marks self.old addr n }
     {
         if !self.pages.is_empty() {
-            self.fits(addr, n);
-            let from = addr - self.base();
-            mark(self.pages.as_mut_slice(), from, n);
+            self.mark_kept(addr, n);
         }
+    }
+
+    // The same where bits are kept.
+    #[inline(never)]
+    fn mark_kept(&mut self, addr: u64, n: u64)
+        requires { Inside self.old addr n }
+        ensures { self.new ≡ with_marks self.old addr n }
+    {
+        self.fits(addr, n);
+        let from = addr - self.base();
+        mark(self.pages.as_mut_slice(), from, n);
     }
 }

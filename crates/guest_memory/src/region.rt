@@ -80,6 +80,15 @@ impl<A: Allocator> Region<A> {
         self.len() - (addr - self.base)
     }
 
+    /// Whether the `n` bytes from `addr` on lie in the region.
+    #[inline(always)]
+    pub fn holds(&self, addr: u64, n: u64) -> bool
+        ensures inside { IsTrue result ↔ IsIn self.now addr n }
+        ensures fits { IsTrue result → addr + n ≤ 2 ^ 64 }
+    {
+        self.touches(addr) && n <= self.room_behind(addr)
+    }
+
     /// The `n` bytes from `addr` on, which lie in the region.
     pub fn slice(&self, addr: u64, n: u64) -> &[u8]
         requires { IsIn self.now addr n }

@@ -1,4 +1,4 @@
-use Rattle.std.proofs.Common.{◌≡◌, ◌∙◌, ◌⊎◌, ◌-◌, ◌/◌, inl, inr, List, Bool, sym, refl, ap, arith, slice_set, true}
+use Rattle.std.proofs.Common.{◌≡◌, ◌∙◌, ◌⊎◌, ◌/◌, inl, inr, List, Bool, sym, refl, ap, arith, slice_set, true}
 use Rattle.guest_memory.specs.Pages.{bits_of, marked}
 use Rattle.guest_memory.proofs.Marking.{marked-none}
 use Rattle.guest_memory.proofs.PageBits.{filled_none, filled_to, marked_is, one_page_more}

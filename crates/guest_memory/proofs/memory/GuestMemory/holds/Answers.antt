@@ -1,23 +1,23 @@
-use Rattle.std.proofs.Common.{◌∙◌, sym, arith}
+use Rattle.std.proofs.Common.{arith}
 use Rattle.guest_memory.proofs.InRegions.{same_test}
-use Rattle.guest_memory.proofs.Stocked.{own_holds, own_misses}
+use Rattle.guest_memory.proofs.Stocked.{lent_stock, only_tells, own_stock}
 use Rattle.guest_memory.proofs.memory.GuestMemory.holds.Goals as goal
 
-pub returns-then-touches-clause-inside : goal.returns-then-touches-clause-inside
-returns-then-touches-clause-inside g c =
-    own_holds c.self.inside.own.items c.self.inside.lent.items c.args.n _
-    (omega (arith, c.self.inside.own.ok.0, c.len.ensures, c.if-len-eq1.true))
-    c.self.invariant c.self.view_is c.index-region.ensures (sym c.touches.ensures ∙ c.if-touches.true)
-    c.room_behind.ensures.value
+pub returns-then-len-eq1-clause-inside : goal.returns-then-len-eq1-clause-inside
+returns-then-len-eq1-clause-inside g c =
+    only_tells (own_stock c.self.inside.own.items c.self.inside.lent.items
+    (omega (arith, c.self.inside.own.ok.0, c.len.ensures, c.if-len-eq1.true)) c.self.invariant c.self.view_is)
+    (omega (arith, c.self.inside.own.ok.0, c.len.ensures, c.if-len-eq1.true)) c.index.ensures c.holds.ensures.inside
 
-pub returns-then-touches-clause-test : goal.returns-then-touches-clause-test
-returns-then-touches-clause-test g c = same_test (returns-then-touches-clause-inside g c)
+pub returns-then-len-eq1-clause-test : goal.returns-then-len-eq1-clause-test
+returns-then-len-eq1-clause-test g c = same_test (returns-then-len-eq1-clause-inside g c)
 
-pub returns-else-touches-clause-inside : goal.returns-else-touches-clause-inside
-returns-else-touches-clause-inside g c =
-    own_misses c.self.inside.own.items c.self.inside.lent.items c.args.n
-    (omega (arith, c.self.inside.own.ok.0, c.len.ensures, c.if-len-eq1.true))
-    c.self.invariant c.self.view_is c.index-region.ensures c.touches.ensures c.if-touches.false
+pub returns-then-len-eq1-2-clause-inside : goal.returns-then-len-eq1-2-clause-inside
+returns-then-len-eq1-2-clause-inside g c =
+    only_tells (lent_stock c.self.inside.own.items c.self.inside.lent.items (omega (arith, c.self.inside.own.ok.0))
+    c.is_empty.ensures c.if-is_empty.true c.self.invariant c.self.view_is)
+    (omega (arith, c.self.inside.lent.ok.0, c.len-then-is_empty.ensures, c.if-len-eq1-2.true))
+    c.index-then-len-eq1-2.ensures c.holds-then-len-eq1-2.ensures.inside
 
-pub returns-else-touches-clause-test : goal.returns-else-touches-clause-test
-returns-else-touches-clause-test g c = same_test (returns-else-touches-clause-inside g c)
+pub returns-then-len-eq1-2-clause-test : goal.returns-then-len-eq1-2-clause-test
+returns-then-len-eq1-2-clause-test g c = same_test (returns-then-len-eq1-2-clause-inside g c)

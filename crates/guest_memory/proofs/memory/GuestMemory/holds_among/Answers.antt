@@ -1,9 +1,7 @@
-use Rattle.std.proofs.Common.{subst, arith}
-use Rattle.std.specs.Prelude.{◌↔◌, IsTrue}
-use Rattle.guest_memory.specs.Memory.{Inside, Memory}
+use Rattle.std.proofs.Common.{arith}
 use Rattle.guest_memory.proofs.InRegions.{same_test}
 use Rattle.guest_memory.proofs.Stocked.{lent_view, own_view, tells_with}
-use Rattle.guest_memory.proofs.memory.GuestMemory.holds_elsewhere.Goals as goal
+use Rattle.guest_memory.proofs.memory.GuestMemory.holds_among.Goals as goal
 
 pub returns-then-is_empty-clause-test : goal.returns-then-is_empty-clause-test
 returns-then-is_empty-clause-test g c =
