@@ -12,7 +12,7 @@ use Rattle.chain.specs.declared.fault.Fault.{Fault}
 use Rattle.chain.specs.Budget.{AreWithin, IsSpent, bytes_of, chains_of, left_after, less, less_chain}
 use Rattle.chain.specs.Buffers.{total_len}
 use Rattle.chain.specs.Pieces.{EndsWithin, IsServiceWithin, Pauses, RunsWithin}
-use Rattle.chain.specs.Service.{Entry, Kind, Device, Does, Ending, Spent, Faulted, Refused, Leaves, Site, Served, IsEnding, ServesChain, after, stop, Course}
+use Rattle.chain.specs.Service.{Entry, Kind, Device, Does, Ending, Spent, Faulted, Site, Served, IsEnding, ServesChain, after, stop, Course}
 use Rattle.chain.proofs.Servicing.{both, ServesAll-push, service_from_fault}
 
 -- ---- what is left of a budget
@@ -135,14 +135,6 @@ module _ {Ring State : Type 0} (kind : Kind Ring) (device : Device State) where
   piece_runs_into budget left start m ring last s fault p ready has same =
       rw same (piece_ends budget left start (record { memory = m; ring = ring; state = s })
       (Faulted fault) p (ready, has))
-
-  -- The device has no memory for the chain on offer.
-  pub piece_runs_short : (budget left : Budget) (start : Site Ring State) (m : Memory) (ring last : Ring)
-      (s : State) → IsInPiece budget left start (record { memory = m; ring = ring; state = s })
-      → Leaves kind device (record { memory = m; ring = ring; state = s }) → last ≡ ring
-      → RunsWithin kind device budget start Refused (record { memory = m; ring = last; state = s })
-  piece_runs_short budget left start m ring last s p leaves same =
-      rw same (piece_ends budget left start (record { memory = m; ring = ring; state = s }) Refused p leaves)
 
   -- Nothing is left of the budget, and a chain is on offer.
   pub piece_pauses : (budget left : Budget) (start : Site Ring State) (m : Memory) (ring last : Ring)

@@ -1,6 +1,6 @@
 -- What a chain keeps, as a buffer is put behind the others.
 use Rattle.std.proofs.Common.{◌≡◌, ℕ, ◌+◌, ◌<◌, ◌≤◌, ◌^◌, Bool, true, false, List, [], ◌∷◌, ◌++◌, length, take, get_or, inl, inr, refl, ap, ◌∙◌, arith}
-use Rattle.std.specs.Prelude.{slice_set}
+use Rattle.std.specs.Prelude.{slice_set, Result, Ok, Err, OnOk, OnErr}
 use Rattle.std.specs.List.{refill}
 use Rattle.std.proofs.lemmas.Bool.{cases_lt}
 use Rattle.std.proofs.lemmas.List.{get_or-set_same, get_or-set_other, length-set, length-take-le, length_push, take_all, take_more_set, take-append-le}
@@ -8,6 +8,7 @@ use Rattle.std.proofs.lemmas.List.Sums.{sum_by_push}
 use Rattle.std.proofs.lemmas.List.Elements.{All-push}
 use Rattle.chain.specs.declared.segment.Buffer.{Buffer}
 use Rattle.guest_memory.specs.Memory.{Memory}
+use Rattle.chain.specs.declared.fault.Fault.{Fault}
 use Rattle.chain.specs.Buffers.{Admits, Good, buffer_of}
 use Rattle.chain.proofs.Admitting.{Good-append}
 use Rattle.chain.specs.declared.buffers.Start.{Start}
@@ -144,17 +145,14 @@ held_more room room' filled starts addr len flag d next held few many same is fi
           held.addressable below);
     })
 
--- the buffers, once one more is put into the room
-pub pushed : (room now : List Buffer) (filled : ℕ) (b : Buffer) → length room ≡ 256 → filled < 256
-    → now ≡ room
-    → take (filled + 1) (refill (length room) room (slice_set now filled b)) ≡ take filled room ++ b ∷ []
-pushed room now filled b whole few same =
-    let size : length (slice_set now filled b) ≡ length room =
-    length-set now filled b ∙ ap (λ (l : List Buffer). length l) same in
-    rw (refill_same room (slice_set now filled b) size, same)
-    (take_more_set room filled b (omega (arith, whole, few)))
-
 -- buffers that a chain may hold, and one more that it admits
 pub good_more : (m : Memory) (old : List Buffer) (b : Buffer) → Good m old → Admits m old b
     → Good m (old ++ b ∷ [])
 good_more m old b good admits = Good-append m old (b ∷ []) good (admits, tt)
+
+-- and so after a call that may have put it behind them
+pub good_after : (m : Memory) (old new : List Buffer) (b : Buffer) (result : Result (Unit {0}) Fault)
+    → OnOk result (Admits m old b) → OnOk result (new ≡ old ++ b ∷ []) → OnErr result (new ≡ old) → Good m old
+    → Good m new
+good_after m old new b (Ok done) ok more same good = rw more (good_more m old b good ok)
+good_after m old new b (Err fault) ok more same good = rw same good

@@ -1,6 +1,6 @@
 -- Whether areas lie in a memory hangs on its addresses alone, and is tested.
-use Rattle.std.proofs.Common.{◌≡◌, ◌↔◌, Bool, true, false, arith}
-use Rattle.std.specs.Prelude.{IsTrue, ◌&&◌}
+use Rattle.std.proofs.Common.{◌≡◌, Bool, true, false, arith}
+use Rattle.std.specs.Prelude.{◌&&◌}
 use Rattle.std.proofs.lemmas.Bool.Decides.{nat_tests}
 use Rattle.guest_memory.specs.Memory.{Memory, SameRange}
 use Rattle.guest_memory.proofs.Ranges.{inside_same, is_inside-tells}
@@ -29,18 +29,6 @@ fits m setup areas test = record {
     device = (is_inside-tells m setup.device areas.device).0 (grind (arith, nat_tests));
   };
 }
-
-passes : (m : Memory) (setup : Setup) (areas : Areas) → FitsIn m setup areas → fits_in m setup areas ≡ true
-passes m setup areas fit =
-    let desc = (is_inside-tells m setup.desc areas.desc).1 fit.lies.desc in
-    let driver = (is_inside-tells m setup.driver areas.driver).1 fit.lies.driver in
-    let device = (is_inside-tells m setup.device areas.device).1 fit.lies.device in
-    grind (arith, nat_tests, fit.aligned.desc, fit.aligned.driver, fit.aligned.device, desc, driver, device)
-
--- the test tells whether the areas are aligned and lie in the memory
-pub fits_in-tells : (m : Memory) (setup : Setup) (areas : Areas) → IsTrue (fits_in m setup areas)
-    ↔ FitsIn m setup areas
-fits_in-tells m setup areas = (fits m setup areas, passes m setup areas)
 
 -- areas of a ring whose size and areas pass their tests lie in the memory
 pub LiesIn-from_test : (m : Memory) (setup : Setup) (areas : Areas) (is_size : Bool)

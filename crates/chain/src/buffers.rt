@@ -1,7 +1,7 @@
 //! The chain itself: its buffers, filled one after another, and its two lengths.
 
-ghost use Rattle.std.specs.Prelude.{◌≡◌, [], ◌∷◌, ◌++◌, ◌+◌, ◌^◌, ◌<◌, ◌≤◌, length, take, false, true, if◌then◌else◌, All, IfErr, OnOk, OnErr};
-ghost use Rattle.guest_memory.specs.Memory.{Memory};
+ghost use Rattle.std.specs.Prelude.{◌≡◌, [], ◌∷◌, ◌++◌, ◌+◌, ◌^◌, ◌<◌, ◌≤◌, ◌↔◌, length, take, false, true, if◌then◌else◌, All, IsTrue, IfErr, OnOk, OnErr};
+ghost use Rattle.guest_memory.specs.Memory.{Memory, Inside};
 ghost use Rattle.chain.specs.Buffers.{Admits, Good, Refuses, Within, buffer_of, total_len};
 ghost use Rattle.chain.specs.Held.{start_behind};
 ghost use Rattle.chain.specs.Bytes.{len_of, readable_of, rest_at, segments_of, writable_of};
@@ -111,6 +111,7 @@ impl Chain {
     /// Puts the buffer of `len` bytes from `addr` on behind the others: one for the device to write, or one
     /// to read. Refused are, in this order, a buffer that isn't inside memory (`Range`), one behind 256
     /// others (`TooMany`), and one with which the chain would have more than 2^32 - 1 bytes (`TooLong`).
+    #[inline(always)]
     pub fn push<A: Allocator>(
         &mut self,
         mem: &GuestMemory<A>,
@@ -124,7 +125,28 @@ impl Chain {
         ensures err { OnErr result (self.new ≡ self.old) }
         ensures keeps { Good mem.now self.old → Good mem.now self.new }
     {
-        if !mem.holds(addr, u64::from(len)) {
+        let inside = mem.holds(addr, u64::from(len));
+        self.push_tested(inside, addr, len, writable)
+    }
+
+    /// The same of a buffer that was tested: `inside` is whether it lies in the memory.
+    #[inline(always)]
+    pub fn push_tested(
+        &mut self,
+        inside: bool,
+        addr: u64,
+        len: u32,
+        writable: bool,
+    ) -> Result<(), Fault>
+        requires fits { IsTrue inside → addr + len ≤ 2 ^ 64 }
+        ensures ok { (m : Memory) → (IsTrue inside ↔ Inside m addr len) →
+            OnOk result (Admits m self.old (buffer_of addr len writable)) }
+        ensures pushed { OnOk result (self.new ≡ self.old ++ buffer_of addr len writable ∷ []) }
+        ensures fault { (m : Memory) → (IsTrue inside ↔ Inside m addr len) →
+            IfErr result (Refuses m self.old (buffer_of addr len writable)) }
+        ensures err { OnErr result (self.new ≡ self.old) }
+    {
+        if !inside {
             return Err(Fault::Range);
         }
         let filled = self.filled;

@@ -1,5 +1,5 @@
 -- Chains in flight are those between the next used entry and the next chain.
-use Rattle.std.proofs.Common.{◌≡◌, ◌∙◌, ℕ, ◌+◌, ◌-◌, ◌<◌, ◌≤◌, Option, Some, None, List, [], ◌∷◌, length, get_or, set, refl, ap, arith}
+use Rattle.std.proofs.Common.{◌≡◌, ℕ, ◌+◌, ◌-◌, ◌<◌, ◌≤◌, Option, Some, None, List, [], ◌∷◌, length, get_or, set, refl, ap, arith}
 use Rattle.std.proofs.lemmas.List.Elements.{All-get_or, All-set, All-weaker}
 use Rattle.std.proofs.lemmas.List.Sums.{sum_by-set}
 use Rattle.chain.specs.Service.{Device, Entry, Served, ServesAll, Site, after}
@@ -137,13 +137,6 @@ module _ (queue : Queue) (tags : List (Option Token)) (tag : ℕ) (t : Token)
       let some : tag_places (get_or tags tag None) ≡ (entry_of t).places = ap tag_places is in
       let fewer = ahead_landed queue t fits in
       omega (arith, sums, some, fewer, all)
-
-pub ahead_served : {State : Type 0} (device : Device State) (old new : Site Queue State)
-    (chains : List (Served State)) → ServesAll queue_kind device old chains new
-    → ahead_of new.ring ≡ ahead_of old.ring
-ahead_served device old new [] serves = rw (← serves) refl
-ahead_served device old new (s ∷ chains) serves =
-    ahead_served device (after queue_kind device old s) new chains serves.1 ∙ ahead_past old.ring s.entry
 
 pub AreAhead-served : {State : Type 0} (device : Device State) (old new : Site Queue State)
     (chains : List (Served State)) (tags : List (Option Token))

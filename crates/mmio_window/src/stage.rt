@@ -21,6 +21,7 @@ pub enum Stage {
 
 impl Stage {
     /// Opens the queue, where this is the first piece.
+    #[inline(always)]
     pub fn open<A: Allocator>(self, queue: &mut Queue, mem: &GuestMemory<A>) -> Result<(), Fault>
         requires { LiesIn mem.now queue.old }
         ensures fault { result_err result ≡ fault_at self mem.now queue.old }

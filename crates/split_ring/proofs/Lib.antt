@@ -3,4 +3,4 @@ pub mod Outcomes
 pub mod Passing
 mod Landing
 mod Masks
-mod Using
+pub mod Using

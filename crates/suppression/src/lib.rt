@@ -12,4 +12,5 @@ mod split;
 
 pub use laws::places_passed_since_the_first;
 pub use packed::packed_wants;
+pub use places::is_passed;
 pub use split::split_wants;

@@ -4,7 +4,7 @@ ghost use Rattle.std.specs.Prelude.{◌<◌, ◌≤◌, ◌↔◌, IsTrue};
 ghost use Rattle.suppression.specs.Places.{Passed};
 
 /// Whether `place` is one of the `count` places from `from` on, counted modulo `modulus`.
-pub(crate) fn is_passed(modulus: u32, from: u16, count: u16, place: u32) -> bool
+pub fn is_passed(modulus: u32, from: u16, count: u16, place: u32) -> bool
     requires from { from < modulus }
     requires place { place < modulus }
     requires most { count ≤ modulus }
