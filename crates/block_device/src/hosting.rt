@@ -88,7 +88,7 @@ impl BlockDevice {
         let Some(queue) = window.queue(REQUESTQ) else {
             return Hosted::Done;
         };
-        let mut device = OnHost { device: *self };
+        let mut device = OnHost { device: self };
         match serve_queue(&mut device, runs, mem, queue, stage, budget, room) {
             Err(asked) => {
                 let operation = self.tell(room, asked.why, stable, runs);

@@ -19,11 +19,11 @@ use std::alloc::Allocator;
 
 /// A device in a piece of its service. It leaves a chain that asks for the disk, and of a WRITE_ZEROES the runs.
 #[derive(Drop)]
-pub(crate) struct OnHost {
-    pub device: BlockDevice,
+pub(crate) struct OnHost<'a> {
+    pub device: &'a BlockDevice,
 }
 
-impl Device<Runs> for OnHost {
+impl<'a> Device<Runs> for OnHost<'a> {
     type Refusal = Request;
 
     ghost use Rattle.std.specs.Prelude.{◌*◌, ◌^◌, ◌<◌};
@@ -38,13 +38,13 @@ impl Device<Runs> for OnHost {
 
     ghost Setup = { BlockDevice };
 
-    ghost setup = { λ here runs. here.device };
+    ghost setup = { λ here runs. here.device.now };
 
     ghost device = { λ fixed. hosted_device fixed };
 
     ghost Refuses = { λ fixed runs state memory buffers request. IsToldToHost fixed memory buffers request runs };
 
-    ghost IsReady = { λ here runs. sector_len * here.device.extent.count < 2 ^ 64 };
+    ghost IsReady = { λ here runs. sector_len * here.device.now.extent.count < 2 ^ 64 };
 
     ghost Keeps = { λ here runs there later. Unit {0} };
 
@@ -66,7 +66,7 @@ impl Device<Runs> for OnHost {
     }
 }
 
-impl OnHost {
+impl<'a> OnHost<'a> {
     /// Leaves a WRITE_ZEROES with so many bytes of segments to the host, or answers it. The runs are made of the
     /// segments that were judged.
     #[inline(never)]
@@ -78,11 +78,11 @@ impl OnHost {
         runs: &mut Runs,
     ) -> Result<Used, Request>
         requires good { Good mem.old chain.now }
-        requires disk { sector_len * self.now.device.extent.count < 2 ^ 64 }
-        requires unread { HasUnreadSegments self.now.device mem.old chain.now len }
+        requires disk { sector_len * self.now.device.now.extent.count < 2 ^ 64 }
+        requires unread { HasUnreadSegments self.now.device.now mem.old chain.now len }
         ensures does { IfOk result (λ used. (disk : Disk) →
-            Does (unasked_device self.now.device) mem.old mem.new chain.now disk disk used.len used.wrote) }
-        ensures told { IfErr result (λ request. IsToldToHost self.now.device mem.old chain.now request runs.new) }
+            Does (unasked_device self.now.device.now) mem.old mem.new chain.now disk disk used.len used.wrote) }
+        ensures told { IfErr result (λ request. IsToldToHost self.now.device.now mem.old chain.now request runs.new) }
         ensures unwritten { OnErr result (mem.new ≡ mem.old) }
         ensures range { SameRange mem.old mem.new }
     {
