@@ -24,10 +24,6 @@ drop_past (x ∷ xs) ys k =
     let is : suc (length xs) + k ≡ suc (length xs + k) = omega arith in
     ap (λ (n : ℕ). drop n (x ∷ (xs ++ ys))) is ∙ drop_past xs ys k
 
-pub take_all : (xs : List Field) → take (length xs) xs ≡ xs
-take_all [] = refl
-take_all (x ∷ xs) = ap (λ (t : List Field). x ∷ t) (take_all xs)
-
 -- ---- in the front part alone
 
 pub front_of : (xs ys : List Field) (bytes rest : List ℕ) (n : ℕ) → n ≤ length xs
@@ -78,13 +74,4 @@ behind_it xs ys bytes mid rest k is h = record {
       is
       ∙ ap (λ (t : List ℕ). joined xs ++ t) h.text
       ∙ sym (regrouped xs ys rest k);
-}
-
--- ---- all fields of a part
-
-pub whole_front : (xs : List Field) (bytes rest : List ℕ) → bytes ≡ joined xs ++ rest
-    → BeginsWith bytes xs (length xs) rest
-whole_front xs bytes rest is = record {
-  enough = omega arith;
-  text = is ∙ ap (λ (fs : List Field). joined fs ++ rest) (sym (take_all xs));
 }

@@ -1,13 +1,13 @@
 -- A field that is read is spelled so, and what is spelled so is read again.
-use Rattle.std.proofs.Common.{◌≡◌, ℕ, suc, ◌+◌, ◌^◌, ◌<◌, ◌≤◌, Bool, true, false, cond, ltb, List, [], ◌∷◌, ◌++◌, length, get_or, take, drop, Result, Ok, Err, refl, sym, ap, subst, ◌∙◌, append_assoc, arith, inl, inr, eq-eqb, ◌==◌}
+use Rattle.std.proofs.Common.{◌≡◌, ℕ, suc, ◌+◌, ◌^◌, ◌<◌, ◌≤◌, Bool, true, false, cond, ltb, List, [], ◌∷◌, ◌++◌, length, get_or, take, drop, Result, Ok, Err, refl, sym, ap, subst, ◌∙◌, append_assoc, arith, inl, inr}
 use Rattle.std.specs.Int.{Width, w16, w32, w64, byte_len, from_le_bytes, to_le_bytes}
-use Rattle.std.proofs.lemmas.Bool.{cases_lt, eqb-true, ltb-false, le-ltb}
+use Rattle.std.proofs.lemmas.Bool.{cases_lt, ltb-false, le-ltb}
 use Rattle.std.proofs.lemmas.List.{take_at, drop_at, take-append-drop, length-append, length-take, get_or-drop, get_or-take, get_or_past}
 use Rattle.std.proofs.lemmas.Nat.{le_bytes_2, le_bytes_4, le_bytes_8, from_le_bytes-to_le_bytes_2, from_le_bytes-to_le_bytes_4, from_le_bytes-to_le_bytes_8}
 use Rattle.snapshot.specs.declared.fault.Stop.{Stop}
 use Rattle.snapshot.specs.declared.fault.Why.{Why}
 use Rattle.snapshot.specs.declared.fault.Why.TheVariants.{Short}
-use Rattle.snapshot.specs.Reading.{◌>>=◌, ◌&◌, Reader, byte_at, constant_at, identity_at, made, number_at}
+use Rattle.snapshot.specs.Reading.{◌>>=◌, ◌&◌, Reader, byte_at, identity_at, made, number_at, tested_at}
 
 abbrev pub IsBytes : List ℕ → Type 0
 IsBytes bytes = (i : ℕ) → get_or bytes i 0 < 256
@@ -248,49 +248,35 @@ number_field w limit wide = record {
 pub field16 : IsField (number_at w16) (to_le_bytes w16) (λ n. n < 2 ^ 16)
 field16 = number_field w16 (2 ^ 16) wide16
 
-pub field32 : IsField (number_at w32) (to_le_bytes w32) (λ n. n < 2 ^ 32)
-field32 = number_field w32 (2 ^ 32) wide32
+-- ---- numbers that pass a test, and an identity
 
-pub field64 : IsField (number_at w64) (to_le_bytes w64) (λ n. n < 2 ^ 64)
-field64 = number_field w64 (2 ^ 64) wide64
+pub passed : (b : Bool) (d : Stop) (x y : ℕ × List ℕ) → cond b (Ok x) (Err d) ≡ Ok y → (b ≡ true) × (x ≡ y)
+passed true d x y e = (refl, ok_is x y e)
+passed false d x y e = absurd cc
 
--- ---- numbers of one value, and an identity
+-- a number that passes a test, by which it is one of these
+module _ (w : Width) (limit : ℕ) (wide : IsWide w limit) (test : ℕ → Bool) (why : Why) (Fits : ℕ → Type 0)
+    (passes : (n : ℕ) → test n ≡ true → Fits n) (meets : (n : ℕ) → Fits n → (n < limit) × (test n ≡ true)) where
+  tested_takes : (bytes : List ℕ) (x : ℕ) (rest : List ℕ) → IsBytes bytes
+      → tested_at w test why bytes ≡ Ok (x, rest) → Takes bytes (to_le_bytes w x) rest × Fits x
+  tested_takes bytes x rest fits e =
+      let found = step (number_at w) (to_le_bytes w) (λ k. k < limit) bytes _ (x, rest)
+      (number_field w limit wide) fits e in
+      let is = passed (test found.value) (record { why = why; left = length bytes }) (found.value, found.rest)
+      (x, rest) found.goes_on in
+      subst (λ (p : ℕ × List ℕ). Takes bytes (to_le_bytes w p.0) p.1 × Fits p.0) is.1
+      (found.takes, passes found.value is.0)
 
-pub equal_or : (n : ℕ) (x y : ℕ × List ℕ) (same : Bool) (d : Stop) → (x.0 == n) ≡ same
-    → cond same (Ok x) (Err d) ≡ Ok y → (x.0 ≡ n) × (x ≡ y)
-equal_or n x y true d is e = (eqb-true _ _ is, ok_is x y e)
-equal_or n x y false d is e = absurd cc
+  tested_again : (x : ℕ) (rest : List ℕ) → Fits x
+      → tested_at w test why (to_le_bytes w x ++ rest) ≡ Ok (x, rest)
+  tested_again x rest has =
+      let is = meets x has in rw (number_again w limit wide x rest is.0, is.1) refl
 
-constant_takes : (w : Width) (limit n : ℕ) (why : Why) (wide : IsWide w limit) (bytes : List ℕ) (x : ℕ)
-    (rest : List ℕ) → IsBytes bytes
-    → constant_at w n why bytes ≡ Ok (x, rest) → Takes bytes (to_le_bytes w x) rest × (x ≡ n)
-constant_takes w limit n why wide bytes x rest fits e =
-    let found = step (number_at w) (to_le_bytes w) (λ k. k < limit) bytes _ (x, rest)
-    (number_field w limit wide) fits e in
-    let same = equal_or n (found.value, found.rest) (x, rest) (found.value == n)
-    (record { why = why; left = length bytes }) refl found.goes_on in
-    subst (λ (p : ℕ × List ℕ). Takes bytes (to_le_bytes w p.0) p.1 × (p.0 ≡ n)) same.1 (found.takes, same.0)
-
-constant_again : (w : Width) (limit n : ℕ) (why : Why) (wide : IsWide w limit) → n < limit
-    → (x : ℕ) (rest : List ℕ) → x ≡ n
-    → constant_at w n why (to_le_bytes w x ++ rest) ≡ Ok (x, rest)
-constant_again w limit n why wide lt x rest is =
-    rw (is, number_again w limit wide n rest lt, eq-eqb n n refl) refl
-
-pub constant_field : (w : Width) (limit n : ℕ) (why : Why) → IsWide w limit → n < limit
-    → IsField (constant_at w n why) (to_le_bytes w) (λ x. x ≡ n)
-constant_field w limit n why wide lt = record {
-  takes = λ bytes x rest fits e. constant_takes w limit n why wide bytes x rest fits e;
-  again = λ x rest is. constant_again w limit n why wide lt x rest is;
-}
-
-pub constant32 : (n : ℕ) (why : Why) → n < 2 ^ 32
-    → IsField (constant_at w32 n why) (to_le_bytes w32) (λ x. x ≡ n)
-constant32 n why lt = constant_field w32 (2 ^ 32) n why wide32 lt
-
-pub constant64 : (n : ℕ) (why : Why) → n < 2 ^ 64
-    → IsField (constant_at w64 n why) (to_le_bytes w64) (λ x. x ≡ n)
-constant64 n why lt = constant_field w64 (2 ^ 64) n why wide64 lt
+  pub tested_field : IsField (tested_at w test why) (to_le_bytes w) Fits
+  tested_field = record {
+    takes = λ bytes x rest fits e. tested_takes bytes x rest fits e;
+    again = λ x rest has. tested_again x rest has;
+  }
 
 pub identity_field : IsField identity_at (λ xs. xs) (λ xs. length xs ≡ 20)
 identity_field = record { takes = identity_takes; again = identity_again }

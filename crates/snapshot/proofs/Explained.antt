@@ -84,8 +84,7 @@ answered_once : {A : Type 0} (r : Result (A × List ℕ) Stop) (x y : A × List 
     → r ≡ answering y → x ≡ y
 answered_once r x y a b = cc
 
-answered_or_failed : {A : Type 0} (r : Result (A × List ℕ) Stop) (x : A × List ℕ) (stop : Stop)
-    → r ≡ answering x → r ≡ Err stop → ⊥
+pub answered_or_failed : {A : Type 0} (r : Result A Stop) (x : A) (stop : Stop) → r ≡ Ok x → r ≡ Err stop → ⊥
 answered_or_failed r x stop a b = cc
 
 -- ---- a value all of whose fields agree is the one that is read

@@ -13,7 +13,7 @@ use Rattle.snapshot.specs.Fields.{Field, field, head_fields, joined, snapshot_fi
 use Rattle.snapshot.specs.Reading.{◌>>=◌, head_at, pending_at, whole_at}
 use Rattle.snapshot.proofs.Agreement.{behind_it, behind_of, drop_past, front_of, in_front}
 use Rattle.snapshot.proofs.Exact.{IsBytes}
-use Rattle.snapshot.proofs.Explained.{Stops, StopsAt, failed, failing, failing_is, front_read, read_again, same_value}
+use Rattle.snapshot.proofs.Explained.{Stops, StopsAt, answered_or_failed, failed, failing, failing_is, front_read, read_again, same_value}
 use Rattle.snapshot.proofs.OfSlot.{head_read, snapshot_or_stop}
 use Rattle.snapshot.proofs.Parts.{HeadFits}
 
@@ -57,10 +57,6 @@ stopped_at : (xs ys : List Field) (rest : List ℕ) (stop : Stop) → StopsAt xs
 stopped_at [] ys rest stop h = absurd h
 stopped_at (x ∷ xs) ys rest stop h = h
 
-answered_and_failed : (r : Result ((SavedSlot × ℕ) × List ℕ) Stop) (x : (SavedSlot × ℕ) × List ℕ)
-    (stop : Stop) → r ≡ Ok x → r ≡ Err stop → ⊥
-answered_and_failed r x stop a b = cc
-
 -- before the pending input
 module _ (bytes : List ℕ) (stop : Stop) (e : head_at bytes ≡ Err stop)
     (s : Stops fields_of HeadFits bytes stop) where
@@ -69,7 +65,7 @@ module _ (bytes : List ℕ) (stop : Stop) (e : head_at bytes ≡ Err stop)
   head_unread saved pending rest n h le =
       let head = head_fields saved (length pending) in
       let parts = behind_of head (field pending ∷ []) bytes rest n (n - length head) (omega arith) h.begins in
-      answered_and_failed (head_at bytes) ((saved, length pending), parts.mid) stop
+      answered_or_failed (head_at bytes) ((saved, length pending), parts.mid) stop
       (read_again head_read bytes (saved, length pending) parts.mid (h.fits, h.few) parts.front) e
 
   head_most : (saved : SavedSlot) (pending rest : List ℕ) (n : ℕ) → AgreesWith bytes saved pending n rest

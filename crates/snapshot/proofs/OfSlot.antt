@@ -11,7 +11,7 @@ use Rattle.snapshot.specs.Reading.{◌>>=◌, head_at, pending_at, whole_at}
 use Rattle.snapshot.specs.Spelling.{IsSnapshot, SlotFits, magic, slot, snapshot}
 use Rattle.snapshot.proofs.Agreement.{joined-append}
 use Rattle.snapshot.proofs.Exact.{IsBytes, guarded, ok_is, wide32, wide64}
-use Rattle.snapshot.proofs.Explained.{IsRead, both_read, made_read, reread, went}
+use Rattle.snapshot.proofs.Explained.{IsRead, answered_or_failed, both_read, made_read, reread, went}
 use Rattle.snapshot.proofs.Parts.{HeadFits, slot_read}
 use Rattle.snapshot.proofs.Single.{constant_read, count_read}
 
@@ -126,8 +126,4 @@ snapshot_once bytes x y pending other a b =
 pub snapshot_or_stop : (bytes : List ℕ) (x : SavedSlot) (pending : List ℕ) (stop : Stop)
     → IsSnapshot bytes x pending → whole_at bytes ≡ Err stop → ⊥
 snapshot_or_stop bytes x pending stop is e =
-    answered_or_stopped _ (x, pending) stop (snapshot_read bytes x pending is) e
-  where
-    answered_or_stopped : (r : Result (SavedSlot × List ℕ) Stop) (x : SavedSlot × List ℕ) (stop : Stop)
-        → r ≡ Ok x → r ≡ Err stop → ⊥
-    answered_or_stopped r x stop a b = cc
+    answered_or_failed _ (x, pending) stop (snapshot_read bytes x pending is) e

@@ -1,15 +1,16 @@
 -- Single fields, and what stops a reader at them.
-use Rattle.std.proofs.Common.{◌≡◌, ◌==◌, inl, inr, ℕ, zero, suc, ◌^◌, ◌<◌, ◌≤◌, Bool, true, false, cond, ltb, List, [], ◌∷◌, ◌++◌, length, take, drop, Ok, Err, refl, sym, ap, subst, ◌∙◌, arith}
+use Rattle.std.proofs.Common.{◌≡◌, ◌==◌, eq-eqb, inl, inr, ℕ, zero, suc, ◌^◌, ◌<◌, ◌≤◌, Bool, true, false, cond, ltb, List, [], ◌∷◌, ◌++◌, length, take, drop, Ok, Err, refl, sym, ap, ◌∙◌, arith}
 use Rattle.std.specs.Int.{Width, w16, w32, w64, byte_len, from_le_bytes, to_le_bytes}
-use Rattle.std.proofs.lemmas.Bool.{le-ltb, lt-ltb, ltb-false, ltb-true}
+use Rattle.std.proofs.lemmas.Bool.{eqb-true, le-leb, le-ltb, leb-true, lt-ltb, ltb-false, ltb-true}
+use Rattle.std.specs.Prelude.{nat_le}
 use Rattle.mmio_window.specs.declared.interrupts.Interrupts.{Interrupts}
 use Rattle.snapshot.specs.declared.fault.Stop.{Stop}
 use Rattle.snapshot.specs.declared.fault.Why.{Why}
 use Rattle.snapshot.specs.declared.fault.Why.TheVariants.{Short, Choice, TooMuchInput}
-use Rattle.snapshot.specs.Fields.{Field}
-use Rattle.snapshot.specs.Reading.{byte_at, constant_at, count_at, flag_at, identity_at, interrupts_at, number_at}
+use Rattle.snapshot.specs.Fields.{Field, field}
+use Rattle.snapshot.specs.Reading.{byte_at, constant_at, count_at, flag_at, identity_at, interrupts_at, number_at, tested_at}
 use Rattle.snapshot.specs.Spelling.{flag}
-use Rattle.snapshot.proofs.Exact.{Always, IsBytes, IsField, IsWide, Takes, byte_field, chosen, constant_field, field32, guard_ok, identity_field, number_field, step, wide16, wide32, wide64}
+use Rattle.snapshot.proofs.Exact.{Always, IsBytes, IsField, IsWide, Takes, byte_field, chosen, guard_ok, identity_field, number_field, tested_field, wide16, wide32, wide64}
 use Rattle.snapshot.proofs.Explained.{IsRead, StopsAt, alone_read, failed, failing_is}
 use Rattle.snapshot.proofs.OfWindow.{interrupts_field, reasons}
 
@@ -69,80 +70,48 @@ read32 = number_read w32 (2 ^ 32) wide32 (omega arith)
 pub read64 : IsRead (number_at w64) (to_le_bytes w64) (λ n. numbered w64 Choice n ∷ []) (λ n. n < 2 ^ 64)
 read64 = number_read w64 (2 ^ 64) wide64 (omega arith)
 
--- ---- a number that has one value
+-- ---- a number that passes a test
 
-constant_stops : (w : Width) (limit n : ℕ) (why : Why) (wide : IsWide w limit) (bytes : List ℕ) (stop : Stop)
-    (y : ℕ) → constant_at w n why bytes ≡ Err stop → StopsAt (numbered w why y ∷ []) bytes stop
-constant_stops w limit n why wide bytes stop y e =
+refused : (b : Bool) (x : ℕ × List ℕ) (d stop : Stop) → cond b (Ok x) (Err d) ≡ Err stop → d ≡ stop
+refused true x d stop e = absurd cc
+refused false x d stop e = failing_is (ℕ × List ℕ) d stop e
+
+tested_stops : (w : Width) (limit : ℕ) (wide : IsWide w limit) (test : ℕ → Bool) (why : Why) (bytes : List ℕ)
+    (stop : Stop) (y : ℕ) → tested_at w test why bytes ≡ Err stop → StopsAt (numbered w why y ∷ []) bytes stop
+tested_stops w limit wide test why bytes stop y e =
     elim (failed (number_at w) bytes _ stop e) [
       | inl short ↦ number_short w limit wide why bytes stop y short
       | inr v ↦
           (let long : byte_len w ≤ length bytes = number_long w bytes v.value v.rest v.is in
           stops_wrong bytes (numbered w why y) [] stop (omega (arith, long, wide.len y))
-          (sym (refused (v.value == n) (v.value, v.rest) (record { why = why; left = length bytes }) stop
+          (sym (refused (test v.value) (v.value, v.rest) (record { why = why; left = length bytes }) stop
           v.goes_on)))
     ]
-  where
-    refused : (same : Bool) (x : ℕ × List ℕ) (d stop : Stop) → cond same (Ok x) (Err d) ≡ Err stop → d ≡ stop
-    refused true x d stop e = absurd cc
-    refused false x d stop e = failing_is (ℕ × List ℕ) d stop e
 
 pub constant_read : (w : Width) (limit n : ℕ) (why : Why) (wide : IsWide w limit) → n < limit
     → IsRead (constant_at w n why) (to_le_bytes w) (λ x. numbered w why x ∷ []) (λ x. x ≡ n)
 constant_read w limit n why wide lt =
-    alone_read why (constant_field w limit n why wide lt) n refl
-    (λ bytes stop y e fits. constant_stops w limit n why wide bytes stop y e)
+    let test : ℕ → Bool = λ found. found == n in
+    alone_read why (tested_field w limit wide test why (λ x. x ≡ n) (λ x is. eqb-true x n is)
+    (λ x is. (rw is lt, eq-eqb x n is))) n refl
+    (λ bytes stop y e fits. tested_stops w limit wide test why bytes stop y e)
 
--- ---- how much input is pending
-
-count_takes : (bytes : List ℕ) (x : ℕ) (rest : List ℕ) → IsBytes bytes → count_at bytes ≡ Ok (x, rest)
-    → Takes bytes (to_le_bytes w32 x) rest × (x ≤ 4096)
-count_takes bytes x rest fits e =
-    let found = step (number_at w32) (to_le_bytes w32) (λ n. n < 2 ^ 32) bytes _ (x, rest) field32 fits e in
-    let few = guard_ok (ltb 4096 found.value) (record { why = TooMuchInput; left = length bytes })
-    (found.value, found.rest) (x, rest) found.goes_on in
-    let most : found.value ≤ 4096 = ltb-false _ _ few.0 in
-    subst (λ (p : ℕ × List ℕ). Takes bytes (to_le_bytes w32 p.0) p.1 × (p.0 ≤ 4096)) few.1 (found.takes, most)
-
-count_again : (x : ℕ) (rest : List ℕ) → x ≤ 4096 → count_at (to_le_bytes w32 x ++ rest) ≡ Ok (x, rest)
-count_again x rest few =
-    let test : ltb 4096 x ≡ false = le-ltb _ _ few in
-    rw (field32.again x rest (omega arith), test) refl
-
-count_field : IsField count_at (to_le_bytes w32) (λ n. n ≤ 4096)
-count_field = record {
-  takes = λ bytes x rest fits e. count_takes bytes x rest fits e;
-  again = λ x rest few. count_again x rest few;
-}
-
-count_stops : (bytes : List ℕ) (stop : Stop) (y : ℕ) → count_at bytes ≡ Err stop
-    → StopsAt (numbered w32 TooMuchInput y ∷ []) bytes stop
-count_stops bytes stop y e =
-    elim (failed (number_at w32) bytes _ stop e) [
-      | inl short ↦ number_short w32 (2 ^ 32) wide32 TooMuchInput bytes stop y short
-      | inr v ↦
-          (let long : byte_len w32 ≤ length bytes = number_long w32 bytes v.value v.rest v.is in
-          let much = guard_err (ltb 4096 v.value) (record { why = TooMuchInput; left = length bytes }) stop
-          (v.value, v.rest) v.goes_on in
-          stops_wrong bytes (numbered w32 TooMuchInput y) [] stop (omega (arith, long, wide32.len y))
-          (sym much.1))
-    ]
-
+-- how much input is pending
 pub count_read : IsRead count_at (to_le_bytes w32) (λ n. numbered w32 TooMuchInput n ∷ []) (λ n. n ≤ 4096)
 count_read =
-    alone_read TooMuchInput count_field 0 (omega arith) (λ bytes stop y e fits. count_stops bytes stop y e)
+    let test : ℕ → Bool = λ count. nat_le count 4096 in
+    alone_read TooMuchInput (tested_field w32 (2 ^ 32) wide32 test TooMuchInput (λ n. n ≤ 4096)
+    (λ n is. leb-true n 4096 is) (λ n few. (omega (arith, few), le-leb n 4096 few))) 0 (omega arith)
+    (λ bytes stop y e fits. tested_stops w32 (2 ^ 32) wide32 test TooMuchInput bytes stop y e)
 
 -- ---- a byte, and a choice
 
-abbrev plain : List ℕ → Field
-plain bytes = record { bytes = bytes; wrong = Choice }
-
 byte_stops : (bytes : List ℕ) (stop : Stop) (y : ℕ) → byte_at bytes ≡ Err stop
-    → StopsAt (plain (y ∷ []) ∷ []) bytes stop
-byte_stops [] stop y e = stops_short [] (plain (y ∷ [])) [] stop (omega arith) (sym (failing_is _ _ stop e))
+    → StopsAt (field (y ∷ []) ∷ []) bytes stop
+byte_stops [] stop y e = stops_short [] (field (y ∷ [])) [] stop (omega arith) (sym (failing_is _ _ stop e))
 byte_stops (b ∷ bytes) stop y e = absurd cc
 
-pub byte_read : IsRead byte_at (λ b. b ∷ []) (λ b. plain (b ∷ []) ∷ []) (λ b. b < 256)
+pub byte_read : IsRead byte_at (λ b. b ∷ []) (λ b. field (b ∷ []) ∷ []) (λ b. b < 256)
 byte_read = alone_read Choice byte_field 0 (omega arith) (λ bytes stop y e fits. byte_stops bytes stop y e)
 
 abbrev pub choice : Bool → List ℕ
@@ -168,31 +137,28 @@ flag_field = record {
 }
 
 flag_stops : (bytes : List ℕ) (stop : Stop) (y : Bool) → flag_at bytes ≡ Err stop
-    → StopsAt (plain (choice y) ∷ []) bytes stop
+    → StopsAt (field (choice y) ∷ []) bytes stop
 unfolding flag_at
-flag_stops [] stop y e = stops_short [] (plain (choice y)) [] stop (omega arith) (sym (failing_is _ _ stop e))
+flag_stops [] stop y e = stops_short [] (field (choice y)) [] stop (omega arith) (sym (failing_is _ _ stop e))
 flag_stops (zero ∷ bytes) stop y e = absurd cc
 flag_stops (suc zero ∷ bytes) stop y e = absurd cc
 flag_stops (suc (suc b) ∷ bytes) stop y e =
-    stops_wrong (suc (suc b) ∷ bytes) (plain (choice y)) [] stop (omega arith) (sym (failing_is _ _ stop e))
+    stops_wrong (suc (suc b) ∷ bytes) (field (choice y)) [] stop (omega arith) (sym (failing_is _ _ stop e))
 
-pub flag_read : IsRead flag_at choice (λ b. plain (choice b) ∷ []) Always
+pub flag_read : IsRead flag_at choice (λ b. field (choice b) ∷ []) Always
 flag_read = alone_read Choice flag_field false tt (λ bytes stop y e fits. flag_stops bytes stop y e)
 
 interrupts_stops : (bytes : List ℕ) (stop : Stop) (y : Interrupts) → interrupts_at bytes ≡ Err stop
-    → StopsAt (plain (reasons y) ∷ []) bytes stop
+    → StopsAt (field (reasons y) ∷ []) bytes stop
 unfolding interrupts_at
 interrupts_stops [] stop y e =
-    stops_short [] (plain (reasons y)) [] stop (omega arith) (sym (failing_is _ _ stop e))
-interrupts_stops (zero ∷ bytes) stop y e = absurd cc
-interrupts_stops (suc zero ∷ bytes) stop y e = absurd cc
-interrupts_stops (suc (suc zero) ∷ bytes) stop y e = absurd cc
-interrupts_stops (suc (suc (suc zero)) ∷ bytes) stop y e = absurd cc
+    stops_short [] (field (reasons y)) [] stop (omega arith) (sym (failing_is _ _ stop e))
 interrupts_stops (suc (suc (suc (suc b))) ∷ bytes) stop y e =
-    stops_wrong (suc (suc (suc (suc b))) ∷ bytes) (plain (reasons y)) [] stop (omega arith)
+    stops_wrong (suc (suc (suc (suc b))) ∷ bytes) (field (reasons y)) [] stop (omega arith)
     (sym (failing_is _ _ stop e))
+interrupts_stops (b ∷ bytes) stop y e = absurd cc
 
-pub interrupts_read : IsRead interrupts_at reasons (λ i. plain (reasons i) ∷ []) Always
+pub interrupts_read : IsRead interrupts_at reasons (λ i. field (reasons i) ∷ []) Always
 interrupts_read =
     alone_read Choice interrupts_field (record { used_buffer = false; configuration_change = false }) tt
     (λ bytes stop y e fits. interrupts_stops bytes stop y e)
@@ -200,14 +166,14 @@ interrupts_read =
 -- ---- an identity
 
 identity_stops : (bytes : List ℕ) (stop : Stop) (y : List ℕ) → identity_at bytes ≡ Err stop → length y ≡ 20
-    → StopsAt (plain y ∷ []) bytes stop
+    → StopsAt (field y ∷ []) bytes stop
 identity_stops bytes stop y e len =
     let g = guard_err (ltb (length bytes) 20) (record { why = Short; left = length bytes }) stop
     (take 20 bytes, drop 20 bytes) e in
     let short : length bytes < 20 = ltb-true _ _ g.0 in
-    stops_short bytes (plain y) [] stop (omega arith) (sym g.1)
+    stops_short bytes (field y) [] stop (omega arith) (sym g.1)
 
-pub identity_read : IsRead identity_at (λ xs. xs) (λ xs. plain xs ∷ []) (λ xs. length xs ≡ 20)
+pub identity_read : IsRead identity_at (λ xs. xs) (λ xs. field xs ∷ []) (λ xs. length xs ≡ 20)
 identity_read =
     alone_read Choice identity_field zeros refl (λ bytes stop y e fits. identity_stops bytes stop y e fits)
   where

@@ -1,6 +1,6 @@
 -- How the reader goes from left to right: what its private functions give. What comes of it is said by
 -- `IsSnapshot` and `IsFirstFault`; a public clause cites `Gives` of this file alone.
-use Rattle.std.specs.Prelude.{◌≡◌, ◌==◌, ℕ, zero, suc, Bool, true, false, List, [], ◌∷◌, length, take, drop, Option, Some, None, Result, Ok, Err, nat_lt, if◌then◌else◌}
+use Rattle.std.specs.Prelude.{◌≡◌, ◌==◌, ℕ, zero, suc, Bool, true, false, List, [], ◌∷◌, length, take, drop, Option, Some, None, Result, Ok, Err, nat_le, nat_lt, if◌then◌else◌}
 use Rattle.std.specs.Int.{Width, w16, w32, w64, byte_len, from_le_bytes}
 use Rattle.mmio_window.specs.declared.interrupts.Interrupts.{Interrupts}
 use Rattle.mmio_window.specs.declared.saved.Reached.{Reached}
@@ -62,11 +62,15 @@ number_at w bytes =
     if nat_lt (length bytes) (byte_len w) then stop Short bytes
     else Ok (from_le_bytes w (take (byte_len w) bytes), drop (byte_len w) bytes)
 
+-- a number that passes a test
+abbrev pub tested_at : Width → (ℕ → Bool) → Why → Reader ℕ
+tested_at w test why bytes = do
+  found ← number_at w bytes
+  if test found.0 then Ok found else stop why bytes
+
 -- a number that has one value
 abbrev pub constant_at : Width → ℕ → Why → Reader ℕ
-constant_at w n why bytes = do
-  found ← number_at w bytes
-  if found.0 == n then Ok found else stop why bytes
+constant_at w n = tested_at w (λ found. found == n)
 
 abbrev pub identity_at : Reader (List ℕ)
 identity_at bytes = if nat_lt (length bytes) 20 then stop Short bytes else Ok (take 20 bytes, drop 20 bytes)
@@ -154,9 +158,7 @@ slot_at =
 
 -- how much input is pending
 abbrev pub count_at : Reader ℕ
-count_at bytes = do
-  count ← number_at w32 bytes
-  if nat_lt 4096 count.0 then stop TooMuchInput bytes else Ok count
+count_at = tested_at w32 (λ count. nat_le count 4096) TooMuchInput
 
 -- all that stands before the pending input, and how much of that there is
 unfoldable pub head_at : Reader (SavedSlot × ℕ)
