@@ -116,8 +116,7 @@ restore_lacks : (A : Type 0) (result : Result (Unit {0}) RestoreRefusal)
     → lacks_memory {A = A} (restore_reply result) ≡ false
 restore_lacks A (Ok done) = refl
 restore_lacks A (Err refusal.BadSlot) = refl
-restore_lacks A (Err refusal.Busy) = refl
-restore_lacks A (Err (refusal.Fault why)) = refl
+restore_lacks A _ = refl
 
 -- a slot that took up a snapshot, or didn't
 pub restore_answers : (A : Type 0) (slots : List BoardSlot) (disk : Disk) (h : ℕ) (slot new : BoardSlot)

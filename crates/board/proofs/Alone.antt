@@ -17,6 +17,7 @@ use Rattle.board.specs.Line.{Move, IsLine, IsUndisturbed, IsQuiet, RunsAlone, Is
 pub use Rattle.board.proofs.Lists.{get_set, get_set_other}
 use Rattle.board.proofs.OneRun.{next_of, on_host_as, one_run}
 use Rattle.board.proofs.Refusals.{Failed, Unput, Unread, Unsent, WasRefused, was_refused}
+use Rattle.board.proofs.Seats.{by_slot}
 use Rattle.board.proofs.Steps as steps
 
 -- an event that was refused shows it: memory was wanting, or a call of the image failed
@@ -60,26 +61,19 @@ served state what old new outcome given answered stood =
     served_by state.host state what old new outcome given answered stood
 
 -- a step's record is of the event's slot
-recorded_slot_at : {A : Type 0} (old : World) (event : Event A) (written : Record A) (new : World)
-    (o : Option SlotState) → MatchOption o (MissingStep old event.slot written new)
-    (λ s. SlotStep old event.slot s event.what written new) → written.slot ≡ event.slot
-recorded_slot_at old event written new None step = ap (λ w. w.slot) step.recorded
-recorded_slot_at old event written new (Some s) step = ap (λ w. w.slot) step.recorded
-
 pub recorded_slot : {A : Type 0} (old : World) (event : Event A) (written : Record A) (new : World)
     → Step old event written new → written.slot ≡ event.slot
 recorded_slot old event written new step =
-    recorded_slot_at old event written new (slice_get old.slots event.slot) step
+    by_slot old event written new (λ missing. ap (λ w. w.slot) missing.recorded)
+    (λ state here own. ap (λ w. w.slot) own.recorded) step
 
 -- an event of another slot leaves this one as it is
 other_at : {A : Type 0} (g : ℕ) (old : World) (event : Event A) (written : Record A) (new : World)
-    (o : Option SlotState) → event.slot ≢ g
-    → MatchOption o (MissingStep old event.slot written new)
-    (λ s. SlotStep old event.slot s event.what written new) → slice_get new.slots g ≡ slice_get old.slots g
-other_at g old event written new None other step = ap (λ (w : World). slice_get w.slots g) step.same
-other_at g old event written new (Some s) other step =
-    ap (λ (slots : List SlotState). slice_get slots g) step.slots
-    ∙ get_set_other old.slots event.slot g step.outcome.state other
+    → event.slot ≢ g → Step old event written new → slice_get new.slots g ≡ slice_get old.slots g
+other_at g old event written new other step =
+    by_slot old event written new (λ missing. ap (λ (w : World). slice_get w.slots g) missing.same)
+    (λ state here own. ap (λ (slots : List SlotState). slice_get slots g) own.slots
+    ∙ get_set_other old.slots event.slot g own.outcome.state other) step
 
 -- the slot's own step
 pub slot_step : {A : Type 0} (old : World) (e : Event A) (written : Record A) (new : World) (state :
@@ -155,8 +149,7 @@ module _ {A : Type 0} (IsTold : ℕ → SlotState → EventKind A → Record A �
             rw (recorded_slot was move.event move.written move.after step) test in
             record {
               next = s;
-              sits = other_at k was move.event move.written move.after (slice_get was.slots move.event.slot)
-                  other step ∙ there;
+              sits = other_at k was move.event move.written move.after other step ∙ there;
               comes = λ later rest. record {
                 last = rest.last;
                 own = rw (test, tested) rest.own;

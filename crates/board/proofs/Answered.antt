@@ -13,8 +13,8 @@ use Rattle.console_device.specs.Device.{transmit_fitting, transmit_within}
 use Rattle.console_device.proofs.Pieces.{fitting_within}
 use Rattle.board.specs.declared.event.Event.{Event}
 use Rattle.board.specs.declared.event.EventKind.{EventKind}
-use Rattle.board.specs.declared.event.EventKind.TheVariants.{Read, Write, MemRead, MemWrite, Input, Resize, Restore, Host}
-use Rattle.board.specs.declared.pause.Service.TheVariants.{Block, Receive, Transmit}
+use Rattle.board.specs.declared.event.EventKind.TheVariants.{Write}
+use Rattle.board.specs.declared.pause.Service.TheVariants.{Transmit}
 use Rattle.board.specs.declared.pause.Turn.TheVariants.{Answered}
 use Rattle.board.specs.declared.reply.Reply.{Reply}
 use Rattle.board.specs.declared.reply.Reply.TheVariants.{Done}
@@ -50,9 +50,8 @@ handled event budget old new reply block console out out' t = record {
 -- ---- within a limit
 
 unrefused_reply : (A : Type 0) (ending : Ending) → ending ≢ Refused → reply_at {A = A} ending ≡ Done
-unrefused_reply A Ending.Spent n = refl
-unrefused_reply A (Ending.Faulted fault) n = refl
 unrefused_reply A Refused n = absurd (n refl)
+unrefused_reply A _ n = refl
 
 sent_whole : {A : Type 0} (limit : ℕ) (budget : Budget) (mid new : SlotState) (waiting left : List ℕ)
     (reply : Reply A) → reply ≡ Done
@@ -96,30 +95,22 @@ write_ended : {A : Type 0} (limit : ℕ) (state : SlotState) (window : DeviceKin
     → TurnWithin limit (asked_by task) (Write window offset width value) budget state new waiting
     left (Answered reply)
     → TakesWithin limit state (Write window offset width value) new waiting left reply
-write_ended limit state window offset width value budget new waiting left reply Nothing is h = h
-write_ended limit state window offset width value budget new waiting left reply (Serve Block) is h = rw is tt
-write_ended limit state window offset width value budget new waiting left reply (Serve Receive) is h =
-    rw is tt
 write_ended limit state window offset width value budget new waiting left reply (Serve Transmit) is h =
     subst (λ (t : Task). PutsOutWithin limit t (with_write window offset width value state) new waiting
     left reply) (sym is)
     (transmit_ended limit budget (with_write window offset width value state) new waiting left reply h)
+write_ended limit state window offset width value budget new waiting left reply Nothing is h = h
 write_ended limit state window offset width value budget new waiting left reply (PutOut byte) is h = h
+write_ended limit state window offset width value budget new waiting left reply _ is h = rw is tt
 
 ended_over_image : {A : Type 0} (limit : ℕ) (what : EventKind A) (budget : Budget) (state new : SlotState)
     (waiting left : List ℕ) (reply : Reply A)
     → BeginsWithinOverImage limit what budget state new waiting left (Answered reply)
     → TakesWithin limit state what new waiting left reply
-ended_over_image limit (Read window offset width) budget state new waiting left reply h = tt
 ended_over_image limit (Write window offset width value) budget state new waiting left reply h =
     write_ended limit state window offset width value budget new waiting left reply
     (task_at window offset width value state) refl h
-ended_over_image limit (MemRead addr len) budget state new waiting left reply h = tt
-ended_over_image limit (MemWrite addr bytes) budget state new waiting left reply h = tt
-ended_over_image limit (Input bytes) budget state new waiting left reply h = tt
-ended_over_image limit (Resize cols rows) budget state new waiting left reply h = tt
-ended_over_image limit (Restore bytes) budget state new waiting left reply h = tt
-ended_over_image limit (Host said) budget state new waiting left reply h = tt
+ended_over_image limit _ budget state new waiting left reply h = tt
 
 ended_by : {A : Type 0} (limit : ℕ) (part : Bool) (what : EventKind A) (budget : Budget)
     (state new : SlotState) (waiting left : List ℕ) (reply : Reply A)

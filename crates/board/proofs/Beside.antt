@@ -8,7 +8,7 @@ use Rattle.block_device.specs.declared.device.BlockDevice.{BlockDevice}
 use Rattle.block_device.specs.declared.extent.Extent.{Extent}
 use Rattle.block_device.specs.Extent.{StaysInExtent}
 use Rattle.board.specs.declared.event.EventKind.{EventKind}
-use Rattle.board.specs.declared.event.EventKind.TheVariants.{Read, Write, MemRead, MemWrite, Input, Resize, Restore, Host}
+use Rattle.board.specs.declared.event.EventKind.TheVariants.{Write}
 use Rattle.board.specs.declared.pause.Service.{Service}
 use Rattle.board.specs.declared.pause.Service.TheVariants as service
 use Rattle.board.specs.Backing.{HostDisk, sectors_by}
@@ -16,7 +16,7 @@ use Rattle.board.specs.Hosting.{block_beside, device_at, device_extent, is_block
 use Rattle.board.specs.Machine.{task_at, with_write}
 use Rattle.board.specs.Pausing.{asked_by, asked_over_image}
 use Rattle.board.specs.Slot.{BoardSlot, IsUnnoted, SlotState, state_of}
-use Rattle.board.specs.Task.{Task, Nothing, Serve, PutOut}
+use Rattle.board.specs.Task.{Task, Serve}
 
 device_of_parts : (h k : Option HostDisk) (e f : Extent) (r q : Bool) (i j : List ℕ) → h ≡ k → e ≡ f → r ≡ q
     → i ≡ j
@@ -59,11 +59,6 @@ written_device window offset width value old new is extent =
     same_device new old (ap (λ (s : SlotState). s.host) (is []) ∙ kept.host) extent (ap (λ (s : SlotState). s.read_only) (is [])
     ∙ kept.read_only) (ap (λ (s : SlotState). s.identity) (is []) ∙ kept.identity)
 
-pub written_host : (window : DeviceKind) (offset width value : ℕ) (old new : BoardSlot)
-    → IsWritten window offset width value old new → new.host ≡ old.host
-written_host window offset width value old new is =
-    ap (λ (s : SlotState). s.host) (is []) ∙ (kept_by_write window offset width value (state_of [] old)).host
-
 pub written_block : (A : Type 0) (window : DeviceKind) (offset width value : ℕ) (old new : BoardSlot)
     → IsWritten window offset width value old new
     → new.block ≡ block_beside {A = A} (Write window offset width value) old
@@ -93,23 +88,14 @@ not_block task service.Transmit is other = rw is refl
 
 -- and so the event asks for its service
 rung : (task : Task) → true ≡ is_block_task task → task ≡ Serve service.Block
-rung Nothing rings = absurd (cc (rings))
 rung (Serve service.Block) rings = refl
-rung (Serve service.Receive) rings = absurd (cc (rings))
-rung (Serve service.Transmit) rings = absurd (cc (rings))
-rung (PutOut byte) rings = absurd (cc (rings))
+rung _ rings = absurd (cc (rings))
 
 pub block_asked : {A : Type 0} (what : EventKind A) (state : SlotState) → true ≡ notifies_block what state
     → asked_over_image what state ≡ Some (record { service = service.Block; taken = None })
-block_asked (Read window offset width) state rings = absurd (cc (rings))
 block_asked (Write window offset width value) state rings =
     ap asked_by (rung (task_at window offset width value state) rings)
-block_asked (MemRead addr len) state rings = absurd (cc (rings))
-block_asked (MemWrite addr bytes) state rings = absurd (cc (rings))
-block_asked (Input bytes) state rings = absurd (cc (rings))
-block_asked (Resize cols rows) state rings = absurd (cc (rings))
-block_asked (Restore bytes) state rings = absurd (cc (rings))
-block_asked (Host said) state rings = absurd (cc (rings))
+block_asked _ state rings = absurd (cc (rings))
 
 -- what its service leaves to be noted is that of the event
 pub unnoted_behind : (old mid new : BoardSlot) (before after : Disk) (failed : Bool) → mid.extent ≡ old.extent

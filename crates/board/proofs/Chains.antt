@@ -3,7 +3,7 @@ use Rattle.std.proofs.Common.{◌≡◌, ℕ, Bool, Option, Some, None, List, []
 use Rattle.guest_memory.specs.Memory.{Memory}
 use Rattle.chain.specs.declared.fault.Fault.{Fault}
 use Rattle.chain.specs.Pieces.{GoesToEnd}
-use Rattle.chain.specs.Service.{Device, Ending, Faulted, IsService, Refused, Served, ServesAll, ServesChain, Site, Spent, Works, after, open_site, stop}
+use Rattle.chain.specs.Service.{Device, Ending, IsService, Served, ServesAll, ServesChain, Site, Spent, Works, after, open_site, stop}
 use Rattle.mmio_window.specs.declared.queue.Queue.{Queue}
 use Rattle.mmio_window.specs.Queue.{queue_kind}
 use Rattle.mmio_window.specs.Serving.{Notified}
@@ -32,8 +32,7 @@ module _ {State : Type 0} (device : Device State) (Keeps : Memory → State → 
   kept_by_stop : (at last : Site Queue State) (ending : Ending) → last ≡ stop queue_kind device at ending
       → At at → At last
   kept_by_stop at last Spent is keeps = subst At (sym is) keeps
-  kept_by_stop at last (Faulted fault) is keeps = subst At (sym is) keeps
-  kept_by_stop at last Refused is keeps = subst At (sym is) keeps
+  kept_by_stop at last _ is keeps = subst At (sym is) keeps
 
   kept_by_work : KeptByEach → (fault : Option Fault) (start last : Site Queue State) (ending : Ending)
       → Works queue_kind device fault start ending last → At start → At last

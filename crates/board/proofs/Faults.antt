@@ -44,29 +44,19 @@ pub one_of_slot : (sectors : ℕ) (earlier : List SlotSpec) (spec : SlotSpec) (f
 one_of_slot sectors earlier spec (Memory i f) (Memory j g) is also =
     let same = one_refusal spec.regions i j f g is also in
     ap (λ (k : ℕ). Memory k f) same.0 ∙ ap (Memory j) same.1
-one_of_slot sectors earlier spec (Memory i f) BadDepth is also =
-    absurd (refused_not_good spec.regions i f is also.memory)
-one_of_slot sectors earlier spec (Memory i f) ExtentOutside is also =
-    absurd (refused_not_good spec.regions i f is also.memory)
-one_of_slot sectors earlier spec (Memory i f) ExtentsOverlap is also =
-    absurd (refused_not_good spec.regions i f is also.memory)
-one_of_slot sectors earlier spec BadDepth (Memory j g) is also =
-    absurd (refused_not_good spec.regions j g also is.memory)
 one_of_slot sectors earlier spec BadDepth BadDepth is also = refl
-one_of_slot sectors earlier spec BadDepth ExtentOutside is also = absurd (is.depth also.depth)
-one_of_slot sectors earlier spec BadDepth ExtentsOverlap is also = absurd (is.depth also.depth)
-one_of_slot sectors earlier spec ExtentOutside (Memory j g) is also =
-    absurd (refused_not_good spec.regions j g also is.memory)
-one_of_slot sectors earlier spec ExtentOutside BadDepth is also = absurd (also.depth is.depth)
 one_of_slot sectors earlier spec ExtentOutside ExtentOutside is also = refl
 one_of_slot sectors earlier spec ExtentOutside ExtentsOverlap is also =
     absurd (omega (arith, is.outside, also.within))
-one_of_slot sectors earlier spec ExtentsOverlap (Memory j g) is also =
-    absurd (refused_not_good spec.regions j g also is.memory)
-one_of_slot sectors earlier spec ExtentsOverlap BadDepth is also = absurd (also.depth is.depth)
 one_of_slot sectors earlier spec ExtentsOverlap ExtentOutside is also =
     absurd (omega (arith, also.outside, is.within))
 one_of_slot sectors earlier spec ExtentsOverlap ExtentsOverlap is also = refl
+one_of_slot sectors earlier spec _ (Memory j g) is also =
+    absurd (refused_not_good spec.regions j g also is.memory)
+one_of_slot sectors earlier spec (Memory i f) _ is also =
+    absurd (refused_not_good spec.regions i f is also.memory)
+one_of_slot sectors earlier spec BadDepth _ is also = absurd (is.depth also.depth)
+one_of_slot sectors earlier spec _ BadDepth is also = absurd (also.depth is.depth)
 
 -- and the first slot with one is the same
 same_first : (sectors : ℕ) (slots : List SlotSpec) (i j : ℕ) (f g : SlotFault)

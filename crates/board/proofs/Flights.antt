@@ -1,11 +1,11 @@
 -- What is in flight is held: no event that doesn't wait changes where memory lies, nor which queues may be served.
-use Rattle.std.proofs.Common.{◌≡◌, ℕ, zero, suc, Bool, true, false, List, [], ◌∷◌, Option, Some, None, get_or, replicate, refl, sym, ◌∙◌, ap, subst, arith}
+use Rattle.std.proofs.Common.{◌≡◌, ℕ, zero, suc, Bool, true, false, List, [], ◌∷◌, Option, Some, None, replicate, refl, sym, ◌∙◌, ap, subst, arith}
 use Rattle.std.specs.Prelude.{◌&&◌, All, IfSome, sum_by}
-use Rattle.std.proofs.lemmas.List.Elements.{All-cons, All-head, All-nil, All-tail, All-weaker}
+use Rattle.std.proofs.lemmas.List.Elements.{All-cons, All-nil, All-weaker}
 use Rattle.guest_memory.specs.Memory.{Memory, SameRange}
 use Rattle.guest_memory.proofs.Ranges.{inside_same}
 use Rattle.chain.specs.declared.segment.Segment.{Segment}
-use Rattle.mmio_window.specs.declared.device_kind.DeviceKind.TheVariants.{Block, Console}
+use Rattle.mmio_window.specs.declared.device_kind.DeviceKind.TheVariants.{Block}
 use Rattle.mmio_window.specs.declared.queue.Queue.{Queue}
 use Rattle.mmio_window.specs.declared.queue.Token.{Token}
 use Rattle.mmio_window.specs.Queue.{AreAhead, TagFits, tag_places}
@@ -16,9 +16,9 @@ use Rattle.block_device.specs.declared.extent.Extent.{Extent}
 use Rattle.block_device.specs.declared.operation.OperationKind.{OperationKind}
 use Rattle.block_device.specs.declared.operation.OperationKind.TheVariants as kind
 use Rattle.block_device.specs.Flights.{AreHeld, InFlight, TagIsHeld, is_any, tokens_of}
-use Rattle.block_device.specs.Operation.{LieBy, LiesInside}
+use Rattle.block_device.specs.Operation.{LieBy}
 use Rattle.board.specs.declared.event.EventKind.{EventKind}
-use Rattle.board.specs.declared.event.EventKind.TheVariants.{Read, Write, MemRead, MemWrite, Input, Resize, Restore, Host}
+use Rattle.board.specs.declared.event.EventKind.TheVariants.{Write, Restore, Host}
 use Rattle.board.specs.Backing.{HostDisk, sectors_by, tags_in}
 use Rattle.board.specs.Hosting.{HoldsFlights, block_beside, must_wait, waits_now}
 use Rattle.board.specs.declared.spec.Backing.{Backing}
@@ -37,14 +37,8 @@ keeps_queues : {A : Type 0} (what : EventKind A) (slot : BoardSlot) → must_wai
     → KeepsQueues slot.block (block_beside what slot)
 keeps_queues (Write Block offset width value) slot free =
     ready_queue_outlasts offset width value slot.memory slot.block free
-keeps_queues (Write Console offset width value) slot free = keeps_all slot.block
-keeps_queues (Read window offset width) slot free = keeps_all slot.block
-keeps_queues (MemRead addr len) slot free = keeps_all slot.block
-keeps_queues (MemWrite addr bytes) slot free = keeps_all slot.block
-keeps_queues (Input bytes) slot free = keeps_all slot.block
-keeps_queues (Resize cols rows) slot free = keeps_all slot.block
 keeps_queues (Restore bytes) slot free = absurd (cc)
-keeps_queues (Host said) slot free = keeps_all slot.block
+keeps_queues _ slot free = keeps_all slot.block
 
 -- what lies in a memory lies in every one of its range
 lie_still : (what : OperationKind) (capacity : ℕ) (m m' : Memory) (runs : List Segment) → SameRange m m'
@@ -164,23 +158,3 @@ held_beside {A} what slot new free block host extent same held =
         held_by slot new host extent same
         (subst (λ (w : WindowState). KeepsQueues slot.block w) (sym (block is)) (keeps_queues what slot is))
         held
-
--- what of a slot is of the image, of a disk of its own
-told_at : (capacity : ℕ) (m : Memory) (found : Option InFlight) → TagIsHeld capacity m found
-    → IfSome found (λ here. LiesInside capacity m here.flight.operation here.runs)
-told_at capacity m None held = tt
-told_at capacity m (Some here) held = held.inside
-
-tag_held : (capacity : ℕ) (m : Memory) (tags : List (Option InFlight)) (tag : ℕ)
-    → All (TagIsHeld capacity m) tags → TagIsHeld capacity m (get_or tags tag None)
-tag_held capacity m [] tag held = tt
-tag_held capacity m (found ∷ tags) zero held = All-head (TagIsHeld capacity m) found tags held
-tag_held capacity m (found ∷ tags) (suc tag) held =
-    tag_held capacity m tags tag (All-tail (TagIsHeld capacity m) found tags held)
-
-pub told_inside : (slot : BoardSlot) (tag : ℕ) → HoldsFlights slot
-    → IfSome (get_or (tags_in slot.host) tag None)
-    (λ here. LiesInside (sectors_in slot) slot.memory here.flight.operation here.runs)
-told_inside slot tag held =
-    told_at (sectors_in slot) slot.memory (get_or (tags_in slot.host) tag None)
-    (tag_held (sectors_in slot) slot.memory (tags_in slot.host) tag held.each)

@@ -1,5 +1,5 @@
 -- The block window of a slot whose disk the host serves stays that of its device.
-use Rattle.std.proofs.Common.{◌≡◌, ℕ, Bool, true, false, List, [], Option, Some, None, get_or, refl, subst, sym, ap, ◌∙◌}
+use Rattle.std.proofs.Common.{◌≡◌, ℕ, Bool, true, false, List, [], Option, Some, None, refl, subst, sym, ap, ◌∙◌}
 use Rattle.std.specs.Bool.{OnTrue, OnFalse}
 use Rattle.guest_memory.specs.Memory.{Memory}
 use Rattle.chain.specs.declared.budget.Budget.{Budget}
@@ -24,11 +24,11 @@ use Rattle.block_device.specs.declared.hosting.Hosted.TheVariants.{Asks, More, D
 use Rattle.block_device.specs.declared.operation.Verdict.{Verdict}
 use Rattle.block_device.specs.declared.extent.Extent.{Extent}
 use Rattle.block_device.specs.Asking.{unasked_device}
-use Rattle.block_device.specs.Flights.{AreHeld, HostedQueue, InFlight, IsLanding, IsLook, given_up, unlimited}
+use Rattle.block_device.specs.Flights.{HostedQueue, InFlight, IsLanding, IsLook, given_up, unlimited}
 use Rattle.block_device.specs.Hosting.{CompletesIn, HostsTo}
 use Rattle.block_device.proofs.Unasked.{any_disk}
 use Rattle.board.specs.Backing.{HostDisk, sectors_by, tags_in, with_tags}
-use Rattle.board.specs.Hosting.{HoldsFlights, LandsTag, LooksAtQueue, LooksUnless, device_at, device_extent, dropped, hosted_device, hosted_queue, with_queue, with_queue_of}
+use Rattle.board.specs.Hosting.{LandsTag, LooksAtQueue, LooksUnless, device_at, device_extent, dropped, hosted_device, hosted_queue, with_queue, with_queue_of}
 use Rattle.board.specs.Image.{sectors_of}
 use Rattle.board.specs.Slot.{BoardSlot, disk_sectors, state_of}
 use Rattle.board.proofs.Looking.{IsLeftByLandings, IsLeftByLooks, landing_left, look_left}
@@ -123,6 +123,10 @@ landed_keeps false tag verdict old new lands same =
 
 -- ---- as the slot's guest sees it
 
+-- what stands before an equation's sign: of the equation of a view the value by its parts
+abbrev pub viewed : {A : Type 0} {x y : A} → x ≡ y → A
+viewed {A} {x} {y} is = x
+
 hosted_extent : (host : Option HostDisk) (disk : HostDisk) (extent : Extent) (n : ℕ) → host ≡ Some disk
     → device_extent host extent ≡ record { start = 0; count = sectors_by host n }
 hosted_extent host disk extent n is = rw is refl
@@ -197,16 +201,6 @@ looked image slot new disk now device free hosted is same looks rest = record {
   rest = rest_on_host image slot new disk now hosted same rest;
 }
 
--- and one on hold isn't looked at
-pub unlooked : (image : List ℕ) (slot : BoardSlot) → slot.on_hold ≡ true
-    → LooksAtQueue (state_of image slot) (state_of image slot)
-unlooked image slot on_hold = record {
-  looks =
-      subst (λ (b : Bool). LooksUnless b (hosted_device (state_of image slot)) (hosted_queue (state_of image slot))
-      (hosted_queue (state_of image slot))) (sym on_hold) refl;
-  rest = ap (λ (h : Option HostDisk). record (state_of image slot) { host = h }) (own_tags slot.host);
-}
-
 -- a landing, where it is one
 pub landed : (done : Bool) (tag : ℕ) (verdict : Verdict) (slot new : BoardSlot) (disk now : HostDisk)
     → slot.host ≡ Some disk → now.sectors ≡ disk.sectors
@@ -236,43 +230,3 @@ gave_up image slot new disk now hosted same gives rest =
     ∙ (gives ∙ ap (λ t. given_up (record { memory = slot.memory; window = slot.block; tags = t }))
     (sym (ap tags_in hosted))) in
     rest_on_host image slot new disk now hosted same whole ∙ ap (λ (q : HostedQueue). with_queue q state) queue
-
--- and where it isn't, the slot stays
-slot_with : (slot : BoardSlot) (m : Memory) (w : WindowState) (h : Option HostDisk) → m ≡ slot.memory
-    → w ≡ slot.block → h ≡ slot.host → record slot { memory = m; block = w; host = h } ≡ slot
-slot_with slot m w h p q r = rw (p, q, r) refl
-
-same_host : (now disk : HostDisk) → now.sectors ≡ disk.sectors → now.tags ≡ disk.tags → now ≡ disk
-same_host now disk p q = by_parts now.sectors disk.sectors now.tags disk.tags p q
-  where
-    by_parts : (n k : ℕ) (t u : List (Option InFlight)) → n ≡ k → t ≡ u
-        → ◌≡◌ {A = HostDisk} (record { sectors = n; tags = t }) (record { sectors = k; tags = u })
-    by_parts n k t u p q = rw (p, q) refl
-
-pub kept_slot : (done : Bool) (slot new : BoardSlot) (disk now : HostDisk) → slot.host ≡ Some disk
-    → now.sectors ≡ disk.sectors → OnFalse done (queue_with new now ≡ queue_with slot disk)
-    → new ≡ record slot { memory = new.memory; block = new.block; host = Some now }
-    → OnFalse done (new ≡ slot)
-kept_slot true slot new disk now hosted same kept rest = tt
-kept_slot false slot new disk now hosted same kept rest =
-    rest ∙ slot_with slot new.memory new.block (Some now) (ap (λ (q : HostedQueue). q.memory) kept)
-    (ap (λ (q : HostedQueue). q.window) kept)
-    (ap Some (same_host now disk same (ap (λ (q : HostedQueue). q.tags) kept)) ∙ sym hosted)
-
-pub idle_tag : (done : Bool) (slot : BoardSlot) (disk : HostDisk) (tag : ℕ) → slot.host ≡ Some disk
-    → OnFalse done (get_or disk.tags tag None ≡ None) → OnFalse done (get_or (tags_in slot.host) tag None ≡ None)
-idle_tag done slot disk tag hosted idle =
-    subst (λ (t : List (Option InFlight)). OnFalse done (get_or t tag None ≡ None)) (sym (ap tags_in hosted)) idle
-
--- what its disk holds, the slot does
-pub held_at : (slot : BoardSlot) (disk : HostDisk) → slot.host ≡ Some disk
-    → AreHeld disk.sectors (queue_with slot disk) → HoldsFlights slot
-held_at slot disk hosted held =
-    subst (λ (h : Option HostDisk). AreHeld (sectors_by h slot.extent.count)
-    (record { memory = slot.memory; window = slot.block; tags = tags_in h })) (sym hosted) held
-
-pub held_of : (slot : BoardSlot) (disk : HostDisk) → slot.host ≡ Some disk → HoldsFlights slot
-    → AreHeld disk.sectors (queue_with slot disk)
-held_of slot disk hosted held =
-    subst (λ (h : Option HostDisk). AreHeld (sectors_by h slot.extent.count)
-    (record { memory = slot.memory; window = slot.block; tags = tags_in h })) hosted held

@@ -1,13 +1,13 @@
 -- What an event of a slot comes to by who has its disk.
-use Rattle.std.proofs.Common.{◌≡◌, ◌≢◌, ℕ, zero, suc, Bool, true, false, Option, Some, None, List, [], refl, sym, subst, append-nil}
+use Rattle.std.proofs.Common.{◌≡◌, ◌≢◌, ℕ, zero, Bool, true, false, Option, Some, None, List, [], refl, sym, subst, append-nil}
 use Rattle.std.specs.Prelude.{◌&&◌, ◌||◌, if◌then◌else◌, IfErr, IsSome, OnErr, OnOk, Ok, Err, Result, is_some}
 use Rattle.chain.specs.declared.budget.Budget.{Budget}
 use Rattle.block_device.specs.Flights.{is_any}
 use Rattle.mmio_window.specs.declared.device_kind.DeviceKind.{DeviceKind}
-use Rattle.mmio_window.specs.declared.device_kind.DeviceKind.TheVariants.{Block, Console}
+use Rattle.mmio_window.specs.declared.device_kind.DeviceKind.TheVariants.{Block}
 use Rattle.board.specs.declared.event.EventKind.{EventKind}
 use Rattle.board.specs.declared.event.HostEvent.{HostEvent}
-use Rattle.board.specs.declared.event.EventKind.TheVariants.{Read, Write, MemRead, MemWrite, Input, Resize, Restore, Host}
+use Rattle.board.specs.declared.event.EventKind.TheVariants.{Write, Input, Restore, Host}
 use Rattle.board.specs.declared.pause.Pause.{Pause}
 use Rattle.board.specs.declared.pause.Service.{Service}
 use Rattle.mmio_window.specs.declared.stage.Stage.TheVariants.{Next}
@@ -28,7 +28,7 @@ use Rattle.board.specs.declared.saved.RestoreFault.{RestoreFault}
 use Rattle.board.specs.declared.saved.RestoreRefusal.{RestoreRefusal}
 use Rattle.board.specs.Slot.{BoardSlot, SlotState, state_of}
 use Rattle.board.proofs.Restoring.{restore_given}
-use Rattle.board.specs.Task.{Task, Nothing, PutOut, Serve, task_of}
+use Rattle.board.specs.Task.{Task, PutOut, Serve, task_of}
 use Rattle.mmio_window.specs.declared.action.Action.{Action}
 use Rattle.mmio_window.specs.declared.action.Action.TheVariants as action
 use Rattle.board.specs.Within.{BeginsWithin, BeginsWithinOverImage, TakesWithin, TurnWithin}
@@ -196,69 +196,44 @@ within_part limit what budget state new waiting left reply part h =
 -- a write to the block window asks for no service of the console, and puts nothing out
 block_asks : (act : Action) → task_of Block act ≡ Serve service.Transmit → ⊥
 block_asks (action.Notify zero) is = absurd (cc)
-block_asks (action.Notify (suc q)) is = absurd (cc)
-block_asks action.Reset is = absurd (cc)
-block_asks (action.ConfigWrite offset width value) is = absurd (cc)
-block_asks action.None is = absurd (cc)
+block_asks _ is = absurd (cc)
 
 block_puts : (act : Action) (byte : ℕ) → task_of Block act ≡ PutOut byte → ⊥
 block_puts (action.Notify zero) byte is = absurd (cc)
-block_puts (action.Notify (suc q)) byte is = absurd (cc)
-block_puts action.Reset byte is = absurd (cc)
-block_puts (action.ConfigWrite offset width value) byte is = absurd (cc)
-block_puts action.None byte is = absurd (cc)
+block_puts _ byte is = absurd (cc)
 
 -- what the host has a part in puts nothing out
 silent_write : {A : Type 0} (limit : ℕ) (state new : SlotState) (offset width value : ℕ) (waiting : List ℕ)
     (reply : Reply A) (task : Task) → task_at Block offset width value state ≡ task
     → TakesWithin limit state (Write Block offset width value) new waiting waiting reply
-silent_write limit state new offset width value waiting reply Nothing is = rw is tt
-silent_write limit state new offset width value waiting reply (Serve service.Block) is = rw is tt
-silent_write limit state new offset width value waiting reply (Serve service.Receive) is = rw is tt
 silent_write limit state new offset width value waiting reply (Serve service.Transmit) is =
     absurd (block_asks (action_at Block offset width value state) is)
 silent_write limit state new offset width value waiting reply (PutOut byte) is =
     absurd (block_puts (action_at Block offset width value state) byte is)
+silent_write limit state new offset width value waiting reply _ is = rw is tt
 
 ring_silent : {A : Type 0} (limit : ℕ) (state new : SlotState) (window : DeviceKind) (offset width value : ℕ)
     (waiting : List ℕ) (reply : Reply A) (task : Task) → task_at window offset width value state ≡ task
     → is_block_task task ≡ true
     → TakesWithin limit state (Write window offset width value) new waiting waiting reply
-ring_silent limit state new window offset width value waiting reply Nothing is rings = absurd (cc)
 ring_silent limit state new window offset width value waiting reply (Serve service.Block) is rings = rw is tt
-ring_silent limit state new window offset width value waiting reply (Serve service.Receive) is rings =
-    absurd (cc)
-ring_silent limit state new window offset width value waiting reply (Serve service.Transmit) is rings =
-    absurd (cc)
-ring_silent limit state new window offset width value waiting reply (PutOut byte) is rings = absurd (cc)
+ring_silent limit state new window offset width value waiting reply _ is rings = absurd (cc)
 
 pub waiting_silent : {A : Type 0} (limit : ℕ) (state new : SlotState) (what : EventKind A)
     (waiting : List ℕ) (reply : Reply A) → must_wait what ≡ true
     → TakesWithin limit state what new waiting waiting reply
-waiting_silent limit state new (Read window offset width) waiting reply waits = absurd (cc)
 waiting_silent limit state new (Write Block offset width value) waiting reply waits =
     silent_write limit state new offset width value waiting reply (task_at Block offset width value state) refl
-waiting_silent limit state new (Write Console offset width value) waiting reply waits = absurd (cc)
-waiting_silent limit state new (MemRead addr len) waiting reply waits = absurd (cc)
-waiting_silent limit state new (MemWrite addr bytes) waiting reply waits = absurd (cc)
-waiting_silent limit state new (Input bytes) waiting reply waits = absurd (cc)
-waiting_silent limit state new (Resize cols rows) waiting reply waits = absurd (cc)
 waiting_silent limit state new (Restore bytes) waiting reply waits = tt
-waiting_silent limit state new (Host said) waiting reply waits = absurd (cc)
+waiting_silent limit state new _ waiting reply waits = absurd (cc)
 
 pub ringing_silent : {A : Type 0} (limit : ℕ) (state new : SlotState) (what : EventKind A)
     (waiting : List ℕ) (reply : Reply A) → notifies_block what state ≡ true
     → TakesWithin limit state what new waiting waiting reply
-ringing_silent limit state new (Read window offset width) waiting reply rings = absurd (cc)
 ringing_silent limit state new (Write window offset width value) waiting reply rings =
     ring_silent limit state new window offset width value waiting reply
     (task_at window offset width value state) refl rings
-ringing_silent limit state new (MemRead addr len) waiting reply rings = absurd (cc)
-ringing_silent limit state new (MemWrite addr bytes) waiting reply rings = absurd (cc)
-ringing_silent limit state new (Input bytes) waiting reply rings = absurd (cc)
-ringing_silent limit state new (Resize cols rows) waiting reply rings = absurd (cc)
-ringing_silent limit state new (Restore bytes) waiting reply rings = absurd (cc)
-ringing_silent limit state new (Host said) waiting reply rings = absurd (cc)
+ringing_silent limit state new _ waiting reply rings = absurd (cc)
 
 -- ---- what comes of it
 
@@ -277,25 +252,13 @@ told_given state said health outcome hosted h =
 
 -- only an own event waits, or notifies the block device
 pub waiting_own : {A : Type 0} (what : EventKind A) → must_wait what ≡ true → told_in what ≡ None
-waiting_own (Read window offset width) waits = refl
-waiting_own (Write window offset width value) waits = refl
-waiting_own (MemRead addr len) waits = refl
-waiting_own (MemWrite addr bytes) waits = refl
-waiting_own (Input bytes) waits = refl
-waiting_own (Resize cols rows) waits = refl
-waiting_own (Restore bytes) waits = refl
 waiting_own (Host said) waits = absurd (cc)
+waiting_own _ waits = refl
 
 pub ringing_own : {A : Type 0} (what : EventKind A) (state : SlotState) → notifies_block what state ≡ true
     → told_in what ≡ None
-ringing_own (Read window offset width) state rings = refl
-ringing_own (Write window offset width value) state rings = refl
-ringing_own (MemRead addr len) state rings = refl
-ringing_own (MemWrite addr bytes) state rings = refl
-ringing_own (Input bytes) state rings = refl
-ringing_own (Resize cols rows) state rings = refl
-ringing_own (Restore bytes) state rings = refl
 ringing_own (Host said) state rings = absurd (cc)
+ringing_own _ state rings = refl
 
 own_given : {A : Type 0} (state : SlotState) (what : EventKind A) (health : Health) (outcome : Outcome A)
     → IsSome state.host → told_in what ≡ None
@@ -320,14 +283,8 @@ looks_given {A} state what health new hosted free rings h =
 -- an event by which the host says nothing is the guest's own
 pub own_of : {A : Type 0} (what : EventKind A)
     → ((said : HostEvent) → what ≡ Host said → ⊥) → told_in what ≡ None
-own_of (Read window offset width) never = refl
-own_of (Write window offset width value) never = refl
-own_of (MemRead addr len) never = refl
-own_of (MemWrite addr bytes) never = refl
-own_of (Input bytes) never = refl
-own_of (Resize cols rows) never = refl
-own_of (Restore bytes) never = refl
 own_of (Host said) never = absurd (never said refl)
+own_of _ never = refl
 
 -- a notification, behind its write
 pub notified_given : {A : Type 0} (state mid new : SlotState) (what : EventKind A) (health : Health)
@@ -342,10 +299,6 @@ notified_given state mid new what health hosted free rings ready looks =
 pub not_hosted : (host : Option HostDisk) → is_some host ≡ false → host ≡ None
 not_hosted None is = refl
 not_hosted (Some disk) is = absurd (cc)
-
-pub hosted_some : (host : Option HostDisk) → is_some host ≡ true → IsSome host
-hosted_some None is = absurd (cc)
-hosted_some (Some disk) is = refl
 
 -- ---- a restore
 

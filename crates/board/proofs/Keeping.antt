@@ -96,20 +96,18 @@ zeroed_many n capacity (sector ∷ sectors) disk small below many =
 completed_many : (n : ℕ) (capacity : ℕ) (request : Request) (payload found : List ℕ) (disk : Disk) (room : ℕ)
     → 512 * capacity ≤ n → IsServable capacity request payload room → TellsMany n disk
     → TellsMany n (completed request payload found disk).disk
-completed_many n capacity (Rejected status) payload found disk room small fits many = many
-completed_many n capacity (Read sector count) payload found disk room small fits many = many
 completed_many n capacity (Write sector count) payload found disk room small fits many =
     let inside : 512 * sector + length payload ≤ 512 * capacity = omega (arith, fits.0, fits.1) in
     filled_many n disk (completed (Write sector count) payload found disk).disk sector payload
     many refl (omega arith)
 completed_many n capacity Flush payload found disk room small fits many =
     same_many n disk (completed Flush payload found disk).disk many refl
-completed_many n capacity GetId payload found disk room small fits many = many
 completed_many n capacity (WriteZeroes segments) payload found disk room small fits many =
     same_many n (zeroed_sectors (all_sectors (segments_in payload)) disk)
     (completed (WriteZeroes segments) payload found disk).disk
     (zeroed_many n capacity (all_sectors (segments_in payload)) disk small
     (all-below capacity (segments_in payload) fits.1) many) refl
+completed_many n capacity _ payload found disk room small fits many = many
 
 failed_many : (n : ℕ) (capacity : ℕ) (request : Request) (payload : List ℕ) (disk : Disk) (outcome : Outcome)
     (room : ℕ) → 512 * capacity ≤ n → IsServable capacity request payload room → TellsMany n disk

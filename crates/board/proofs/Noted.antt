@@ -18,16 +18,8 @@ lacks : {A : Type 0} (answer : Reply A) → lacks_memory answer ≡ false → an
 lacks answer has none = let said : lacks_memory answer ≡ true = ap lacks_memory none in cc
 
 had_memory : {A : Type 0} (answer : Reply A) → answer ≢ reply.NoMemory → lacks_memory answer ≡ false
-had_memory (reply.Value x) had = refl
-had_memory reply.Done had = refl
-had_memory (reply.Bytes bs) had = refl
-had_memory (reply.Took count) had = refl
-had_memory reply.BadSlot had = refl
-had_memory reply.BadRange had = refl
-had_memory reply.BadState had = refl
 had_memory reply.NoMemory had = absurd (had refl)
-had_memory reply.Busy had = refl
-had_memory reply.Idle had = refl
+had_memory _ had = refl
 
 -- no refusal was met, as a test and as two facts
 pub unmet : {A : Type 0} (answer : Reply A) (f g : ℕ) → f ≤ g → met_refusal answer f g ≡ false

@@ -15,7 +15,7 @@ use Rattle.board.specs.Outcome.{Outcome}
 use Rattle.board.specs.Pausing.{TurnsTo}
 use Rattle.board.specs.Slot.{SlotState}
 use Rattle.board.specs.World.{MayGive, MayGiveBy, MayGiveOverImage}
-use Rattle.board.proofs.Ways.{Drops, Holds, Lands, Looks, Passes, Releases, Rests, Waits, Way, way}
+use Rattle.board.proofs.Ways.{Drops, Holds, Lands, Looks, Passes, Releases, Rests, Waits, Way, by_disk}
 
 -- ---- an event in which the host has no part
 
@@ -100,29 +100,17 @@ lacking_way state what before outcome lacks (Holds is h) =
 lacking_way state what before outcome lacks (Releases is looks h) =
     let done = ap (λ o. o.reply) h in absurd (cc)
 
-lacking_by : {A : Type 0} (host : Option HostDisk) (state : SlotState) (what : EventKind A)
-    (before after : Health) (outcome : Outcome A) → outcome.reply ≡ NoMemory
-    → MayGiveBy host state what before after outcome → MayGiveOverImage state what before after outcome
-lacking_by None state what before after outcome lacks h = h
-lacking_by {A} (Some disk) state what before after outcome lacks h =
-    subst (λ (x : Health). MayGiveOverImage state what before x outcome) (sym h.image)
-    (lacking_way state what before outcome lacks
-    (way (λ (o : Outcome A). MayGiveOverImage state what before before o) state what outcome h.gives))
-
 pub lacking_over_image : {A : Type 0} (state : SlotState) (what : EventKind A) (before after : Health)
     (outcome : Outcome A) → outcome.reply ≡ NoMemory → MayGive state what before after outcome
     → MayGiveOverImage state what before after outcome
 lacking_over_image state what before after outcome lacks h =
-    lacking_by state.host state what before after outcome lacks h
+    by_disk state.host state what before after outcome (λ given. given)
+    (λ image ways. subst (λ (x : Health). MayGiveOverImage state what before x outcome) (sym image)
+    (lacking_way state what before outcome lacks ways)) h
 
 -- and where the image failed, it was of the image, or it stayed as it was
-failing_by : {A : Type 0} (host : Option HostDisk) (state : SlotState) (what : EventKind A)
-    (before after : Health) (outcome : Outcome A) → MayGiveBy host state what before after outcome
-    → MayGiveOverImage state what before after outcome ⊎ (after ≡ before)
-failing_by None state what before after outcome h = inl h
-failing_by (Some disk) state what before after outcome h = inr h.image
-
 pub failing_over_image : {A : Type 0} (state : SlotState) (what : EventKind A) (before after : Health)
     (outcome : Outcome A) → MayGive state what before after outcome
     → MayGiveOverImage state what before after outcome ⊎ (after ≡ before)
-failing_over_image state what before after outcome h = failing_by state.host state what before after outcome h
+failing_over_image state what before after outcome h =
+    by_disk state.host state what before after outcome (λ given. inl given) (λ image ways. inr image) h

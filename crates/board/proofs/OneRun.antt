@@ -17,7 +17,7 @@ use Rattle.console_device.specs.Input.{fitting}
 use Rattle.console_device.proofs.Services.{receive_once, receive_never_refused}
 use Rattle.board.specs.declared.event.EventKind.{EventKind}
 use Rattle.board.specs.declared.event.HostEvent.{HostEvent}
-use Rattle.board.specs.declared.event.EventKind.TheVariants.{Read, Write, MemRead, MemWrite, Input, Resize, Restore, Host}
+use Rattle.board.specs.declared.event.EventKind.TheVariants.{Write, Input, Restore}
 use Rattle.board.specs.declared.reply.Reply.{Reply}
 use Rattle.board.specs.declared.reply.Reply.TheVariants.{Done, Took}
 use Rattle.board.specs.declared.reply.Record.{Record}
@@ -42,20 +42,18 @@ record FinishesAtRest {A : Type 0} (task : Task) (old : SlotState) (outcome : Ou
 
 finishes_at_rest : {A : Type 0} (task : Task) (old : SlotState) (before after : Health) (outcome : Outcome A)
     → Finishes task old before after outcome → FinishesAtRest task old outcome
-finishes_at_rest Nothing old before after outcome h =
-    record { health = at_rest; finishes = record { alike = h.alike; image = refl } }
 finishes_at_rest (Serve Block) old before after outcome h =
     let rested : AtRest (device_of old) (queue_at 0 old.block) old.memory outcome.state.memory old.block
     outcome.state.block old.extent outcome.state.extent =
     exact_at_rest (device_of old) (queue_at 0 old.block) old.memory outcome.state.memory old.block
     outcome.state.block old.extent outcome.state.extent before after h.notified in
     record { health = rested.health; finishes = record { notified = rested.notified; is = h.is } }
-finishes_at_rest (Serve Receive) old before after outcome h =
-    record { health = at_rest; finishes = record { notified = h.notified; is = h.is; image = refl } }
-finishes_at_rest (Serve Transmit) old before after outcome h =
-    record { health = at_rest; finishes = record { notified = h.notified; is = h.is; image = refl } }
+finishes_at_rest Nothing old before after outcome h =
+    record { health = at_rest; finishes = record { alike = h.alike; image = refl } }
 finishes_at_rest (PutOut byte) old before after outcome h =
     record { health = at_rest; finishes = record { alike = h.alike; image = refl } }
+finishes_at_rest _ old before after outcome h =
+    record { health = at_rest; finishes = record { notified = h.notified; is = h.is; image = refl } }
 
 -- what an event gives over an image, taken from an image at rest
 record RestsOverImage {A : Type 0} (state : SlotState) (what : EventKind A) (outcome : Outcome A) : Type 0 where
@@ -64,54 +62,36 @@ record RestsOverImage {A : Type 0} (state : SlotState) (what : EventKind A) (out
 
 rests_over_image : {A : Type 0} (state : SlotState) (what : EventKind A) (before after : Health)
     (outcome : Outcome A) → GivesOverImage state what before after outcome → RestsOverImage state what outcome
-rests_over_image state (Read window offset width) before after outcome h =
-    record { after = at_rest; gives = record { alike = h.alike; image = refl } }
 rests_over_image state (Write window offset width value) before after outcome h =
     let rested : FinishesAtRest (task_at window offset width value state)
     (with_write window offset width value state) outcome =
     finishes_at_rest (task_at window offset width value state) (with_write window offset width value state)
     before after outcome h in
     record { after = rested.health; gives = rested.finishes }
-rests_over_image state (MemRead addr len) before after outcome h =
-    record { after = at_rest; gives = record { alike = h.alike; image = refl } }
-rests_over_image state (MemWrite addr bytes) before after outcome h =
-    record { after = at_rest; gives = record { alike = h.alike; image = refl } }
 rests_over_image state (Input bytes) before after outcome h =
     record { after = at_rest; gives = record { notified = h.notified; is = h.is; image = refl } }
-rests_over_image state (Resize cols rows) before after outcome h =
-    record { after = at_rest; gives = record { alike = h.alike; image = refl } }
-rests_over_image state (Restore bytes) before after outcome h =
-    record { after = at_rest; gives = record { alike = h.alike; image = refl } }
-rests_over_image state (Host said) before after outcome h =
+rests_over_image state _ before after outcome h =
     record { after = at_rest; gives = record { alike = h.alike; image = refl } }
 
 -- the same of one that doesn't notify the block device: the image has no part in it
 task_beside : {A : Type 0} (task : Task) (old : SlotState) (health : Health) (outcome : Outcome A)
     → is_block_task task ≡ false → Finishes task old health health outcome
     → Finishes task old at_rest at_rest outcome
-task_beside Nothing old health outcome quiet h = record { alike = h.alike; image = refl }
 task_beside (Serve Block) old health outcome quiet h = absurd (cc)
-task_beside (Serve Receive) old health outcome quiet h =
-    record { notified = h.notified; is = h.is; image = refl }
-task_beside (Serve Transmit) old health outcome quiet h =
-    record { notified = h.notified; is = h.is; image = refl }
+task_beside Nothing old health outcome quiet h = record { alike = h.alike; image = refl }
 task_beside (PutOut byte) old health outcome quiet h = record { alike = h.alike; image = refl }
+task_beside _ old health outcome quiet h = record { notified = h.notified; is = h.is; image = refl }
 
 rests_beside : {A : Type 0} (state : SlotState) (what : EventKind A) (health : Health) (outcome : Outcome A)
     → notifies_block what state ≡ false → GivesOverImage state what health health outcome
     → GivesOverImage state what at_rest at_rest outcome
-rests_beside state (Read window offset width) health outcome quiet h =
-    record { alike = h.alike; image = refl }
 rests_beside state (Write window offset width value) health outcome quiet h =
     task_beside (task_at window offset width value state) (with_write window offset width value state)
     health outcome quiet h
-rests_beside state (MemRead addr len) health outcome quiet h = record { alike = h.alike; image = refl }
-rests_beside state (MemWrite addr bytes) health outcome quiet h = record { alike = h.alike; image = refl }
 rests_beside state (Input bytes) health outcome quiet h =
     record { notified = h.notified; is = h.is; image = refl }
-rests_beside state (Resize cols rows) health outcome quiet h = record { alike = h.alike; image = refl }
-rests_beside state (Restore bytes) health outcome quiet h = record { alike = h.alike; image = refl }
-rests_beside state (Host said) health outcome quiet h = record { alike = h.alike; image = refl }
+rests_beside state _ health outcome quiet h =
+    record { alike = h.alike; image = refl }
 
 -- an event comes out so where the disk has no part in it, and so of a guest whose disk the host serves
 pub on_host_as : {A : Type 0} (One Other : Outcome A → Type 0) (state : SlotState) (what : EventKind A)
@@ -293,27 +273,22 @@ transmitted_once old h k one other a b =
 
 finishes_once : {A : Type 0} (task : Task) (old : SlotState) (h k : Health) (one other : Outcome A)
     → Finishes task old at_rest h one → Finishes task old at_rest k other → one ≡ other
-finishes_once Nothing old h k one other a b = a.alike ∙ sym b.alike
 finishes_once (Serve Block) old h k one other a b = block_once (device_of old) old h k one other a b
 finishes_once (Serve Receive) old h k one other a b = received_once old Done h k one other a b
 finishes_once (Serve Transmit) old h k one other a b = transmitted_once old h k one other a b
-finishes_once (PutOut byte) old h k one other a b = a.alike ∙ sym b.alike
+finishes_once _ old h k one other a b = a.alike ∙ sym b.alike
 
 -- an event has at most one outcome over an image
 over_image_once : {A : Type 0} (state : SlotState) (what : EventKind A) (h k : Health) (one other : Outcome A)
     → GivesOverImage state what at_rest h one → GivesOverImage state what at_rest k other → one ≡ other
-over_image_once state (Read window offset width) h k one other a b = a.alike ∙ sym b.alike
 over_image_once state (Write window offset width value) h k one other a b =
     finishes_once (task_at window offset width value state) (with_write window offset width value state)
     h k one other a b
-over_image_once state (MemRead addr len) h k one other a b = a.alike ∙ sym b.alike
-over_image_once state (MemWrite addr bytes) h k one other a b = a.alike ∙ sym b.alike
 over_image_once state (Input bytes) h k one other a b =
     received_once (with_input bytes state) (Took (fitting state.pending bytes)) h k one other a b
-over_image_once state (Resize cols rows) h k one other a b = a.alike ∙ sym b.alike
 over_image_once state (Restore bytes) h k one other a b =
     restored_once state bytes one other a.alike b.alike
-over_image_once state (Host said) h k one other a b = a.alike ∙ sym b.alike
+over_image_once state _ h k one other a b = a.alike ∙ sym b.alike
 
 -- and whoever has the guest's disk
 once_by : {A : Type 0} (host : Option HostDisk) (state : SlotState) (what : EventKind A) (h k : Health)

@@ -12,13 +12,13 @@ use Rattle.console_device.specs.Device.{transmit_within}
 use Rattle.console_device.proofs.Services.{within_once}
 use Rattle.console_device.proofs.Deciding.{within_decides}
 use Rattle.board.specs.declared.event.EventKind.{EventKind}
-use Rattle.board.specs.declared.event.EventKind.TheVariants.{Read, Write, MemRead, MemWrite, Input, Resize, Restore, Host}
+use Rattle.board.specs.declared.event.EventKind.TheVariants.{Write}
 use Rattle.board.specs.declared.reply.Reply.{Reply}
-use Rattle.board.specs.declared.pause.Service.TheVariants.{Block, Receive, Transmit}
+use Rattle.board.specs.declared.pause.Service.TheVariants.{Transmit}
 use Rattle.board.specs.Machine.{task_at, with_write}
 use Rattle.board.specs.Outcome.{Outcome}
 use Rattle.board.specs.Slot.{SlotState}
-use Rattle.board.specs.Task.{Task, Nothing, Serve, PutOut}
+use Rattle.board.specs.Task.{Task, Serve, PutOut}
 use Rattle.board.specs.Within.{TransmitsWithin, PutsWithin, PutsOutWithin, Seat, IsPuttingOut, MayPutOut, IsNextWithin, reply_at}
 use Rattle.board.proofs.OneRun.{next_once}
 
@@ -108,20 +108,16 @@ less_or (suc n) (suc m) = more (less_or n m) where
 puts_once : {A : Type 0} (limit : ℕ) (task : Task) (state a b : SlotState) (waiting l k : List ℕ)
     (p q : Reply A) → IsPuttingOut task → PutsOutWithin limit task state a waiting l p
     → PutsOutWithin limit task state b waiting k q → SameLeft a b l k p q
-puts_once limit Nothing state a b waiting l k p q puts x y = absurd puts
-puts_once limit (Serve Block) state a b waiting l k p q puts x y = absurd puts
-puts_once limit (Serve Receive) state a b waiting l k p q puts x y = absurd puts
 puts_once limit (Serve Transmit) state a b waiting l k p q puts x y =
     transmits_once limit state a b waiting l k p q x y
 puts_once limit (PutOut byte) state a b waiting l k p q puts x y =
     puts_at limit byte state a b waiting l k p q (less_or (length waiting) limit) x y
+puts_once limit _ state a b waiting l k p q puts x y = absurd puts
 
 puts_or : (task : Task) → IsPuttingOut task ⊎ (IsPuttingOut task → ⊥)
-puts_or Nothing = inr (λ h. h)
-puts_or (Serve Block) = inr (λ h. h)
-puts_or (Serve Receive) = inr (λ h. h)
 puts_or (Serve Transmit) = inl tt
 puts_or (PutOut byte) = inl tt
+puts_or _ = inr (λ h. h)
 
 -- where nothing is put out memory decides nothing
 quiet_once : {A : Type 0} (limit : ℕ) (old one other : Seat) (what : EventKind A) (p q : Reply A)
@@ -155,20 +151,8 @@ left_once limit old one other (Write window offset width value) p q x y =
     write_once limit old one other (Write window offset width value)
     (task_at window offset width value old.state) (with_write window offset width value old.state) p q
     (puts_or (task_at window offset width value old.state)) x.within y.within x y
-left_once limit old one other (Read window offset width) p q x y =
-    quiet_once limit old one other (Read window offset width) p q (λ h. h) x y
-left_once limit old one other (MemRead addr len) p q x y =
-    quiet_once limit old one other (MemRead addr len) p q (λ h. h) x y
-left_once limit old one other (MemWrite addr bytes) p q x y =
-    quiet_once limit old one other (MemWrite addr bytes) p q (λ h. h) x y
-left_once limit old one other (Input bytes) p q x y =
-    quiet_once limit old one other (Input bytes) p q (λ h. h) x y
-left_once limit old one other (Resize cols rows) p q x y =
-    quiet_once limit old one other (Resize cols rows) p q (λ h. h) x y
-left_once limit old one other (Restore bytes) p q x y =
-    quiet_once limit old one other (Restore bytes) p q (λ h. h) x y
-left_once limit old one other (Host said) p q x y =
-    quiet_once limit old one other (Host said) p q (λ h. h) x y
+left_once limit old one other what p q x y =
+    quiet_once limit old one other what p q (λ h. h) x y
 
 same_seat : (a b : SlotState) (l k : List ℕ) → a ≡ b → l ≡ k
     → ◌≡◌ {A = Seat} (record { state = a; waiting = l }) (record { state = b; waiting = k })

@@ -1,12 +1,12 @@
 -- An event that was refused was so in one of four ways.
-use Rattle.std.proofs.Common.{◌≡◌, ◌⊎◌, inl, inr, ℕ, zero, suc, ◌%◌, ◌==◌, Bool, true, false, refl, ap}
+use Rattle.std.proofs.Common.{◌≡◌, ◌⊎◌, inl, inr, ℕ, zero, suc, ◌%◌, ◌==◌, Bool, true, false, refl}
 use Rattle.std.specs.Prelude.{if◌then◌else◌, ◌^◌}
 use Rattle.mmio_window.specs.declared.action.Action.{Action}
 use Rattle.mmio_window.specs.declared.action.Action.TheVariants as action
 use Rattle.mmio_window.specs.declared.device_kind.DeviceKind.TheVariants.{Block, Console}
 use Rattle.mmio_window.specs.Window.{WindowState}
 use Rattle.board.specs.declared.event.EventKind.{EventKind}
-use Rattle.board.specs.declared.event.EventKind.TheVariants.{Read, Write, MemRead, MemWrite, Input, Resize, Restore, Host}
+use Rattle.board.specs.declared.event.EventKind.TheVariants.{Write, MemRead}
 use Rattle.board.specs.declared.reply.Reply.TheVariants.{NoMemory}
 use Rattle.board.specs.Image.{Health}
 use Rattle.board.specs.Machine.{action_at, with_write}
@@ -37,10 +37,7 @@ pub data WasRefused {A : Type 0} (state : SlotState) (what : EventKind A) (old n
 block_refused : {A : Type 0} (act : Action) (state : SlotState) (old new : Health) (outcome : Outcome A)
     → IsCutShort (task_of Block act) state old new outcome → IsFailedService state old new outcome
 block_refused (action.Notify zero) state old new outcome h = h
-block_refused (action.Notify (suc q)) state old new outcome h = absurd h
-block_refused action.Reset state old new outcome h = absurd h
-block_refused (action.ConfigWrite offset width value) state old new outcome h = absurd h
-block_refused action.None state old new outcome h = absurd h
+block_refused _ state old new outcome h = absurd h
 
 -- what the console had no memory for
 abbrev IsUnput : {A : Type 0} → SlotState → Health → Health → Outcome A → Type 0
@@ -57,13 +54,10 @@ byte_refused false byte state old new outcome h = absurd h
 console_refused : {A : Type 0} (act : Action) (state : SlotState) (old new : Health) (outcome : Outcome A)
     → IsCutShort (task_of Console act) state old new outcome
     → IsUnput state old new outcome × IsPuttingOut (task_of Console act)
-console_refused (action.Notify zero) state old new outcome h = absurd h
 console_refused (action.Notify (suc zero)) state old new outcome h = (inl h, tt)
-console_refused (action.Notify (suc (suc q))) state old new outcome h = absurd h
-console_refused action.Reset state old new outcome h = absurd h
 console_refused (action.ConfigWrite offset width value) state old new outcome h =
     byte_refused (offset == emergency_write) (value % 2 ^ 8) state old new outcome h
-console_refused action.None state old new outcome h = absurd h
+console_refused _ state old new outcome h = absurd h
 
 unput : {A : Type 0} (state : SlotState) (what : EventKind A) (console : WindowState) (old new : Health)
     (outcome : Outcome A) → IsUnput (record state { console = console }) old new outcome
@@ -74,7 +68,6 @@ unput state what console old new outcome (inr silent) puts = Unput console puts 
 
 pub was_refused : {A : Type 0} (state : SlotState) (what : EventKind A) (old new : Health)
     (outcome : Outcome A) → IsRefused state what old new outcome → WasRefused state what old new outcome
-was_refused state (Read window offset width) old new outcome h = absurd h
 was_refused state (Write Block offset width value) old new outcome h =
     Failed (with_write Block offset width value state).block
     (block_refused (action_at Block offset width value state) (with_write Block offset width value state) old
@@ -88,19 +81,4 @@ was_refused state (Write Console offset width value) old new outcome h =
     outcome came.0 came.1
 was_refused state (MemRead addr len) old new outcome h =
     Unread addr len refl (record { alike = h.unchanged; image = h.image })
-was_refused state (MemWrite addr bytes) old new outcome h = absurd h
-was_refused state (Input bytes) old new outcome h = absurd h
-was_refused state (Resize cols rows) old new outcome h = absurd h
-was_refused state (Restore bytes) old new outcome h = absurd h
-was_refused state (Host said) old new outcome h = absurd h
-
--- only what puts something out finds no memory, and a read
-pub lacking_puts : {A : Type 0} (state : SlotState) (what : EventKind A) (old new : Health) (outcome :
-    Outcome A)
-    → ((addr len : ℕ) → what ≡ MemRead addr len → ⊥) → WasRefused state what old new outcome
-    → outcome.reply ≡ NoMemory → MayPutOut state what
-lacking_puts {A} state what old new outcome other (Failed block h) is = let done =
-    ap (λ (o : Outcome A). o.reply) h.service.is in absurd (cc)
-lacking_puts state what old new outcome other (Unsent console puts h) is = puts
-lacking_puts state what old new outcome other (Unput console puts h) is = puts
-lacking_puts state what old new outcome other (Unread addr len read h) is = absurd (other addr len read)
+was_refused state _ old new outcome h = absurd h

@@ -1,17 +1,17 @@
 -- Which replies an event of a slot may get.
-use Rattle.std.proofs.Common.{◌≡◌, inl, inr, ℕ, Bool, true, false, Option, Some, None, List, length, sym, ap, subst}
+use Rattle.std.proofs.Common.{◌≡◌, inl, inr, ℕ, Bool, true, false, Some, List, length, sym, ap, subst}
 use Rattle.std.specs.Prelude.{if◌then◌else◌}
 use Rattle.guest_memory.specs.Memory.{is_inside, part_of, stored}
 use Rattle.mmio_window.specs.declared.device_kind.DeviceKind.{DeviceKind}
 use Rattle.board.specs.declared.event.EventKind.{EventKind}
 use Rattle.board.specs.declared.event.HostEvent.{HostEvent}
 use Rattle.board.specs.declared.event.HostEvent.TheVariants.{Complete, Drop, Hold, Release}
-use Rattle.board.specs.declared.event.EventKind.TheVariants.{Read, Write, MemRead, MemWrite, Input, Resize, Restore, Host}
+use Rattle.board.specs.declared.event.EventKind.TheVariants.{Read, Write, MemRead, MemWrite, Input, Restore, Host}
 use Rattle.board.specs.declared.reply.Reply.{Reply}
-use Rattle.board.specs.declared.reply.Reply.TheVariants.{Value, Done, Bytes, Took, BadRange, BadSlot, BadState, Busy, Idle, NoMemory}
-use Rattle.board.specs.declared.pause.Service.TheVariants.{Block, Receive, Transmit}
+use Rattle.board.specs.declared.reply.Reply.TheVariants.{Done, Bytes, BadRange, BadState, Busy, Idle, NoMemory}
+use Rattle.board.specs.declared.pause.Service.TheVariants.{Block}
 use Rattle.block_device.specs.Flights.{is_any}
-use Rattle.board.specs.Backing.{HostDisk, tags_in}
+use Rattle.board.specs.Backing.{tags_in}
 use Rattle.board.specs.Hosting.{must_wait, notifies_block, told_in}
 use Rattle.board.specs.Image.{Health}
 use Rattle.board.specs.Machine.{memory_read, memory_written}
@@ -20,18 +20,17 @@ use Rattle.board.specs.Replies.{MayReply, MayReplyOverImage}
 use Rattle.board.specs.Restoring.{IsRestoring}
 use Rattle.board.specs.Slot.{SlotState}
 use Rattle.board.specs.Task.{Task, Nothing, Serve, PutOut, Finishes}
-use Rattle.board.specs.World.{MayGive, MayGiveBy, MayGiveOverImage}
+use Rattle.board.specs.World.{MayGive, MayGiveOverImage}
 use Rattle.board.proofs.Refusals.{Failed, Unput, Unread, Unsent, WasRefused, was_refused}
-use Rattle.board.proofs.Ways.{Drops, Holds, Lands, Looks, Passes, Releases, Rests, Waits, Way, must_by, way}
+use Rattle.board.proofs.Ways.{Drops, Holds, Lands, Looks, Passes, Releases, Rests, Waits, Way, by_disk, must_by}
 
 -- a task that is finished is done
 finished_done : {A : Type 0} (task : Task) (state : SlotState) (before after : Health)
     (outcome : Outcome A) → Finishes task state before after outcome → outcome.reply ≡ Done
 finished_done {A} Nothing state before after outcome f = ap (λ (o : Outcome A). o.reply) f.alike
-finished_done {A} (Serve Block) state before after outcome f = ap (λ (o : Outcome A). o.reply) f.is
-finished_done {A} (Serve Receive) state before after outcome f = ap (λ (o : Outcome A). o.reply) f.is
-finished_done {A} (Serve Transmit) state before after outcome f = ap (λ (o : Outcome A). o.reply) f.is
 finished_done {A} (PutOut byte) state before after outcome f = ap (λ (o : Outcome A). o.reply) f.alike
+finished_done {A} (Serve Block) state before after outcome f = ap (λ (o : Outcome A). o.reply) f.is
+finished_done {A} _ state before after outcome f = ap (λ (o : Outcome A). o.reply) f.is
 
 by_reply : {A : Type 0} (what : EventKind A) (reply said : Reply A) → reply ≡ said → MayReplyOverImage what said
     → MayReplyOverImage what reply
@@ -84,7 +83,6 @@ refused_replies window offset width value state old new outcome (Unread addr len
 pub given_over_image : {A : Type 0} (state : SlotState) (what : EventKind A) (old new : Health)
     (outcome : Outcome A) → MayGiveOverImage state what old new outcome
     → MayReplyOverImage what outcome.reply
-given_over_image state (Read window offset width) old new outcome (inl served) = rw served.alike.alike tt
 given_over_image state (Write window offset width value) old new outcome (inl served) =
     by_reply (Write window offset width value) outcome.reply Done
     (finished_done _ _ old new outcome served.alike) tt
@@ -97,133 +95,57 @@ given_over_image {A} state (MemWrite addr bytes) old new outcome (inl served) =
     tt
 given_over_image {A} state (Input bytes) old new outcome (inl served) =
     rw (ap (λ (o : Outcome A). o.reply) served.alike.is) tt
-given_over_image state (Resize cols rows) old new outcome (inl served) = rw served.alike.alike tt
 given_over_image state (Restore bytes) old new outcome (inl served) =
     restore_replies state bytes outcome served.alike.alike
-given_over_image state (Host said) old new outcome (inl served) = rw served.alike.alike tt
-given_over_image state (Read window offset width) old new outcome (inr never) = absurd never
 given_over_image state (Write window offset width value) old new outcome (inr refused) =
     refused_replies window offset width value state old new outcome
     (was_refused state (Write window offset width value) old new outcome refused)
 given_over_image {A} state (MemRead addr len) old new outcome (inr unread) = rw unread.unchanged tt
-given_over_image state (MemWrite addr bytes) old new outcome (inr never) = absurd never
-given_over_image state (Input bytes) old new outcome (inr never) = absurd never
-given_over_image state (Resize cols rows) old new outcome (inr never) = absurd never
-given_over_image state (Restore bytes) old new outcome (inr never) = absurd never
-given_over_image state (Host said) old new outcome (inr never) = absurd never
+given_over_image state _ old new outcome (inr never) = absurd never
+given_over_image state _ old new outcome (inl served) = rw served.alike.alike tt
 
--- over an image no event is told that its slot is busy, and none that it isn't there
+-- over an image no event is told that its slot is busy
 pub never_busy : {A : Type 0} (what : EventKind A) → MayReplyOverImage what Busy → ⊥
 never_busy (Read window offset width) may = may
-never_busy (Write window offset width value) may = may
-never_busy (MemRead addr len) may = may
-never_busy (MemWrite addr bytes) may = may
-never_busy (Input bytes) may = may
-never_busy (Resize cols rows) may = may
-never_busy (Restore bytes) may = may
-never_busy (Host said) may = may
-
-pub never_missing : {A : Type 0} (what : EventKind A) → MayReply what BadSlot → ⊥
-never_missing (Read window offset width) may = may
-never_missing (Write window offset width value) may = may
-never_missing (MemRead addr len) may = may
-never_missing (MemWrite addr bytes) may = may
-never_missing (Input bytes) may = may
-never_missing (Resize cols rows) may = may
-never_missing (Restore bytes) may = may
-never_missing (Host said) may = may
+never_busy _ may = may
 
 -- the host alone says what there is nothing to do for, and the image has no part in it
 pub idle_tells : {A : Type 0} (state : SlotState) (what : EventKind A) (old new : Health)
     (outcome : Outcome A) → MayReplyOverImage what Idle → MayGiveOverImage state what old new outcome
     → (outcome ≡ replies state Idle) × (new ≡ old)
-idle_tells state (Read window offset width) old new outcome may h = absurd may
-idle_tells state (Write window offset width value) old new outcome may h = absurd may
-idle_tells state (MemRead addr len) old new outcome may h = absurd may
-idle_tells state (MemWrite addr bytes) old new outcome may h = absurd may
-idle_tells state (Input bytes) old new outcome may h = absurd may
-idle_tells state (Resize cols rows) old new outcome may h = absurd may
-idle_tells state (Restore bytes) old new outcome may h = absurd may
 idle_tells state (Host said) old new outcome may (inl served) =
     (served.alike.alike, served.alike.image)
 idle_tells state (Host said) old new outcome may (inr never) = absurd never
+idle_tells state _ old new outcome may h = absurd may
 
 -- ---- whoever has the disk
 
 -- what may be replied over an image may be
 any_reply : {A : Type 0} (what : EventKind A) (reply : Reply A) → MayReplyOverImage what reply
     → MayReply what reply
-any_reply (Read window offset width) reply may = may
 any_reply (Write window offset width value) Busy may = tt
-any_reply (Write window offset width value) (Value v) may = may
-any_reply (Write window offset width value) Done may = may
-any_reply (Write window offset width value) (Bytes bytes) may = may
-any_reply (Write window offset width value) (Took taken) may = may
-any_reply (Write window offset width value) BadSlot may = may
-any_reply (Write window offset width value) BadRange may = may
-any_reply (Write window offset width value) BadState may = may
-any_reply (Write window offset width value) NoMemory may = may
-any_reply (Write window offset width value) Idle may = may
-any_reply (MemRead addr len) reply may = may
-any_reply (MemWrite addr bytes) reply may = may
-any_reply (Input bytes) reply may = may
-any_reply (Resize cols rows) reply may = may
 any_reply (Restore bytes) Busy may = tt
-any_reply (Restore bytes) (Value v) may = may
-any_reply (Restore bytes) Done may = may
-any_reply (Restore bytes) (Bytes read) may = may
-any_reply (Restore bytes) (Took taken) may = may
-any_reply (Restore bytes) BadSlot may = may
-any_reply (Restore bytes) BadRange may = may
-any_reply (Restore bytes) BadState may = may
-any_reply (Restore bytes) NoMemory may = may
-any_reply (Restore bytes) Idle may = may
 any_reply (Host said) Done may = tt
-any_reply (Host said) (Value v) may = may
-any_reply (Host said) (Bytes bytes) may = may
-any_reply (Host said) (Took taken) may = may
-any_reply (Host said) BadSlot may = may
-any_reply (Host said) BadRange may = may
-any_reply (Host said) BadState may = may
-any_reply (Host said) NoMemory may = may
-any_reply (Host said) Busy may = may
-any_reply (Host said) Idle may = may
+any_reply _ reply may = may
 
 as_told : {A : Type 0} (what : EventKind A) (outcome wanted : Outcome A) → outcome ≡ wanted
     → MayReply what wanted.reply → MayReply what outcome.reply
 as_told {A} what outcome wanted is may = subst (λ (o : Outcome A). MayReply what o.reply) (sym is) may
 
 waiting_reply : {A : Type 0} (what : EventKind A) → must_wait what ≡ true → MayReply what Busy
-waiting_reply (Read window offset width) waits = absurd (cc)
 waiting_reply (Write window offset width value) waits = tt
-waiting_reply (MemRead addr len) waits = absurd (cc)
-waiting_reply (MemWrite addr bytes) waits = absurd (cc)
-waiting_reply (Input bytes) waits = absurd (cc)
-waiting_reply (Resize cols rows) waits = absurd (cc)
 waiting_reply (Restore bytes) waits = tt
-waiting_reply (Host said) waits = absurd (cc)
+waiting_reply _ waits = absurd (cc)
 
 ringing_reply : {A : Type 0} (what : EventKind A) (state : SlotState) → notifies_block what state ≡ true
     → MayReply what Done
-ringing_reply (Read window offset width) state rings = absurd (cc)
 ringing_reply (Write window offset width value) state rings = tt
-ringing_reply (MemRead addr len) state rings = absurd (cc)
-ringing_reply (MemWrite addr bytes) state rings = absurd (cc)
-ringing_reply (Input bytes) state rings = absurd (cc)
-ringing_reply (Resize cols rows) state rings = absurd (cc)
-ringing_reply (Restore bytes) state rings = absurd (cc)
-ringing_reply (Host said) state rings = absurd (cc)
+ringing_reply _ state rings = absurd (cc)
 
 told_reply : {A : Type 0} (what : EventKind A) (said : HostEvent) → told_in what ≡ Some said
     → MayReply what Done × MayReply what Idle
-told_reply (Read window offset width) said is = absurd (cc)
-told_reply (Write window offset width value) said is = absurd (cc)
-told_reply (MemRead addr len) said is = absurd (cc)
-told_reply (MemWrite addr bytes) said is = absurd (cc)
-told_reply (Input bytes) said is = absurd (cc)
-told_reply (Resize cols rows) said is = absurd (cc)
-told_reply (Restore bytes) said is = absurd (cc)
 told_reply (Host said) other is = (tt, tt)
+told_reply _ said is = absurd (cc)
 
 on_host_replies : {A : Type 0} (state : SlotState) (what : EventKind A) (old : Health) (outcome : Outcome A)
     → Way (λ (o : Outcome A). MayGiveOverImage state what old old o) state what outcome
@@ -243,14 +165,9 @@ on_host_replies state what old outcome (Holds is h) = as_told what outcome _ h (
 on_host_replies state what old outcome (Releases is looks h) =
     as_told what outcome _ h (told_reply what Release is).0
 
-replies_by : {A : Type 0} (host : Option HostDisk) (state : SlotState) (what : EventKind A) (old new : Health)
-    (outcome : Outcome A) → MayGiveBy host state what old new outcome → MayReply what outcome.reply
-replies_by None state what old new outcome h =
-    any_reply what outcome.reply (given_over_image state what old new outcome h)
-replies_by {A} (Some disk) state what old new outcome h =
-    on_host_replies state what old outcome
-    (way (λ (o : Outcome A). MayGiveOverImage state what old old o) state what outcome h.gives)
-
 pub given_replies : {A : Type 0} (state : SlotState) (what : EventKind A) (old new : Health)
     (outcome : Outcome A) → MayGive state what old new outcome → MayReply what outcome.reply
-given_replies state what old new outcome h = replies_by state.host state what old new outcome h
+given_replies state what old new outcome h =
+    by_disk state.host state what old new outcome
+    (λ given. any_reply what outcome.reply (given_over_image state what old new outcome given))
+    (λ image ways. on_host_replies state what old outcome ways) h

@@ -55,9 +55,7 @@ not_prevented_too old bytes new why is cause =
 no_cause : (old : BoardSlot) (bytes : List ℕ) (new : BoardSlot) (why : RestoreFault)
     → IsRestored old bytes new → IsCauseOf old bytes why → ⊥
 no_cause old bytes new (Snapshot fault) is cause = cause.none is.saved is.pending is.read
-no_cause old bytes new OtherSlot is cause = not_prevented_too old bytes new OtherSlot is cause
-no_cause old bytes new BadBlock is cause = not_prevented_too old bytes new BadBlock is cause
-no_cause old bytes new BadConsole is cause = not_prevented_too old bytes new BadConsole is cause
+no_cause old bytes new why is cause = not_prevented_too old bytes new why is cause
 
 -- ---- and one cause of a refusal
 
@@ -70,14 +68,12 @@ prevents_once : (slot : BoardSlot) (saved : SavedSlot) (one other : RestoreFault
 prevents_once slot saved (Snapshot fault) other a b = absurd a
 prevents_once slot saved one (Snapshot fault) a b = absurd b
 prevents_once slot saved OtherSlot OtherSlot a b = refl
-prevents_once slot saved OtherSlot BadBlock a b = absurd (a b.0)
-prevents_once slot saved OtherSlot BadConsole a b = absurd (a b.0)
-prevents_once slot saved BadBlock OtherSlot a b = absurd (b a.0)
 prevents_once slot saved BadBlock BadBlock a b = refl
 prevents_once slot saved BadBlock BadConsole a b = absurd (some_none _ a.1 b.1.0)
-prevents_once slot saved BadConsole OtherSlot a b = absurd (b a.0)
 prevents_once slot saved BadConsole BadBlock a b = absurd (some_none _ b.1 a.1.0)
 prevents_once slot saved BadConsole BadConsole a b = refl
+prevents_once slot saved OtherSlot _ a b = absurd (a b.0)
+prevents_once slot saved _ OtherSlot a b = absurd (b a.0)
 
 prevented_once : (slot : BoardSlot) (bytes : List ℕ) (one other : RestoreFault)
     → IsPrevented slot bytes one → IsPrevented slot bytes other → one ≡ other
@@ -90,9 +86,7 @@ prevented_once slot bytes one other a b =
 prevented : (slot : BoardSlot) (bytes : List ℕ) (saved : SavedSlot) (pending : List ℕ) (why : RestoreFault)
     → IsSnapshot bytes saved pending → IsCauseOf slot bytes why → IsPrevented slot bytes why
 prevented slot bytes saved pending (Snapshot fault) is cause = absurd (cause.none saved pending is)
-prevented slot bytes saved pending OtherSlot is cause = cause
-prevented slot bytes saved pending BadBlock is cause = cause
-prevented slot bytes saved pending BadConsole is cause = cause
+prevented slot bytes saved pending _ is cause = cause
 
 -- where the one cause is what was saved, so is the other
 behind_prevented : (slot : BoardSlot) (bytes : List ℕ) (one other : RestoreFault)
@@ -103,12 +97,8 @@ behind_prevented slot bytes one other a cause =
 pub cause_once : (slot : BoardSlot) (bytes : List ℕ) (one other : RestoreFault)
     → IsCauseOf slot bytes one → IsCauseOf slot bytes other → one ≡ other
 cause_once slot bytes (Snapshot one) (Snapshot other) a b = ap Snapshot (first_fault_once bytes one other a b)
-cause_once slot bytes one OtherSlot a b = sym (behind_prevented slot bytes OtherSlot one b a)
-cause_once slot bytes one BadBlock a b = sym (behind_prevented slot bytes BadBlock one b a)
-cause_once slot bytes one BadConsole a b = sym (behind_prevented slot bytes BadConsole one b a)
-cause_once slot bytes OtherSlot other a b = behind_prevented slot bytes OtherSlot other a b
-cause_once slot bytes BadBlock other a b = behind_prevented slot bytes BadBlock other a b
-cause_once slot bytes BadConsole other a b = behind_prevented slot bytes BadConsole other a b
+cause_once slot bytes one (Snapshot other) a b = behind_prevented slot bytes one (Snapshot other) a b
+cause_once slot bytes one other a b = sym (behind_prevented slot bytes other one b a)
 
 -- what a guest can see of a slot whose disk has these bytes
 abbrev state_in : List ℕ → BoardSlot → SlotState
@@ -213,9 +203,7 @@ prevented_in image slot bytes why counted h = record {
 cause_in : (image : List ℕ) (slot : BoardSlot) (bytes : List ℕ) (why : RestoreFault) → IsCounted image slot
     → IsCauseOf slot bytes why → IsCauseOf (slot_in (state_of image slot)) bytes why
 cause_in image slot bytes (Snapshot fault) counted h = h
-cause_in image slot bytes OtherSlot counted h = prevented_in image slot bytes OtherSlot counted h
-cause_in image slot bytes BadBlock counted h = prevented_in image slot bytes BadBlock counted h
-cause_in image slot bytes BadConsole counted h = prevented_in image slot bytes BadConsole counted h
+cause_in image slot bytes why counted h = prevented_in image slot bytes why counted h
 
 -- A slot that takes up a snapshot, or doesn't, gives what comes of that event.
 pub restore_given : (A : Type 0) (image : List ℕ) (slot new : BoardSlot) (bytes : List ℕ)

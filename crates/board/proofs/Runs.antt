@@ -1,34 +1,29 @@
 -- A run, event by event.
-use Rattle.std.proofs.Common.{◌≡◌, ◌≢◌, ℕ, ◌+◌, ◌<◌, ◌≤◌, List, [], ◌∷◌, ◌++◌, length, take, Option, Some, None, Result, Ok, Err, false, get_or, refl, sym, ◌∙◌, ap, subst, append_assoc, append-nil, arith}
-use Rattle.std.specs.Prelude.{MatchOption, All, OnOk, is_err}
-use Rattle.std.specs.List.{slice_get}
+use Rattle.std.proofs.Common.{◌≡◌, ◌≢◌, ℕ, ◌+◌, ◌<◌, ◌≤◌, List, [], ◌∷◌, ◌++◌, length, take, Result, Ok, Err, false, get_or, refl, sym, ◌∙◌, ap, subst, append_assoc, append-nil, arith}
+use Rattle.std.specs.Prelude.{All, OnOk, is_err}
 use Rattle.std.proofs.lemmas.List.{length-map, map-append, take_more, take_all, take-take, get_or-take, length-take-le}
 use Rattle.std.proofs.lemmas.List.Elements.{All-head, All-tail, All-push, All-same, All-take}
 use Rattle.board.specs.declared.event.Event.{Event}
 use Rattle.board.specs.declared.reply.Reply.{Reply}
 use Rattle.board.specs.declared.reply.Reply.TheVariants.{BadSlot, NoMemory}
 use Rattle.board.specs.declared.reply.Record.{Record}
-use Rattle.board.specs.Slot.{SlotState, BoardSlot}
-use Rattle.board.specs.World.{BoardState, IsMissed, World, SlotStep, MissingStep, Step, Handles, Answers, KeepsOthers, bad_slot, record_with, extents_of}
+use Rattle.board.specs.Slot.{BoardSlot}
+use Rattle.board.specs.World.{BoardState, IsMissed, World, Step, Handles, Answers, KeepsOthers, bad_slot, record_with, extents_of}
 use Rattle.board.specs.Line.{AnswersMissing, Move, IsLine, IsQuiet, HadMemory, HasInterruptWords, IsRun, KeepsIdle, events_of, records_of}
 use Rattle.board.proofs.Alone.{alone, recorded_slot}
 use Rattle.board.proofs.Failures.{given_failures}
 use Rattle.board.proofs.Noted.{line_noted}
+use Rattle.board.proofs.Seats.{by_slot}
 use Rattle.board.proofs.Steps.{lines_join}
-
-step_failures_at : {A : Type 0} (old : World) (event : Event A) (written : Record A) (new : World)
-    (o : Option SlotState) → MatchOption o (MissingStep old event.slot written new)
-    (λ s. SlotStep old event.slot s event.what written new) → old.health.failures ≤ new.health.failures
-step_failures_at old event written new None step = let same : new.health.failures ≡ old.health.failures =
-    ap (λ (w : World). w.health.failures) step.same in omega arith
-step_failures_at old event written new (Some s) step =
-    given_failures s event.what old.health new.health step.outcome step.given
 
 -- the image's failures never fall: in a step
 pub step_failures : {A : Type 0} (old : World) (event : Event A) (written : Record A) (new : World)
     → Step old event written new → old.health.failures ≤ new.health.failures
 step_failures old event written new step =
-    step_failures_at old event written new (slice_get old.slots event.slot) step
+    by_slot old event written new
+    (λ missing. let same : new.health.failures ≡ old.health.failures =
+    ap (λ (w : World). w.health.failures) missing.same in omega arith)
+    (λ state here own. given_failures state event.what old.health new.health own.outcome own.given) step
 
 -- and in a line
 pub line_failures : {A : Type 0} (old : World) (moves : List (Move A)) (new : World) → IsLine old moves new
@@ -41,17 +36,12 @@ line_failures old (move ∷ moves) new line =
     let rest : move.after.health.failures ≤ new.health.failures = line_failures move.after moves new line.1 in
     omega arith
 
-outside_at : {A : Type 0} (old : World) (event : Event A) (written : Record A) (new : World)
-    (o : Option SlotState) → MatchOption o (MissingStep old event.slot written new)
-    (λ s. SlotStep old event.slot s event.what written new) → new.outside ≡ old.outside
-outside_at old event written new None step = ap (λ (w : World). w.outside) step.same
-outside_at old event written new (Some s) step = step.outside
-
 -- the bytes outside all extents stay: in a step
 pub step_outside : {A : Type 0} (old : World) (event : Event A) (written : Record A) (new : World)
     → Step old event written new → new.outside ≡ old.outside
 step_outside old event written new step =
-    outside_at old event written new (slice_get old.slots event.slot) step
+    by_slot old event written new (λ missing. ap (λ (w : World). w.outside) missing.same)
+    (λ state here own. own.outside) step
 
 -- and in a line
 pub line_outside : {A : Type 0} (old : World) (moves : List (Move A)) (new : World) → IsLine old moves new

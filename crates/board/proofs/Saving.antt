@@ -184,9 +184,5 @@ pub cause_of : (old : BoardSlot) (bytes : List ℕ) (saved : SavedSlot) (pending
     → IfErr result (IsCauseOf old bytes)
 cause_of old bytes saved pending (Ok done) read prevents = tt
 cause_of old bytes saved pending (Err (Snapshot fault)) read prevents = absurd prevents
-cause_of old bytes saved pending (Err OtherSlot) read prevents =
-    record { saved = saved; pending = pending; read = read; prevents = prevents }
-cause_of old bytes saved pending (Err BadBlock) read prevents =
-    record { saved = saved; pending = pending; read = read; prevents = prevents }
-cause_of old bytes saved pending (Err BadConsole) read prevents =
+cause_of old bytes saved pending _ read prevents =
     record { saved = saved; pending = pending; read = read; prevents = prevents }

@@ -144,6 +144,19 @@ step_missing old event missing written step =
     subst (λ (o : Option SlotState). MatchOption o (MissingStep old event.slot written old)
     (λ s. SlotStep old event.slot s event.what written old)) (sym missing) step
 
+-- a step is of a slot that is missing, or of this one
+pub by_slot : {A P : Type 0} (old : World) (event : Event A) (written : Record A) (new : World)
+    → (MissingStep old event.slot written new → P)
+    → ((state : SlotState) → slice_get old.slots event.slot ≡ Some state
+    → SlotStep old event.slot state event.what written new → P) → Step old event written new → P
+by_slot {A} {P} old event written new missing own step = either (slice_get old.slots event.slot) refl step
+  where
+    either : (found : Option SlotState) → slice_get old.slots event.slot ≡ found
+        → MatchOption found (MissingStep old event.slot written new)
+        (λ state. SlotStep old event.slot state event.what written new) → P
+    either None here taken = missing taken
+    either (Some state) here taken = own state here taken
+
 -- a slot notes a refusal: so does the board
 pub noted_set : (slots : List BoardSlot) (h : ℕ) (slot new : BoardSlot) (met : Bool)
     → slice_get slots h ≡ Some slot → new.disturbed ≡ (slot.disturbed || met)

@@ -7,7 +7,7 @@ use Rattle.mmio_window.specs.declared.device_kind.DeviceKind.TheVariants.{Block,
 use Rattle.mmio_window.specs.Window.{WindowState}
 use Rattle.snapshot.specs.declared.saved.SavedSlot.{SavedSlot}
 use Rattle.board.specs.declared.event.EventKind.{EventKind}
-use Rattle.board.specs.declared.event.EventKind.TheVariants.{Read, Write, MemRead, MemWrite, Input, Resize, Restore, Host}
+use Rattle.board.specs.declared.event.EventKind.TheVariants.{Read, Write, MemRead, Resize, Restore, Host}
 use Rattle.board.specs.declared.event.HostEvent.{HostEvent}
 use Rattle.board.specs.declared.event.HostEvent.TheVariants.{Complete, Drop, Hold, Release}
 use Rattle.block_device.specs.declared.operation.Verdict.{Verdict}
@@ -108,9 +108,7 @@ module _ (old : SlotState) (m : Memory) (same : SameRange old.memory m) where
   cause_over : (bytes : List ℕ) (why : RestoreFault) → IsCauseOf (slot_in old) bytes why
       → IsCauseOf (slot_in (over_memory m old)) bytes why
   cause_over bytes (Snapshot fault) h = h
-  cause_over bytes OtherSlot h = prevented_over bytes OtherSlot h
-  cause_over bytes BadBlock h = prevented_over bytes BadBlock h
-  cause_over bytes BadConsole h = prevented_over bytes BadConsole h
+  cause_over bytes why h = prevented_over bytes why h
 
   restoring_over : {A : Type 0} (bytes : List ℕ) (outcome : Outcome A) → IsRestoring old bytes outcome
       → Stays (IsRestoring (over_memory m old) bytes) old.memory m outcome
@@ -186,9 +184,6 @@ gives_over old (Write window offset width value) m before after outcome none sam
       done.0 ∙ write_stays window offset width value old,
       rw (write_over window offset width value old m same, task_over window offset width value old m) done.1,
     )
-gives_over old (MemRead addr len) m before after outcome none same h = absurd (cc (none))
-gives_over old (MemWrite addr bytes) m before after outcome none same h = absurd (cc (none))
-gives_over old (Input bytes) m before after outcome none same h = absurd (cc (none))
 gives_over old (Resize cols rows) m before after outcome none same h =
     determined_over m outcome (does (resized cols rows old)) before after h
 gives_over old (Restore bytes) m before after outcome none same h =
@@ -196,6 +191,7 @@ gives_over old (Restore bytes) m before after outcome none same h =
     (restoring.0, record { alike = restoring.1; image = h.image })
 gives_over old (Host said) m before after outcome none same h =
     determined_over m outcome (replies old Idle) before after h
+gives_over old _ m before after outcome none same h = absurd (cc (none))
 
 refused_over : {A : Type 0} (old : SlotState) (what : EventKind A) (m : Memory) (before after : Health)
     (outcome : Outcome A) → touches_memory what old ≡ false → SameRange old.memory m
@@ -227,11 +223,8 @@ may_over old what m before after outcome none same (inr h) =
 pub touches_over : {A : Type 0} (what : EventKind A) (old : SlotState) (m : Memory)
     → touches_memory what (over_memory m old) ≡ touches_memory what old
 touches_over (Write window offset width value) old m = ap serves_queue (task_over window offset width value old m)
-touches_over (Host (Complete tag verdict)) old m = refl
 touches_over (Host Drop) old m = refl
-touches_over (Host Hold) old m = refl
-touches_over (Host Release) old m = refl
-touches_over what old m = refl
+touches_over _ old m = refl
 
 -- it doesn't notify the block device
 quiet_task : (task : Task) → serves_queue task ≡ false → is_block_task task ≡ false
@@ -248,18 +241,12 @@ quiet what old none = refl
 completion_touches : {A : Type 0} (what : EventKind A) (old : SlotState) (tag : ℕ) (verdict : Verdict)
     → told_in what ≡ Some (Complete tag verdict) → touches_memory what old ≡ true
 completion_touches (Host (Complete its found)) old tag verdict is = refl
-completion_touches (Host Drop) old tag verdict is = absurd (cc is)
-completion_touches (Host Hold) old tag verdict is = absurd (cc is)
-completion_touches (Host Release) old tag verdict is = absurd (cc is)
-completion_touches what old tag verdict is = absurd (cc is)
+completion_touches _ old tag verdict is = absurd (cc is)
 
 release_touches : {A : Type 0} (what : EventKind A) (old : SlotState) → told_in what ≡ Some Release
     → touches_memory what old ≡ true
 release_touches (Host Release) old is = refl
-release_touches (Host (Complete its found)) old is = absurd (cc is)
-release_touches (Host Drop) old is = absurd (cc is)
-release_touches (Host Hold) old is = absurd (cc is)
-release_touches what old is = absurd (cc is)
+release_touches _ old is = absurd (cc is)
 
 module _ {A : Type 0} (Here There : Outcome A → Type 0) (old : SlotState) (m : Memory) (what : EventKind A)
     (outcome : Outcome A) (beside : Here outcome → Stays There old.memory m outcome)

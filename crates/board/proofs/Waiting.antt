@@ -18,7 +18,7 @@ use Rattle.board.specs.World.{MayGive, MayGiveBy, MayGiveOverImage}
 use Rattle.board.proofs.Identities.{given_fixed, readied_fixed}
 use Rattle.board.proofs.Looking.{KeepsTag, keeps_tag, landing_keeps, unless_left}
 use Rattle.board.proofs.Replies.{given_over_image, idle_tells, never_busy}
-use Rattle.board.proofs.Ways.{Drops, Holds, Lands, Looks, Passes, Releases, Rests, Waits, Way, must_by, way}
+use Rattle.board.proofs.Ways.{Drops, Holds, Lands, Looks, Passes, Releases, Rests, Waits, Way, by_disk, must_by}
 
 -- ---- what doesn't end it
 
@@ -59,22 +59,14 @@ outlasts_by old tag here what before outcome taken other (Releases is looks h) =
     unless_left (KeepsTag tag) (keeps_tag tag) false (hosted_device (released old)) (hosted_queue (released old))
     (hosted_queue outcome.state) looks.looks here taken
 
-outlasts_at : {A : Type 0} (host : Option HostDisk) (old : SlotState) (tag : ℕ) (here : InFlight)
-    (what : EventKind A) (before after : Health) (outcome : Outcome A)
-    → get_or (tags_in old.host) tag None ≡ Some here → LeavesTag tag what
-    → MayGiveBy host old what before after outcome → get_or (tags_in outcome.state.host) tag None ≡ Some here
-outlasts_at None old tag here what before after outcome taken other h =
-    tag_stays tag here old.host outcome.state.host (given_fixed old what before after outcome h).host taken
-outlasts_at {A} (Some disk) old tag here what before after outcome taken other h =
-    outlasts_by old tag here what before outcome taken other
-    (way (λ (o : Outcome A). MayGiveOverImage old what before before o) old what outcome h.gives)
-
 pub outlasts : {A : Type 0} (old : SlotState) (tag : ℕ) (here : InFlight) (what : EventKind A)
     (before after : Health) (outcome : Outcome A) → get_or (tags_in old.host) tag None ≡ Some here
     → LeavesTag tag what → MayGive old what before after outcome
     → get_or (tags_in outcome.state.host) tag None ≡ Some here
 outlasts old tag here what before after outcome taken other h =
-    outlasts_at old.host old tag here what before after outcome taken other h
+    by_disk old.host old what before after outcome
+    (λ given. tag_stays tag here old.host outcome.state.host (given_fixed old what before after outcome given).host taken)
+    (λ image ways. outlasts_by old tag here what before outcome taken other ways) h
 
 -- ---- what a busy answer says, and an idle one
 
@@ -105,14 +97,11 @@ waited_by old what before outcome (Releases tells looks h) is =
 pub waited : {A : Type 0} (host : Option HostDisk) (old : SlotState) (what : EventKind A) (before after : Health)
     (outcome : Outcome A) → MayGiveBy host old what before after outcome → outcome.reply ≡ Busy
     → Waited old what outcome × (after ≡ before)
-waited {A} None old what before after outcome h is =
-    absurd (never_busy what (subst (λ (r : Reply A). MayReplyOverImage what r) is
-    (given_over_image old what before after outcome h)))
-waited {A} (Some disk) old what before after outcome h is = (
-  waited_by old what before outcome
-      (way (λ (o : Outcome A). MayGiveOverImage old what before before o) old what outcome h.gives) is,
-  h.image,
-)
+waited {A} host old what before after outcome h is =
+    by_disk host old what before after outcome
+    (λ given. absurd (never_busy what (subst (λ (r : Reply A). MayReplyOverImage what r) is
+    (given_over_image old what before after outcome given))))
+    (λ image ways. (waited_by old what before outcome ways is, image)) h
 
 pub busy_stays : {A : Type 0} (old : SlotState) (what : EventKind A) (before after : Health)
     (outcome : Outcome A) → MayGive old what before after outcome → outcome.reply ≡ Busy
@@ -149,12 +138,9 @@ rested_by old what before outcome (Releases tells looks h) is =
 pub rested : {A : Type 0} (host : Option HostDisk) (old : SlotState) (what : EventKind A) (before after : Health)
     (outcome : Outcome A) → MayGiveBy host old what before after outcome → outcome.reply ≡ Idle
     → (outcome ≡ replies old Idle) × (after ≡ before)
-rested None old what before after outcome h is = rests_over_image old what before after outcome h is
-rested {A} (Some disk) old what before after outcome h is = (
-  rested_by old what before outcome
-      (way (λ (o : Outcome A). MayGiveOverImage old what before before o) old what outcome h.gives) is,
-  h.image,
-)
+rested host old what before after outcome h is =
+    by_disk host old what before after outcome (λ given. rests_over_image old what before after outcome given is)
+    (λ image ways. (rested_by old what before outcome ways is, image)) h
 
 pub idle_stays : {A : Type 0} (old : SlotState) (what : EventKind A) (before after : Health)
     (outcome : Outcome A) → MayGive old what before after outcome → outcome.reply ≡ Idle

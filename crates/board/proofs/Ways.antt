@@ -7,11 +7,13 @@ use Rattle.board.specs.declared.event.EventKind.{EventKind}
 use Rattle.board.specs.declared.event.HostEvent.{HostEvent}
 use Rattle.board.specs.declared.event.HostEvent.TheVariants.{Complete, Drop, Hold, Release}
 use Rattle.board.specs.declared.reply.Reply.TheVariants.{Busy, Idle}
-use Rattle.board.specs.Backing.{tags_in}
+use Rattle.board.specs.Backing.{HostDisk, tags_in}
 use Rattle.board.specs.Hosting.{CompletesTag, CompletionGives, DropGives, HoldGives, HostGives, HostOrGives, LooksAtQueue, LooksOrGives, OwnGives, ReleaseGives, dropped, held, notifies_block, released, told_in, waits_now}
+use Rattle.board.specs.Image.{Health}
 use Rattle.board.specs.Machine.{readied}
 use Rattle.board.specs.Outcome.{Outcome, does, replies}
 use Rattle.board.specs.Slot.{SlotState}
+use Rattle.board.specs.World.{MayGiveBy, MayGiveOverImage}
 
 -- It waits for what is in flight, or the disk has no part in it; its notification is looked at; or the host says
 -- something: there is nothing to do, what is in flight is completed or given up, or the slot is held or released.
@@ -88,3 +90,12 @@ module _ {A : Type 0} (Beside : Outcome A → Type 0) (old : SlotState) (what : 
 
   pub way : HostOrGives Beside (told_in what) old what outcome → Way Beside old what outcome
   way h = way_by (told_in what) refl h
+
+-- What comes of an event is what may over an image, or it comes in one of these ways, and the image stays.
+pub by_disk : {A : Type 0} {P : Type 0} (host : Option HostDisk) (old : SlotState) (what : EventKind A)
+    (before after : Health) (outcome : Outcome A) → (MayGiveOverImage old what before after outcome → P)
+    → (after ≡ before → Way (λ (o : Outcome A). MayGiveOverImage old what before before o) old what outcome → P)
+    → MayGiveBy host old what before after outcome → P
+by_disk None old what before after outcome over_image on_host h = over_image h
+by_disk {A} (Some disk) old what before after outcome over_image on_host h =
+    on_host h.image (way (λ (o : Outcome A). MayGiveOverImage old what before before o) old what outcome h.gives)

@@ -14,7 +14,7 @@ use Rattle.block_device.specs.Device.{block_device, exact_device}
 use Rattle.console_device.specs.Device.{receive, exact_transmit, transmit}
 use Rattle.console_device.specs.Input.{fitting}
 use Rattle.board.specs.declared.event.EventKind.{EventKind}
-use Rattle.board.specs.declared.event.EventKind.TheVariants.{Read, Write, MemRead, MemWrite, Input, Resize, Restore, Host}
+use Rattle.board.specs.declared.event.EventKind.TheVariants.{Write, Input}
 use Rattle.board.specs.declared.pause.Service.TheVariants.{Block, Receive, Transmit}
 use Rattle.board.specs.declared.pause.Turn.TheVariants.{Answered}
 use Rattle.board.specs.declared.reply.Reply.{Reply}
@@ -162,17 +162,12 @@ pub whole_over_image : {A : Type 0} (what : EventKind A) (budget : Budget) (stat
     (new : SlotState) (output : List ℕ) (reply : Reply A)
     → BeginsOverImage what budget state before after new output (Answered reply)
     → MayGiveOverImage state what before after (came new reply output)
-whole_over_image (Read window offset width) budget state before after new output reply h = h
 whole_over_image (Write window offset width value) budget state before after new output reply h =
     write_whole state window offset width value budget before after new output reply
     (task_at window offset width value state) refl h
-whole_over_image (MemRead addr len) budget state before after new output reply h = h
-whole_over_image (MemWrite addr bytes) budget state before after new output reply h = h
 whole_over_image (Input bytes) budget state before after new output reply h =
     input_whole state bytes budget before after new output reply h
-whole_over_image (Resize cols rows) budget state before after new output reply h = h
-whole_over_image (Restore bytes) budget state before after new output reply h = h
-whole_over_image (Host said) budget state before after new output reply h = h
+whole_over_image _ budget state before after new output reply h = h
 
 -- ---- whoever has the guest's disk
 
@@ -214,18 +209,12 @@ hosted_write {A} disk state window offset width value budget before after new ou
     let rings : notifies_block {A = A} (Write window offset width value) state ≡ true =
     ap is_block_task is in
     absurd (ringing_part {A = A} disk (Write window offset width value) state rings free)
-hosted_write disk state window offset width value budget before after new output reply (Serve Receive) is
+hosted_write disk state window offset width value budget before after new output reply (Serve service) is
     free h =
     by_passing disk state (Write window offset width value) before after (came new reply output) free
-    (console_image (record { service = Receive; taken = None }) First budget
-    (with_write window offset width value state) before after new output reply Receive refl (λ e. cc) h)
-    (write_whole state window offset width value budget before after new output reply (Serve Receive) is h)
-hosted_write disk state window offset width value budget before after new output reply (Serve Transmit) is
-    free h =
-    by_passing disk state (Write window offset width value) before after (came new reply output) free
-    (console_image (record { service = Transmit; taken = None }) First budget
-    (with_write window offset width value state) before after new output reply Transmit refl (λ e. cc) h)
-    (write_whole state window offset width value budget before after new output reply (Serve Transmit) is h)
+    (console_image (record { service = service; taken = None }) First budget
+    (with_write window offset width value state) before after new output reply service refl (λ e. cc) h)
+    (write_whole state window offset width value budget before after new output reply (Serve service) is h)
 hosted_write disk state window offset width value budget before after new output reply (PutOut byte) is free
     h = h
 
@@ -235,20 +224,15 @@ hosted_whole : {A : Type 0} (disk : HostDisk) (what : EventKind A) (budget : Bud
     → TurnsTo (λ c. MayGiveBy (Some disk) state what before after c) (asked_over_image what state) what budget
     state before after new output (Answered reply)
     → MayGiveBy (Some disk) state what before after (came new reply output)
-hosted_whole disk (Read window offset width) budget state before after new output reply free h = h
 hosted_whole disk (Write window offset width value) budget state before after new output reply free h =
     hosted_write disk state window offset width value budget before after new output reply
     (task_at window offset width value state) refl free h
-hosted_whole disk (MemRead addr len) budget state before after new output reply free h = h
-hosted_whole disk (MemWrite addr bytes) budget state before after new output reply free h = h
 hosted_whole disk (Input bytes) budget state before after new output reply free h =
     by_passing disk state (Input bytes) before after (came new reply output) free
     (console_image (record { service = Receive; taken = Some (fitting state.pending bytes) }) First budget
     (with_input bytes state) before after new output reply Receive refl (λ e. cc) h)
     (input_whole state bytes budget before after new output reply h)
-hosted_whole disk (Resize cols rows) budget state before after new output reply free h = h
-hosted_whole disk (Restore bytes) budget state before after new output reply free h = h
-hosted_whole disk (Host said) budget state before after new output reply free h = h
+hosted_whole disk _ budget state before after new output reply free h = h
 
 whole_by : {A : Type 0} (host : Option HostDisk) (part : Bool) (what : EventKind A) (budget : Budget)
     (state : SlotState) (before after : Health) (new : SlotState) (output : List ℕ) (reply : Reply A)

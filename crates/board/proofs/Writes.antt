@@ -1,6 +1,6 @@
 -- What writes leave of a slot's memory, a service leaves too, and so does each event.
 use Rattle.std.proofs.Common.{◌≡◌, inl, inr, ℕ, Bool, true, false, Option, Some, None, List, [], ◌∷◌, refl, sym, ◌∙◌, ap, subst}
-use Rattle.std.specs.Prelude.{get_or, if◌then◌else◌}
+use Rattle.std.specs.Prelude.{if◌then◌else◌}
 use Rattle.byteorder.specs.Endian.{little_bytes}
 use Rattle.guest_memory.specs.Memory.{Memory, put, put_num}
 use Rattle.chain.specs.Bytes.{writable_of}
@@ -23,14 +23,10 @@ use Rattle.block_device.specs.Request.{code_of}
 use Rattle.block_device.specs.Hosting.{CompletesIn}
 use Rattle.block_device.proofs.Unasked.{any_disk}
 use Rattle.board.specs.declared.event.EventKind.{EventKind}
-use Rattle.board.specs.declared.event.HostEvent.{HostEvent}
-use Rattle.board.specs.declared.event.HostEvent.TheVariants.{Complete, Drop, Hold, Release}
-use Rattle.board.specs.declared.event.EventKind.TheVariants.{Read, Write, MemRead, MemWrite, Input, Resize, Restore, Host}
+use Rattle.board.specs.declared.event.EventKind.TheVariants.{Write, MemRead, MemWrite, Input, Restore}
 use Rattle.board.specs.declared.pause.Service.TheVariants as service
 use Rattle.board.specs.declared.reply.Reply.{Reply}
-use Rattle.block_device.specs.Flights.{is_any}
-use Rattle.board.specs.Backing.{HostDisk, tags_in}
-use Rattle.board.specs.Hosting.{CompletesTag, CompletionGives, DropGives, HoldGives, HostGives, HostOrGives, LooksAtQueue, LooksOrGives, OwnGives, ReleaseGives, hosted_device, hosted_queue, released, notifies_block, told_in, waits_now}
+use Rattle.board.specs.Hosting.{CompletesTag, LooksAtQueue, hosted_device, hosted_queue, released}
 use Rattle.board.specs.Image.{Health}
 use Rattle.board.specs.Marking.{IsForDevices}
 use Rattle.board.specs.Machine.{GivesOverImage, readied, task_at, with_write}
@@ -38,9 +34,10 @@ use Rattle.board.specs.Outcome.{Outcome, replies}
 use Rattle.board.specs.Restoring.{IsRestoring}
 use Rattle.board.specs.Slot.{BoardSlot, SlotState}
 use Rattle.board.specs.Task.{Finishes, Nothing, PutOut, Serve, Task}
-use Rattle.board.specs.World.{IsCutShort, IsRefused, MayGive, MayGiveBy, MayGiveOverImage}
+use Rattle.board.specs.World.{IsCutShort, IsRefused, MayGive, MayGiveOverImage}
 use Rattle.board.proofs.Chains.{KeptByEach, kept, kept_by_all, kept_by_end}
 use Rattle.board.proofs.Looking.{IsLeftByLandings, IsLeftByLooks, landing_left, unless_left}
+use Rattle.board.proofs.Ways.{Drops, Holds, Lands, Looks, Passes, Releases, Rests, Waits, Way, by_disk}
 
 -- it holds of what is left as it was, of two steps if of each, and of a write
 pub record IsLeftByWrites (K : Memory → Memory → Type 0) : Type 0 where
@@ -191,14 +188,8 @@ module _ (K : Memory → Memory → Type 0) (left : IsLeftByWrites K) where
 
   readied_memory : {A : Type 0} (what : EventKind A) (state : SlotState)
       → (readied what state).memory ≡ state.memory
-  readied_memory (Read window offset width) state = refl
   readied_memory (Write window offset width value) state = wrote_memory window offset width value state
-  readied_memory (MemRead addr len) state = refl
-  readied_memory (MemWrite addr bytes) state = refl
-  readied_memory (Input bytes) state = refl
-  readied_memory (Resize cols rows) state = refl
-  readied_memory (Restore bytes) state = refl
-  readied_memory (Host said) state = refl
+  readied_memory _ state = refl
 
   by_inside : {A : Type 0} (inside : Bool) (state : SlotState) (hit : Outcome A) (miss : Reply A)
       → K state.memory hit.state.memory → K state.memory (if inside then hit else replies state miss).state.memory
@@ -228,7 +219,6 @@ module _ (K : Memory → Memory → Type 0) (left : IsLeftByWrites K) where
 
   gives_left : {A : Type 0} (state : SlotState) (what : EventKind A) (before after : Health) (outcome : Outcome A)
       → IsForDevices what → GivesOverImage state what before after outcome → K state.memory outcome.state.memory
-  gives_left state (Read window offset width) before after outcome own h = state_left state outcome _ h.alike refl
   gives_left state (Write window offset width value) before after outcome own h =
       subst (λ (m : Memory). K m outcome.state.memory) (wrote_memory window offset width value state)
       (finishes_left (task_at window offset width value state) (with_write window offset width value state)
@@ -240,9 +230,8 @@ module _ (K : Memory → Memory → Type 0) (left : IsLeftByWrites K) where
   gives_left state (Input bytes) before after outcome own h =
       notified_left _ 0 (queue_at 0 state.console) h.notified.ending state.memory outcome.state.memory
       state.console outcome.state.console _ _ h.notified.notified
-  gives_left state (Resize cols rows) before after outcome own h = state_left state outcome _ h.alike refl
   gives_left state (Restore bytes) before after outcome own h = restoring_left state bytes outcome h.alike
-  gives_left state (Host said) before after outcome own h = state_left state outcome _ h.alike refl
+  gives_left state _ before after outcome own h = state_left state outcome _ h.alike refl
 
   cut_left : {A : Type 0} (task : Task) (state : SlotState) (before after : Health) (outcome : Outcome A)
       → IsCutShort task state before after outcome → K state.memory outcome.state.memory
@@ -258,17 +247,12 @@ module _ (K : Memory → Memory → Type 0) (left : IsLeftByWrites K) where
 
   refused_left : {A : Type 0} (state : SlotState) (what : EventKind A) (before after : Health)
       (outcome : Outcome A) → IsRefused state what before after outcome → K state.memory outcome.state.memory
-  refused_left state (Read window offset width) before after outcome h = absurd h
   refused_left state (Write window offset width value) before after outcome h =
       subst (λ (m : Memory). K m outcome.state.memory) (wrote_memory window offset width value state)
       (cut_left (task_at window offset width value state) (with_write window offset width value state)
       before after outcome h)
   refused_left state (MemRead addr len) before after outcome h = state_left state outcome _ h.unchanged refl
-  refused_left state (MemWrite addr bytes) before after outcome h = absurd h
-  refused_left state (Input bytes) before after outcome h = absurd h
-  refused_left state (Resize cols rows) before after outcome h = absurd h
-  refused_left state (Restore bytes) before after outcome h = absurd h
-  refused_left state (Host said) before after outcome h = absurd h
+  refused_left state _ before after outcome h = absurd h
 
   over_image_left : {A : Type 0} (state : SlotState) (what : EventKind A) (before after : Health)
       (outcome : Outcome A) → IsForDevices what → MayGiveOverImage state what before after outcome
@@ -279,61 +263,28 @@ module _ (K : Memory → Memory → Type 0) (left : IsLeftByWrites K) where
       refused_left state what before after outcome refused
 
   -- whoever has the guest's disk
-  module _ {A : Type 0} (state : SlotState) (what : EventKind A) (health : Health) (outcome : Outcome A)
-      (own : IsForDevices what) where
-    looking_left : (rings : Bool)
-        → LooksOrGives (λ o. MayGiveOverImage state what health health o) rings state what outcome
-        → K state.memory outcome.state.memory
-    looking_left true h =
-        subst (λ (m : Memory). K m outcome.state.memory) (readied_memory what state)
-        (looks_left (readied what state) outcome.state h.0)
-    looking_left false h = over_image_left state what health health outcome own h
-
-    own_left : (waits : Bool)
-        → OwnGives (λ o. MayGiveOverImage state what health health o) waits state what outcome
-        → K state.memory outcome.state.memory
-    own_left true h = state_left state outcome _ h refl
-    own_left false h = looking_left (notifies_block what state) h
-
-    completing_left : (found : Option InFlight) (tag : ℕ) (verdict : Verdict)
-        → CompletionGives found tag verdict state outcome → K state.memory outcome.state.memory
-    completing_left None tag verdict h = state_left state outcome _ h refl
-    completing_left (Some here) tag verdict h = completes_left tag verdict state outcome.state h.0
-
-    dropping_left : (any : Bool) → DropGives any state outcome → K state.memory outcome.state.memory
-    dropping_left false h = state_left state outcome _ h refl
-    dropping_left true h = state_left state outcome _ h refl
-
-    holding_left : (on_hold : Bool) → HoldGives on_hold state outcome → K state.memory outcome.state.memory
-    holding_left true h = state_left state outcome _ h refl
-    holding_left false h = state_left state outcome _ h refl
-
-    releasing_left : (on_hold : Bool) → ReleaseGives on_hold state outcome → K state.memory outcome.state.memory
-    releasing_left false h = state_left state outcome _ h refl
-    releasing_left true h = looks_left (released state) outcome.state h.0
-
-    told_left : (said : HostEvent) → HostGives said state outcome → K state.memory outcome.state.memory
-    told_left (Complete tag verdict) h =
-        completing_left (get_or (tags_in state.host) tag None) tag verdict h
-    told_left Drop h = dropping_left (is_any (tags_in state.host)) h
-    told_left Hold h = holding_left state.on_hold h
-    told_left Release h = releasing_left state.on_hold h
-
-    on_host_left : (found : Option HostEvent)
-        → HostOrGives (λ o. MayGiveOverImage state what health health o) found state what outcome
-        → K state.memory outcome.state.memory
-    on_host_left None h = own_left (waits_now what state.host) h
-    on_host_left (Some said) h = told_left said h
-
-  by_host_left : {A : Type 0} (host : Option HostDisk) (state : SlotState) (what : EventKind A)
-      (before after : Health) (outcome : Outcome A) → IsForDevices what
-      → MayGiveBy host state what before after outcome → K state.memory outcome.state.memory
-  by_host_left None state what before after outcome own h = over_image_left state what before after outcome own h
-  by_host_left (Some disk) state what before after outcome own h =
-      on_host_left state what before outcome own (told_in what) h.gives
+  on_host_left : {A : Type 0} (state : SlotState) (what : EventKind A) (health : Health) (outcome : Outcome A)
+      → IsForDevices what → Way (λ (o : Outcome A). MayGiveOverImage state what health health o) state what outcome
+      → K state.memory outcome.state.memory
+  on_host_left state what health outcome own (Passes is free quiet h) =
+      over_image_left state what health health outcome own h
+  on_host_left state what health outcome own (Looks rings looks h) =
+      subst (λ (m : Memory). K m outcome.state.memory) (readied_memory what state)
+      (looks_left (readied what state) outcome.state looks)
+  on_host_left state what health outcome own (Lands tag verdict is completes h) =
+      completes_left tag verdict state outcome.state completes
+  on_host_left state what health outcome own (Releases is looks h) =
+      looks_left (released state) outcome.state looks
+  on_host_left state what health outcome own (Waits waits h) = state_left state outcome _ h refl
+  on_host_left state what health outcome own (Rests said is h) = state_left state outcome _ h refl
+  on_host_left state what health outcome own (Drops is h) = state_left state outcome _ h refl
+  on_host_left state what health outcome own (Holds is h) = state_left state outcome _ h refl
 
   -- the law
   pub event_left : {A : Type 0} (state : SlotState) (what : EventKind A) (before after : Health)
       (outcome : Outcome A) → IsForDevices what → MayGive state what before after outcome
       → K state.memory outcome.state.memory
-  event_left state what before after outcome own h = by_host_left state.host state what before after outcome own h
+  event_left state what before after outcome own h =
+      by_disk state.host state what before after outcome
+      (λ given. over_image_left state what before after outcome own given)
+      (λ image ways. on_host_left state what before outcome own ways) h

@@ -10,21 +10,25 @@ use Rattle.board.proofs.Runs.{answered}
 use Rattle.board.proofs.Seats.{extents_of-set, handles_missing, sound_set}
 use Rattle.board.proofs.board.Board.restore.Goals as goal
 
+-- the slot of that number
+found : (g : _) (c : goal.After-self-2-1 g) → slice_get c.self.inside.slots.items c.args.slot
+    ≡ Some c.in-Some.found.now
+found g c = is_there c.self.inside.slots.items c.args.slot c.in-Some.found c.in-Some.ensures.item
+
 pub invariant_of-self-2 : goal.invariant_of-self-2
 invariant_of-self-2 g c =
     sound_set _ c.self.inside.slots.items c.args.slot c.in-Some.found.now c.restore.new.self
-    c.restore.ensures.extent
-    (is_there c.self.inside.slots.items c.args.slot c.in-Some.found c.in-Some.ensures.item) c.self.invariant
+    c.restore.ensures.extent (found g c) c.self.invariant
 
 pub returns-clause-extents : goal.returns-clause-extents
 returns-clause-extents g c =
     extents_of-set c.self.inside.slots.items c.args.slot c.in-Some.found.now c.restore.new.self
-    (is_there c.self.inside.slots.items c.args.slot c.in-Some.found c.in-Some.ensures.item) c.restore.ensures.extent ∙ ap (λ b. extents_of b.slots) c.self.view_is
+    (found g c) c.restore.ensures.extent ∙ ap (λ b. extents_of b.slots) c.self.view_is
 
 pub returns-clause-disturbed : goal.returns-clause-disturbed
 returns-clause-disturbed g c =
     disturbed_kept c.self.inside.slots.items c.args.slot c.in-Some.found.now c.restore.new.self
-    (is_there c.self.inside.slots.items c.args.slot c.in-Some.found c.in-Some.ensures.item) c.restore.ensures.disturbed
+    (found g c) c.restore.ensures.disturbed
     ∙ ap (λ b. disturbed_of b.slots) c.self.view_is
 
 pub returns-clause-step : goal.returns-clause-step
@@ -34,15 +38,14 @@ returns-clause-step g c tells =
     rw (← c.self.view_is)
     (restore_answers _ c.self.inside.slots.items (g.I.Image.disk c.self.inside.cache) c.args.slot
     c.in-Some.found.now c.restore.new.self c.args.from.now c.restore.result
-    telling (g.met.I.Image.whole c.self.inside.cache) c.self.invariant (is_there c.self.inside.slots.items c.args.slot c.in-Some.found c.in-Some.ensures.item)
+    telling (g.met.I.Image.whole c.self.inside.cache) c.self.invariant (found g c)
     c.restore.ensures.extent c.restore.ensures.disturbed c.restore.ensures.given)
 
--- the slot of that number, and that there is none
 there : (g : _) (c : goal.After-self-2-1 g) → slice_get c.args.self.now.slots c.args.slot
     ≡ Some c.in-Some.found.now
 there g c =
     ap (λ b. slice_get b.slots c.args.slot) (sym c.self.view_is)
-    ∙ is_there c.self.inside.slots.items c.args.slot c.in-Some.found c.in-Some.ensures.item
+    ∙ found g c
 
 pub returns-in_default-clause-step : goal.returns-in_default-clause-step
 returns-in_default-clause-step g c tells =
@@ -75,14 +78,14 @@ returns-clause-taken g c saved old new snapshot before after like rests =
     let set : c.restore.new.self ≡ new =
     same_Some c.restore.new.self new
     (sym (get_set c.self.inside.slots.items c.args.slot c.in-Some.found.now c.restore.new.self
-    (is_there c.self.inside.slots.items c.args.slot c.in-Some.found c.in-Some.ensures.item)) ∙ after) in
+    (found g c)) ∙ after) in
     rw (← is, ← set) (c.restore.ensures.taken saved snapshot (rw (← is) at like) (rw (← is) at rests))
 
 pub returns-clause-kept : goal.returns-clause-kept
 returns-clause-kept g c =
     kept_board c.restore.result c.self.inside.slots.items c.self.inside.cache c.args.slot c.in-Some.found.now
     c.restore.new.self c.args.self.now
-    (is_there c.self.inside.slots.items c.args.slot c.in-Some.found c.in-Some.ensures.item)
+    (found g c)
     c.self.view_is c.restore.ensures.kept
 
 pub returns-clause-others : goal.returns-clause-others

@@ -3,7 +3,7 @@ use Rattle.std.specs.Option.{option_map}
 use Rattle.board.specs.Slot.{BoardSlot}
 use Rattle.board.proofs.Belonging.{block_changed}
 use Rattle.board.proofs.Beside.{same_range}
-use Rattle.board.proofs.HostedWindows.{gave_up, gave_up_keeps}
+use Rattle.board.proofs.HostedWindows.{gave_up, gave_up_keeps, viewed}
 use Rattle.board.proofs.slot.Slot.give_up.Goals as goal
 
 pub invariant_of-self : goal.invariant_of-self
@@ -15,26 +15,12 @@ invariant_of-self g c =
 
 pub returns-in-Some-clause-dropped : goal.returns-in-Some-clause-dropped
 returns-in-Some-clause-dropped g c = λ some image.
-    let inside = c.self.inside in
-    let slot : BoardSlot = record {
-      memory = inside.memory;
-      extent = inside.block_device.extent;
-      host = option_map (λ disk. disk.value) inside.host;
-      on_hold = inside.on_hold;
-      read_only = inside.block_device.read_only;
-      identity = inside.block_device.identity;
-      block = inside.block;
-      console = inside.console;
-      pending = inside.console_device.pending;
-      cols = inside.console_device.cols;
-      rows = inside.console_device.rows;
-      disturbed = inside.disturbed;
-    } in
+    let slot : BoardSlot = viewed c.self.view_is in
     rw (← c.self.view_is)
     (gave_up image slot (record slot { block = c.give_up.new.window; host = Some c.give_up.new.self })
     c.deref_mut.result.now c.give_up.new.self
     (ap (λ o. option_map (λ disk. disk.value) o) c.in-Some.is ∙ ap Some (sym c.deref_mut.ensures.value))
-    c.give_up.ensures.sectors (c.give_up.ensures.given_up inside.memory) refl)
+    c.give_up.ensures.sectors (c.give_up.ensures.given_up c.self.inside.memory) refl)
 
 pub returns-in-Some-clause-held : goal.returns-in-Some-clause-held
 returns-in-Some-clause-held g c = c.give_up.ensures.held c.self.inside.memory

@@ -2,7 +2,7 @@ use Rattle.std.proofs.Common.{Some, ap, refl, sym, ◌∙◌}
 use Rattle.std.specs.Option.{option_map}
 use Rattle.board.specs.Slot.{BoardSlot}
 use Rattle.board.proofs.Belonging.{block_changed}
-use Rattle.board.proofs.HostedWindows.{landed, landed_keeps}
+use Rattle.board.proofs.HostedWindows.{landed, landed_keeps, viewed}
 use Rattle.board.proofs.slot.Slot.land.Goals as goal
 
 pub invariant_of-self-then-done : goal.invariant_of-self-then-done
@@ -19,21 +19,7 @@ invariant_of-self-else-done g c =
 
 pub returns-then-done-clause-lands : goal.returns-then-done-clause-lands
 returns-then-done-clause-lands g c =
-    let inside = c.self.inside in
-    let slot : BoardSlot = record {
-      memory = inside.memory;
-      extent = inside.block_device.extent;
-      host = option_map (λ disk. disk.value) inside.host;
-      on_hold = inside.on_hold;
-      read_only = inside.block_device.read_only;
-      identity = inside.block_device.identity;
-      block = inside.block;
-      console = inside.console;
-      pending = inside.console_device.pending;
-      cols = inside.console_device.cols;
-      rows = inside.console_device.rows;
-      disturbed = inside.disturbed;
-    } in
+    let slot : BoardSlot = viewed c.self.view_is in
     rw (← c.self.view_is)
     (landed c.land-done.result c.args.tag c.args.verdict slot
     (record slot {

@@ -3,7 +3,7 @@ use Rattle.board.specs.Slot.{BoardSlot}
 use Rattle.std.specs.Option.{option_map}
 use Rattle.board.specs.Hosting.{device_at}
 use Rattle.board.proofs.Belonging.{block_changed}
-use Rattle.board.proofs.HostedWindows.{looked, looked_keeps}
+use Rattle.board.proofs.HostedWindows.{looked, looked_keeps, viewed}
 use Rattle.board.proofs.slot.Slot.look.Goals as goal
 
 pub invariant_of-self-2 : goal.invariant_of-self-2
@@ -13,21 +13,7 @@ invariant_of-self-2 g c =
 
 pub returns-clause-looks : goal.returns-clause-looks
 returns-clause-looks g c = λ some image.
-    let inside = c.self.inside in
-    let slot : BoardSlot = record {
-      memory = inside.memory;
-      extent = inside.block_device.extent;
-      host = option_map (λ disk. disk.value) inside.host;
-      on_hold = inside.on_hold;
-      read_only = inside.block_device.read_only;
-      identity = inside.block_device.identity;
-      block = inside.block;
-      console = inside.console;
-      pending = inside.console_device.pending;
-      cols = inside.console_device.cols;
-      rows = inside.console_device.rows;
-      disturbed = inside.disturbed;
-    } in
+    let slot : BoardSlot = viewed c.self.view_is in
     rw (← c.self.view_is)
     (looked image slot
     (record slot { memory = c.look.new.memory; block = c.look.new.window; host = Some c.look.new.self })
