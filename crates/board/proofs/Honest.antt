@@ -155,7 +155,7 @@ life_keeps {A} tag here old (event ∷ events) (t ∷ records) last taken others
     (subst (λ (s : SlotState). IsAnsweredBy (MayBeTold 0) s events records last) told.left course.2)
 
 -- it is given back in a window that may be served
-given_back : (found : Option Queue) (queue : Queue) (tag : ℕ) (here : InFlight) (verdict : Verdict)
+pub given_back : (found : Option Queue) (queue : Queue) (tag : ℕ) (here : InFlight) (verdict : Verdict)
     (old new : HostedQueue) → found ≡ Some queue → LandsBy found tag here verdict old new
     → IsGivenIn tag here verdict old new
 given_back None queue tag here verdict old new is h = absurd (cc is)

@@ -42,6 +42,7 @@ pub mod Waiting
 pub mod HostedWindows
 pub mod Holding
 pub mod Honest
+pub mod Lasting
 pub mod Reading
 pub mod SameRange
 pub mod Untouched

@@ -22,6 +22,7 @@ pub mod Line
 pub mod Moving
 pub mod Marking
 pub mod Steps
+pub mod Lasting
 pub mod Fault
 pub mod Pausing
 pub mod Within

@@ -1,9 +1,9 @@
 //! What holds of every line of events, by itself: no board is made or run here.
 
-ghost use Rattle.std.specs.Prelude.{◌≡◌, ◌≢◌, ℕ, ◌+◌, ◌<◌, ◌≤◌, List, [], ◌∷◌, ◌++◌, None, Some, true, false, get_or, length, IsSome};
+ghost use Rattle.std.specs.Prelude.{◌≡◌, ◌≢◌, ◌↔◌, ℕ, ◌+◌, ◌<◌, ◌≤◌, List, [], ◌∷◌, ◌++◌, None, Some, true, false, get_or, length, IsSome};
 ghost use Rattle.std.specs.List.{slice_get};
-ghost use Rattle.guest_memory.specs.Memory.{Memory, SameRange};
-ghost use Rattle.chain.specs.Service.{Served, ServesAll, Site};
+ghost use Rattle.guest_memory.specs.Memory.{Inside, Memory, SameRange};
+ghost use Rattle.chain.specs.Service.{Served, ServesAll, ServesChain, Site};
 ghost use Rattle.guest_memory.specs.Marks.{MarksWrites};
 ghost use Rattle.sector_cache.specs.Disk.{Disk};
 ghost use Rattle.sector_cache.specs.Sector.{extent_of};
@@ -13,10 +13,15 @@ ghost use Rattle.mmio_window.specs.declared.queue.Queue.{Queue};
 ghost use Rattle.mmio_window.specs.declared.register.Register.{Register};
 ghost use Rattle.mmio_window.specs.Queue.{queue_kind};
 ghost use Rattle.mmio_window.specs.Registers.{register_at};
+ghost use Rattle.mmio_window.specs.Window.{queue_at};
 ghost use Rattle.block_device.specs.declared.device.BlockDevice.{BlockDevice};
 ghost use Rattle.block_device.specs.declared.operation.Verdict.{Verdict};
+ghost use Rattle.block_device.specs.declared.request.RequestStatus.{RequestStatus};
+ghost use Rattle.block_device.specs.Asking.{status_by, unasked_device};
 ghost use Rattle.block_device.specs.Device.{block_device};
+ghost use Rattle.block_device.specs.Durable.{IsCommitted, IsUnwritten, KeepsWordIn, Medium};
 ghost use Rattle.block_device.specs.Flights.{HostedQueue, InFlight, is_any};
+ghost use Rattle.block_device.specs.Request.{code_of};
 ghost use Rattle.board.specs.declared.event.Event.{Event};
 ghost use Rattle.board.specs.declared.event.EventKind.{EventKind};
 ghost use Rattle.board.specs.declared.event.HostEvent.{HostEvent};
@@ -28,6 +33,7 @@ ghost use Rattle.board.specs.Backing.{tags_in};
 ghost use Rattle.board.specs.Honest.{IsFlown, IsHonestlyServed};
 ghost use Rattle.board.specs.Hosting.{IsNoRestore, LeavesTag, dropped, held, must_wait, notifies_block, released, told_in, waits_now};
 ghost use Rattle.board.specs.Image.{Health, Tells, bytes_of};
+ghost use Rattle.board.specs.Lasting.{Becomes, HasCourse, IsAnswered, IsCourse, Passage, Standing, behind, behind_all, completions, covers};
 ghost use Rattle.board.specs.Line.{Move, IsLine, IsNoted, IsQuiet, IsAlone, IsRun, RunsAsItMay, SeesTheSame, events_of, own_events};
 ghost use Rattle.board.specs.Machine.{Gives, IsNext, RunsOnItsOwn};
 ghost use Rattle.board.specs.Marking.{IsForDevices};
@@ -259,6 +265,44 @@ pub fn an_honest_host_serves<A: Allocator>()
     ensures { (device : BlockDevice) (began : HostedQueue) (tag : ℕ) (here : InFlight) (now : SlotState) (verdict : Verdict)
         (new : HostedQueue) (flown : IsFlown A device began tag here now verdict new) →
         IsHonestlyServed device began tag here now verdict new flown }
+{}
+
+/// The guest of a disk that the host serves is told what its host says, and no sooner. Nothing that a look serves at once is an
+/// OUT, FLUSH or WRITE_ZEROES that is answered OK (`at_once`). A chain in flight stays so until the host completes its operation,
+/// or gives up all (`becomes`). As the operation is completed, the chain is given back with a status, in a window that may be
+/// served (`answered`): it is OK exactly where the host said that the operation was done, and IOERR where it failed (`told`).
+pub fn a_guest_is_told_what_its_host_says<A: Allocator>()
+    ensures at_once { (device : BlockDevice) (site : Site Queue Disk) (served : Served Disk) →
+        ServesChain queue_kind (unasked_device device) site served → ¬ IsCommitted device site.memory served }
+    ensures becomes { (old : SlotState) (tag : ℕ) (here : InFlight) (what : EventKind A) (before after : Health)
+        (outcome : Outcome A) → get_or (tags_in old.host) tag None ≡ Some here → MayGive old what before after outcome →
+        Becomes tag here old what outcome.state }
+    ensures answered { (old : SlotState) (tag : ℕ) (here : InFlight) (queue : Queue) (what : EventKind A) (verdict : Verdict)
+        (before after : Health) (outcome : Outcome A) → get_or (tags_in old.host) tag None ≡ Some here →
+        Inside old.memory here.flight.status 1 → queue_at 0 old.block ≡ Some queue →
+        told_in what ≡ Some (HostEvent.Complete tag verdict) → MayGive old what before after outcome →
+        IsAnswered tag here old what (code_of (status_by verdict)) outcome.state }
+    ensures told { (tag : ℕ) (here : InFlight) (old : SlotState) (what : EventKind A) (status : ℕ) (new : SlotState) →
+        IsAnswered tag here old what status new → (verdict : Verdict) →
+        (told_in what ≡ Some (HostEvent.Complete tag verdict)) ↔ (status ≡ code_of (status_by verdict)) }
+{}
+
+/// A FLUSH that was answered OK lasts, and so does a stable write: each byte that it covers is on the medium after a stop as the
+/// host reads it, until an operation that writes it is in flight again (`lasts`). It covers no byte that an operation writes
+/// that was in flight beside it; but each write that was completed before it was asked. The premises are that in a course of
+/// its slot the guest read OK, and that the host keeps its word with all that it said in it; what a drop or the end of the
+/// course cuts short counts as failed. In each line of a board's steps each slot has such a course (`course`).
+pub fn a_flush_that_was_answered_lasts<A: Allocator>()
+    ensures course { (g : ℕ) (old new : World) (moves : List (Move A)) (state : SlotState) →
+        IsLine old moves new → slice_get old.slots g ≡ Some state → HasCourse g state moves new }
+    ensures lasts { (g : ℕ) (old : Standing) (first later : List (Passage A)) (passage : Passage A) (new : SlotState)
+        (tag place : ℕ) (here : InFlight) (before after : Medium) →
+        IsCourse g old.state (first ++ passage ∷ later) new →
+        IsAnswered tag here (behind_all old first).state passage.what (code_of RequestStatus.Success) passage.after →
+        covers here ((behind_all old first).beside tag) place ≡ true →
+        KeepsWordIn before (completions old (first ++ passage ∷ later)) after →
+        IsUnwritten place (completions (behind (behind_all old first) passage) later) →
+        slice_get after.left place ≡ slice_get after.held place }
 {}
 
 /// An event that touches no memory needs none. Whatever bytes memory has, they stay, and exactly the same comes of the
