@@ -187,23 +187,15 @@ asked_once : {A : Type 0} (limit : ℕ) (old one other : Seat) (asking : Asking 
 asked_once {A} limit old one other (Does (Begins what)) (Told (Answered p)) (Told (Answered q)) x y =
     let same = seat_once limit old one other what p q x y in
     (ap (λ (r : Reply A). Told (Answered r)) same.0, same.1)
-asked_once limit old one other (Does (Begins what)) (Told More) q x y = absurd x
-asked_once limit old one other (Does (Begins what)) (Told Busy) q x y = absurd x
-asked_once limit old one other (Does (Begins what)) (Told Idle) q x y = absurd x
-asked_once limit old one other (Does (Begins what)) (Gave p) q x y = absurd x
-asked_once limit old one other (Does (Begins what)) (Told (Answered p)) (Told More) x y = absurd y
-asked_once limit old one other (Does (Begins what)) (Told (Answered p)) (Told Busy) x y = absurd y
-asked_once limit old one other (Does (Begins what)) (Told (Answered p)) (Told Idle) x y = absurd y
-asked_once limit old one other (Does (Begins what)) (Told (Answered p)) (Gave q) x y = absurd y
+asked_once limit old one other (Does (Begins what)) (Told (Answered p)) q x y = absurd y
 asked_once {A} limit old one other (Does GoesOn) (Told p) (Told q) x y =
     (ap (λ (r : Response A). Told r) (x.0 ∙ sym y.0), x.1 ∙ sym y.1)
-asked_once limit old one other (Does GoesOn) (Gave p) q x y = absurd x
 asked_once limit old one other (Does GoesOn) (Told p) (Gave q) x y = absurd y
 asked_once {A} limit old one other (Takes room) (Gave p) (Gave q) x y =
     let gave : List ℕ → Answer (Response A) = λ b. Gave b in
     (ap gave (x.0 ∙ sym y.0), x.1 ∙ sym y.1)
-asked_once limit old one other (Takes room) (Told p) q x y = absurd x
 asked_once limit old one other (Takes room) (Gave p) (Told q) x y = absurd y
+asked_once limit old one other asking p q x y = absurd x
 
 pub seat_course_once : {A : Type 0} (limit : ℕ) (old : Seat) (askings : List (Asking (OwnCall A)))
     (one other : List (Answer (Response A))) (s t : Seat) → IsSeatCourse limit old askings one s

@@ -29,7 +29,7 @@ use Rattle.session.specs.declared.progress.Progress.{Progress}
 use Rattle.session.specs.declared.progress.Progress.TheVariants as progress
 use Rattle.session.specs.declared.refusal.Refusal.{Refusal}
 use Rattle.session.specs.declared.response.Response.{Response}
-use Rattle.session.specs.declared.response.Response.TheVariants.{Answered, More, Busy, Idle}
+use Rattle.session.specs.declared.response.Response.TheVariants.{Answered, More, Busy}
 use Rattle.session.specs.Answering.{went_on_to}
 use Rattle.session.specs.Operations.{HasAsked}
 use Rattle.session.specs.Pacing.{GoOn, Handle, response_to}
@@ -126,13 +126,11 @@ module _ {X : Type 0} (f : Option HostDisk → Option X) where
   pub going_on_keeps : {A : Type 0} (old new : SessionState) (slot : ℕ) (response : Response A)
       (o : Option (Option Pause)) → ComesTo (GoOn slot) o old response new
       → said_at slot new.slots ≡ said_at slot old.slots
-  going_on_keeps old new slot response None comes = ap (λ (s : SessionState). said_at slot s.slots) comes.1
-  going_on_keeps old new slot response (Some None) comes =
-      ap (λ (s : SessionState). said_at slot s.slots) comes.1
   going_on_keeps old new slot response (Some (Some pause)) comes =
       turn_keeps old slot response new comes
       (goes_host (is_hosts comes.taken.state.host pause.service) pause old.budget comes.taken.state _ _
       comes.taken.after comes.output comes.turn comes.taken.comes)
+  going_on_keeps old new slot response o comes = ap (λ (s : SessionState). said_at slot s.slots) comes.1
 
 -- the tags that are in flight
 abbrev taken_of : Option HostDisk → Option ℕ
@@ -189,17 +187,8 @@ never_asks : {A : Type 0} (response : Response A) (P : Type 0) → (P → ⊥)
     → IfOk (went_on_to response) (λ came. (came ≡ progress.Asks) ↔ P)
 never_asks (Answered reply.BadSlot) P never = tt
 never_asks (Answered reply.NoMemory) P never = tt
-never_asks (Answered (reply.Value value)) P never = (λ is. absurd (cc (is)), λ p. absurd (never p))
-never_asks (Answered reply.Done) P never = (λ is. absurd (cc (is)), λ p. absurd (never p))
-never_asks (Answered (reply.Bytes bytes)) P never = (λ is. absurd (cc (is)), λ p. absurd (never p))
-never_asks (Answered (reply.Took taken)) P never = (λ is. absurd (cc (is)), λ p. absurd (never p))
-never_asks (Answered reply.BadRange) P never = (λ is. absurd (cc (is)), λ p. absurd (never p))
-never_asks (Answered reply.BadState) P never = (λ is. absurd (cc (is)), λ p. absurd (never p))
-never_asks (Answered reply.Busy) P never = (λ is. absurd (cc (is)), λ p. absurd (never p))
-never_asks (Answered reply.Idle) P never = (λ is. absurd (cc (is)), λ p. absurd (never p))
-never_asks More P never = (λ is. absurd (cc (is)), λ p. absurd (never p))
 never_asks Busy P never = tt
-never_asks Idle P never = (λ is. absurd (cc (is)), λ p. absurd (never p))
+never_asks response P never = (λ is. absurd (cc (is)), λ p. absurd (never p))
 
 pub going_on_asks : {A : Type 0} (old new : SessionState) (slot : ℕ) (r : Result Progress Refusal)
     → WentOn A old slot r new → IfOk r (λ came. (came ≡ progress.Asks) ↔ HasAsked slot old new)

@@ -124,18 +124,12 @@ as_many_paused : {A : Type 0} (budget : Budget) (call : Call A) (o : Option (Opt
     (old new : PacedWorld) (response : Response A) (output : List ℕ) (block console : ℕ)
     → paced.ComesTo budget call o old response output block console new
     → length new.paused ≡ length old.paused
-as_many_paused budget (Handle _) None old new response output block console comes =
-    ap (λ (w : PacedWorld). length w.paused) comes.1.same
-as_many_paused budget (GoOn slot) None old new response output block console comes =
-    ap (λ (w : PacedWorld). length w.paused) comes.1.same
 as_many_paused budget (Handle begun) (Some None) old new response output block console comes =
     ap length comes.paused ∙ length-set old.paused begun.slot (paused_by comes.turn)
-as_many_paused budget (Handle _) (Some (Some pause)) old new response output block console comes =
-    ap (λ (w : PacedWorld). length w.paused) comes.1.same
-as_many_paused budget (GoOn slot) (Some None) old new response output block console comes =
-    ap (λ (w : PacedWorld). length w.paused) comes.1.same
 as_many_paused budget (GoOn slot) (Some (Some pause)) old new response output block console comes =
     ap length comes.paused ∙ length-set old.paused slot (paused_by comes.turn)
+as_many_paused budget call o old new response output block console comes =
+    ap (λ (w : PacedWorld). length w.paused) comes.1.same
 
 pub responded_paused : {A : Type 0} (budget : Budget) (call : Call A) (old new : PacedWorld)
     (response : Response A) (before after : List ℕ) → Responds budget old call response before after new

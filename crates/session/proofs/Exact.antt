@@ -9,7 +9,7 @@ use Rattle.guest_memory.specs.Memory.{Inside}
 use Rattle.block_device.specs.declared.operation.Verdict.{Verdict}
 use Rattle.board.specs.declared.event.Event.{Event}
 use Rattle.board.specs.declared.event.EventKind.{EventKind}
-use Rattle.board.specs.declared.event.EventKind.TheVariants.{Read, Write, MemRead, MemWrite, Input, Resize, Restore, Host}
+use Rattle.board.specs.declared.event.EventKind.TheVariants.{Host}
 use Rattle.board.specs.declared.event.HostEvent.{HostEvent}
 use Rattle.board.specs.declared.event.HostEvent.TheVariants.{Complete, Drop, Hold, Release}
 use Rattle.board.specs.declared.pause.Pause.{Pause}
@@ -61,14 +61,8 @@ busy_by state what old new outcome h is = (waited state.host state what old new 
 -- what the host says waits for nothing
 said_free : {A : Type 0} (found : HostEvent) (what : EventKind A) → told_in what ≡ Some found
     → must_wait what ≡ true → ⊥
-said_free found (Read window offset width) is waits = cc
-said_free found (Write window offset width value) is waits = cc
-said_free found (MemRead addr len) is waits = cc
-said_free found (MemWrite addr bytes) is waits = cc
-said_free found (Input bytes) is waits = cc
-said_free found (Resize cols rows) is waits = cc
-said_free found (Restore bytes) is waits = cc
 said_free found (Host said) is waits = cc
+said_free found what is waits = cc
 
 waits_gives : {A : Type 0} (Beside : Outcome A → Type 0) (state : SlotState) (what : EventKind A)
     (outcome : Outcome A) (said : Option HostEvent) → told_in what ≡ said → waits_now what state.host ≡ true
@@ -183,12 +177,9 @@ refused (Err why) = Some why
 
 meant : {A : Type 0} (why : Refusal) (told : Response A) → RefusalMeans why told
     → refusal_of told ≡ Some why
-meant refusal.BadSlot told is = rw is refl
-meant refusal.BadRange told is = rw is refl
-meant refusal.NoRoom told is = rw is refl
 meant refusal.Busy told (inl is) = rw is refl
 meant refusal.Busy told (inr is) = rw is refl
-meant refusal.Idle told is = rw is refl
+meant why told is = rw is refl
 
 means_refused : {A T : Type 0} (wanted : T → Response A) → ((value : T) → refusal_of (wanted value) ≡ None)
     → (r : Result T Refusal) (told : Response A) → Means wanted r told → refusal_of told ≡ refused r
@@ -233,11 +224,7 @@ telling {A} reply.Busy why is =
     subst (λ w. RefusalMeans {A = A} w (Answered reply.Busy)) (same_Some refusal.Busy why is) (inr refl)
 telling {A} reply.Idle why is =
     subst (λ w. RefusalMeans {A = A} w (Answered reply.Idle)) (same_Some refusal.Idle why is) refl
-telling (reply.Value value) why is = absurd (cc (is))
-telling reply.Done why is = absurd (cc (is))
-telling (reply.Bytes bytes) why is = absurd (cc (is))
-telling (reply.Took taken) why is = absurd (cc (is))
-telling reply.BadState why is = absurd (cc (is))
+telling answer why is = absurd (cc (is))
 
 says_bad_slot : {A : Type 0} (answer : Reply A)
     → (refusal_of (Answered answer) ≡ Some refusal.BadSlot) ↔ (answer ≡ reply.BadSlot)

@@ -141,13 +141,9 @@ idle_keeps {A} old new event h =
 called_others : {A : Type 0} (old new : SessionState) (call : Call A) (response : Response A)
     (o : Option (Option Pause)) → ComesTo call o old response new
     → KeepsOthers (slot_in call) old.slots new.slots
-called_others old new call response None h = λ other differ. ap (λ (s : SessionState). slice_get s.slots other) h.1
 called_others old new (Handle event) response (Some None) h = h.turn.others
-called_others old new (Handle event) response (Some (Some pause)) h =
-    λ other differ. ap (λ (s : SessionState). slice_get s.slots other) h.1
-called_others old new (GoOn slot) response (Some None) h =
-    λ other differ. ap (λ (s : SessionState). slice_get s.slots other) h.1
 called_others old new (GoOn slot) response (Some (Some pause)) h = h.others
+called_others old new call response o h = λ other differ. ap (λ (s : SessionState). slice_get s.slots other) h.1
 
 -- what is in flight with a tag
 abbrev flight_of : ℕ → Option HostDisk → Option InFlight
@@ -179,17 +175,11 @@ own_flies old new event (Answered told) tag here o other comes whole flies =
     (sym (seen_at (flight_of tag) old.slots old.image event.slot) ∙ flies) whole.answers.step
 own_flies old new event More tag here o other comes whole flies =
     pausing_keeps (flight_of tag) old new event o comes ∙ flies
-own_flies old new event Busy tag here None other comes whole flies =
-    ap (λ (s : SessionState). flight_at event.slot tag s.slots) comes.1 ∙ flies
 own_flies old new event Busy tag here (Some None) other comes whole flies =
     absurd (never_busy comes.turn.turn (sym comes.turn.told))
-own_flies old new event Busy tag here (Some (Some pause)) other comes whole flies =
-    ap (λ (s : SessionState). flight_at event.slot tag s.slots) comes.1 ∙ flies
-own_flies old new event Idle tag here None other comes whole flies =
-    ap (λ (s : SessionState). flight_at event.slot tag s.slots) comes.1 ∙ flies
 own_flies old new event Idle tag here (Some None) other comes whole flies =
     absurd (never_idle comes.turn.turn (sym comes.turn.told))
-own_flies old new event Idle tag here (Some (Some pause)) other comes whole flies =
+own_flies old new event response tag here o other comes whole flies =
     ap (λ (s : SessionState). flight_at event.slot tag s.slots) comes.1 ∙ flies
 
 -- no completion of this tag of a slot, and no drop of it

@@ -22,7 +22,7 @@ use Rattle.block_device.proofs.Guests.{exact_same}
 use Rattle.console_device.specs.Device.{receive, exact_transmit}
 use Rattle.console_device.specs.Input.{fitting}
 use Rattle.board.specs.declared.event.EventKind.{EventKind}
-use Rattle.board.specs.declared.event.EventKind.TheVariants.{Read, Write, MemRead, MemWrite, Input, Resize, Restore, Host}
+use Rattle.board.specs.declared.event.EventKind.TheVariants.{Write, Input}
 use Rattle.board.specs.declared.pause.Pause.{Pause}
 use Rattle.board.specs.declared.pause.Service.{Service}
 use Rattle.board.specs.declared.pause.Service.TheVariants.{Block, Receive, Transmit}
@@ -405,15 +405,12 @@ gave : {A : Type 0} (what : EventKind A) (state : SlotState) (pause : Pause) (ne
     (out : List ℕ) → asked_over_image what state ≡ Some pause
     → Ended A pause.service (readied what state) new out
     → Gave what state (came new (reply_of pause) out)
-gave (Read window offset width) state pause new out asks e = absurd (cc)
 gave {A} (Write window offset width value) state pause new out asks e =
     let f : Finished {A = A} (task_at window offset width value state)
     (with_write window offset width value state) (came new (reply_of pause) out) =
     finished (task_at window offset width value state) pause
     (with_write window offset width value state) new out asks e in
     record { after = f.after; gives = f.finishes; rests = f.rests }
-gave (MemRead addr len) state pause new out asks e = absurd (cc)
-gave (MemWrite addr bytes) state pause new out asks e = absurd (cc)
 gave {A} (Input bytes) state pause new out asks e =
     subst (λ (p : Pause). Ended A p.service (with_input bytes state) new out
     → Gave {A = A} (Input bytes) state (came new (reply_of p) out)) (same_Some _ pause asks)
@@ -422,9 +419,7 @@ gave {A} (Input bytes) state pause new out asks e =
       gives = e (Took (fitting state.pending bytes));
       rests = λ quiet. refl;
     }) e
-gave (Resize cols rows) state pause new out asks e = absurd (cc)
-gave (Restore bytes) state pause new out asks e = absurd (cc)
-gave (Host said) state pause new out asks e = absurd (cc)
+gave what state pause new out asks e = absurd (cc)
 
 -- and whoever has the guest's disk
 next_by : {A : Type 0} (host : Option HostDisk) (what : EventKind A) (state : SlotState) (outcome : Outcome A)

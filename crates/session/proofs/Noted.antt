@@ -133,15 +133,13 @@ notes_at : {A : Type 0} (g : ℕ) (budget : Budget) (old : PacedWorld) (move : M
     (o : Option (Option Pause)) → move.call ≡ call
     → ComesTo budget call o old move.response move.output move.block_irq move.console_irq move.after
     → Notes g old move
-notes_at {A} g budget old move call None is c = notes_unchanged g old move _ (λ no. cc) c
 notes_at g budget old move (Handle event) (Some None) is c =
     notes_turn (Begins event.what budget) (λ s f k s' output t h. begins_rises (asked event.what s) event.what
     budget s f k s' output t h) g event.slot old move (ap slot_in is) c
-notes_at g budget old move (Handle event) (Some (Some pause)) is c = notes_unchanged g old move _ (λ no. cc) c
-notes_at g budget old move (GoOn slot) (Some None) is c = notes_unchanged g old move _ (λ no. cc) c
 notes_at {A} g budget old move (GoOn slot) (Some (Some pause)) is c =
     notes_turn (GoesOn pause budget) (λ s f k s' output t h. goes_rises {A = A} (is_hosts s.host pause.service)
     pause budget s f k s' output t h) g slot old move (ap slot_in is) c
+notes_at g budget old move call o is c = notes_unchanged g old move _ (λ no. cc) c
 
 -- and a whole line
 pub line_noted : {A : Type 0} (g : ℕ) (budget : Budget) (old new : PacedWorld) (moves : List (Move A))

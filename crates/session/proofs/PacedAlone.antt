@@ -85,15 +85,11 @@ pub others_at : {A : Type 0} (g : ℕ) (budget : Budget) (call : Call A) (o : Op
     (old : PacedWorld) (response : Response A) (output : List ℕ) (block console : ℕ) (new : PacedWorld)
     → slot_in call ≢ g
     → ComesTo budget call o old response output block console new → Stays g old new
-others_at g budget call None old response output block console new other c = unchanged g old new output c.1
 others_at g budget (Handle event) (Some None) old response output block console new other c =
     of_others (Begins event.what budget) g event.slot old response output block console new other c
-others_at g budget (Handle event) (Some (Some pause)) old response output block console new other c =
-    unchanged g old new output c.1
-others_at g budget (GoOn slot) (Some None) old response output block console new other c =
-    unchanged g old new output c.1
 others_at g budget (GoOn slot) (Some (Some pause)) old response output block console new other c =
     of_others (GoesOn pause budget) g slot old response output block console new other c
+others_at g budget call o old response output block console new other c = unchanged g old new output c.1
 
 -- a move of another slot begins no event of the guest's
 pub events_of_others : {A : Type 0} (g : ℕ) (call : Call A) (response : Response A)
@@ -101,9 +97,7 @@ pub events_of_others : {A : Type 0} (g : ℕ) (call : Call A) (response : Respon
     → eqb (slot_in call) g ≡ false → begun_by g call response rest ≡ rest
 events_of_others g (Handle event) (Answered reply) rest other = rw other refl
 events_of_others g (Handle event) More rest other = rw other refl
-events_of_others g (Handle event) Busy rest other = refl
-events_of_others g (Handle event) Idle rest other = refl
-events_of_others g (GoOn slot) response rest other = refl
+events_of_others g call response rest other = refl
 
 -- ---- a guest's own moves
 

@@ -230,16 +230,13 @@ module _ {A I : Type 0} (disk : I → Disk) (limit : Option ℕ) (old : PacedSta
         → slice_get old.paused slot ≡ waiting
         → work_in kind waiting ≡ Ok job → Taken job
         → IsPacedCall disk limit old (call_of slot kind) (response_to t) out out' noted
-    took (Begin what) None job is told taken = absurd (cc (told))
     took (Begin what) (Some None) job is told taken =
         let same : job ≡ work.Begin what = cc (told) in
         began what is (subst (λ (w : Work A). Taken w) same taken)
-    took (Begin what) (Some (Some pause)) job is told taken = absurd (cc (told))
-    took Resume None job is told taken = absurd (cc (told))
-    took Resume (Some None) job is told taken = absurd (cc (told))
     took Resume (Some (Some pause)) job is told taken =
         let same : job ≡ work.Resume pause = cc (told) in
         resumed pause is (subst (λ (w : Work A). Taken w) same taken)
+    took kind waiting job is told taken = absurd (cc (told))
 
 -- so where the paced board is told by its parts and by itself
 module _ {A I : Type 0} (disk : I → Disk) (limit : Option ℕ) {parts paced : PacedState I}

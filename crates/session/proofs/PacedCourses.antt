@@ -82,18 +82,12 @@ turned p old call response after t comes = record {
 stepped : {A : Type 0} (p : Option (Option Pause)) (old : SessionState) (call : Call A)
     (response : Response A) (after : SessionState) → ComesTo call p old response after
     → Stepped p old call response after
-stepped None old call response after h =
-    unchanged None old call response after h.1 (h.0, record { same = ap paced_world_of h.1; silent = refl })
 stepped (Some None) old (Handle event) response after h =
     turned (Some None) old (Handle event) response after h.turn (λ move. move)
-stepped (Some (Some pause)) old (Handle event) response after h =
-    unchanged (Some (Some pause)) old (Handle event) response after h.1
-    (h.0, record { same = ap paced_world_of h.1; silent = refl })
-stepped (Some None) old (GoOn slot) response after h =
-    unchanged (Some None) old (GoOn slot) response after h.1
-    (h.0, record { same = ap paced_world_of h.1; silent = refl })
 stepped (Some (Some pause)) old (GoOn slot) response after h =
     turned (Some (Some pause)) old (GoOn slot) response after h (λ move. move)
+stepped p old call response after h =
+    unchanged p old call response after h.1 (h.0, record { same = ap paced_world_of h.1; silent = refl })
 
 -- what it comes to by what is paused
 pub by_pause : {A : Type 0} (old : SessionState) (call : Call A) (response : Response A)

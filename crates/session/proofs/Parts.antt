@@ -3,7 +3,7 @@ use Rattle.std.proofs.Common.{◌≡◌, Bool, true, false, Option, Some, None, 
 use Rattle.std.specs.Prelude.{◌&&◌, ◌||◌, if◌then◌else◌}
 use Rattle.std.proofs.lemmas.Option.{same_Some}
 use Rattle.board.specs.declared.event.EventKind.{EventKind}
-use Rattle.board.specs.declared.event.EventKind.TheVariants.{Read, Write, MemRead, MemWrite, Input, Resize, Restore, Host}
+use Rattle.board.specs.declared.event.EventKind.TheVariants.{Write, Input}
 use Rattle.board.specs.declared.pause.Pause.{Pause}
 use Rattle.board.specs.declared.pause.Service.{Service}
 use Rattle.board.specs.declared.pause.Service.TheVariants.{Block, Receive, Transmit}
@@ -77,17 +77,12 @@ block_task (PutOut byte) pause asks is = absurd (cc (asks))
 
 block_rings : {A : Type 0} (what : EventKind A) (state : SlotState) (pause : Pause)
     → asked_over_image what state ≡ Some pause → pause.service ≡ Block → notifies_block what state ≡ true
-block_rings (Read window offset width) state pause asks is = absurd (cc (asks))
 block_rings (Write window offset width value) state pause asks is =
     block_task (task_at window offset width value state) pause asks is
-block_rings (MemRead addr len) state pause asks is = absurd (cc (asks))
-block_rings (MemWrite addr bytes) state pause asks is = absurd (cc (asks))
 block_rings (Input bytes) state pause asks is =
     let other : Receive ≡ Block = ap (λ (p : Pause). p.service) (same_Some _ pause asks) ∙ is in
     absurd (cc (other))
-block_rings (Resize cols rows) state pause asks is = absurd (cc (asks))
-block_rings (Restore bytes) state pause asks is = absurd (cc (asks))
-block_rings (Host said) state pause asks is = absurd (cc (asks))
+block_rings what state pause asks is = absurd (cc (asks))
 
 -- so the host has no disk that such a service serves
 pub serves_itself : {A : Type 0} (what : EventKind A) (state : SlotState) (pause : Pause)

@@ -86,7 +86,7 @@ module _ (guests : List GuestSpec) (image : List ℕ) (cache : ℕ) (budget : Bu
   abbrev Refused : SessionFault → Type 0
   Refused = IsRefusedFor guests image cache budget
 
-  only_image : (why : SessionFault) → length image % 512 ≢ 0 → Refused why → why ≡ BadImage
+  pub only_image : (why : SessionFault) → length image % 512 ≢ 0 → Refused why → why ≡ BadImage
   only_image BadLoan bad r = absurd r
   only_image BadImage bad r = refl
   only_image BadOutlet bad r = absurd (bad r.0)
@@ -94,7 +94,7 @@ module _ (guests : List GuestSpec) (image : List ℕ) (cache : ℕ) (budget : Bu
   only_image (Board fault) bad r = absurd (bad r.whole)
   only_image NoMemory bad r = absurd (bad r.0)
 
-  only_outlet : (why : SessionFault) → (length image % 512 ≡ 0) × ¬ AreOutlets guests
+  pub only_outlet : (why : SessionFault) → (length image % 512 ≡ 0) × ¬ AreOutlets guests
       → Refused why → why ≡ BadOutlet
   only_outlet BadLoan bad r = absurd r
   only_outlet BadImage bad r = absurd (r bad.0)
@@ -103,7 +103,7 @@ module _ (guests : List GuestSpec) (image : List ℕ) (cache : ℕ) (budget : Bu
   only_outlet (Board fault) bad r = absurd (bad.1 r.outlets)
   only_outlet NoMemory bad r = absurd (bad.1 r.1)
 
-  only_spent : (why : SessionFault) → (length image % 512 ≡ 0) × AreOutlets guests × IsSpent budget
+  pub only_spent : (why : SessionFault) → (length image % 512 ≡ 0) × AreOutlets guests × IsSpent budget
       → Refused why → why ≡ SpentBudget
   only_spent BadLoan bad r = absurd r
   only_spent BadImage bad r = absurd (r bad.0)
@@ -132,11 +132,7 @@ module _ (guests : List GuestSpec) (image : List ℕ) (cache : ℕ) (budget : Bu
 
     pub lent_refused : (why : SessionFault) → Refused why → LentRefused why
     lent_refused BadLoan r = absurd r
-    lent_refused BadImage r = (are, r)
-    lent_refused BadOutlet r = (are, r)
-    lent_refused SpentBudget r = (are, r)
-    lent_refused (Board fault) r = (are, r)
-    lent_refused NoMemory r = (are, r)
+    lent_refused why r = (are, r)
 
     -- what is judged before the board is the first fault
     pub judged_first : (told why : SessionFault) → ¬ IsJudged guests image budget → Refused told

@@ -11,19 +11,15 @@ use Rattle.session.specs.Restoring.{restore_response}
 -- it never pauses, and goes on with nothing
 pub never_more : (A : Type 0) (paused : Option Pause) (r : Result (Unit {0}) RestoreRefusal)
     → restore_response {A = A} paused r ≡ More → ⊥
-never_more A paused (Ok done) is = cc
-never_more A paused (Err refusal.BadSlot) is = cc
 never_more A None (Err refusal.Busy) is = cc
 never_more A (Some pause) (Err refusal.Busy) is = cc
-never_more A paused (Err (refusal.Fault why)) is = cc
+never_more A paused r is = cc
 
 pub never_idle : (A : Type 0) (paused : Option Pause) (r : Result (Unit {0}) RestoreRefusal)
     → restore_response {A = A} paused r ≡ Idle → ⊥
-never_idle A paused (Ok done) is = cc
-never_idle A paused (Err refusal.BadSlot) is = cc
 never_idle A None (Err refusal.Busy) is = cc
 never_idle A (Some pause) (Err refusal.Busy) is = cc
-never_idle A paused (Err (refusal.Fault why)) is = cc
+never_idle A paused r is = cc
 
 -- what is refused keeps the session
 pub busy_keeps : (A : Type 0) (P : Type 0) (paused : Option Pause) (r : Result (Unit {0}) RestoreRefusal)

@@ -9,20 +9,20 @@ use Rattle.sector_cache.specs.Disk.{Disk}
 use Rattle.block_device.specs.declared.extent.Extent.{Extent}
 use Rattle.board.specs.declared.event.Event.{Event}
 use Rattle.board.specs.declared.event.EventKind.{EventKind}
-use Rattle.board.specs.declared.event.EventKind.TheVariants.{Read, Write, MemRead, MemWrite, Input, Resize, Restore, Host}
+use Rattle.board.specs.declared.event.EventKind.TheVariants.{Write, MemRead}
 use Rattle.board.specs.declared.pause.Pause.{Pause}
 use Rattle.board.specs.declared.pause.Turn.{Turn}
 use Rattle.board.specs.declared.pause.Turn.TheVariants as turn
 use Rattle.board.specs.declared.reply.Reply.{Reply}
 use Rattle.board.specs.declared.reply.Reply.TheVariants.{BadSlot, BadRange, NoMemory}
-use Rattle.board.specs.declared.pause.Service.TheVariants.{Block, Receive, Transmit}
+use Rattle.board.specs.declared.pause.Service.TheVariants.{Transmit}
 use Rattle.board.specs.Extent.{outside_of}
 use Rattle.board.specs.Image.{Health, bytes_of}
 use Rattle.board.specs.Machine.{task_at, with_write}
 use Rattle.board.specs.Pausing.{Begins, GoesOn, HasLimit}
 use Rattle.board.specs.Slot.{SlotState, BoardSlot, state_of}
 use Rattle.board.specs.declared.task.Task.{Task}
-use Rattle.board.specs.declared.task.Task.TheVariants.{Nothing, Serve, PutOut}
+use Rattle.board.specs.declared.task.Task.TheVariants.{Serve, PutOut}
 use Rattle.board.specs.World.{World, Answers, KeepsOthers, MayLackMemory, TakesMemory, extents_of}
 use Rattle.board.specs.Within.{BeginsWithin, GoesOnWithin, IsPuttingOut, MayPutOut, TakesWithin}
 use Rattle.board.proofs.Answered.{ended_within, handled}
@@ -96,23 +96,16 @@ shown_back (s ∷ slots) bytes zero state here = (s, refl, same_Some (state_of b
 shown_back (s ∷ slots) bytes (suc h) state here = shown_back slots bytes h state here
 
 task_puts : (task : Task) (state : SlotState) → TakesMemory task state → IsPuttingOut task
-task_puts Nothing state h = h
-task_puts (Serve Block) state h = h
-task_puts (Serve Receive) state h = h
 task_puts (Serve Transmit) state h = tt
 task_puts (PutOut byte) state h = tt
+task_puts task state h = h
 
 pub lacks_puts : {A : Type 0} (state : SlotState) (what : EventKind A) → HasNoRead what → MayLackMemory state what
     → MayPutOut state what
-lacks_puts state (Read window offset width) why h = h
 lacks_puts state (Write window offset width value) why h =
     task_puts (task_at window offset width value state) (with_write window offset width value state) h
 lacks_puts state (MemRead addr len) why h = absurd why
-lacks_puts state (MemWrite addr bytes) why h = h
-lacks_puts state (Input bytes) why h = h
-lacks_puts state (Resize cols rows) why h = h
-lacks_puts state (Restore bytes) why h = h
-lacks_puts state (Host said) why h = h
+lacks_puts state what why h = h
 
 lacks_at : {A : Type 0} (o : Option BoardSlot) (image : List ℕ) (slot : BoardSlot) (what : EventKind A)
     → o ≡ Some slot → IsSomeAnd o (λ s. (bytes : List ℕ) → MayLackMemory (state_of bytes s) what)
@@ -366,9 +359,7 @@ module _ (A : Type 0) (slots slots' : List BoardSlot) (image image' : List ℕ) 
           λ past. cc (missing.1 past),
         ) (λ is. range (ap (λ (a : Reply A). Answered a) is))
         (λ is. memory (ap (λ (a : Reply A). Answered a) is)) as_many
-    whole More no_read r decided missing range memory as_many = tt
-    whole Busy no_read r decided missing range memory as_many = tt
-    whole Idle no_read r decided missing range memory as_many = tt
+    whole response no_read r decided missing range memory as_many = tt
 
     -- ---- and its response is one of those that it may get
 

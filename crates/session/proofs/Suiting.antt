@@ -1,27 +1,22 @@
 -- Which replies an event may get, and what it then puts out.
-use Rattle.std.proofs.Common.{◌≡◌, inl, inr, ℕ, Bool, true, false, get_or, List, [], ◌++◌, Option, Some, None, refl, sym, ◌∙◌, ap, subst, append-nil}
+use Rattle.std.proofs.Common.{◌≡◌, inl, inr, ℕ, Bool, true, false, List, [], ◌++◌, Option, Some, None, refl, sym, ◌∙◌, ap, subst, append-nil}
 use Rattle.std.specs.Prelude.{MatchOption}
 use Rattle.std.specs.List.{slice_get}
 use Rattle.chain.specs.declared.budget.Budget.{Budget}
 use Rattle.board.specs.declared.event.Event.{Event}
 use Rattle.board.specs.declared.event.EventKind.{EventKind}
-use Rattle.board.specs.declared.event.EventKind.TheVariants.{Read, Write, MemRead, MemWrite, Input, Resize, Restore, Host}
-use Rattle.board.specs.declared.event.HostEvent.{HostEvent}
-use Rattle.board.specs.declared.event.HostEvent.TheVariants.{Complete, Drop, Hold, Release}
+use Rattle.board.specs.declared.event.EventKind.TheVariants.{Write, MemRead, MemWrite, Input, Host}
 use Rattle.board.specs.declared.pause.Turn.{Turn}
 use Rattle.board.specs.declared.pause.Turn.TheVariants as turn
 use Rattle.board.specs.declared.reply.Reply.{Reply}
-use Rattle.board.specs.declared.reply.Reply.TheVariants.{Done, Bytes, BadSlot, BadRange, NoMemory}
+use Rattle.board.specs.declared.reply.Reply.TheVariants.{BadSlot, BadRange}
 use Rattle.board.specs.declared.reply.Record.{Record}
 use Rattle.board.specs.Image.{Health}
-use Rattle.board.specs.declared.reply.Reply.TheVariants as reply
 use Rattle.board.specs.Outcome.{Outcome}
 use Rattle.board.specs.Replies.{MayReply}
 use Rattle.board.specs.declared.pause.Pause.{Pause}
-use Rattle.block_device.specs.declared.operation.Verdict.{Verdict}
-use Rattle.block_device.specs.Flights.{InFlight, is_any}
-use Rattle.board.specs.Backing.{HostDisk, tags_in}
-use Rattle.board.specs.Hosting.{CompletionGives, DropGives, HoldGives, HostGives, HostOrGives, LooksOrGives, OwnGives, ReleaseGives, notifies_block, told_in, waits_now}
+use Rattle.board.specs.Backing.{HostDisk}
+use Rattle.board.specs.Hosting.{LooksOrGives, OwnGives, notifies_block, waits_now}
 use Rattle.board.specs.Pausing.{Begins, TurnsTo, asked, asked_over_image}
 use Rattle.board.specs.Slot.{SlotState}
 use Rattle.board.specs.World.{World, Answers, MayGive, MayGiveBy, MayGiveOverImage, MissingStep, SlotStep}
@@ -34,16 +29,8 @@ use Rattle.session.proofs.Parts.{asks_nothing}
 -- ---- which replies an event may get
 
 may_suit : {A : Type 0} (what : EventKind A) (r : Reply A) → MayReply what r → Suits what r
-may_suit what (reply.Value value) may = may
-may_suit what reply.Done may = may
-may_suit what (reply.Bytes bytes) may = may
-may_suit what (reply.Took taken) may = may
 may_suit what BadSlot may = tt
-may_suit what BadRange may = may
-may_suit what reply.BadState may = may
-may_suit what reply.NoMemory may = may
-may_suit what reply.Busy may = may
-may_suit what reply.Idle may = may
+may_suit what r may = may
 
 pub given_suits : {A : Type 0} (state : SlotState) (what : EventKind A) (old new : Health)
     (outcome : Outcome A) → MayGive state what old new outcome → Suits what outcome.reply
@@ -74,8 +61,6 @@ suits {A} {old} {event} {reply} {before} {after} {new} answers =
 silent_over_image : {A : Type 0} (state : SlotState) (what : EventKind A) (old new : Health)
     (outcome : Outcome A)
     → MayReply what BadRange → MayGiveOverImage state what old new outcome → outcome.output ≡ []
-silent_over_image state (Read window offset width) old new outcome may h = absurd may
-silent_over_image state (Write window offset width value) old new outcome may h = absurd may
 silent_over_image {A} state (MemRead addr len) old new outcome may (inl served) =
     of_read (λ (o : Outcome A). o.output ≡ []) state addr len outcome served.alike.alike refl refl
 silent_over_image {A} state (MemRead addr len) old new outcome may (inr unread) =
@@ -83,10 +68,7 @@ silent_over_image {A} state (MemRead addr len) old new outcome may (inr unread) 
 silent_over_image {A} state (MemWrite addr bytes) old new outcome may (inl served) =
     of_write (λ (o : Outcome A). o.output ≡ []) state addr bytes outcome served.alike.alike refl refl
 silent_over_image state (MemWrite addr bytes) old new outcome may (inr never) = absurd never
-silent_over_image state (Input bytes) old new outcome may h = absurd may
-silent_over_image state (Resize cols rows) old new outcome may h = absurd may
-silent_over_image state (Restore bytes) old new outcome may h = absurd may
-silent_over_image state (Host said) old new outcome may h = absurd may
+silent_over_image state what old new outcome may h = absurd may
 
 module _ {A : Type 0} (Beside : Outcome A → Type 0) (state : SlotState) (what : EventKind A)
     (outcome : Outcome A) (silent : Beside outcome → outcome.output ≡ []) where
@@ -98,42 +80,14 @@ module _ {A : Type 0} (Beside : Outcome A → Type 0) (state : SlotState) (what 
   silent_own true h = ap (λ (o : Outcome A). o.output) h
   silent_own false h = silent_looks (notifies_block what state) h
 
-  silent_completion : (flight : Option InFlight) (tag : ℕ) (verdict : Verdict)
-      → CompletionGives flight tag verdict state outcome → outcome.output ≡ []
-  silent_completion None tag verdict h = ap (λ (o : Outcome A). o.output) h
-  silent_completion (Some here) tag verdict h = ap (λ (o : Outcome A). o.output) h.1
-
-  silent_drop : (any : Bool) → DropGives any state outcome → outcome.output ≡ []
-  silent_drop false h = ap (λ (o : Outcome A). o.output) h
-  silent_drop true h = ap (λ (o : Outcome A). o.output) h
-
-  silent_hold : (on_hold : Bool) → HoldGives on_hold state outcome → outcome.output ≡ []
-  silent_hold false h = ap (λ (o : Outcome A). o.output) h
-  silent_hold true h = ap (λ (o : Outcome A). o.output) h
-
-  silent_release : (on_hold : Bool) → ReleaseGives on_hold state outcome → outcome.output ≡ []
-  silent_release false h = ap (λ (o : Outcome A). o.output) h
-  silent_release true h = ap (λ (o : Outcome A). o.output) h.1
-
-  silent_said : (said : HostEvent) → HostGives said state outcome → outcome.output ≡ []
-  silent_said (Complete tag verdict) h =
-      silent_completion (get_or (tags_in state.host) tag None) tag verdict h
-  silent_said Drop h = silent_drop (is_any (tags_in state.host)) h
-  silent_said Hold h = silent_hold state.on_hold h
-  silent_said Release h = silent_release state.on_hold h
-
-  silent_on_host : (said : Option HostEvent) → HostOrGives Beside said state what outcome
-      → outcome.output ≡ []
-  silent_on_host None h = silent_own (waits_now what state.host) h
-  silent_on_host (Some said) h = silent_said said h
-
 silent_by : {A : Type 0} (host : Option HostDisk) (state : SlotState) (what : EventKind A) (old new : Health)
     (outcome : Outcome A) → MayReply what BadRange → MayGiveBy host state what old new outcome
     → outcome.output ≡ []
 silent_by None state what old new outcome may h = silent_over_image state what old new outcome may h
+silent_by (Some disk) state (Host said) old new outcome may h = absurd may
 silent_by {A} (Some disk) state what old new outcome may h =
-    silent_on_host (λ (o : Outcome A). MayGiveOverImage state what old old o) state what outcome
-    (silent_over_image state what old old outcome may) (told_in what) h.gives
+    silent_own (λ (o : Outcome A). MayGiveOverImage state what old old o) state what outcome
+    (silent_over_image state what old old outcome may) (waits_now what state.host) h.gives
 
 given_silent : {A : Type 0} (state : SlotState) (what : EventKind A) (old new : Health) (outcome : Outcome A)
     → MayReply what BadRange → MayGive state what old new outcome → outcome.output ≡ []
@@ -177,19 +131,9 @@ asks_none what budget state before after new output pause none h =
 pub paused_suits : {A : Type 0} (what : EventKind A) (budget : Budget) (state : SlotState)
     (before after : Health) (new : SlotState) (output : List ℕ) (t : Turn A) → More ≡ response_to t
     → Begins what budget state before after new output t → SuitsCall what More
-paused_suits what budget state before after new output (turn.Answered reply) told h = absurd (cc (told))
-paused_suits (Read window offset width) budget state before after new output (turn.More pause) told h =
-    asks_none (Read window offset width) budget state before after new output pause refl h
 paused_suits (Write window offset width value) budget state before after new output (turn.More pause) told h =
     tt
-paused_suits (MemRead addr len) budget state before after new output (turn.More pause) told h =
-    asks_none (MemRead addr len) budget state before after new output pause refl h
-paused_suits (MemWrite addr bytes) budget state before after new output (turn.More pause) told h =
-    asks_none (MemWrite addr bytes) budget state before after new output pause refl h
 paused_suits (Input bytes) budget state before after new output (turn.More pause) told h = tt
-paused_suits (Resize cols rows) budget state before after new output (turn.More pause) told h =
-    asks_none (Resize cols rows) budget state before after new output pause refl h
-paused_suits (Restore bytes) budget state before after new output (turn.More pause) told h =
-    asks_none (Restore bytes) budget state before after new output pause refl h
-paused_suits (Host said) budget state before after new output (turn.More pause) told h =
-    asks_none (Host said) budget state before after new output pause refl h
+paused_suits what budget state before after new output (turn.Answered reply) told h = absurd (cc (told))
+paused_suits what budget state before after new output (turn.More pause) told h =
+    asks_none what budget state before after new output pause refl h

@@ -30,7 +30,7 @@ use Rattle.board.proofs.Seats.{extents_of-set}
 use Rattle.board.proofs.Untouched.{task_over, touches_over, write_over}
 use Rattle.board.proofs.UntouchedSteps as board
 use Rattle.session.specs.declared.response.Response.{Response}
-use Rattle.session.specs.declared.response.Response.TheVariants.{Answered, More, Busy, Idle}
+use Rattle.session.specs.declared.response.Response.TheVariants.{Answered, More}
 use Rattle.session.specs.Pacing.{Handle, response_to}
 use Rattle.session.specs.Pausing.{ComesTo, IsBegun, IsEventCall, IsWhole}
 use Rattle.session.specs.Session.{IsStep, SessionState, output_of, with_memory, with_slot_bytes, world_of}
@@ -214,9 +214,7 @@ module _ {A : Type 0} (old new : SessionState) (event : Event A) (found after : 
 
   whole_over : (response : Response A) → IsWhole old event response new → IsWhole was event response now
   whole_over (Answered reply) h = step_over reply h
-  whole_over More h = tt
-  whole_over Busy h = tt
-  whole_over Idle h = tt
+  whole_over response h = tt
 
   begun_over : (response : Response A) → slice_get old.paused event.slot ≡ Some None
       → IsBegun event old response new → IsWhole old event response new
@@ -242,10 +240,8 @@ module _ {A : Type 0} (old new : SessionState) (event : Event A) (found after : 
   comes_over : (paused : Option (Option Pause)) (response : Response A) → slice_get old.paused event.slot ≡ paused
       → ComesTo (Handle event) paused old response new → IsWhole old event response new
       → (after.memory ≡ found.memory) × ComesTo (Handle event) paused was response now
-  comes_over None response is h whole = (ap (λ (b : BoardSlot). b.memory) (stands h.1), (h.0, kept h.1))
   comes_over (Some None) response is h whole = begun_over response is h whole
-  comes_over (Some (Some pause)) response is h whole =
-      (ap (λ (b : BoardSlot). b.memory) (stands h.1), (h.0, kept h.1))
+  comes_over paused response is h whole = (ap (λ (b : BoardSlot). b.memory) (stands h.1), (h.0, kept h.1))
 
 pub call_over : {A : Type 0} (old new : SessionState) (slot : ℕ) (what : EventKind A) (response : Response A)
     (found after : BoardSlot) (m : Memory) → slice_get old.slots slot ≡ Some found

@@ -1,5 +1,5 @@
 -- What waits of each slot's output, where that of one slot changes.
-use Rattle.std.proofs.Common.{◌≡◌, ◌≢◌, ℕ, zero, suc, ◌<◌, List, [], ◌∷◌, length, Option, Some, refl, sym, ap, arith}
+use Rattle.std.proofs.Common.{◌≡◌, ◌≢◌, ℕ, zero, suc, ◌<◌, List, ◌∷◌, length, Option, Some, refl, sym, ap, arith}
 use Rattle.std.specs.Prelude.{slice_set, unwrap_or}
 use Rattle.std.specs.List.{slice_get}
 use Rattle.std.proofs.lemmas.List.{length-set, get_or-set_same}
@@ -23,13 +23,11 @@ pub limits_set : (outputs : List Waiting) (h : ℕ) (before after : Waiting) →
     → after.limit ≡ before.limit → (slot : ℕ) →
     (unwrap_or (slice_get (slice_set outputs h after) slot) (none_waiting 0)).limit
     ≡ (unwrap_or (slice_get outputs slot) (none_waiting 0)).limit
-limits_set [] h before after here same slot = refl
 limits_set (o ∷ outputs) zero before after here same zero = let is : o ≡ before =
     same_Some o before here in rw is same
-limits_set (o ∷ outputs) zero before after here same (suc slot) = refl
-limits_set (o ∷ outputs) (suc h) before after here same zero = refl
 limits_set (o ∷ outputs) (suc h) before after here same (suc slot) =
     limits_set outputs h before after here same slot
+limits_set outputs h before after here same slot = refl
 
 rebuilt : (l k : List ℕ) (m n : ℕ) → l ≡ k → m ≡ n
     → ◌≡◌ {A = Waiting} (record { bytes = l; limit = m }) (record { bytes = k; limit = n })

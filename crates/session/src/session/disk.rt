@@ -63,11 +63,7 @@ impl<A: Allocator + Copy> Session<A> {
             (IsIdle slot self.old × HasNothing slot HostEvent.Drop self.old.slots) }
         ensures waits { result.waits ≡ waits_at slot self.new }
     {
-        let Turned { response, waits } = self.host_event(slot, HostEvent::Drop);
-        Told {
-            answer: served(response, false),
-            waits,
-        }
+        self.say(slot, HostEvent::Drop)
     }
 
     /// Has no further chain of a slot's disk taken until `release`. What is in flight is completed as ever. It is refused for a
@@ -82,11 +78,7 @@ impl<A: Allocator + Copy> Session<A> {
             (IsIdle slot self.old × HasNothing slot HostEvent.Hold self.old.slots) }
         ensures waits { result.waits ≡ waits_at slot self.new }
     {
-        let Turned { response, waits } = self.host_event(slot, HostEvent::Hold);
-        Told {
-            answer: served(response, false),
-            waits,
-        }
+        self.say(slot, HostEvent::Hold)
     }
 
     /// Has chains of a slot's disk taken again: the device looks at its queue, and operations may begin. It is refused for a bad
@@ -112,7 +104,25 @@ impl<A: Allocator + Copy> Session<A> {
         }
     }
 
-    // The host says this of the disk that it serves a slot.
+    // The host says this of the disk that it serves a slot, with which no operation begins.
+    fn say(&mut self, slot: u8, told: HostEvent) -> Told<Progress>
+        ensures call { IsToldCall {A = A} self.old slot (EventKind.Host told)
+            (Means served_response result.answer) self.new }
+        ensures never_asks { IfOk result.answer (λ progress. progress ≢ Progress.Asks) }
+        ensures bad_slot { IsErrOf result.answer Refusal.BadSlot ↔ (length self.old.slots ≤ slot) }
+        ensures busy { IsErrOf result.answer Refusal.Busy ↔ ¬ IsIdle slot self.old }
+        ensures idle { IsErrOf result.answer Refusal.Idle ↔
+            (IsIdle slot self.old × HasNothing slot told self.old.slots) }
+        ensures waits { result.waits ≡ waits_at slot self.new }
+    {
+        let Turned { response, waits } = self.host_event(slot, told);
+        Told {
+            answer: served(response, false),
+            waits,
+        }
+    }
+
+    // The event of that.
     #[inline(always)]
     fn host_event(&mut self, slot: u8, told: HostEvent) -> Turned<A>
         ensures call { IsEventCall {A = A} self.old slot (EventKind.Host told) result.response self.new }

@@ -2,7 +2,7 @@
 use Rattle.board.specs.declared.event.HostEvent.TheVariants.{Release}
 use Rattle.session.specs.Operations.{HasAsked, in_flight_at}
 use Rattle.session.proofs.Asking.{asked_where, asks_where}
-use Rattle.session.proofs.Exact.{host_refuses}
+use Rattle.session.proofs.Exact.{HostRefuses, host_refuses}
 use Rattle.session.proofs.session.Session.release.Goals as goal
 
 pub returns-clause-asks : goal.returns-clause-asks
@@ -17,23 +17,17 @@ returns-clause-asks g c =
     c.in_flight-after.ensures c.has_asked-asks.ensures)
     (λ more asks. absurd (rw more at said.ensures.suits))
 
-pub returns-clause-bad_slot : goal.returns-clause-bad_slot
-returns-clause-bad_slot g c =
+says : (g : _) (c : goal.After-served g) → HostRefuses c.args.self.now c.args.slot Release c.served.result
+says g c =
     let said = c.host_event-response in
-    let says = host_refuses c.args.self.now said.new.self c.args.slot Release said.result.response
-    c.served.result c.served.ensures.told said.ensures.as_many said.ensures.call in
-    says.bad_slot
+    host_refuses c.args.self.now said.new.self c.args.slot Release said.result.response
+    c.served.result c.served.ensures.told said.ensures.as_many said.ensures.call
+
+pub returns-clause-bad_slot : goal.returns-clause-bad_slot
+returns-clause-bad_slot g c = (says g c).bad_slot
 
 pub returns-clause-busy : goal.returns-clause-busy
-returns-clause-busy g c =
-    let said = c.host_event-response in
-    let says = host_refuses c.args.self.now said.new.self c.args.slot Release said.result.response
-    c.served.result c.served.ensures.told said.ensures.as_many said.ensures.call in
-    says.busy
+returns-clause-busy g c = (says g c).busy
 
 pub returns-clause-idle : goal.returns-clause-idle
-returns-clause-idle g c =
-    let said = c.host_event-response in
-    let says = host_refuses c.args.self.now said.new.self c.args.slot Release said.result.response
-    c.served.result c.served.ensures.told said.ensures.as_many said.ensures.call in
-    says.idle
+returns-clause-idle g c = (says g c).idle

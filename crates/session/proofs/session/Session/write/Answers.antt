@@ -3,7 +3,7 @@ use Rattle.board.specs.declared.event.EventKind.TheVariants.{Write}
 use Rattle.session.specs.Answering.{served_response}
 use Rattle.session.specs.Operations.{HasAsked, in_flight_at}
 use Rattle.session.proofs.Asking.{asked_where, asks_where, pausing_asks}
-use Rattle.session.proofs.Exact.{refuses, served_pure}
+use Rattle.session.proofs.Exact.{Refuses, refuses, served_pure}
 use Rattle.session.proofs.session.Session.write.Goals as goal
 
 pub returns-clause-asks : goal.returns-clause-asks
@@ -19,29 +19,21 @@ returns-clause-asks g c =
     (pausing_asks old new c.args.slot
     (Write c.args.window c.args.offset c.args.width c.args.value) turn.result.response turn.ensures.call)
 
-pub returns-clause-bad_slot : goal.returns-clause-bad_slot
-returns-clause-bad_slot g c =
+says : (g : _) (c : goal.Joined-what g)
+    → Refuses {A = g.row.A.Denot} c.args.self.now c.args.slot
+    (Write c.args.window c.args.offset c.args.width c.args.value) c.served.result
+says g c =
     let turn = c.turn-response in
-    let says = refuses c.args.self.now turn.new.self c.args.slot
+    refuses c.args.self.now turn.new.self c.args.slot
     (Write c.args.window c.args.offset c.args.width c.args.value) turn.result.response served_response
     c.served.result (served_pure _) c.served.ensures.told turn.ensures.as_many
-    (record { turn = turn.ensures.call; whole = turn.ensures.whole }) in
-    says.bad_slot
+    (record { turn = turn.ensures.call; whole = turn.ensures.whole })
+
+pub returns-clause-bad_slot : goal.returns-clause-bad_slot
+returns-clause-bad_slot g c = (says g c).bad_slot
 
 pub returns-clause-busy : goal.returns-clause-busy
-returns-clause-busy g c =
-    let turn = c.turn-response in
-    let says = refuses c.args.self.now turn.new.self c.args.slot
-    (Write c.args.window c.args.offset c.args.width c.args.value) turn.result.response served_response
-    c.served.result (served_pure _) c.served.ensures.told turn.ensures.as_many
-    (record { turn = turn.ensures.call; whole = turn.ensures.whole }) in
-    says.busy
+returns-clause-busy g c = (says g c).busy
 
 pub returns-clause-no_room : goal.returns-clause-no_room
-returns-clause-no_room g c =
-    let turn = c.turn-response in
-    let says = refuses c.args.self.now turn.new.self c.args.slot
-    (Write c.args.window c.args.offset c.args.width c.args.value) turn.result.response served_response
-    c.served.result (served_pure _) c.served.ensures.told turn.ensures.as_many
-    (record { turn = turn.ensures.call; whole = turn.ensures.whole }) in
-    λ is. says.no_room is tt
+returns-clause-no_room g c = λ is. (says g c).no_room is tt
