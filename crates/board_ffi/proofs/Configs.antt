@@ -5,11 +5,10 @@ use Rattle.chain.specs.declared.budget.Budget.{Budget}
 use Rattle.chain.specs.Budget.{IsSpent}
 use Rattle.guest_bytes.specs.declared.loan.Loan.{Loan}
 use Rattle.guest_memory.specs.declared.fault.MemoryFault.TheVariants as memory
-use Rattle.sector_cache.specs.declared.fault.CacheFault.TheVariants.{BadCapacity}
 use Rattle.sector_cache.specs.declared.fault.CacheFault.TheVariants as cache
 use Rattle.board.specs.declared.fault.BoardFault.{BoardFault}
-use Rattle.board.specs.declared.fault.BoardFault.TheVariants.{NoSlots, TooManySlots, Slot, Cache}
-use Rattle.board.specs.declared.fault.SlotFault.TheVariants.{Memory, ExtentOutside, ExtentsOverlap, BadDepth}
+use Rattle.board.specs.declared.fault.BoardFault.TheVariants.{Slot, Cache}
+use Rattle.board.specs.declared.fault.SlotFault.TheVariants.{Memory}
 use Rattle.board.specs.declared.spec.SlotSpec.{SlotSpec}
 use Rattle.board.specs.Fault.{IsAccepted, Refuses}
 use Rattle.board.specs.Lent.{AreBytesOf}
@@ -19,7 +18,7 @@ use Rattle.session.specs.declared.fault.SessionFault.TheVariants.{BadLoan, BadIm
 use Rattle.session.specs.declared.guest.GuestSpec.{GuestSpec}
 use Rattle.session.specs.Session.{new_session, new_session_over, slots_of}
 use Rattle.session.specs.Refusing.{AreOutlets, IsLentRefusedFor, IsRefusedFor}
-use Rattle.session.proofs.Refusals.{lent_refused}
+use Rattle.session.proofs.Refusals.{lent_refused, only_image, only_outlet, only_spent}
 use Rattle.board_ffi.specs.declared.config.Config.{Config}
 use Rattle.board_ffi.specs.declared.config.ToldConfig.{ToldConfig}
 use Rattle.board_ffi.specs.Config.{AreLent, AreSized, Describes, IsGood, IsRefused, IsSized, IsVerdict, RefusedBy, Verdict, OtherSize, Good, Bad, budget_of, config_size, guests_of, lent_bytes, lens_of, limit_of, new_by, told_lens, verdict_code}
@@ -33,33 +32,18 @@ module _ (guests : List GuestSpec) (image : List ℕ) (cache : ℕ) (budget : Bu
 
   one : (told why : SessionFault) → Refused told → Refused why → why ≢ NoMemory
       → (told ≡ why) ⊎ (told ≡ NoMemory)
-  one NoMemory why t w other = inr refl
-  one BadLoan why t w other = absurd t
-  one BadImage BadLoan t w other = absurd w
-  one BadImage BadImage t w other = inl refl
-  one BadImage BadOutlet t w other = absurd (t w.0)
-  one BadImage SpentBudget t w other = absurd (t w.0)
+  one told BadLoan t w other = absurd w
+  one told BadImage t w other = inl (only_image guests image cache budget told w t)
+  one told BadOutlet t w other = inl (only_outlet guests image cache budget told w t)
+  one told SpentBudget t w other = inl (only_spent guests image cache budget told w t)
+  one told NoMemory t w other = absurd (other refl)
+  one BadLoan (Board fault) t w other = absurd t
   one BadImage (Board fault) t w other = absurd (t w.whole)
-  one BadImage NoMemory t w other = absurd (other refl)
-  one BadOutlet BadLoan t w other = absurd w
-  one BadOutlet BadImage t w other = absurd (w t.0)
-  one BadOutlet BadOutlet t w other = inl refl
-  one BadOutlet SpentBudget t w other = absurd (t.1 w.1)
   one BadOutlet (Board fault) t w other = absurd (t.1 w.outlets)
-  one BadOutlet NoMemory t w other = absurd (other refl)
-  one SpentBudget BadLoan t w other = absurd w
-  one SpentBudget BadImage t w other = absurd (w t.0)
-  one SpentBudget BadOutlet t w other = absurd (w.1 t.1)
-  one SpentBudget SpentBudget t w other = inl refl
   one SpentBudget (Board fault) t w other = absurd (w.lasts t.2)
-  one SpentBudget NoMemory t w other = absurd (other refl)
-  one (Board fault) BadLoan t w other = absurd w
-  one (Board fault) BadImage t w other = absurd (w t.whole)
-  one (Board fault) BadOutlet t w other = absurd (w.1 t.outlets)
-  one (Board fault) SpentBudget t w other = absurd (t.lasts w.2)
   one (Board fault) (Board another) t w other =
       inl (ap Board (one_fault (length image / 512) (slots_of guests) cache fault another t.refused w.refused))
-  one (Board fault) NoMemory t w other = absurd (other refl)
+  one NoMemory (Board fault) t w other = inr refl
 
   -- what can be had is refused for want of memory alone
   fine : length image % 512 ≡ 0 → AreOutlets guests → IsAccepted (length image / 512) (slots_of guests) cache
@@ -82,11 +66,7 @@ module _ (guests : List GuestSpec) (image : List ℕ) (cache : ℕ) (budget : Bu
 
     parted : (why : SessionFault) → Lent why → ((why ≡ BadLoan) × ¬ Are) ⊎ (Are × Refused why)
     parted BadLoan r = inl (refl, r)
-    parted BadImage r = inr r
-    parted BadOutlet r = inr r
-    parted SpentBudget r = inr r
-    parted (Board fault) r = inr r
-    parted NoMemory r = inr r
+    parted why r = inr r
 
     of_two : (told why : SessionFault) → ((told ≡ BadLoan) × ¬ Are) ⊎ (Are × Refused told)
         → ((why ≡ BadLoan) × ¬ Are) ⊎ (Are × Refused why) → why ≢ NoMemory
@@ -200,10 +180,6 @@ module _ (guests : List GuestSpec) (image : List ℕ) (cache : ℕ) (budget : Bu
   refused_lent [] why some r = absurd (some refl)
   refused_lent (loan ∷ loans) why some r = r
 
-pub own_lent : (guests : List GuestSpec) (loans : List Loan) → loans ≡ [] → AreLent guests (lens_of loans)
-own_lent guests [] is = inl refl
-own_lent guests (loan ∷ loans) is = absurd (cc (is))
-
 -- what can be had may lack memory
 pub good_wants : (config : Config) → IsGood config → IsRefused config NoMemory
 good_wants config good =
@@ -213,19 +189,10 @@ good_wants config good =
 -- no board's fault that stands whatever the cache is want of memory
 pub no_want : (sectors : ℕ) (slots : List SlotSpec) (fault : BoardFault)
     → ((cache : ℕ) → Refuses sectors slots cache fault) → board_code fault ≢ 5
-no_want sectors slots NoSlots refused want = absurd (cc)
-no_want sectors slots TooManySlots refused want = absurd (cc)
-no_want sectors slots (Cache BadCapacity) refused want = absurd (cc)
 no_want sectors slots (Cache cache.NoMemory) refused want = absurd (cc (refused 0).1.1)
 no_want sectors slots BoardFault.NoMemory refused want = omega (arith, (refused 0).1.0)
-no_want sectors slots (Slot number ExtentOutside) refused want = absurd (cc)
-no_want sectors slots (Slot number ExtentsOverlap) refused want = absurd (cc)
-no_want sectors slots (Slot number BadDepth) refused want = absurd (cc)
-no_want sectors slots (Slot number (Memory place memory.NoRegions)) refused want = absurd (cc)
-no_want sectors slots (Slot number (Memory place memory.BadSize)) refused want = absurd (cc)
-no_want sectors slots (Slot number (Memory place memory.BadBase)) refused want = absurd (cc)
-no_want sectors slots (Slot number (Memory place memory.NotApart)) refused want = absurd (cc)
 no_want sectors slots (Slot number (Memory place memory.NoMemory)) refused want = (refused 0).fault_is
+no_want sectors slots fault refused want = absurd (cc)
 
 -- ---- of a config that is told
 

@@ -9,4 +9,4 @@ abbrev pub invariant-loop-slot : goal.invariant-loop-slot
 invariant-loop-slot l =
     (l.next ≤ length l.loans)
     × ((told_lens l.loans ≡ wanted l.slots)
-    ↔ (told_lens (drop l.next l.loans) ≡ wanted (drop l.slot-index l.slots)))
+    ↔ (drop l.next (told_lens l.loans) ≡ wanted (drop l.slot-index l.slots)))

@@ -1,6 +1,8 @@
 use Rattle.std.proofs.Common.{length, take, sym, ap, ◌∙◌}
 use Rattle.std.proofs.lemmas.List.{get_or-take}
-use Rattle.board_ffi.proofs.Lengths.{same_at}
+use Rattle.std.proofs.Math.ListN.{get_or-map}
+use Rattle.session.proofs.Loans.{same_at}
+use Rattle.board_ffi.specs.Config.{told_lens}
 use Rattle.board_ffi.proofs.loans.begin_as_long.Goals as goal
 
 pub returns-then-loans-place : goal.returns-then-loans-place
@@ -11,5 +13,6 @@ returns-then-loans-place c =
       λ t. absurd (cc (t)),
       λ same. absurd (c.if-loans-place.true
           (ap (λ loan. loan.len) (sym (get_or-take (length regions) loans place _ c.loop-place-test.true))
-          ∙ same_at (take (length regions) loans) regions place _ _ same c.loop-place-test.true)),
+          ∙ sym (get_or-map (λ loan. loan.len) (take (length regions) loans) place _)
+          ∙ same_at (told_lens (take (length regions) loans)) regions place _ _ same c.loop-place-test.true)),
     )

@@ -1,6 +1,6 @@
 -- the loans before this place are as long as the regions before it
 use Rattle.std.proofs.Common.{◌≡◌, take}
-use Rattle.board_ffi.proofs.Lengths.{lens}
+use Rattle.session.proofs.Loans.{lens}
 use Rattle.board_ffi.specs.Config.{told_lens}
 use Rattle.board_ffi.proofs.loans.begin_as_long.Given as goal
 
