@@ -89,10 +89,8 @@ module _ (format : Format) (text : List ℕ) (k : ℕ) (g : Good format text k) 
       (same_format format v text g.names names) (g.word le)
   good_passes kind.Order = λ end. g.order
   good_passes kind.Fields = λ end. good_counted
-  good_passes kind.Number = λ end. good_parsed kind.Number
-  good_passes kind.Choice = λ end. good_parsed kind.Choice
-  good_passes kind.Bytes = λ end. good_parsed kind.Bytes
   good_passes kind.NoMemory = tt
+  good_passes fault = λ end. good_parsed fault
 
 abbrev pub IsSlotLine : Format → List ℕ → Type 0
 IsSlotLine format l = Entered format l Slot

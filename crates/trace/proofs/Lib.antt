@@ -24,4 +24,6 @@ pub mod RecordLines
 pub mod Sending
 pub mod Passing
 pub mod EventLines
+pub mod TrustedFields
+pub mod TrustedNumbers
 pub mod Trusting

@@ -118,14 +118,8 @@ pub put_cold : (a b c : Option (List ℕ)) (s s' t t' k k' ok : Bool) (x x' y y'
     → ((if t then None else Some y) ≡ Some []) ⊎ ((if t then None else Some y) ≡ None) → t ≡ false
     → k' ≡ false → y' ≡ (if k' then y ++ bytes else y) → OnTrue ok (Appends b c bytes)
     → AppendsFront b c bytes → Sends a c (if s then None else Some x) bytes (if not ok then None else Some y')
-put_cold a b c true s' t t' k k' ok x x' y y' bytes e p q r first empty stopped p' q' whole front = absurd cc
-put_cold a b c false s' true t' k k' ok x x' y y' bytes e p q r first empty stopped p' q' whole front =
-    absurd cc
-put_cold a b c false s' false t' true k' ok x x' y y' bytes e p q r first empty stopped p' q' whole front =
-    absurd cc
-put_cold a b c false s' false t' false true ok x x' y y' bytes e p q r first empty stopped p' q' whole front =
-    absurd cc
 put_cold a b c false s' false t' false false ok x x' y y' bytes e p q r first empty stopped
     p' q' whole front =
     put_past a b c (Some x) ok bytes y' (let none = empty_is false y refl empty in
     rw (r, q, none) at first) (q' ∙ empty_is false y refl empty) whole front
+put_cold a b c s s' t t' k k' ok x x' y y' bytes e p q r first empty stopped p' q' whole front = absurd cc

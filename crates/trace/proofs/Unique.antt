@@ -241,10 +241,8 @@ other_said : {A : Type 0} (m : ℕ) (v : HostEvent) (n : ℕ) (w : EventKind A)
     → ((x : HostEvent) → w ≡ what.Host x → ⊥) → host_fields m v ≡ what_fields n w → ⊥
 unfolding sign
 other_said m v n (what.Host x) none e = none x refl
-other_said m (host.Complete t a) n w none e = omega (arith, ap sign e)
 other_said m host.Drop n w none e = omega (arith, ap sign e)
-other_said m host.Hold n w none e = omega (arith, ap sign e)
-other_said m host.Release n w none e = omega (arith, ap sign e)
+other_said m v n w none e = omega (arith, ap sign e)
 
 same_what : {A : Type 0} (m n : ℕ) (v w : EventKind A) → KindInRange v → KindInRange w → IsPrintableKind v
     → IsPrintableKind w → what_fields m v ≡ what_fields n w → (m ≡ n) × (v ≡ w)

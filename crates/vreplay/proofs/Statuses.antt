@@ -8,12 +8,9 @@ use Rattle.calls.specs.declared.fault.Fault.{Fault}
 use Rattle.calls.specs.declared.fault.Fault.TheVariants.{Usage, Replay}
 
 replay_status : (fault : ReplayFault) → (ending_of fault).status ≡ 2 → ⊥
-replay_status replay.Read two = omega (arith, two)
 replay_status (replay.Trace fault) two = grind (arith, two)
 replay_status (replay.Board fault) two = grind (arith, two)
-replay_status (replay.Run done) two = omega (arith, two)
-replay_status replay.Write two = omega (arith, two)
-replay_status replay.NoMemory two = omega (arith, two)
+replay_status fault two = omega (arith, two)
 
 replay_not_two : (fault : ReplayFault) (status : ℕ) (old new : Option (List ℕ))
     → EndsBy (Replay fault) status old new → status ≡ 2 → ⊥

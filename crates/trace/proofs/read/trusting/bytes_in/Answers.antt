@@ -1,4 +1,4 @@
-use Rattle.trace.proofs.Trusting.{not_last, one_field}
+use Rattle.trace.proofs.TrustedFields.{not_last, one_field}
 use Rattle.trace.proofs.read.trusting.bytes_in.Goals as goal
 
 pub unreachable-requires : goal.unreachable-requires

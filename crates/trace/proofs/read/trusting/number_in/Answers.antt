@@ -1,6 +1,6 @@
 use Rattle.std.proofs.Common.{arith}
 use Rattle.std.proofs.lemmas.List.{take_rest}
-use Rattle.trace.proofs.Trusting.{number_begun, number_digit, number_more, number_room, number_whole}
+use Rattle.trace.proofs.TrustedNumbers.{number_begun, number_digit, number_more, number_room, number_whole}
 use Rattle.trace.proofs.read.trusting.number_in.Goals as goal
 
 pub loop-i-init : goal.loop-i-init

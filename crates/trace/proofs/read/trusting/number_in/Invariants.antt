@@ -1,5 +1,5 @@
 use Rattle.std.proofs.Common.{length, ◌-◌}
-use Rattle.trace.proofs.Trusting.{NumberSoFar}
+use Rattle.trace.proofs.TrustedNumbers.{NumberSoFar}
 use Rattle.trace.proofs.read.trusting.number_in.Given as goal
 
 -- what the bytes so far say

@@ -1,6 +1,6 @@
 use Rattle.std.proofs.Common.{arith}
 use Rattle.trace.proofs.Fronts.{slot_one, slot_two}
-use Rattle.trace.proofs.Trusting.{slot_bytes, two_bytes}
+use Rattle.trace.proofs.TrustedFields.{slot_bytes, two_bytes}
 use Rattle.trace.proofs.read.trusting.slot_in.Goals as goal
 
 pub bounds-text-1 : goal.bounds-text-1

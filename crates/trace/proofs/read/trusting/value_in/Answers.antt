@@ -1,5 +1,5 @@
 use Rattle.std.proofs.Common.{arith}
-use Rattle.trace.proofs.Trusting.{other_width, value_field, value_spelled}
+use Rattle.trace.proofs.TrustedFields.{other_width, value_field, value_spelled}
 use Rattle.trace.proofs.read.trusting.value_in.Goals as goal
 
 pub fixed_value-requires : goal.fixed_value-requires
