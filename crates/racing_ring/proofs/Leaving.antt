@@ -1,0 +1,111 @@
+-- A chain that its guest leaves alone while it is taken is one that a memory offers.
+use Rattle.std.proofs.Common.{◌≡◌, ◌∙◌, ℕ, ◌+◌, ◌*◌, Bool, false, List, [], ◌∷◌, sym, ap, subst, arith}
+use Rattle.guest_memory.specs.Memory.{Memory}
+use Rattle.chain.specs.declared.segment.Buffer.{Buffer}
+use Rattle.chain.specs.declared.fault.Fault.{Fault}
+use Rattle.chain.specs.declared.state.RingState.{RingState}
+use Rattle.chain.specs.Buffers.{Refuses}
+use Rattle.chain.specs.Service.{Entry}
+use Rattle.indirect.specs.declared.descriptor.Descriptor.{Descriptor}
+use Rattle.indirect.specs.Descriptors.{split_descriptor}
+use Rattle.indirect.specs.Walks.{Leads, first_of}
+use Rattle.indirect.specs.Lists.{split_tables, EndsBy, TableRefused, ListResolves, ListFails}
+use Rattle.split_ring.specs.Ring.{head_of, table_of}
+use Rattle.split_ring.specs.Kind.{entry_of, split_kind}
+use Rattle.shared_memory.specs.Sightings.{Sightings, Loads, memory}
+use Rattle.shared_memory.proofs.Sightings.{seen_still}
+use Rattle.racing_ring.specs.Table.{AreOne, IsTableSeen}
+use Rattle.racing_ring.specs.Split.{IsOffered, IsFaulty}
+use Rattle.racing_ring.proofs.Tables.{Agree, reached_kept}
+
+-- the members of a front lie below n
+agree_below : (t u : ℕ → Descriptor) (n h i : ℕ) (front : List ℕ) → AreOne n t u → Leads t n h front i → Agree t u front
+agree_below t u n h i [] one l = tt
+agree_below t u n h i (x ∷ front) one l =
+    (one x l.1.below, agree_below t u n (first_of front i) i front one l.2)
+
+pub list_kept : (negotiated : Bool) (m : Memory) (t u : ℕ → Descriptor) (n h count last : ℕ) (buffers : List Buffer)
+    → AreOne n t u → ListResolves split_tables negotiated m t n h count last buffers
+    → ListResolves split_tables negotiated m u n h count last buffers
+list_kept negotiated m t u n h count last buffers one x = record {
+  before = x.before;
+  reached = reached_kept m [] t u n h count last x.before x.reached
+      (agree_below t u n h last x.reached.front one x.reached.leads);
+  comes = x.comes;
+  ends = subst (λ (d : Descriptor). EndsBy split_tables negotiated m d.indirect x.before count d buffers)
+      (one last x.comes.below) x.ends;
+}
+
+pub fails_kept : (negotiated : Bool) (m : Memory) (t u : ℕ → Descriptor) (n h : ℕ) (fault : Fault)
+    → AreOne n t u → ListFails split_tables negotiated m t n h fault
+    → ListFails split_tables negotiated m u n h fault
+fails_kept negotiated m t u n h fault one x = record {
+  count = x.count;
+  at = x.at;
+  before = x.before;
+  reached = reached_kept m [] t u n h x.count x.at x.before x.reached
+      (agree_below t u n h x.at x.reached.front one x.reached.leads);
+  most = x.most;
+  full = x.full;
+  past = x.past;
+  plain = λ c p. subst (λ (d : Descriptor). Refuses m x.before d.buffer fault) (one x.at c.below)
+      (x.plain c (ap (λ (d : Descriptor). d.indirect) (one x.at c.below) ∙ p));
+  indirect = λ c p. subst (λ (d : Descriptor). TableRefused split_tables negotiated m x.before x.count d fault)
+      (one x.at c.below) (x.indirect c (ap (λ (d : Descriptor). d.indirect) (one x.at c.below) ∙ p));
+}
+
+-- the head and the descriptors stand as they were read when the memory is seen last
+pub offered_at : (old new : Sightings) (ring : RingState) (buffers : List Buffer) (entry : Entry)
+    (r : IsOffered old new ring buffers entry) → head_of r.head_in ring ≡ head_of (memory new) ring
+    → AreOne ring.setup.size r.walked.table (table_of (memory new) ring)
+    → split_kind.Offers (memory new) ring buffers entry
+offered_at old new ring buffers entry r head one = record {
+  count = r.walked.count;
+  last = r.walked.last;
+  list = subst (λ (h : ℕ). ListResolves split_tables ring.setup.indirect (memory new) (table_of (memory new) ring)
+      ring.setup.size h r.walked.count r.walked.last buffers) head
+      (list_kept ring.setup.indirect (memory new) r.walked.table (table_of (memory new) ring) ring.setup.size
+      (head_of r.head_in ring) r.walked.count r.walked.last buffers one r.walked.resolves);
+  entry_is = r.entry_is ∙ ap entry_of head;
+}
+
+pub faulty_at : (old new : Sightings) (ring : RingState) (fault : Fault)
+    (r : IsFaulty old new ring fault) → head_of r.head_in ring ≡ head_of (memory new) ring
+    → AreOne ring.setup.size r.walked.table (table_of (memory new) ring)
+    → split_kind.HasFault (memory new) ring fault
+faulty_at old new ring fault r head one =
+    subst (λ (h : ℕ). ListFails split_tables ring.setup.indirect (memory new) (table_of (memory new) ring)
+    ring.setup.size h fault) head
+    (fails_kept ring.setup.indirect (memory new) r.walked.table (table_of (memory new) ring) ring.setup.size
+    (head_of r.head_in ring) fault one r.walked.fails)
+
+-- all that a guest which stands still is seen as is one memory
+one_still : (old new : Sightings) → Loads false old new → memory new ≡ memory old
+one_still old new loads = loads.interference new.now loads.later (omega arith)
+
+table_still : (old new : Sightings) (addr n : ℕ) (table : ℕ → Descriptor) (m : Memory) → Loads false old new
+    → m ≡ memory old → IsTableSeen old new addr n table
+    → AreOne n table (λ i. split_descriptor m (addr + 16 * i))
+table_still old new addr n table m loads same seen i below =
+    let was = seen i below in
+    was.is ∙ ap (λ (m : Memory). split_descriptor m (addr + 16 * i))
+    (seen_still old new was.where_read loads was.seen ∙ sym same)
+
+pub offered_still : (old new : Sightings) (ring : RingState) (buffers : List Buffer) (entry : Entry)
+    → Loads false old new → IsOffered old new ring buffers entry
+    → split_kind.Offers (memory old) ring buffers entry
+offered_still old new ring buffers entry loads r =
+    let one = one_still old new loads in
+    let head = seen_still old new r.head_in loads r.head_seen in
+    subst (λ (m : Memory). split_kind.Offers m ring buffers entry) one
+    (offered_at old new ring buffers entry r (ap (λ (m : Memory). head_of m ring) (head ∙ sym one))
+    (table_still old new ring.setup.desc ring.setup.size r.walked.table (memory new) loads one r.walked.table_seen))
+
+pub faulty_still : (old new : Sightings) (ring : RingState) (fault : Fault) → Loads false old new
+    → IsFaulty old new ring fault → split_kind.HasFault (memory old) ring fault
+faulty_still old new ring fault loads r =
+    let one = one_still old new loads in
+    let head = seen_still old new r.head_in loads r.head_seen in
+    subst (λ (m : Memory). split_kind.HasFault m ring fault) one
+    (faulty_at old new ring fault r (ap (λ (m : Memory). head_of m ring) (head ∙ sym one))
+    (table_still old new ring.setup.desc ring.setup.size r.walked.table (memory new) loads one r.walked.table_seen))

@@ -1,0 +1,96 @@
+//! What was read while a chain is taken.
+
+ghost use Rattle.std.specs.Prelude.{◌≡◌, ◌+◌, ◌*◌, ◌≤◌, ◌<◌, ◌^◌, replicate, None};
+ghost use Rattle.guest_memory.specs.Memory.{Inside};
+ghost use Rattle.shared_memory.specs.Sightings.{Loads, memory};
+ghost use Rattle.indirect.specs.Descriptors.{split_descriptor};
+ghost use Rattle.racing_ring.specs.Table.{IsLookedUp};
+
+use indirect::Descriptor;
+use shared_memory::Shared;
+use std::marker::Model;
+
+/// How many descriptors a queue has at most.
+const MOST_DESCRIPTORS: usize = 256;
+
+/// The descriptors of a ring's table that were read.
+#[derive(Drop)]
+pub struct Known {
+    known: [Option<Descriptor>; MOST_DESCRIPTORS],
+}
+
+impl Model for Known {
+    ghost use Rattle.racing_ring.specs.Table.{Known as Value_of};
+
+    ghost Value = { Value_of };
+
+    ghost view = { λ r. r.known };
+}
+
+/// The room for what is read of the memory.
+#[derive(Drop)]
+pub struct Room {
+    pub(crate) known: Known,
+    pub(crate) table: [u8; 4096],
+}
+
+impl Room {
+    /// A room.
+    pub fn new() -> Room {
+        Room {
+            known: Known::new(),
+            table: [0; 4096],
+        }
+    }
+}
+
+impl Known {
+    /// Nothing was read.
+    pub(crate) fn new() -> Known
+        ensures { result ≡ replicate 256 None }
+    {
+        Known {
+            known: [None; MOST_DESCRIPTORS],
+        }
+    }
+
+    /// Forgets what was read.
+    pub(crate) fn clear(&mut self)
+        ensures { self.new ≡ replicate 256 None }
+    {
+        self.known = [None; MOST_DESCRIPTORS];
+    }
+
+    /// The descriptor of an index, of the table at `addr`: it is read where it wasn't before.
+    pub(crate) fn descriptor<M: Shared>(&mut self, mem: &mut M, addr: u64, index: u16) -> Descriptor
+        requires below { index < 256 }
+        requires there { Inside (memory (M.sightings mem.old)) (addr + 16 * index) 16 }
+        requires fits { addr + 16 * index < 2 ^ 64 }
+        ensures loads { Loads (M.races mem.old) (M.sightings mem.old) (M.sightings mem.new) }
+        ensures races { M.races mem.new ≡ M.races mem.old }
+        ensures looked { IsLookedUp (M.sightings mem.new) addr self.old self.new index result }
+    {
+        let at = usize::from(index);
+        match self.known[at] {
+            Some(descriptor) => descriptor,
+            None => {
+                let descriptor = read(mem, addr + 16 * u64::from(index));
+                self.known[at] = Some(descriptor);
+                descriptor
+            }
+        }
+    }
+}
+
+#[tactic(auto, using(guest_memory::proofs::Ranges::inside_part, shared_memory::proofs::Sightings::inside_loads, crate::proofs::Reading::copy_stands))]
+/// A descriptor, by one copy.
+pub(crate) fn read<M: Shared>(mem: &mut M, addr: u64) -> Descriptor
+    requires { Inside (memory (M.sightings mem.old)) addr 16 }
+    ensures value { result ≡ split_descriptor (memory (M.sightings mem.new)) addr }
+    ensures loads { Loads (M.races mem.old) (M.sightings mem.old) (M.sightings mem.new) }
+    ensures races { M.races mem.new ≡ M.races mem.old }
+{
+    let mut bytes = [0; 16];
+    mem.load(addr, &mut bytes);
+    Descriptor::of_split(&bytes, 0)
+}

@@ -1,0 +1,60 @@
+//! A ring as it is made, and the memories that it lies in.
+
+ghost use Rattle.std.specs.Prelude.{◌≡◌, ◌↔◌, IsTrue, IsSome, IfSome};
+ghost use Rattle.chain.specs.Setup.{IsAligned, IsUsable, new_ring};
+ghost use Rattle.split_ring.specs.Ring.{IsQueueSize, LiesIn, areas_of};
+ghost use Rattle.shared_memory.specs.Sightings.{memory};
+
+use crate::split::RacingSplitRing;
+use chain::{RingState, Setup};
+use shared_memory::Shared;
+
+/// The largest queue size.
+const MOST_DESCRIPTORS: u32 = 256;
+
+impl RacingSplitRing {
+    /// A ring before its first service. There is none where its size is no queue size, or an area isn't aligned or isn't
+    /// inside the memory (2.7).
+    pub fn new<M: Shared>(mem: &M, setup: Setup) -> Option<RacingSplitRing>
+        ensures usable { IsSome result ↔ IsUsable IsQueueSize areas_of (memory (M.sightings mem.now)) setup }
+        ensures made { IfSome result (λ ring. ring ≡ new_ring setup) }
+    {
+        if !is_queue_size(setup.size) || !is_aligned(setup) || !lie_in(mem, setup) {
+            return None;
+        }
+        Some(RacingSplitRing {
+            state: RingState::new(setup),
+        })
+    }
+
+    /// Whether the areas lie in this memory, as each call of a service wants.
+    pub fn lies_in<M: Shared>(&self, mem: &M) -> bool
+        ensures { IsTrue result ↔ LiesIn (memory (M.sightings mem.now)) self.now.setup }
+    {
+        lie_in(mem, self.state.setup)
+    }
+}
+
+/// Whether a split queue may have `n` descriptors.
+fn is_queue_size(n: u32) -> bool
+    ensures { IsTrue result ↔ IsQueueSize n }
+{
+    n <= MOST_DESCRIPTORS && n.is_power_of_two()
+}
+
+/// Whether each area begins at a multiple of its alignment.
+fn is_aligned(setup: Setup) -> bool
+    ensures { IsTrue result ↔ IsAligned setup (areas_of setup.size) }
+{
+    setup.desc % 16 == 0 && setup.driver % 2 == 0 && setup.device % 4 == 0
+}
+
+/// Whether the areas lie in this memory.
+fn lie_in<M: Shared>(mem: &M, setup: Setup) -> bool
+    ensures { IsTrue result ↔ LiesIn (memory (M.sightings mem.now)) setup }
+{
+    let n = u64::from(setup.size);
+    mem.holds(setup.desc, 16 * n)
+        && mem.holds(setup.driver, 6 + 2 * n)
+        && mem.holds(setup.device, 6 + 8 * n)
+}

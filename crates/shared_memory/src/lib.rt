@@ -1,0 +1,9 @@
+//! Guest memory for a device whose guest may run on meanwhile.
+//!
+//! Each access is a copy, into a buffer of the device or out of it. No slice of the memory is lent, so no byte is read
+//! but by a call here, and each call reads anew.
+#![tactic(auto)]
+
+mod memory;
+
+pub use memory::Shared;

@@ -1,0 +1,84 @@
+//! The accesses.
+
+ghost use Rattle.std.specs.Prelude.{◌≡◌, ◌+◌, ◌^◌, ◌≤◌, ◌↔◌, Bool, IsTrue, length, false};
+ghost use Rattle.guest_memory.specs.Memory.{Inside, num, part_of};
+ghost use Rattle.shared_memory.specs.Sightings.{Sightings, Loads, Stores, memory, still};
+
+use guest_memory::GuestMemory;
+use std::alloc::Allocator;
+
+/// Memory that a device reads and writes, by copies.
+pub trait Shared {
+    // what it was seen as
+    ghost sightings: { Self → Sightings };
+
+    // whether the guest's own CPUs may write it at any moment
+    ghost races: { Self → Bool };
+
+    /// Whether the `n` bytes from `addr` on all lie in the memory, in one region.
+    fn holds(&self, addr: u64, n: u64) -> bool
+        ensures inside { IsTrue result ↔ Inside (memory (sightings self.now)) addr n }
+        ensures fits { IsTrue result → addr + n ≤ 2 ^ 64 };
+
+    /// The `n` bytes from `addr` on, which lie in the memory, end at 2^64 at most.
+    fn fits(&self, addr: u64, n: u64)
+        requires { Inside (memory (sightings self.now)) addr n }
+        ensures { addr + n ≤ 2 ^ 64 };
+
+    /// The 16-bit number at `addr`.
+    fn load_u16(&mut self, addr: u64) -> u16
+        requires { Inside (memory (sightings self.old)) addr 2 }
+        ensures value { result ≡ num (memory (sightings self.new)) addr 2 }
+        ensures loads { Loads (races self.old) (sightings self.old) (sightings self.new) }
+        ensures races { races self.new ≡ races self.old };
+
+    /// Copies the bytes from `addr` on into all of `into`.
+    fn load(&mut self, addr: u64, into: &mut [u8])
+        requires { Inside (memory (sightings self.old)) addr (length into.old) }
+        ensures value { into.new ≡ part_of (memory (sightings self.new)) addr (length into.old) }
+        ensures loads { Loads (races self.old) (sightings self.old) (sightings self.new) }
+        ensures races { races self.new ≡ races self.old };
+
+    /// Stores a 16-bit number.
+    fn store_u16(&mut self, addr: u64, v: u16)
+        requires { Inside (memory (sightings self.old)) addr 2 }
+        ensures stores { Stores (races self.old) (sightings self.old) (sightings self.new) addr 2 v }
+        ensures races { races self.new ≡ races self.old };
+
+    /// Stores a 64-bit number.
+    fn store_u64(&mut self, addr: u64, v: u64)
+        requires { Inside (memory (sightings self.old)) addr 8 }
+        ensures stores { Stores (races self.old) (sightings self.old) (sightings self.new) addr 8 v }
+        ensures races { races self.new ≡ races self.old };
+}
+
+/// A guest that stands still during the calls of its devices.
+impl<A: Allocator> Shared for GuestMemory<A> {
+    ghost sightings = { λ m. still m };
+
+    ghost races = { λ m. false };
+
+    fn holds(&self, addr: u64, n: u64) -> bool {
+        GuestMemory::holds(self, addr, n)
+    }
+
+    fn fits(&self, addr: u64, n: u64) {
+        GuestMemory::fits(self, addr, n);
+    }
+
+    fn load_u16(&mut self, addr: u64) -> u16 {
+        self.read_u16(addr)
+    }
+
+    fn load(&mut self, addr: u64, into: &mut [u8]) {
+        into.copy_from_slice(self.slice(addr, into.len() as u64));
+    }
+
+    fn store_u16(&mut self, addr: u64, v: u16) {
+        self.write_u16(addr, v);
+    }
+
+    fn store_u64(&mut self, addr: u64, v: u64) {
+        self.write_u64(addr, v);
+    }
+}
