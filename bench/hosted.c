@@ -1,11 +1,12 @@
 /*
  * Times a disk that the host serves beside one in an image: a notify with one IN of 4 KiB, memory in place, and where the host
  * serves it the notify that asks, kalyubos_operation and kalyubos_completed, without a byte moved; also of 8 and of 32 requests
- * that one notify asks for, which are in flight together and are completed from the last to the first. In turn, the best of many
- * rounds, in processor time; and how often the heap was called meanwhile. bench/hosted builds it.
+ * that one notify asks for, which are in flight together and are completed from the last to the first; and the first two over
+ * memory that is lent. In turn, the best of many rounds, in processor time; and how often the heap was called meanwhile.
+ * bench/hosted builds it.
  *
- *     hosted                     prints the times of one request, and a ratio
- *     hosted image|host|8|32 N   makes N requests in that way, for callgrind
+ *     hosted           prints the times of one request, and a ratio
+ *     hosted WAY N     makes N requests in the way image, host, 8, 32, lent-image or lent-host, for callgrind
  */
 #include <stdio.h>
 #include <stdlib.h>
@@ -24,8 +25,9 @@ struct guest {
     uint16_t idx;
 };
 
-static struct guest in_image, by_host, deep[2];
+static struct guest in_image, by_host, deep[2], lent_in_image, lent_by_host;
 static const uint32_t DEPTHS[2] = { 8, 32 };
+static uint8_t lent[2][MEMORY_LEN];
 static uint8_t image[SECTORS * 512], buffer[LEN], other[LEN];
 
 static void need(bool holds, const char *what)
@@ -69,7 +71,8 @@ static void describe(struct guest *guest, int place, uint64_t at, uint32_t len, 
     memcpy(guest->memory + TABLE + 16 * place, &it, sizeof it);
 }
 
-static void power_on(struct guest *guest, bool is_hosted, uint32_t depth)
+/* Over bytes that are lent, or over the library's own. */
+static void power_on(struct guest *guest, bool is_hosted, uint32_t depth, uint8_t *bytes)
 {
     const uint32_t at = (uint32_t)MEMORY;
     const uint32_t steps[][2] = { { 0x70, 1 }, { 0x70, 3 }, { 0x24, 1 }, { 0x20, 1 }, { 0x70, 11 }, { 0x38, QUEUE },
@@ -77,8 +80,13 @@ static void power_on(struct guest *guest, bool is_hosted, uint32_t depth)
     struct kalyubos_slot slot = { .size = sizeof slot, .regions = { { MEMORY, MEMORY_LEN } }, .count = SECTORS,
                                   .hosted = is_hosted, .depth = depth };
     struct kalyubos_config config = kalyubos_config(&slot, 1);
+    struct kalyubos_loan loan = { bytes, MEMORY_LEN };
     struct kalyubos_pending pending;
     size_t len;
+    if (bytes != NULL) {
+        config.loans = &loan;
+        config.loans_len = 1;
+    }
     config.image = image;
     config.image_len = is_hosted ? 0 : sizeof image;
     need(kalyubos_create(&guest->board, &config) == KALYUBOS_DONE, "a board");
@@ -99,10 +107,20 @@ static uint32_t notify(struct guest *guest, uint32_t chains, struct kalyubos_pen
     return kalyubos_write(&guest->board, 0, KALYUBOS_BLOCK, 0x50, 4, 0, pending);
 }
 
-static void read_image(void)
+static void read_from(struct guest *guest)
 {
     struct kalyubos_pending pending;
-    need(notify(&in_image, 1, &pending) == KALYUBOS_DONE && pending.block == 1 && in_image.memory[HEADER + 16] == 0, "an IN");
+    need(notify(guest, 1, &pending) == KALYUBOS_DONE && pending.block == 1 && guest->memory[HEADER + 16] == 0, "an IN");
+}
+
+static void read_image(void)
+{
+    read_from(&in_image);
+}
+
+static void read_lent_image(void)
+{
+    read_from(&lent_in_image);
 }
 
 /* Asks for so many reads at once, and completes them. */
@@ -126,6 +144,11 @@ static void ask_for(struct guest *guest, uint32_t depth)
 static void ask_host(void)
 {
     ask_for(&by_host, 1);
+}
+
+static void ask_lent_host(void)
+{
+    ask_for(&lent_by_host, 1);
 }
 
 static void ask_for_8(void)
@@ -155,48 +178,62 @@ static double now(void)
     return (double)t.tv_sec * 1e9 + (double)t.tv_nsec;
 }
 
+static const struct {
+    const char *name;
+    void (*makes)(void);
+    int requests;
+    const char *what;
+} WAYS[] = {
+    { "image", read_image, 1, "a notify with one IN of 4 KiB, out of an image" },
+    { "host", ask_host, 1, "hosted: the notify, its operation, its completion" },
+    { "8", ask_for_8, 8, "hosted: the same of one request, of 8 in flight" },
+    { "32", ask_for_32, 32, "hosted: the same of one request, of 32 in flight" },
+    { "lent-image", read_lent_image, 1, "over lent memory: out of an image" },
+    { "lent-host", ask_lent_host, 1, "over lent memory: hosted" },
+    { "copy", copy_alone, 1, "a copy of 4 KiB" },
+};
+enum { IMAGE = 0, HOST = 1, COPY = 6, WAYS_LEN = 7 };
+
 static void time_all(void)
 {
-    void (*const works[])(void) = { read_image, copy_alone, ask_host, ask_for_8, ask_for_32 };
-    const int parts[] = { 1, 1, 1, (int)DEPTHS[0], (int)DEPTHS[1] };
-    enum { WORKS = sizeof parts / sizeof *parts };
-    double best[WORKS] = { 1e18, 1e18, 1e18, 1e18, 1e18 };
+    double best[WAYS_LEN];
     uint64_t before = heap_calls;
+    for (int way = 0; way < WAYS_LEN; way++)
+        best[way] = 1e18;
     for (int round = 0; round < ROUNDS; round++) {
-        for (int which = 0; which < WORKS; which++) {
+        for (int way = 0; way < WAYS_LEN; way++) {
             double start = now();
-            for (int i = 0; i < REQUESTS; i += parts[which])
-                works[which]();
+            for (int i = 0; i < REQUESTS; i += WAYS[way].requests)
+                WAYS[way].makes();
             double one = (now() - start) / REQUESTS;
-            best[which] = one < best[which] ? one : best[which];
+            best[way] = one < best[way] ? one : best[way];
         }
     }
-    printf("a notify with one IN of 4 KiB, out of an image       %8.1f ns\n", best[0]);
-    printf("a copy of 4 KiB                                      %8.1f ns\n", best[1]);
-    printf("hosted: the notify, its operation, its completion    %8.1f ns\n", best[2]);
-    printf("hosted: the same of one request, of 8 in flight      %8.1f ns\n", best[3]);
-    printf("hosted: the same of one request, of 32 in flight     %8.1f ns\n", best[4]);
-    printf("hosted, to the notify less its copy                  %8.2f\n", best[2] / (best[0] - best[1]));
-    printf("calls of the heap meanwhile                          %8d\n", (int)(heap_calls - before));
+    for (int way = 0; way < WAYS_LEN; way++)
+        printf("%-52s %8.1f ns\n", WAYS[way].what, best[way]);
+    printf("%-52s %8.2f\n", "hosted, to the notify less its copy", best[HOST] / (best[IMAGE] - best[COPY]));
+    printf("%-52s %8d\n", "calls of the heap meanwhile", (int)(heap_calls - before));
 }
 
 int main(int words_len, char **words)
 {
-    power_on(&in_image, false, 0);
-    power_on(&by_host, true, 1);
+    power_on(&in_image, false, 0, NULL);
+    power_on(&by_host, true, 1, NULL);
+    power_on(&lent_in_image, false, 0, lent[0]);
+    power_on(&lent_by_host, true, 1, lent[1]);
     for (int i = 0; i < 2; i++)
-        power_on(&deep[i], true, DEPTHS[i]);
+        power_on(&deep[i], true, DEPTHS[i], NULL);
     if (words_len == 3) {
-        int which = strcmp(words[1], "image") == 0 ? 0 : strcmp(words[1], "host") == 0 ? 1 : strcmp(words[1], "8") == 0 ? 2 : 3;
-        void (*const works[])(void) = { read_image, ask_host, ask_for_8, ask_for_32 };
-        int part = which < 2 ? 1 : (int)DEPTHS[which - 2];
-        for (int i = 0, len = atoi(words[2]); i < len; i += part)
-            works[which]();
+        int way = 0;
+        while (way + 1 < WAYS_LEN && strcmp(words[1], WAYS[way].name) != 0)
+            way++;
+        for (int i = 0, len = atoi(words[2]); i < len; i += WAYS[way].requests)
+            WAYS[way].makes();
     } else {
         time_all();
     }
-    struct guest *guests[] = { &in_image, &by_host, &deep[0], &deep[1] };
-    for (int i = 0; i < 4; i++)
+    struct guest *guests[] = { &in_image, &by_host, &deep[0], &deep[1], &lent_in_image, &lent_by_host };
+    for (int i = 0; i < 6; i++)
         need(kalyubos_destroy(&guests[i]->board) == KALYUBOS_DONE, "destroy");
     return 0;
 }

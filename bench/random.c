@@ -1,7 +1,8 @@
 /*
- * Random reads of 4 KiB, DEPTH in flight, from a file that bypasses the page cache: by a plain io_uring loop, and by a guest's
- * driver whose disk is served through examples/embed/file_ring.c, and which runs behind each eight completions. Both are one
- * thread, in turn, ROUNDS rounds; printed are the best rate of each, the least processor time of a read, and both ratios.
+ * Random reads of 4 KiB, DEPTH in flight, from a file that bypasses the page cache: by a plain io_uring loop, by one that copies
+ * what it has read, and by a guest's driver whose disk is served through examples/embed/file_ring.c, and which runs behind each
+ * eight completions. Each is one thread, in turn, ROUNDS rounds; printed are the best rate of each, the least processor time of a
+ * read, and the guest's ratios to the first loop and to the second.
  * bench/random builds it.
  *
  *     random FILE DEPTH READS ROUNDS
@@ -53,7 +54,7 @@ static struct {
     unsigned *sent, *sent_places, *order_of_place, *taken, *ended, *ended_places;
     struct io_uring_sqe *orders;
     struct io_uring_cqe *results;
-    uint8_t *buffers;
+    uint8_t *buffers, *copies;
 } plain;
 
 static void *map_ring(size_t len, off_t at)
@@ -81,7 +82,8 @@ static void open_plain(void)
     plain.ended_places = (unsigned *)(ended + told.cq_off.ring_mask);
     plain.results = (struct io_uring_cqe *)(ended + told.cq_off.cqes);
     plain.buffers = aligned_alloc(BLOCK, (size_t)depth * BLOCK);
-    need(plain.buffers != NULL, "memory");
+    plain.copies = aligned_alloc(BLOCK, (size_t)depth * BLOCK);
+    need(plain.buffers != NULL && plain.copies != NULL, "memory");
 }
 
 static void order_plain(unsigned tag)
@@ -95,7 +97,7 @@ static void order_plain(unsigned tag)
     __atomic_store_n(plain.sent, sent + 1, __ATOMIC_RELEASE);
 }
 
-static void read_plain(void)
+static void read_in_loop(bool copies)
 {
     uint64_t asked = 0, done = 0;
     unsigned fresh = 0;
@@ -107,6 +109,8 @@ static void read_plain(void)
         for (fresh = 0; taken != __atomic_load_n(plain.ended, __ATOMIC_ACQUIRE); taken++, done++) {
             const struct io_uring_cqe *result = &plain.results[taken & *plain.ended_places];
             need(result->res == BLOCK, "a read");
+            if (copies)
+                memcpy(plain.copies + result->user_data * BLOCK, plain.buffers + result->user_data * BLOCK, BLOCK);
             if (asked < reads) {
                 order_plain((unsigned)result->user_data);
                 asked++, fresh++;
@@ -114,6 +118,16 @@ static void read_plain(void)
         }
         __atomic_store_n(plain.taken, taken, __ATOMIC_RELEASE);
     }
+}
+
+static void read_plain(void)
+{
+    read_in_loop(false);
+}
+
+static void read_and_copy(void)
+{
+    read_in_loop(true);
 }
 
 /* ---- a guest's driver, whose every place has a header and a buffer of its own */
@@ -265,7 +279,7 @@ static void time_one(void (*work)(void), int round, struct best *best)
 int main(int words_len, char **words)
 {
     struct stat file;
-    struct best loop = { 0 }, guest = { 0 };
+    struct best loop = { 0 }, copying = { 0 }, guest = { 0 };
     need(words_len == 5, "FILE DEPTH READS ROUNDS");
     path = words[1];
     depth = (unsigned)atoi(words[2]);
@@ -277,10 +291,13 @@ int main(int words_len, char **words)
     open_guest();
     for (int round = 0; round < atoi(words[4]); round++) {
         time_one(read_plain, round, &loop);
+        time_one(read_and_copy, round, &copying);
         time_one(read_as_guest, round, &guest);
     }
-    printf("depth %2u: a plain loop %8.0f reads a second, %6.2f us of a processor each; a guest %8.0f and %6.2f; ratios %.2f and %.2f\n",
-           depth, 1e6 / loop.wall, loop.cpu, 1e6 / guest.wall, guest.cpu, loop.wall / guest.wall, guest.cpu / loop.cpu);
+    printf("depth %2u: a loop %8.0f reads a second, %5.2f us of a processor each; one that copies %8.0f, %5.2f; a guest %8.0f, %5.2f\n",
+           depth, 1e6 / loop.wall, loop.cpu, 1e6 / copying.wall, copying.cpu, 1e6 / guest.wall, guest.cpu);
+    printf("          a guest's to the loop's: %.2f and %.2f; to the one's that copies: %.2f and %.2f\n", loop.wall / guest.wall,
+           guest.cpu / loop.cpu, copying.wall / guest.wall, guest.cpu / copying.cpu);
     file_disk_close(&disk);
     need(kalyubos_destroy(&board) == KALYUBOS_DONE, "destroy");
     return 0;
