@@ -27,7 +27,7 @@ impl Model for Known {
     ghost view = { λ r. r.known };
 }
 
-/// The room for what is read of the memory.
+/// The room for what is read of the memory. What it holds between two calls has no part in what they come to.
 #[derive(Drop)]
 pub struct Room {
     pub(crate) known: Known,
@@ -35,8 +35,10 @@ pub struct Room {
 }
 
 impl Room {
-    /// A room.
-    pub fn new() -> Room {
+    /// A room in which no descriptor stands.
+    pub fn new() -> Room
+        ensures { result.known ≡ replicate 256 None }
+    {
         Room {
             known: Known::new(),
             table: [0; 4096],
@@ -82,8 +84,8 @@ impl Known {
     }
 }
 
-#[tactic(auto, using(guest_memory::proofs::Ranges::inside_part, shared_memory::proofs::Sightings::inside_loads, crate::proofs::Reading::copy_stands))]
 /// A descriptor, by one copy.
+#[tactic(auto, using(guest_memory::proofs::Ranges::inside_part, shared_memory::proofs::Sightings::inside_loads, crate::proofs::Reading::copy_stands))]
 pub(crate) fn read<M: Shared>(mem: &mut M, addr: u64) -> Descriptor
     requires { Inside (memory (M.sightings mem.old)) addr 16 }
     ensures value { result ≡ split_descriptor (memory (M.sightings mem.new)) addr }
