@@ -22,7 +22,6 @@ use Rattle.mmio_window.proofs.Seeing.{course_seen, serves_seen}
 use Rattle.sector_cache.specs.Disk.{Disk}
 use Rattle.block_device.specs.declared.device.BlockDevice.{BlockDevice}
 use Rattle.block_device.specs.declared.request.Request.{Request}
-use Rattle.block_device.specs.declared.request.Request.TheVariants.{Rejected, Read, Write, Flush, GetId, WriteZeroes}
 use Rattle.block_device.specs.Asking.{EndsUnasked, asks_image, unasked_device}
 use Rattle.block_device.specs.Device.{GivesBy}
 use Rattle.block_device.specs.Extent.{extent_disk}
@@ -31,6 +30,7 @@ use Rattle.block_device.specs.Hosting.{AsksAt, HostsTo, IfAsks, hosted_by, hoste
 use Rattle.block_device.specs.Operation.{IsToldToHost}
 use Rattle.block_device.specs.Outcome.{Completes, Outcome}
 use Rattle.block_device.specs.Request.{payload_of, request_of}
+use Rattle.block_device.proofs.Asking.{unasked_by_cases}
 use Rattle.block_device.proofs.OneLook.{completes_from}
 use Rattle.block_device.proofs.Unasked.{any_disk}
 
@@ -41,14 +41,10 @@ over disk outcome = record { disk = disk; found = outcome.found; status = outcom
 completes_over : (identity : List ℕ) (request : Request) (payload : List ℕ) (d e : Disk) (outcome : Outcome)
     → asks_image request ≡ false
     → Completes identity request payload d outcome → Completes identity request payload e (over e outcome)
-completes_over identity (Rejected status) payload d e outcome none h =
-    record { found = h.found; finds = h.finds; is = ap (over e) h.is }
-completes_over identity (Read sector count) payload d e outcome none h = absurd (cc)
-completes_over identity (Write sector count) payload d e outcome none h = absurd (cc)
-completes_over identity Flush payload d e outcome none h = absurd (cc)
-completes_over identity GetId payload d e outcome none h =
-    record { found = h.found; finds = h.finds; is = ap (over e) h.is }
-completes_over identity (WriteZeroes segments) payload d e outcome none h = absurd (cc)
+completes_over identity request payload d e outcome none =
+    unasked_by_cases (λ r. Completes identity r payload d outcome → Completes identity r payload e (over e outcome))
+    (λ status h. record { found = h.found; finds = h.finds; is = ap (over e) h.is })
+    (λ h. record { found = h.found; finds = h.finds; is = ap (over e) h.is }) request none
 
 abbrev given_over : Disk → Given Disk → Given Disk
 given_over disk given = record { state = disk; written = given.written }

@@ -1,14 +1,14 @@
 -- Chains that ask the image for nothing are chains of the device.
-use Rattle.std.proofs.Common.{◌≡◌, ℕ, zero, suc, ◌+◌, Bool, false, List, [], ◌∷◌, length, refl, subst, sym, ap, ◌∙◌, arith}
+use Rattle.std.proofs.Common.{◌≡◌, ℕ, zero, suc, ◌+◌, Bool, false, List, length, refl, subst, sym, ap, ◌∙◌, arith}
 use Rattle.guest_memory.specs.Memory.{Memory}
 use Rattle.chain.specs.declared.segment.Buffer.{Buffer}
 use Rattle.chain.specs.Bytes.{readable_of, writable_of}
-use Rattle.chain.specs.Service.{Course, Does, Given, Served, ServesAll, Site, after}
-use Rattle.mmio_window.specs.declared.queue.Queue.{Queue}
-use Rattle.mmio_window.specs.Queue.{queue_kind}
+use Rattle.chain.specs.Service.{Does, Given}
 use Rattle.sector_cache.specs.Disk.{Disk}
 use Rattle.block_device.specs.declared.device.BlockDevice.{BlockDevice}
 use Rattle.block_device.specs.declared.request.Request.{Request}
+use Rattle.block_device.specs.declared.request.Request.TheVariants.{Rejected, Read, Write, Flush, GetId, WriteZeroes}
+use Rattle.block_device.specs.declared.request.RequestStatus.{RequestStatus}
 use Rattle.block_device.specs.Asking.{EndsUnasked, asks_image, unasked_device}
 use Rattle.block_device.specs.Device.{GivesBy, block_device}
 use Rattle.block_device.specs.Outcome.{Ends}
@@ -20,6 +20,16 @@ pub served_gives : (device : BlockDevice) (disk : Disk) (readable : List ℕ) (w
 served_gives device disk readable zero given h = h
 served_gives device disk readable (suc room) given h =
     record { outcome = h.outcome; is = h.is.ends; given_is = h.given_is }
+
+-- what holds of each request that asks for nothing
+pub unasked_by_cases : (P : Request → Type 0) → ((status : RequestStatus) → P (Rejected status)) → P GetId
+    → (request : Request) → asks_image request ≡ false → P request
+unasked_by_cases P rejected id (Rejected status) none = rejected status
+unasked_by_cases P rejected id GetId none = id
+unasked_by_cases P rejected id (Read sector count) none = absurd (cc none)
+unasked_by_cases P rejected id (Write sector count) none = absurd (cc none)
+unasked_by_cases P rejected id Flush none = absurd (cc none)
+unasked_by_cases P rejected id (WriteZeroes segments) none = absurd (cc none)
 
 -- the request of a chain asks for nothing, where it has room for a status
 abbrev pub AsksNothing : BlockDevice → List ℕ → ℕ → Type 0
@@ -70,23 +80,3 @@ asks_nothing device readable w at request all is none room some =
     let same : room ≡ at = omega (arith, all, some) in
     subst (λ (k : ℕ). asks_image (request_of device readable k) ≡ false) (sym same)
     (ap (λ (r : Request). asks_image r) (sym is) ∙ none)
-
-served_all : (device : BlockDevice) (start now : Site Queue Disk) (chains : List (Served Disk))
-    → ServesAll queue_kind (unasked_device device) start chains now
-    → ServesAll queue_kind (block_device device) start chains now
-served_all device start now [] h = h
-served_all device start now (s ∷ chains) h = (
-  record {
-    ready = h.0.ready;
-    offered = h.0.offered;
-    gives = served_gives device start.state (readable_of start.memory s.buffers)
-        (length (writable_of s.buffers)) s.given h.0.gives;
-    each = h.0.each;
-  },
-  served_all device (after queue_kind (unasked_device device) start s) now chains h.1,
-)
-
-pub served_course : (device : BlockDevice) (start now : Site Queue Disk)
-    → Course queue_kind (unasked_device device) start now → Course queue_kind (block_device device) start now
-served_course device start now c =
-    record { chains = c.chains; serves = served_all device start now c.chains c.serves }

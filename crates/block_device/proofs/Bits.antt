@@ -20,9 +20,6 @@ taken_few [] = omega arith
 taken_few (None ∷ tags) = let rest = taken_few tags in omega (arith, rest, pow-suc 2 (length tags))
 taken_few (Some here ∷ tags) = let rest = taken_few tags in omega (arith, rest, pow-suc 2 (length tags))
 
-pub taken_fit : (tags : List (Option InFlight)) → length tags ≤ 64 → taken_bits tags < 2 ^ 64
-taken_fit tags most = let few = taken_few tags in let room : 2 ^ length tags ≤ 2 ^ 64 = pow_mono most in omega (arith, few, room)
-
 pub none_taken : (depth : ℕ) → taken_bits (replicate depth None) ≡ 0
 none_taken zero = refl
 none_taken (suc depth) = let rest = none_taken depth in omega (arith, rest)

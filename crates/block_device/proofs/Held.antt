@@ -17,8 +17,8 @@ use Rattle.chain.specs.declared.fault.Fault.{Fault}
 use Rattle.chain.specs.Service.{Ending, Faulted, Refused, Runs, Site, Spent, Works, stop}
 use Rattle.sector_cache.specs.Disk.{Disk}
 use Rattle.negotiation.specs.Negotiation.{is_live, with_needs_reset}
-use Rattle.mmio_window.specs.Queue.{AreAhead, Fits, TagFits, ahead_of, entry_of, tag_places, launched, opened, queue_kind, shut, stopped}
-use Rattle.mmio_window.specs.Serving.{after_service}
+use Rattle.mmio_window.specs.Queue.{AreAhead, TagFits, ahead_of, entry_of, made_as, tag_places, launched, opened, queue_kind, shut, stopped}
+use Rattle.mmio_window.specs.Serving.{after_service, site_at}
 use Rattle.mmio_window.specs.Window.{WindowState, queue_at, ring_at, with_ring}
 use Rattle.mmio_window.proofs.Ahead.{AreAhead-landed, AreAhead-launched, AreAhead-served}
 use Rattle.mmio_window.proofs.Pieces.{queue_stands_open}
@@ -31,28 +31,46 @@ use Rattle.block_device.specs.Extent.{extent_disk}
 use Rattle.block_device.specs.Hosting.{HostsTo, site_of}
 use Rattle.block_device.proofs.Unasked.{any_disk}
 
--- ---- an opening moves none
+-- of the queue that the window's device may serve, the chains of these tags are in flight
+abbrev pub AheadIn : WindowState → List (Option Token) → Type 0
+AheadIn w tokens = IfSome (queue_at 0 w) (λ queue. AreAhead queue tokens)
 
-fits_opened : (m : Memory) (queue : Queue) (t : Token) → Fits queue t → Fits (opened m queue) t
-fits_opened m (Split ring) (token.Split t) f = tt
-fits_opened m (Packed ring) (token.Packed t) f = f
-fits_opened m (Split ring) (token.Packed t) f = absurd f
-fits_opened m (Packed ring) (token.Split t) f = absurd f
+-- ---- what moves none
 
-tag_opened : (m : Memory) (queue : Queue) (tag : Option Token) → TagFits queue tag → TagFits (opened m queue) tag
-tag_opened m queue None f = tt
-tag_opened m queue (Some t) f = fits_opened m queue t f
+-- which tokens fit turns on the queue's kind and size alone
+fits_as : (old new : Queue) → made_as old ≡ made_as new → (tag : Option Token) → TagFits old tag → TagFits new tag
+fits_as old new same None f = tt
+fits_as (Split a) (Split b) same (Some (token.Split t)) f = tt
+fits_as (Packed a) (Packed b) same (Some (token.Packed t)) f =
+    let size : a.setup.size ≡ b.setup.size = ap size_of same in (f.0, rw size at f.1)
+  where
+    size_of : Queue → ℕ
+    size_of (Split ring) = ring.setup.size
+    size_of (Packed ring) = ring.setup.size
+fits_as (Split a) new same (Some (token.Packed t)) f = absurd f
+fits_as (Packed a) new same (Some (token.Split t)) f = absurd f
+fits_as (Split a) (Packed b) same (Some (token.Split t)) f = absurd (cc same)
+fits_as (Packed a) (Split b) same (Some (token.Packed t)) f = absurd (cc same)
 
-ahead_opened : (m : Memory) (queue : Queue) → ahead_of (opened m queue) ≡ ahead_of queue
-ahead_opened m (Split ring) = refl
-ahead_opened m (Packed ring) = refl
+-- the queue is the same one, and its next chain as far ahead
+record Stands (old new : Queue) : Type 0 where
+  made : made_as old ≡ made_as new
+  ahead : ahead_of new ≡ ahead_of old
+
+AreAhead-stands : (old new : Queue) (tags : List (Option Token)) → Stands old new → AreAhead old tags
+    → AreAhead new tags
+AreAhead-stands old new tags stands are = record {
+  each = All-weaker (TagFits old) (TagFits new) (fits_as old new stands.made) tags are.each;
+  places = omega (arith, stands.ahead, are.places);
+}
 
 AreAhead-opened_at : (stage : Stage) (m : Memory) (queue : Queue) (tags : List (Option Token))
     → AreAhead queue tags → AreAhead (opened_at stage m queue) tags
-AreAhead-opened_at First m queue tags are = record {
-  each = All-weaker (TagFits queue) (TagFits (opened m queue)) (tag_opened m queue) tags are.each;
-  places = let same = ahead_opened m queue in omega (arith, same, are.places);
-}
+AreAhead-opened_at First m queue tags are = AreAhead-stands queue (opened m queue) tags (stands queue) are
+  where
+    stands : (queue : Queue) → Stands queue (opened m queue)
+    stands (Split ring) = record { made = refl; ahead = refl }
+    stands (Packed ring) = record { made = refl; ahead = refl }
 AreAhead-opened_at Next m queue tags are = are
 
 -- ---- the free tag
@@ -80,8 +98,8 @@ is_free (Some here ∷ tags) i e = free_later tags here (free_tag tags) i refl (
 
 pub ahead_asked : (device : BlockDevice) (stage : Stage) (old new : HostedQueue) (here : InFlight)
     → AsksNext device stage old here new
-    → IfSome (queue_at 0 old.window) (λ queue. AreAhead queue (tokens_of old.tags))
-    → IfSome (queue_at 0 new.window) (λ queue. AreAhead queue (tokens_of new.tags))
+    → AheadIn old.window (tokens_of old.tags)
+    → AheadIn new.window (tokens_of new.tags)
 ahead_asked device stage old new here next held =
     let x = next.asks any_disk in
     let tokens = tokens_of old.tags in
@@ -108,52 +126,20 @@ ahead_asked device stage old new here next held =
 
 -- ---- the ends of a service move none
 
-module _ (queue : Queue) where
-  fits_shut : (t : Token) → Fits queue t → Fits (shut queue) t
-  fits_shut t f = go queue t f
-    where
-      go : (queue : Queue) (t : Token) → Fits queue t → Fits (shut queue) t
-      go (Split ring) (token.Split t) f = tt
-      go (Packed ring) (token.Packed t) f = f
-      go (Split ring) (token.Packed t) f = absurd f
-      go (Packed ring) (token.Split t) f = absurd f
-
-  fits_stopped : (t : Token) → Fits queue t → Fits (stopped queue) t
-  fits_stopped t f = go queue t f
-    where
-      go : (queue : Queue) (t : Token) → Fits queue t → Fits (stopped queue) t
-      go (Split ring) (token.Split t) f = tt
-      go (Packed ring) (token.Packed t) f = f
-      go (Split ring) (token.Packed t) f = absurd f
-      go (Packed ring) (token.Split t) f = absurd f
-
-tag_by : (old new : Queue) → ((t : Token) → Fits old t → Fits new t) → (tag : Option Token) → TagFits old tag
-    → TagFits new tag
-tag_by old new keeps None f = tt
-tag_by old new keeps (Some t) f = keeps t f
-
-ahead_shut : (queue : Queue) → ahead_of (shut queue) ≡ ahead_of queue
-ahead_shut (Split ring) = refl
-ahead_shut (Packed ring) = refl
-
-ahead_stopped : (queue : Queue) → ahead_of (stopped queue) ≡ ahead_of queue
-ahead_stopped (Split ring) = refl
-ahead_stopped (Packed ring) = refl
-
 AreAhead-shut : (queue : Queue) (tags : List (Option Token)) → AreAhead queue tags → AreAhead (shut queue) tags
-AreAhead-shut queue tags are = record {
-  each = All-weaker (TagFits queue) (TagFits (shut queue)) (tag_by queue (shut queue) (fits_shut queue)) tags
-      are.each;
-  places = let same = ahead_shut queue in omega (arith, same, are.places);
-}
+AreAhead-shut queue tags are = AreAhead-stands queue (shut queue) tags (stands queue) are
+  where
+    stands : (queue : Queue) → Stands queue (shut queue)
+    stands (Split ring) = record { made = refl; ahead = refl }
+    stands (Packed ring) = record { made = refl; ahead = refl }
 
 AreAhead-stopped : (queue : Queue) (tags : List (Option Token)) → AreAhead queue tags
     → AreAhead (stopped queue) tags
-AreAhead-stopped queue tags are = record {
-  each = All-weaker (TagFits queue) (TagFits (stopped queue))
-      (tag_by queue (stopped queue) (fits_stopped queue)) tags are.each;
-  places = let same = ahead_stopped queue in omega (arith, same, are.places);
-}
+AreAhead-stopped queue tags are = AreAhead-stands queue (stopped queue) tags (stands queue) are
+  where
+    stands : (queue : Queue) → Stands queue (stopped queue)
+    stands (Split ring) = record { made = refl; ahead = refl }
+    stands (Packed ring) = record { made = refl; ahead = refl }
 
 -- ---- what a window shows of its end leaves its queue, or the window isn't live
 
@@ -179,16 +165,27 @@ shown w queue P (Faulted fault) false e p =
     kept_if (is_live (with_needs_reset w.negotiation)) (ring_at 0 w) queue P
     (if_live (is_live w.negotiation) (ring_at 0 w) queue e) p
 
+-- so a ring that is shut keeps them
+shut_kept : (tokens : List (Option Token)) (before after : WindowState) (queue last ring : Queue) (ending : Ending)
+    (wanted : Bool) → queue_at 0 before ≡ Some queue
+    → after ≡ after_service ending wanted (with_ring 0 before last) → last ≡ shut ring → AreAhead ring tokens
+    → AheadIn after tokens
+shut_kept tokens before after queue last ring ending wanted ready window is are =
+    subst (λ (w : WindowState). AheadIn w tokens) (sym window)
+    (shown (with_ring 0 before last) last (λ queue. AreAhead queue tokens) ending wanted
+    (queue_stands_open 0 before queue last ready)
+    (subst (λ (q : Queue). AreAhead q tokens) (sym is) (AreAhead-shut ring tokens are)))
+
 -- ---- a chain lands
 
 pub ahead_landed : (tag : ℕ) (verdict : Verdict) (old new : HostedQueue) → IsLanding tag verdict old new
     → tag < length old.tags
-    → IfSome (queue_at 0 old.window) (λ queue. AreAhead queue (tokens_of old.tags))
-    → IfSome (queue_at 0 new.window) (λ queue. AreAhead queue (tokens_of new.tags))
+    → AheadIn old.window (tokens_of old.tags)
+    → AheadIn new.window (tokens_of new.tags)
 ahead_landed tag verdict old new landing below held = go (queue_at 0 old.window) refl landing.lands
   where
     go : (o : Option Queue) → queue_at 0 old.window ≡ o → LandsBy o tag landing.here verdict old new
-        → IfSome (queue_at 0 new.window) (λ queue. AreAhead queue (tokens_of new.tags))
+        → AheadIn new.window (tokens_of new.tags)
     go None none same =
         let gone : queue_at 0 new.window ≡ None = ap (λ (h : HostedQueue). queue_at 0 h.window) same ∙ none in
         subst (λ (o : Option Queue). IfSome o (λ queue. AreAhead queue (tokens_of new.tags))) (sym gone) tt
@@ -208,14 +205,8 @@ ahead_landed tag verdict old new landing below held = go (queue_at 0 old.window)
         subst (λ (q : Queue). AreAhead q (set tokens tag None)) (sym x.gives.landed) landed in
         let same : set tokens tag None ≡ tokens_of new.tags =
         sym (ap tokens_of lands.tags ∙ map-set token_in old.tags tag None) in
-        let kept : AreAhead (shut x.behind) (tokens_of new.tags) =
-        AreAhead-shut x.behind (tokens_of new.tags)
-        (subst (λ l. AreAhead x.behind l) same behind) in
-        subst (λ (w : WindowState). IfSome (queue_at 0 w) (λ queue. AreAhead queue (tokens_of new.tags)))
-        (sym x.window)
-        (shown (with_ring 0 old.window (shut x.behind)) (shut x.behind)
-        (λ queue. AreAhead queue (tokens_of new.tags)) Spent x.wanted
-        (queue_stands_open 0 old.window x.queue (shut x.behind) x.ready) kept)
+        shut_kept (tokens_of new.tags) old.window new.window x.queue (shut x.behind) x.behind Spent x.wanted
+        x.ready x.window refl (subst (λ l. AreAhead x.behind l) same behind)
 
 -- ---- a look ends
 
@@ -242,8 +233,8 @@ module _ (device : BlockDevice) (tokens : List (Option Token)) where
   ends_kept : (stage : Stage) (found : Option Queue) (old new : Memory) (before after : WindowState) (s : Disk)
       → found ≡ queue_at 0 before
       → ServesTo stage (unasked_device device) unlimited 0 found Done old new before after s s
-      → IfSome (queue_at 0 before) (λ queue. AreAhead queue tokens)
-      → IfSome (queue_at 0 after) (λ queue. AreAhead queue tokens)
+      → AheadIn before tokens
+      → AheadIn after tokens
   ends_kept First None old new before after s is h held =
       subst (λ (w : WindowState). IfSome (queue_at 0 w) (λ queue. AreAhead queue tokens))
       (sym h.notified.1.window) held
@@ -253,34 +244,23 @@ module _ (device : BlockDevice) (tokens : List (Option Token)) where
   ends_kept First (Some queue) old new before after s is h held =
       let x = h.notified in
       let service = x.service.service in
-      let are : AreAhead queue tokens =
-      subst (λ (o : Option Queue). IfSome o (λ queue. AreAhead queue tokens)) (sym is) held in
-      let start : Site Queue Disk = record { memory = old; ring = opened old queue; state = s } in
-      let last : AreAhead service.last.ring tokens =
-      works_kept (queue_kind.opening_fault old queue) start service.last h.ending service.works
-      (AreAhead-opened_at First old queue tokens are) in
-      let shut_is : x.last ≡ shut service.last.ring = ap (λ (k : Site Queue Disk). k.ring) service.closed in
-      subst (λ (w : WindowState). IfSome (queue_at 0 w) (λ queue. AreAhead queue tokens)) (sym x.window)
-      (shown (with_ring 0 before x.last) x.last (λ queue. AreAhead queue tokens) h.ending x.wanted
-      (queue_stands_open 0 before queue x.last (sym is))
-      (subst (λ (q : Queue). AreAhead q tokens) (sym shut_is) (AreAhead-shut service.last.ring tokens last)))
+      shut_kept tokens before after queue x.last service.last.ring h.ending x.wanted (sym is) x.window
+      (ap (λ (k : Site Queue Disk). k.ring) service.closed)
+      (works_kept (queue_kind.opening_fault old queue) (site_at old (opened old queue) s) service.last h.ending
+      service.works (AreAhead-opened_at First old queue tokens
+      (subst (λ (o : Option Queue). IfSome o (λ queue. AreAhead queue tokens)) (sym is) held)))
   ends_kept Next (Some queue) old new before after s is h held =
       let x = h.finished in
       let ends = x.ends.ends in
-      let are : AreAhead queue tokens =
-      subst (λ (o : Option Queue). IfSome o (λ queue. AreAhead queue tokens)) (sym is) held in
-      let last : AreAhead ends.last.ring tokens =
-      runs_kept (record { memory = old; ring = queue; state = s }) ends.last h.ending ends.runs are in
-      let shut_is : x.last ≡ shut ends.last.ring = ap (λ (k : Site Queue Disk). k.ring) ends.closed in
-      subst (λ (w : WindowState). IfSome (queue_at 0 w) (λ queue. AreAhead queue tokens)) (sym x.window)
-      (shown (with_ring 0 before x.last) x.last (λ queue. AreAhead queue tokens) h.ending x.wanted
-      (queue_stands_open 0 before queue x.last (sym is))
-      (subst (λ (q : Queue). AreAhead q tokens) (sym shut_is) (AreAhead-shut ends.last.ring tokens last)))
+      shut_kept tokens before after queue x.last ends.last.ring h.ending x.wanted (sym is) x.window
+      (ap (λ (k : Site Queue Disk). k.ring) ends.closed)
+      (runs_kept (site_at old queue s) ends.last h.ending ends.runs
+      (subst (λ (o : Option Queue). IfSome o (λ queue. AreAhead queue tokens)) (sym is) held))
 
 end_kept : (device : BlockDevice) (stage : Stage) (old new : HostedQueue) (free : Option ℕ)
     → LookEnds free device stage old new
-    → IfSome (queue_at 0 old.window) (λ queue. AreAhead queue (tokens_of old.tags))
-    → IfSome (queue_at 0 new.window) (λ queue. AreAhead queue (tokens_of new.tags))
+    → AheadIn old.window (tokens_of old.tags)
+    → AheadIn new.window (tokens_of new.tags)
 end_kept device stage old new None same held =
     subst (λ (h : HostedQueue). IfSome (queue_at 0 h.window) (λ queue. AreAhead queue (tokens_of h.tags)))
     (sym same) held
@@ -298,8 +278,8 @@ end_kept device stage old new (Some tag) x held =
 
 pub ahead_looked : (device : BlockDevice) (stage : Stage) (old : HostedQueue) (asked : List InFlight)
     (new : HostedQueue) → LooksFrom device stage old asked new
-    → IfSome (queue_at 0 old.window) (λ queue. AreAhead queue (tokens_of old.tags))
-    → IfSome (queue_at 0 new.window) (λ queue. AreAhead queue (tokens_of new.tags))
+    → AheadIn old.window (tokens_of old.tags)
+    → AheadIn new.window (tokens_of new.tags)
 ahead_looked device stage old [] new looks held =
     end_kept device stage old new (free_tag old.tags) looks held
 ahead_looked device stage old (here ∷ asked) new looks held =

@@ -13,6 +13,7 @@ pub mod Judging
 pub mod Keeping
 pub mod OneLook
 pub mod OneService
+pub mod RequestCases
 pub mod Requests
 pub mod SomeAnswer
 pub mod Telling

@@ -1,6 +1,5 @@
 -- A look at a queue of a disk that the host serves comes out in one way, since no chain that it serves asks
--- for the disk;
--- and so does a completion.
+-- for the disk; and so does a completion.
 use Rattle.std.proofs.Common.{◌≡◌, inl, inr, ◌↔◌, ℕ, zero, suc, ◌+◌, ◌-◌, Bool, true, false, Option, Some, None, List, [], ◌∷◌, length, drop, refl, sym, ap, subst, ◌∙◌, arith}
 use Rattle.std.specs.Prelude.{IsTrue}
 use Rattle.std.proofs.lemmas.Option.{same_Some}
@@ -11,19 +10,19 @@ use Rattle.chain.specs.declared.fault.Fault.{Fault}
 use Rattle.chain.specs.declared.segment.Buffer.{Buffer}
 use Rattle.chain.specs.declared.segment.Segment.{Segment}
 use Rattle.chain.specs.Bytes.{readable_of, writable_of}
-use Rattle.chain.specs.Service.{Ending, Entry, Faulted, Given, HasAtMostOneAnswer, IsEnding, IsService, Refused, Served, ServesAll, ServesChain, Site, Spent, Works, after, close_site, open_site}
-use Rattle.chain.proofs.Servicing.{at_most_one_service, both, never_refused}
+use Rattle.chain.specs.Service.{Ending, Entry, Faulted, Given, HasAtMostOneAnswer, IsEnding, Refused, Served, ServesAll, ServesChain, Site, Spent, Works, after, close_site, open_site}
+use Rattle.chain.proofs.Servicing.{Decides, both, one_decided_service}
 use Rattle.mmio_window.specs.declared.queue.Queue.{Queue}
 use Rattle.mmio_window.specs.declared.queue.Queue.TheVariants.{Split, Packed}
 use Rattle.mmio_window.specs.declared.queue.Token.{Token}
 use Rattle.mmio_window.specs.declared.queue.Token.TheVariants as token
 use Rattle.mmio_window.specs.declared.stage.Stage.{Stage}
 use Rattle.mmio_window.specs.declared.stage.Stage.TheVariants.{First, Next}
-use Rattle.mmio_window.specs.Pieces.{BeginsTo, GoesOnTo, IsFinishedWithin, opened_at}
+use Rattle.mmio_window.specs.Pieces.{IsFinishedWithin, IsNotifiedWithin, ServesTo, opened_at}
 use Rattle.mmio_window.specs.Queue.{IsTaken, entry_of, queue_kind}
 use Rattle.mmio_window.specs.Serving.{IsNotified, after_service}
 use Rattle.mmio_window.specs.Window.{WindowState, with_ring}
-use Rattle.mmio_window.proofs.Pieces.{never_pauses, notified_once}
+use Rattle.mmio_window.proofs.Pieces.{notified_once}
 use Rattle.mmio_window.proofs.QueueKind.{has_at_most_one_chain}
 use Rattle.sector_cache.specs.Disk.{Disk}
 use Rattle.block_device.specs.declared.device.BlockDevice.{BlockDevice}
@@ -33,26 +32,22 @@ use Rattle.block_device.specs.declared.hosting.Hosted.TheVariants as hosted
 use Rattle.block_device.specs.declared.operation.Operation.{Operation}
 use Rattle.block_device.specs.declared.operation.Verdict.{Verdict}
 use Rattle.block_device.specs.declared.request.Request.{Request}
-use Rattle.block_device.specs.declared.request.Request.TheVariants.{Rejected, Read, Write, Flush, GetId, WriteZeroes}
+use Rattle.block_device.specs.declared.request.Request.TheVariants.{Rejected, GetId}
 use Rattle.block_device.specs.Asking.{EndsUnasked, IsAsked, asks_image, unasked_device}
 use Rattle.block_device.specs.Device.{GivesBy, given_of}
 use Rattle.block_device.specs.Extent.{extent_disk}
-use Rattle.block_device.specs.Hosting.{AsksAt, AsksIn, CompletesIn, HasStatusAt, HostsTo, SameLook, StopsAt, wants_stable}
+use Rattle.block_device.specs.Hosting.{AsksAt, AsksIn, CompletesIn, HasStatusAt, HostsTo, SameLook, StopsAt, at_disk, site_of, wants_stable}
 use Rattle.block_device.specs.Operation.{operation_of}
 use Rattle.block_device.specs.Outcome.{Completes, Ends, Fails, Outcome, completed}
 use Rattle.block_device.specs.Request.{request_of, payload_of}
-use Rattle.block_device.specs.Hosting.{site_of}
+use Rattle.block_device.proofs.Asking.{unasked_by_cases}
 
 -- ---- one answer to a chain that asks for nothing
 
 never_fails : (request : Request) (payload : List ℕ) (disk : Disk) (outcome : Outcome)
     → asks_image request ≡ false → Fails request payload disk outcome → ⊥
-never_fails (Rejected status) payload disk outcome none fails = fails
-never_fails (Read sector count) payload disk outcome none fails = absurd (cc)
-never_fails (Write sector count) payload disk outcome none fails = absurd (cc)
-never_fails Flush payload disk outcome none fails = absurd (cc)
-never_fails GetId payload disk outcome none fails = fails
-never_fails (WriteZeroes segments) payload disk outcome none fails = absurd (cc)
+never_fails request payload disk outcome none =
+    unasked_by_cases (λ r. Fails r payload disk outcome → ⊥) (λ status fails. fails) (λ fails. fails) request none
 
 pub completes_from : (identity : List ℕ) (request : Request) (payload : List ℕ) (disk : Disk)
     (outcome : Outcome) → asks_image request ≡ false → Ends identity request payload disk outcome
@@ -65,14 +60,13 @@ completes_once : (identity : List ℕ) (request : Request) (payload : List ℕ) 
     (one other : Outcome) → asks_image request ≡ false
     → Completes identity request payload disk one
     → Completes identity request payload disk other → one ≡ other
-completes_once identity (Rejected status) payload disk one other none x y = x.is
-    ∙ ap (λ (f : List ℕ). completed (Rejected status) payload f disk) (x.finds ∙ sym y.finds) ∙ sym y.is
-completes_once identity (Read sector count) payload disk one other none x y = absurd (cc)
-completes_once identity (Write sector count) payload disk one other none x y = absurd (cc)
-completes_once identity Flush payload disk one other none x y = absurd (cc)
-completes_once identity GetId payload disk one other none x y = x.is
-    ∙ ap (λ (f : List ℕ). completed GetId payload f disk) (x.finds ∙ sym y.finds) ∙ sym y.is
-completes_once identity (WriteZeroes segments) payload disk one other none x y = absurd (cc)
+completes_once identity request payload disk one other none =
+    unasked_by_cases (λ r. Completes identity r payload disk one → Completes identity r payload disk other
+    → one ≡ other)
+    (λ status x y. x.is ∙ ap (λ (f : List ℕ). completed (Rejected status) payload f disk) (x.finds ∙ sym y.finds)
+    ∙ sym y.is)
+    (λ x y. x.is ∙ ap (λ (f : List ℕ). completed GetId payload f disk) (x.finds ∙ sym y.finds) ∙ sym y.is)
+    request none
 
 ends_once : (identity : List ℕ) (request : Request) (payload : List ℕ) (disk : Disk) (one other : Outcome)
     → EndsUnasked identity request payload disk one
@@ -94,6 +88,9 @@ given_once device disk readable (suc room) one other x y =
 
 unasked_once : (device : BlockDevice) → HasAtMostOneAnswer (unasked_device device)
 unasked_once device = record { given = given_once device }
+
+decides : (device : BlockDevice) → Decides (unasked_device device)
+decides device = record { never_both = λ disk readable w given gives lacks. lacks }
 
 -- ---- where it stops
 
@@ -327,10 +324,17 @@ record SameEnd (m n : Memory) (v w : WindowState) : Type 0 where
   memory : m ≡ n
   window : v ≡ w
 
-not_refused : (device : BlockDevice) (old new : Site Queue Disk) (ending : Ending) (wanted : Bool)
-    → IsService queue_kind (unasked_device device) old new ending wanted → ending ≡ Refused → ⊥
-not_refused device old new ending wanted s =
-    never_refused queue_kind (unasked_device device) old new ending wanted (λ disk readable w lacks. lacks) s
+-- one end of a service shows itself in one way
+shown_once : (m n : Memory) (before v w : WindowState) (one other : Queue) (disk : Disk) (e f : Ending)
+    (a b : Bool) → at_disk m one disk ≡ at_disk n other disk → e ≡ f → a ≡ b
+    → v ≡ after_service e a (with_ring 0 before one) → w ≡ after_service f b (with_ring 0 before other)
+    → SameEnd m n v w
+shown_once m n before v w one other disk e f a b site ending wanted p q =
+    let ring : one ≡ other = ap (λ (k : Site Queue Disk). k.ring) site in
+    record {
+      memory = ap (λ (k : Site Queue Disk). k.memory) site;
+      window = p ∙ rw (ring, ending, wanted) refl ∙ sym q;
+    }
 
 end_once : (device : BlockDevice) (found : Option Queue) (old m n : Memory)
     (before v w : WindowState) (disk : Disk)
@@ -343,21 +347,11 @@ end_once device None old m n before v w disk x y = record {
 end_once device (Some queue) old m n before v w disk x y =
     let p = x.notified in
     let q = y.notified in
-    let start : Site Queue Disk = record { memory = old; ring = queue; state = disk } in
-    let one : Site Queue Disk = record { memory = m; ring = p.last; state = disk } in
-    let other : Site Queue Disk = record { memory = n; ring = q.last; state = disk } in
-    let same = at_most_one_service queue_kind (unasked_device device) has_at_most_one_chain
-    (unasked_once device) start one other x.ending y.ending p.wanted q.wanted
-    (not_refused device start one x.ending p.wanted p.service)
-    (not_refused device start other y.ending q.wanted q.service) p.service q.service in
-    record {
-      memory = ap (λ (k : Site Queue Disk). k.memory) same.site;
-      window = p.window ∙ (ap (λ (k : Site Queue Disk). after_service x.ending p.wanted
-          (with_ring 0 before k.ring)) same.site
-          ∙ (ap (λ (e : Ending). after_service e p.wanted (with_ring 0 before q.last)) same.ending
-          ∙ (ap (λ (b : Bool). after_service y.ending b (with_ring 0 before q.last)) same.wanted
-          ∙ sym q.window)));
-    }
+    let same = one_decided_service queue_kind (unasked_device device) has_at_most_one_chain
+    (unasked_once device) (decides device) (at_disk old queue disk) (at_disk m p.last disk)
+    (at_disk n q.last disk) x.ending y.ending p.wanted q.wanted p.service q.service in
+    shown_once m n before v w p.last q.last disk x.ending y.ending p.wanted q.wanted same.site same.ending
+    same.wanted p.window q.window
 
 same_answer : (a b : Bool) (P : Type 0) → IsTrue a ↔ P → IsTrue b ↔ P → a ≡ b
 same_answer true true P x y = refl
@@ -415,27 +409,14 @@ finish_once device budget None old m n before v w disk x y = record {
 finish_once device budget (Some queue) old m n before v w disk x y =
     let p = x.finished in
     let q = y.finished in
-    let start : Site Queue Disk = record { memory = old; ring = queue; state = disk } in
-    let one : Site Queue Disk = record { memory = m; ring = p.last; state = disk } in
-    let other : Site Queue Disk = record { memory = n; ring = q.last; state = disk } in
     let a = p.ends.ends in
     let b = q.ends.ends in
-    let run = run_once device start a.runs.chains b.runs.chains a.runs.at b.runs.at x.ending y.ending
-    a.runs.serves a.runs.ends b.runs.serves b.runs.ends in
-    let last : a.last ≡ b.last = a.runs.stands
-    ∙ rw (run.at, run.ending) refl ∙ sym b.runs.stands in
-    let same : one ≡ other = a.closed
-    ∙ ap (close_site queue_kind (unasked_device device)) last ∙ sym b.closed in
-    let wanted : p.wanted ≡ q.wanted = same_answer p.wanted q.wanted _ a.wanted_is
-    (rw (← last) at b.wanted_is) in
-    record {
-      memory = ap (λ (k : Site Queue Disk). k.memory) same;
-      window = p.window ∙ (ap (λ (k : Site Queue Disk). after_service x.ending p.wanted
-          (with_ring 0 before k.ring)) same
-          ∙ (ap (λ (e : Ending). after_service e p.wanted (with_ring 0 before q.last)) run.ending
-          ∙ (ap (λ (b : Bool). after_service y.ending b (with_ring 0 before q.last)) wanted
-          ∙ sym q.window)));
-    }
+    let run = run_once device (at_disk old queue disk) a.runs.chains b.runs.chains a.runs.at b.runs.at
+    x.ending y.ending a.runs.serves a.runs.ends b.runs.serves b.runs.ends in
+    let last : a.last ≡ b.last = a.runs.stands ∙ rw (run.at, run.ending) refl ∙ sym b.runs.stands in
+    shown_once m n before v w p.last q.last disk x.ending y.ending p.wanted q.wanted
+    (a.closed ∙ ap (close_site queue_kind (unasked_device device)) last ∙ sym b.closed) run.ending
+    (same_answer p.wanted q.wanted _ a.wanted_is (rw (← last) at b.wanted_is)) p.window q.window
 
 asks_or_finishes : (device : BlockDevice) (budget : Budget) (found : Option Queue) (f : Flight)
     (old m n : Memory) (before v w : WindowState) (b : List Buffer) (r : List Segment) (disk : Disk)
@@ -484,91 +465,73 @@ asks_or_ends device (Some queue) f old m n before v w b r disk x y =
 
 -- ---- a look
 
-never_more : (device : BlockDevice) (budget : Budget) (found : Option Queue) (old new : Memory)
-    (before after : WindowState) (s t : Disk) → budget.chains ≡ None → budget.bytes ≡ None
-    → BeginsTo (unasked_device device) budget 0 found progress.More old new before after s t → ⊥
-never_more device budget None old new before after s t chains bytes h = h
-never_more device budget (Some queue) old new before after s t chains bytes h =
+pub never_more : (device : BlockDevice) (stage : Stage) (budget : Budget) (found : Option Queue)
+    (old new : Memory) (before after : WindowState) (s t : Disk) → budget.chains ≡ None → budget.bytes ≡ None
+    → ServesTo stage (unasked_device device) budget 0 found progress.More old new before after s t → ⊥
+never_more device First budget None old new before after s t chains bytes h = h
+never_more device Next budget None old new before after s t chains bytes h = h
+never_more device First budget (Some queue) old new before after s t chains bytes h =
     elim h.begins.pauses.spent [ inl e ↦ cc | inr e ↦ cc ]
-
-whole : (device : BlockDevice) (budget : Budget) (found : Option Queue) (old new : Memory)
-    (before after : WindowState) (s t : Disk) → budget.chains ≡ None → budget.bytes ≡ None
-    → BeginsTo (unasked_device device) budget 0 found progress.Done old new before after s t
-    → IsNotified (unasked_device device) 0 found old new before after s t
-whole device budget found old new before after s t chains bytes h =
-    let once = never_pauses (unasked_device device) budget 0 found progress.Done old new before after s
-    t chains bytes h in
-    record {
-      ending = once.ending;
-      notified = notified_once (unasked_device device) budget 0 found once.ending old new before after
-          s t once.notified;
-    }
-
-pub one_look : (device : BlockDevice) (budget : Budget) (found : Option Queue) (one other : Hosted)
-    (old m n : Memory) (before v w : WindowState) (b c : List Buffer) (r s : List Segment) (disk : Disk)
-    → budget.chains ≡ None → budget.bytes ≡ None
-    → HostsTo device First budget found one old m before v b r disk
-    → HostsTo device First budget found other old n before w c s disk
-    → SameLook one other m n v w b c r s
-one_look device budget found (hosted.Asks f) (hosted.Asks g) old m n before v w b c r s disk chains bytes x
-    y = asks_once device First found f g old m n before v w b c r s disk x y
-one_look device budget found hosted.Done hosted.Done old m n before v w b c r s disk chains bytes x y =
-    let d = extent_disk device.extent disk in
-    let same = end_once device found old m n before v w d
-    (whole device budget found old m before v d d chains bytes x)
-    (whole device budget found old n before w d d chains bytes y) in
-    record { outcome = refl; memory = same.memory; window = same.window; buffers = tt; runs = tt }
-one_look device budget found (hosted.Asks f) hosted.Done old m n before v w b c r s disk chains bytes x y =
-    let d = extent_disk device.extent disk in
-    absurd (asks_or_ends device found f old m n before v w b r disk x
-    (whole device budget found old n before w d d chains bytes y))
-one_look device budget found hosted.Done (hosted.Asks g) old m n before v w b c r s disk chains bytes x y =
-    let d = extent_disk device.extent disk in
-    absurd (asks_or_ends device found g old n m before w v c s disk y
-    (whole device budget found old m before v d d chains bytes x))
-one_look device budget found hosted.More other old m n before v w b c r s disk chains bytes x y =
-    let d = extent_disk device.extent disk in
-    absurd (never_more device budget found old m before v d d chains bytes x)
-one_look device budget found (hosted.Asks f) hosted.More old m n before v w b c r s disk chains bytes x y =
-    let d = extent_disk device.extent disk in
-    absurd (never_more device budget found old n before w d d chains bytes y)
-one_look device budget found hosted.Done hosted.More old m n before v w b c r s disk chains bytes x y =
-    let d = extent_disk device.extent disk in
-    absurd (never_more device budget found old n before w d d chains bytes y)
-
--- ---- and from an open queue on
-
-never_more_next : (device : BlockDevice) (budget : Budget) (found : Option Queue) (old new : Memory)
-    (before after : WindowState) (s t : Disk) → budget.chains ≡ None → budget.bytes ≡ None
-    → GoesOnTo (unasked_device device) budget 0 found progress.More old new before after s t → ⊥
-never_more_next device budget None old new before after s t chains bytes h = h
-never_more_next device budget (Some queue) old new before after s t chains bytes h =
+never_more device Next budget (Some queue) old new before after s t chains bytes h =
     elim h.pauses.spent [ inl e ↦ cc | inr e ↦ cc ]
 
-pub one_next_look : (device : BlockDevice) (budget : Budget) (found : Option Queue) (one other : Hosted)
-    (old m n : Memory) (before v w : WindowState) (b c : List Buffer) (r s : List Segment) (disk : Disk)
-    → budget.chains ≡ None → budget.bytes ≡ None
-    → HostsTo device Next budget found one old m before v b r disk
-    → HostsTo device Next budget found other old n before w c s disk
+whole : (device : BlockDevice) (budget : Budget) (found : Option Queue) (old new : Memory)
+    (before after : WindowState) (s t : Disk)
+    → IsNotifiedWithin (unasked_device device) budget 0 found old new before after s t
+    → IsNotified (unasked_device device) 0 found old new before after s t
+whole device budget found old new before after s t h = record {
+  ending = h.ending;
+  notified = notified_once (unasked_device device) budget 0 found h.ending old new before after s t h.notified;
+}
+
+done_once : (device : BlockDevice) (stage : Stage) (budget : Budget) (found : Option Queue) (old m n : Memory)
+    (before v w : WindowState) (disk : Disk)
+    → ServesTo stage (unasked_device device) budget 0 found progress.Done old m before v disk disk
+    → ServesTo stage (unasked_device device) budget 0 found progress.Done old n before w disk disk
+    → SameEnd m n v w
+done_once device First budget found old m n before v w disk x y =
+    end_once device found old m n before v w disk
+    (whole device budget found old m before v disk disk x)
+    (whole device budget found old n before w disk disk y)
+done_once device Next budget found old m n before v w disk x y =
+    finish_once device budget found old m n before v w disk x y
+
+asks_or_done : (device : BlockDevice) (stage : Stage) (budget : Budget) (found : Option Queue) (f : Flight)
+    (old m n : Memory) (before v w : WindowState) (b : List Buffer) (r : List Segment) (disk : Disk)
+    → AsksIn device stage found old m before v b r f disk
+    → ServesTo stage (unasked_device device) budget 0 found progress.Done old n before w
+    (extent_disk device.extent disk) (extent_disk device.extent disk) → ⊥
+asks_or_done device First budget found f old m n before v w b r disk x y =
+    let d = extent_disk device.extent disk in
+    asks_or_ends device found f old m n before v w b r disk x
+    (whole device budget found old n before w d d y)
+asks_or_done device Next budget found f old m n before v w b r disk x y =
+    asks_or_finishes device budget found f old m n before v w b r disk x y
+
+pub one_look : (device : BlockDevice) (stage : Stage) (budget : Budget) (found : Option Queue)
+    (one other : Hosted) (old m n : Memory) (before v w : WindowState) (b c : List Buffer)
+    (r s : List Segment) (disk : Disk) → budget.chains ≡ None → budget.bytes ≡ None
+    → HostsTo device stage budget found one old m before v b r disk
+    → HostsTo device stage budget found other old n before w c s disk
     → SameLook one other m n v w b c r s
-one_next_look device budget found (hosted.Asks f) (hosted.Asks g) old m n before v w b c r s disk chains bytes x
-    y = asks_once device Next found f g old m n before v w b c r s disk x y
-one_next_look device budget found hosted.Done hosted.Done old m n before v w b c r s disk chains bytes x y =
-    let same = finish_once device budget found old m n before v w (extent_disk device.extent disk) x y in
+one_look device stage budget found (hosted.Asks f) (hosted.Asks g) old m n before v w b c r s disk chains
+    bytes x y = asks_once device stage found f g old m n before v w b c r s disk x y
+one_look device stage budget found hosted.Done hosted.Done old m n before v w b c r s disk chains bytes x y =
+    let same = done_once device stage budget found old m n before v w (extent_disk device.extent disk) x y in
     record { outcome = refl; memory = same.memory; window = same.window; buffers = tt; runs = tt }
-one_next_look device budget found (hosted.Asks f) hosted.Done old m n before v w b c r s disk chains bytes x y =
-    absurd (asks_or_finishes device budget found f old m n before v w b r disk x y)
-one_next_look device budget found hosted.Done (hosted.Asks g) old m n before v w b c r s disk chains bytes x y =
-    absurd (asks_or_finishes device budget found g old n m before w v c s disk y x)
-one_next_look device budget found hosted.More other old m n before v w b c r s disk chains bytes x y =
+one_look device stage budget found (hosted.Asks f) hosted.Done old m n before v w b c r s disk chains bytes
+    x y = absurd (asks_or_done device stage budget found f old m n before v w b r disk x y)
+one_look device stage budget found hosted.Done (hosted.Asks g) old m n before v w b c r s disk chains bytes
+    x y = absurd (asks_or_done device stage budget found g old n m before w v c s disk y x)
+one_look device stage budget found hosted.More other old m n before v w b c r s disk chains bytes x y =
     let d = extent_disk device.extent disk in
-    absurd (never_more_next device budget found old m before v d d chains bytes x)
-one_next_look device budget found (hosted.Asks f) hosted.More old m n before v w b c r s disk chains bytes x y =
+    absurd (never_more device stage budget found old m before v d d chains bytes x)
+one_look device stage budget found (hosted.Asks f) hosted.More old m n before v w b c r s disk chains bytes
+    x y = let d = extent_disk device.extent disk in
+    absurd (never_more device stage budget found old n before w d d chains bytes y)
+one_look device stage budget found hosted.Done hosted.More old m n before v w b c r s disk chains bytes x y =
     let d = extent_disk device.extent disk in
-    absurd (never_more_next device budget found old n before w d d chains bytes y)
-one_next_look device budget found hosted.Done hosted.More old m n before v w b c r s disk chains bytes x y =
-    let d = extent_disk device.extent disk in
-    absurd (never_more_next device budget found old n before w d d chains bytes y)
+    absurd (never_more device stage budget found old n before w d d chains bytes y)
 
 -- ---- a completion
 

@@ -1,5 +1,5 @@
 -- Over an image that tells all of its bytes, and doesn't fail, each chain has an answer.
-use Rattle.std.proofs.Common.{◌≡◌, ℕ, zero, suc, ◌+◌, ◌*◌, ◌/◌, ◌≤◌, ◌==◌, Bool, true, false, not, cond, Option, Some, List, [], length, refl, sym, subst, arith, length-append, length-take, length-drop}
+use Rattle.std.proofs.Common.{◌≡◌, ℕ, zero, suc, ◌+◌, ◌*◌, ◌/◌, ◌≤◌, true, false, Option, Some, List, [], length, refl, sym, subst, arith, length-append, length-take, length-drop}
 use Rattle.std.proofs.lemmas.Bool.Decides.{nat_tests}
 use Rattle.std.proofs.lemmas.Grind.{common_steps}
 use Rattle.std.proofs.lemmas.List.{length-map, length-replicate}
@@ -7,88 +7,35 @@ use Rattle.std.specs.Prelude.{IfSome, nat_lt}
 use Rattle.sector_cache.specs.Disk.{Disk, IsWhole}
 use Rattle.sector_cache.specs.Sector.{extent_of}
 use Rattle.block_device.specs.declared.device.BlockDevice.{BlockDevice}
-use Rattle.block_device.specs.declared.request.RequestStatus.TheVariants.{IoError, Unsupported}
 use Rattle.block_device.specs.declared.request.Request.{Request}
 use Rattle.block_device.specs.declared.request.Request.TheVariants.{Rejected, Read, Write, Flush, GetId, WriteZeroes}
-use Rattle.block_device.specs.Request.{are_sectors, get_id_request_of, in_request_of, out_request_of, payload_of, request_of, sector_in, type_of, typed_request, write_zeroes_request_of}
-use Rattle.std.specs.List.{list_all}
-use Rattle.block_device.specs.Zeroes.{are_segments, has_known_flags, has_sectors_within, segments_in}
+use Rattle.block_device.specs.Request.{are_sectors, payload_of, request_of, sector_in}
+use Rattle.block_device.specs.Zeroes.{are_segments}
 use Rattle.block_device.specs.Outcome.{Outcome, AreSectorContents, Completes, completed}
 use Rattle.block_device.specs.Device.{HasAnswer, given_of}
 use Rattle.block_device.specs.Progress.{IsServable}
+use Rattle.block_device.proofs.RequestCases.{request_by_cases}
 
 -- ---- what is asked for can be served
 
-in_by_test : (device : BlockDevice) (payload : List ℕ) (sector room : ℕ) (fit : Bool)
-    → are_sectors device.extent.count sector room ≡ fit
-    → IsServable device.extent.count (cond fit (Read sector (room / 512)) (Rejected IoError)) payload room
-in_by_test device payload sector room false e = tt
-in_by_test device payload sector room true e =
-    (grind (arith, nat_tests, common_steps), grind (arith, nat_tests, common_steps))
-
-out_by_tests : (device : BlockDevice) (payload : List ℕ) (sector len room : ℕ) (read_only fit : Bool)
-    → length payload ≡ len → are_sectors device.extent.count sector len ≡ fit
-    → IsServable device.extent.count
-    (cond read_only (Rejected IoError) (cond fit (Write sector (len / 512)) (Rejected IoError))) payload
-    room
-out_by_tests device payload sector len room true fit size e = tt
-out_by_tests device payload sector len room false false size e = tt
-out_by_tests device payload sector len room false true size e =
-    (grind (arith, nat_tests, common_steps), grind (arith, nat_tests, common_steps))
-
-id_by_test : (capacity : ℕ) (payload : List ℕ) (room : ℕ) (short : Bool) → nat_lt room 20 ≡ short
-    → IsServable capacity (cond short (Rejected IoError) GetId) payload room
-id_by_test capacity payload room true e = tt
-id_by_test capacity payload room false e = grind (arith, nat_tests)
-
-zeroes_by_tests : (capacity : ℕ) (payload : List ℕ) (len room : ℕ) (read_only fit known within : Bool)
-    → length payload ≡ len → are_segments len ≡ fit
-    → list_all (has_sectors_within capacity) (segments_in payload) ≡ within
-    → IsServable capacity (cond read_only (Rejected IoError)
-    (cond (not fit) (Rejected IoError)
-    (cond (not known) (Rejected Unsupported)
-    (cond (not within) (Rejected IoError) (WriteZeroes (len / 16)))))) payload room
-zeroes_by_tests capacity payload len room true fit known within size e w = tt
-zeroes_by_tests capacity payload len room false false known within size e w = tt
-zeroes_by_tests capacity payload len room false true false within size e w = tt
-zeroes_by_tests capacity payload len room false true true false size e w = tt
-zeroes_by_tests capacity payload len room false true true true size e w =
-    (grind (arith, nat_tests, common_steps), w)
-
-typed_by_tests : (device : BlockDevice) (payload : List ℕ) (sector room : ℕ)
-    (reads writes flush id zeroes : Bool)
-    → IsServable device.extent.count
-    (cond reads (in_request_of device sector room)
-    (cond writes (out_request_of device sector (length payload))
-    (cond flush Flush (cond id (get_id_request_of room)
-    (cond zeroes (write_zeroes_request_of device payload) (Rejected Unsupported)))))) payload room
-typed_by_tests device payload sector room true writes flush id zeroes =
-    in_by_test device payload sector room (are_sectors device.extent.count sector room) refl
-typed_by_tests device payload sector room false true flush id zeroes =
-    out_by_tests device payload sector (length payload) room device.read_only
-    (are_sectors device.extent.count sector (length payload)) refl refl
-typed_by_tests device payload sector room false false true id zeroes = tt
-typed_by_tests device payload sector room false false false true zeroes =
-    id_by_test device.extent.count payload room (nat_lt room 20) refl
-typed_by_tests device payload sector room false false false false true =
-    zeroes_by_tests device.extent.count payload (length payload) room device.read_only
-    (are_segments (length payload)) (list_all has_known_flags (segments_in payload))
-    (list_all (has_sectors_within device.extent.count) (segments_in payload)) refl refl refl
-typed_by_tests device payload sector room false false false false false = tt
-
-servable_by_test : (device : BlockDevice) (readable : List ℕ) (room : ℕ) (short : Bool)
-    → IsServable device.extent.count
-    (cond short (Rejected IoError) (typed_request device (type_of readable) (sector_in readable)
-    (payload_of readable) room)) (payload_of readable) room
-servable_by_test device readable room true = tt
-servable_by_test device readable room false =
-    let kind = type_of readable in
-    typed_by_tests device (payload_of readable) (sector_in readable) room (kind == 0) (kind == 1) (kind == 4)
-    (kind == 8) (kind == 13)
-
 pub servable : (device : BlockDevice) (readable : List ℕ) (room : ℕ)
     → IsServable device.extent.count (request_of device readable room) (payload_of readable) room
-servable device readable room = servable_by_test device readable room (nat_lt (length readable) 16)
+servable device readable room =
+    request_by_cases (λ request. IsServable device.extent.count request (payload_of readable) room) device
+    readable room (λ status. tt) (sectors_there device.extent.count (sector_in readable) room)
+    (sectors_there device.extent.count (sector_in readable) (length (payload_of readable))) tt
+    (id_fits room) (λ fit within. (segments_whole (length (payload_of readable)) fit, within))
+  where
+    sectors_there : (capacity sector len : ℕ) → are_sectors capacity sector len ≡ true
+        → (sector + len / 512 ≤ capacity) × (len ≡ 512 * (len / 512))
+    sectors_there capacity sector len fit =
+        (grind (arith, nat_tests, common_steps), grind (arith, nat_tests, common_steps))
+
+    id_fits : (room : ℕ) → nat_lt room 20 ≡ false → 20 ≤ room
+    id_fits room long = grind (arith, nat_tests)
+
+    segments_whole : (len : ℕ) → are_segments len ≡ true → len ≡ 16 * (len / 16)
+    segments_whole len fit = grind (arith, nat_tests, common_steps)
 
 -- ---- and has an outcome
 

@@ -1,5 +1,5 @@
 -- Operations in flight, each in a tag of its own: which tag a look takes, and how it goes on from tag to tag.
-use Rattle.std.proofs.Common.{◌≡◌, ◌∙◌, inl, inr, ℕ, ◌-◌, ◌<◌, Option, Some, None, List, [], ◌∷◌, length, get_or, set, refl, sym, ap}
+use Rattle.std.proofs.Common.{◌≡◌, ◌∙◌, ℕ, ◌-◌, ◌<◌, Option, Some, None, List, [], ◌∷◌, length, get_or, set, refl, sym, ap}
 use Rattle.std.proofs.lemmas.List.{get_or_read_under, length-set, set-get_or}
 use Rattle.guest_memory.specs.Memory.{Memory}
 use Rattle.chain.specs.declared.segment.Buffer.{Buffer}
@@ -13,6 +13,8 @@ use Rattle.block_device.specs.declared.device.BlockDevice.{BlockDevice}
 use Rattle.block_device.specs.declared.hosting.Hosted.TheVariants as hosted
 use Rattle.block_device.specs.Flights.{AsksNoMore, HostedQueue, InFlight, IsLook, LooksFrom, LooksOn, free_tag, unlimited}
 use Rattle.block_device.specs.Hosting.{HostsTo}
+use Rattle.block_device.specs.Extent.{extent_disk}
+use Rattle.block_device.proofs.OneLook.{never_more}
 use Rattle.block_device.proofs.Bits.{fewer_free, first_free}
 use Rattle.block_device.proofs.Held.{is_free}
 
@@ -21,12 +23,9 @@ use Rattle.block_device.proofs.Held.{is_free}
 pub never_pauses : (device : BlockDevice) (stage : Stage) (found : Option Queue) (old new : Memory)
     (before after : WindowState) (b : List Buffer) (r : List Segment) (disk : Disk)
     → HostsTo device stage unlimited found hosted.More old new before after b r disk → ⊥
-never_pauses device First None old new before after b r disk h = h
-never_pauses device Next None old new before after b r disk h = h
-never_pauses device First (Some queue) old new before after b r disk h =
-    elim h.begins.pauses.spent [ inl e ↦ cc | inr e ↦ cc ]
-never_pauses device Next (Some queue) old new before after b r disk h =
-    elim h.pauses.spent [ inl e ↦ cc | inr e ↦ cc ]
+never_pauses device stage found old new before after b r disk h =
+    let seen = extent_disk device.extent disk in
+    never_more device stage unlimited found old new before after seen seen refl refl h
 
 -- ---- a look, from tag to tag
 

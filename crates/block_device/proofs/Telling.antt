@@ -1,6 +1,6 @@
 -- What the host is told of a request: that it fits, that the runs of a WRITE_ZEROES are those of its
 -- segments, and that nothing of it lies outside.
-use Rattle.std.proofs.Common.{◌≡◌, ℕ, ◌+◌, ◌*◌, ◌/◌, ◌<◌, ◌≤◌, ◌&&◌, ◌==◌, Bool, true, false, not, cond, List, [], ◌∷◌, ◌++◌, length, map, take, get_or, refl, sym, ap, subst, ◌∙◌, arith, append-nil, length-drop}
+use Rattle.std.proofs.Common.{◌≡◌, ℕ, ◌+◌, ◌*◌, ◌/◌, ◌<◌, ◌≤◌, Bool, true, false, cond, List, [], ◌∷◌, ◌++◌, length, map, take, get_or, refl, sym, ap, subst, ◌∙◌, arith, append-nil, length-drop}
 use Rattle.std.specs.Prelude.{All, nat_lt}
 use Rattle.std.specs.List.{filter, list_all}
 use Rattle.std.proofs.lemmas.Bool.{lt-ltb, le-ltb}
@@ -20,15 +20,17 @@ use Rattle.chain.proofs.Cutting.{runs_few, runs_inside}
 use Rattle.chain.proofs.Directions.{All-segments_of, length-addresses_of, length-readable_of}
 use Rattle.block_device.specs.declared.device.BlockDevice.{BlockDevice}
 use Rattle.block_device.specs.declared.operation.Operation.{Operation}
-use Rattle.block_device.specs.declared.request.RequestStatus.TheVariants.{IoError, Unsupported}
+use Rattle.block_device.specs.declared.request.RequestStatus.TheVariants.{IoError}
 use Rattle.block_device.specs.declared.request.Request.{Request}
 use Rattle.block_device.specs.declared.request.Request.TheVariants.{Rejected, Read, Write, Flush, GetId, WriteZeroes}
 use Rattle.block_device.specs.declared.segments.WriteZeroesSegment.{WriteZeroesSegment}
 use Rattle.block_device.specs.Asking.{IsAsked, asks_image, has_segments}
 use Rattle.block_device.specs.Operation.{IsToldToHost, LiesInside, OnDisk, disk_run, disk_runs, operation_of, runs_for}
 use Rattle.block_device.specs.Progress.{IsServable}
-use Rattle.block_device.specs.Request.{are_sectors, get_id_request_of, in_request_of, out_request_of, payload_of, request_of, sector_in, type_of, typed_request, write_zeroes_request_of}
-use Rattle.block_device.specs.Zeroes.{are_segments, has_known_flags, has_sectors_within, segment_at, segments_in}
+use Rattle.block_device.specs.Request.{payload_of, request_of, sector_in, type_of, typed_request}
+use Rattle.block_device.specs.Zeroes.{are_segments, has_sectors_within, segment_at, segments_in}
+use Rattle.block_device.proofs.RequestCases.{request_by_cases}
+use Rattle.block_device.proofs.Zeroing.{both}
 
 -- ---- no request has more segments than may be
 
@@ -36,62 +38,14 @@ abbrev pub HasFew : Request → Type 0
 HasFew (WriteZeroes segments) = segments ≤ 32
 HasFew request = Unit {0}
 
-in_few : (sector count : ℕ) (fit : Bool) → HasFew (cond fit (Read sector count) (Rejected IoError))
-in_few sector count true = tt
-in_few sector count false = tt
-
-out_few : (sector count : ℕ) (read_only fit : Bool)
-    → HasFew (cond read_only (Rejected IoError) (cond fit (Write sector count) (Rejected IoError)))
-out_few sector count true fit = tt
-out_few sector count false true = tt
-out_few sector count false false = tt
-
-id_few : (short : Bool) → HasFew (cond short (Rejected IoError) GetId)
-id_few true = tt
-id_few false = tt
-
-zeroes_few : (len : ℕ) (read_only fit known within : Bool) → are_segments len ≡ fit
-    → HasFew (cond read_only (Rejected IoError)
-    (cond (not fit) (Rejected IoError)
-    (cond (not known) (Rejected Unsupported)
-    (cond (not within) (Rejected IoError) (WriteZeroes (len / 16))))))
-zeroes_few len true fit known within e = tt
-zeroes_few len false false known within e = tt
-zeroes_few len false true false within e = tt
-zeroes_few len false true true false e = tt
-zeroes_few len false true true true e = grind (arith, nat_tests, common_steps)
-
-typed_few : (device : BlockDevice) (payload : List ℕ) (sector room : ℕ) (reads writes flush id zeroes : Bool)
-    → HasFew (cond reads (in_request_of device sector room)
-    (cond writes (out_request_of device sector (length payload))
-    (cond flush Flush (cond id (get_id_request_of room)
-    (cond zeroes (write_zeroes_request_of device payload) (Rejected Unsupported))))))
-typed_few device payload sector room true writes flush id zeroes =
-    in_few sector (room / 512) (are_sectors device.extent.count sector room)
-typed_few device payload sector room false true flush id zeroes =
-    out_few sector (length payload / 512) device.read_only
-    (are_sectors device.extent.count sector (length payload))
-typed_few device payload sector room false false true id zeroes = tt
-typed_few device payload sector room false false false true zeroes = id_few (nat_lt room 20)
-typed_few device payload sector room false false false false true =
-    zeroes_few (length payload) device.read_only (are_segments (length payload))
-    (list_all has_known_flags (segments_in payload))
-    (list_all (has_sectors_within device.extent.count) (segments_in payload)) refl
-typed_few device payload sector room false false false false false = tt
-
-few_by_test : (device : BlockDevice) (readable : List ℕ) (room : ℕ) (short : Bool)
-    → HasFew (cond short (Rejected IoError) (typed_request device (type_of readable) (sector_in readable)
-    (payload_of readable) room))
-few_by_test device readable room true = tt
-few_by_test device readable room false =
-    let kind = type_of readable in
-    typed_few device (payload_of readable) (sector_in readable) room (kind == 0) (kind == 1) (kind == 4)
-    (kind == 8) (kind == 13)
-
 pub few_segments : (device : BlockDevice) (readable : List ℕ) (room : ℕ) (request : Request)
     → request ≡ request_of device readable room → HasFew request
 few_segments device readable room request is =
-    subst HasFew (sym is) (few_by_test device readable room (nat_lt (length readable) 16))
+    subst HasFew (sym is) (request_by_cases HasFew device readable room (λ status. tt) (λ fit. tt) (λ fit. tt) tt
+    (λ long. tt) (λ fit within. few (length (payload_of readable)) fit))
+  where
+    few : (len : ℕ) → are_segments len ≡ true → len / 16 ≤ 32
+    few len fit = grind (arith, nat_tests, common_steps)
 
 -- ---- its places are there
 
@@ -184,11 +138,6 @@ pub runs_left : (device : BlockDevice) (m : Memory) (buffers : List Buffer) (req
 runs_left device m buffers request runs segments is told = told.zeroes (ap has_segments is)
 
 -- ---- nothing lies outside
-
-both : (a b : Bool) → (a && b) ≡ true → (a ≡ true) × (b ≡ true)
-both true true e = (refl, refl)
-both true false e = cc
-both false b e = cc
 
 on_disk : (capacity : ℕ) (segment : WriteZeroesSegment) → has_sectors_within capacity segment ≡ true
     → OnDisk capacity (disk_run segment)

@@ -56,13 +56,6 @@ range_has a n k below = (
   get_or-range_with_len a n k (a + k) below,
 )
 
--- and from one of them on
-pub range_has_run : (a n from size : ℕ) → from + size ≤ n → (k : ℕ) → k < size
-    → Contains (range_with_len a n) (a + from + k)
-range_has_run a n from size within k below =
-    let at : a + (from + k) ≡ a + from + k = omega arith in
-    subst (λ s. Contains (range_with_len a n) s) at (range_has a n (from + k) (omega (arith, within, below)))
-
 onto_image : (extent : Extent) (own : List ℕ) (sector : ℕ) → Contains own sector
     → Contains (on_image extent own) (extent.start + sector)
 onto_image extent own sector here =

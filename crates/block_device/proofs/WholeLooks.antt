@@ -5,7 +5,7 @@ use Rattle.guest_memory.specs.Memory.{Memory}
 use Rattle.chain.specs.declared.segment.Buffer.{Buffer}
 use Rattle.chain.specs.declared.segment.Segment.{Segment}
 use Rattle.mmio_window.specs.declared.stage.Stage.{Stage}
-use Rattle.mmio_window.specs.declared.stage.Stage.TheVariants.{First, Next}
+use Rattle.mmio_window.specs.declared.stage.Stage.TheVariants.{Next}
 use Rattle.mmio_window.specs.Window.{WindowState, queue_at}
 use Rattle.block_device.specs.declared.device.BlockDevice.{BlockDevice}
 use Rattle.block_device.specs.declared.hosting.Flight.{Flight}
@@ -13,7 +13,7 @@ use Rattle.block_device.specs.declared.hosting.Hosted.{Hosted}
 use Rattle.block_device.specs.declared.hosting.Hosted.TheVariants as hosted
 use Rattle.block_device.specs.Flights.{AsksNext, HostedQueue, InFlight, LookEnds, LooksFrom, free_tag, unlimited}
 use Rattle.block_device.specs.Hosting.{HostsTo, SameLook}
-use Rattle.block_device.proofs.OneLook.{one_look, one_next_look}
+use Rattle.block_device.proofs.OneLook.{one_look}
 use Rattle.block_device.proofs.Unasked.{any_disk}
 
 -- a piece, whichever it is
@@ -22,11 +22,8 @@ piece_once : (device : BlockDevice) (stage : Stage) (old : HostedQueue) (one oth
     → HostsTo device stage unlimited (queue_at 0 old.window) one old.memory m old.window v b r any_disk
     → HostsTo device stage unlimited (queue_at 0 old.window) other old.memory n old.window w c s any_disk
     → SameLook one other m n v w b c r s
-piece_once device First old one other m n v w b c r s x y =
-    one_look device unlimited (queue_at 0 old.window) one other old.memory m n old.window v w b c r s any_disk
-    refl refl x y
-piece_once device Next old one other m n v w b c r s x y =
-    one_next_look device unlimited (queue_at 0 old.window) one other old.memory m n old.window v w b c r s
+piece_once device stage old one other m n v w b c r s x y =
+    one_look device stage unlimited (queue_at 0 old.window) one other old.memory m n old.window v w b c r s
     any_disk refl refl x y
 
 same_queue : (m n : Memory) (v w : WindowState) (t u : List (Option InFlight)) → m ≡ n → v ≡ w → t ≡ u

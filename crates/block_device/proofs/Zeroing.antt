@@ -58,7 +58,8 @@ one-below : (capacity : ℕ) (segment : WriteZeroesSegment) → has_sectors_with
 one-below capacity segment fits =
     run-below segment.sector segment.count capacity (grind (arith, nat_tests, fits))
 
-both : (a b : Bool) → (a && b) ≡ true → (a ≡ true) × (b ≡ true)
+-- two tests that both pass
+pub both : (a b : Bool) → (a && b) ≡ true → (a ≡ true) × (b ≡ true)
 both true true e = (refl, refl)
 both true false e = cc
 both false b e = cc

@@ -55,7 +55,8 @@ impl<O: Outlet> Device<O> for Transmit {
     }
 }
 
-/// Puts out the readable bytes of a chain. Those of one buffer, as most chains have, go out in one call.
+/// Puts out the readable bytes of a chain. Those of one buffer, as most chains have, go out in one call. Before the
+/// first of others does, room for all of them is made.
 fn put_out<M: Allocator, O: Outlet>(
     mem: &GuestMemory<M>,
     chain: &Chain,
@@ -78,26 +79,6 @@ fn put_out<M: Allocator, O: Outlet>(
             return out.put(first);
         }
     }
-    put_out_parts(mem, chain, out)
-}
-
-/// The same, part after part. Room for all of them is made before the first goes out.
-fn put_out_parts<M: Allocator, O: Outlet>(
-    mem: &GuestMemory<M>,
-    chain: &Chain,
-    out: &mut O,
-) -> Result<(), NoMemory>
-    requires { All (Within mem.now) chain.now }
-    ensures ok { OnOk result (O.bytes out.new ≡ O.bytes out.old ++ readable_of mem.now chain.now) }
-    ensures fits { OnOk result (Fits (O.limit out.old)
-        (length (O.bytes out.old) + length (readable_of mem.now chain.now))) }
-    ensures err { OnErr result (O.bytes out.new ≡ O.bytes out.old) }
-    ensures owed { OnErr result (readable_of mem.now chain.now ≢ []) }
-    ensures refused { OnErr result (MayRefuse (O.limit out.old)
-        (length (O.bytes out.old) + length (readable_of mem.now chain.now))) }
-    ensures limit { O.limit out.new ≡ O.limit out.old }
-{
-    let len = chain.readable_len();
     out.make_room(len)?;
     let mut done = 0;
     while done < len {

@@ -1,5 +1,5 @@
 -- The list of a ring, step by step, and that it has one outcome.
-use Rattle.std.proofs.Common.{◌≡◌, ℕ, ◌/◌, ◌<◌, ◌≤◌, Bool, true, false, Some, None, List, [], ◌∷◌, ◌++◌, length, refl, sym, ap, ◌∙◌, arith, inl, inr, length-append}
+use Rattle.std.proofs.Common.{◌≡◌, ℕ, ◌/◌, ◌<◌, ◌≤◌, Bool, true, false, Some, None, List, [], ◌∷◌, ◌++◌, length, refl, sym, ap, ◌∙◌, arith, inl, inr}
 use Rattle.std.proofs.lemmas.Bool.{cases_lt, cases_eq}
 use Rattle.guest_memory.specs.Memory.{Memory}
 use Rattle.chain.specs.declared.segment.Buffer.{Buffer}
@@ -12,7 +12,7 @@ use Rattle.indirect.specs.Descriptors.{split_table, packed_buffers}
 use Rattle.indirect.specs.Walks.{Leads, buffers_of, Reached, ComesNext, first_of}
 use Rattle.indirect.specs.Lists.{TableKind, split_tables, packed_tables, EndsPlain, is_joined, EndsBy, TableRefused, ListResolves, ListFails}
 use Rattle.indirect.specs.Outcomes.{HasOneTable}
-use Rattle.indirect.proofs.Outcomes.{GoesOn, fronts, goes_no_further, same_front}
+use Rattle.indirect.proofs.Outcomes.{GoesOn, front_longest, front_once, goes_no_further}
 
 module _ (kind : TableKind) (negotiated : Bool) (m : Memory) (t : ℕ → Descriptor) (n h : ℕ) where
   -- the list ends at the descriptor that comes next
@@ -212,16 +212,10 @@ module _ (kind : TableKind) (one : HasOneTable kind) (negotiated : Bool) (m : Me
   pub one_list_fault : (f g : Fault) → ListFails kind negotiated m t n h f
       → ListFails kind negotiated m t n h g → f ≡ g
   one_list_fault f g x y =
-      elim (fronts t n h x.at y.at x.reached.front y.reached.front x.reached.leads y.reached.leads) [
-        | inl o ↦ let s = same_front t n x.at y.at x.reached.front y.reached.front o
-            (fails_there f x y.reached.front y.at y.reached.admitted
-            (omega (arith, y.most, y.reached.counted)) o) in
-            same_list_fault f g x y s.0 s.1
-        | inr o ↦ let s = same_front t n y.at x.at y.reached.front x.reached.front o
-            (fails_there g y x.reached.front x.at x.reached.admitted
-            (omega (arith, x.most, x.reached.counted)) o) in
-            same_list_fault f g x y (sym s.0) (sym s.1)
-      ]
+      let s = front_once t n h x.at y.at x.reached.front y.reached.front x.reached.leads y.reached.leads
+      (fails_there f x y.reached.front y.at y.reached.admitted (omega (arith, y.most, y.reached.counted)))
+      (fails_there g y x.reached.front x.at x.reached.admitted (omega (arith, x.most, x.reached.counted))) in
+      same_list_fault f g x y s.0 s.1
 
   ends_once : (v : Bool) (before : List Buffer) (count : ℕ) (d : Descriptor) (a b : List Buffer)
       → EndsBy kind negotiated m v before count d a
@@ -246,13 +240,9 @@ module _ (kind : TableKind) (one : HasOneTable kind) (negotiated : Bool) (m : Me
       → ListResolves kind negotiated m t n h k j b
       → record { count : c ≡ k; last : i ≡ j; buffers : a ≡ b }
   one_list c k i j a b x y =
-      elim (fronts t n h i j x.reached.front y.reached.front x.reached.leads y.reached.leads) [
-        | inl o ↦ let s = same_front t n i j x.reached.front y.reached.front o
-            (ends_there c i a x y.reached.front j o) in same_list c k i j a b x y s.0 s.1
-        | inr o ↦ let s = same_front t n j i y.reached.front x.reached.front o
-            (ends_there k j b y x.reached.front i o) in
-            same_list c k i j a b x y (sym s.0) (sym s.1)
-      ]
+      let s = front_once t n h i j x.reached.front y.reached.front x.reached.leads y.reached.leads
+      (ends_there c i a x y.reached.front j) (ends_there k j b y x.reached.front i) in
+      same_list c k i j a b x y s.0 s.1
 
   -- a list that ends at an index doesn't fail there
   fails_or_ends : (f : Fault) (k j : ℕ) (b : List Buffer) (x : ListFails kind negotiated m t n h f)
@@ -284,28 +274,18 @@ module _ (kind : TableKind) (one : HasOneTable kind) (negotiated : Bool) (m : Me
   pub never_both_list : (f : Fault) (k j : ℕ) (b : List Buffer) → ListFails kind negotiated m t n h f
       → ListResolves kind negotiated m t n h k j b → ⊥
   never_both_list f k j b x y =
-      elim (fronts t n h x.at j x.reached.front y.reached.front x.reached.leads y.reached.leads) [
-        | inl o ↦ let s = same_front t n x.at j x.reached.front y.reached.front o
-            (fails_there f x y.reached.front j y.reached.admitted
-            (omega (arith, y.comes.room, y.reached.counted)) o) in
-            fails_or_ends f k j b x y s.0 s.1
-        | inr o ↦ let s = same_front t n j x.at y.reached.front x.reached.front o
-            (ends_there k j b y x.reached.front x.at o) in
-            fails_or_ends f k j b x y (sym s.0) (sym s.1)
-      ]
+      let s = front_once t n h x.at j x.reached.front y.reached.front x.reached.leads y.reached.leads
+      (fails_there f x y.reached.front j y.reached.admitted (omega (arith, y.comes.room, y.reached.counted)))
+      (ends_there k j b y x.reached.front x.at) in
+      fails_or_ends f k j b x y s.0 s.1
 
   -- no front with buffers that are admitted is longer than the one before a fault
   pub longest_list : (f : Fault) (found : ListFails kind negotiated m t n h f) (ys : List ℕ) (j : ℕ)
       → Leads t n h ys j → AdmitsAll m [] (buffers_of t ys) → length ys ≤ n → length ys ≤ found.count
   longest_list f found ys j p a l =
-      elim (fronts t n h found.at j found.reached.front ys found.reached.leads p) [
-        | inl o ↦ let s = same_front t n found.at j found.reached.front ys o
-            (fails_there f found ys j a l o) in
-            let same : length ys ≡ length found.reached.front = ap (λ (l : List ℕ). length l) s.0 in
-            omega (arith, same, found.reached.counted)
-        | inr o ↦ let s = ap (λ (l : List ℕ). length l) o.joined ∙ length-append ys o.rest in
-            omega (arith, s, found.reached.counted)
-      ]
+      let most = front_longest t n h found.at j found.reached.front ys found.reached.leads p
+      (fails_there f found ys j a l) in
+      omega (arith, most, found.reached.counted)
 
 -- behind good buffers, those of a table of this kind make good ones
 abbrev pub KeepsGood : TableKind → Type 0

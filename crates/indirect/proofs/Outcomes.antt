@@ -47,9 +47,28 @@ fronts t n h i j (x ∷ xs) (y ∷ ys) p q =
     joined2 x y xs ys rest e f = rw (e, f) refl
 
 -- two fronts that go on by nothing are one
-pub same_front : (t : ℕ → Descriptor) (n i j : ℕ) (xs ys : List ℕ) (g : GoesOn t n i j xs ys) → g.rest ≡ []
+same_front : (t : ℕ → Descriptor) (n i j : ℕ) (xs ys : List ℕ) (g : GoesOn t n i j xs ys) → g.rest ≡ []
     → (ys ≡ xs) × (i ≡ j)
 same_front t n i j xs ys g e = (g.joined ∙ rw (e, append-nil xs) refl, rw e at g.leads)
+
+-- where neither goes on they are one
+pub front_once : (t : ℕ → Descriptor) (n h i j : ℕ) (xs ys : List ℕ) → Leads t n h xs i → Leads t n h ys j
+    → ((g : GoesOn t n i j xs ys) → g.rest ≡ []) → ((g : GoesOn t n j i ys xs) → g.rest ≡ [])
+    → (ys ≡ xs) × (i ≡ j)
+front_once t n h i j xs ys p q here there =
+    elim (fronts t n h i j xs ys p q) [
+      | inl o ↦ same_front t n i j xs ys o (here o)
+      | inr o ↦ let s = same_front t n j i ys xs o (there o) in (sym s.0, sym s.1)
+    ]
+
+-- and one that nothing goes on is the longest
+pub front_longest : (t : ℕ → Descriptor) (n h i j : ℕ) (xs ys : List ℕ) → Leads t n h xs i → Leads t n h ys j
+    → ((g : GoesOn t n i j xs ys) → g.rest ≡ []) → length ys ≤ length xs
+front_longest t n h i j xs ys p q here =
+    elim (fronts t n h i j xs ys p q) [
+      | inl o ↦ let s = ap (λ (l : List ℕ). length l) (same_front t n i j xs ys o (here o)).0 in omega (arith, s)
+      | inr o ↦ let s = ap (λ (l : List ℕ). length l) o.joined ∙ length-append ys o.rest in omega (arith, s)
+    ]
 
 -- the buffers of a front that goes on past i, up to that of i
 pub goes_past : (m : Memory) (before : List Buffer) (t : ℕ → Descriptor) (xs ys : List ℕ) (i : ℕ)
@@ -173,14 +192,9 @@ module _ (m : Memory) (before : List Buffer) (t : ℕ → Descriptor) (n h : ℕ
       (ys : List ℕ) (j : ℕ)
       → Leads t n h ys j → AdmitsAll m before (buffers_of t ys) → length ys ≤ n → length ys ≤ f.count
   longest fault after f ys j p a l =
-      elim (fronts t n h f.at j f.reached.front ys f.reached.leads p) [
-        | inl g ↦ let e = not_past fault after f ys j a l g in
-            let s : length ys ≡ length f.reached.front =
-            ap (λ (l : List ℕ). length l) (g.joined ∙ rw (e, append-nil f.reached.front) refl) in
-            omega (arith, s, f.reached.counted)
-        | inr g ↦ let s = ap (λ (l : List ℕ). length l) g.joined ∙ length-append ys g.rest in
-            omega (arith, s, f.reached.counted)
-      ]
+      let most = front_longest t n h f.at j f.reached.front ys f.reached.leads p
+      (not_past fault after f ys j a l) in
+      omega (arith, most, f.reached.counted)
 
   same_fault : (f g : Fault) (a b : List Buffer) (x : FaultAt m before t n h f a)
       (y : FaultAt m before t n h g b)
@@ -199,16 +213,10 @@ module _ (m : Memory) (before : List Buffer) (t : ℕ → Descriptor) (n h : ℕ
   one_fault f g a b x y =
       let lx = stops_within m a t n x.count x.at f x.stops in
       let ly = stops_within m b t n y.count y.at g y.stops in
-      elim (fronts t n h x.at y.at x.reached.front y.reached.front x.reached.leads y.reached.leads) [
-        | inl o ↦ let e = not_past f a x y.reached.front y.at y.reached.admitted
-            (omega (arith, ly, y.reached.counted)) o in
-            let s = same_front t n x.at y.at x.reached.front y.reached.front o e in
-            same_fault f g a b x y s.0 s.1
-        | inr o ↦ let e = not_past g b y x.reached.front x.at x.reached.admitted
-            (omega (arith, lx, x.reached.counted)) o in
-            let s = same_front t n y.at x.at y.reached.front x.reached.front o e in
-            same_fault f g a b x y (sym s.0) (sym s.1)
-      ]
+      let s = front_once t n h x.at y.at x.reached.front y.reached.front x.reached.leads y.reached.leads
+      (not_past f a x y.reached.front y.at y.reached.admitted (omega (arith, ly, y.reached.counted)))
+      (not_past g b y x.reached.front x.at x.reached.admitted (omega (arith, lx, x.reached.counted))) in
+      same_fault f g a b x y s.0 s.1
 
   -- nothing goes on behind the last member of a path
   path_ends : (a : List Buffer) (x : Resolves m before t n h a) (ys : List ℕ) (j : ℕ)
@@ -227,12 +235,9 @@ module _ (m : Memory) (before : List Buffer) (t : ℕ → Descriptor) (n h : ℕ
   -- there is one path
   pub one_path : (a b : List Buffer) → Resolves m before t n h a → Resolves m before t n h b → a ≡ b
   one_path a b x y =
-      elim (fronts t n h x.last y.last x.front y.front x.leads y.leads) [
-        | inl o ↦ let s = same_front t n x.last y.last x.front y.front o (path_ends a x y.front y.last o) in
-            same_path a b x y s.0 s.1
-        | inr o ↦ let s = same_front t n y.last x.last y.front x.front o (path_ends b y x.front x.last o) in
-            same_path a b x y (sym s.0) (sym s.1)
-      ]
+      let s = front_once t n h x.last y.last x.front y.front x.leads y.leads
+      (path_ends a x y.front y.last) (path_ends b y x.front x.last) in
+      same_path a b x y s.0 s.1
 
   -- a walk doesn't stop at the last member of a path
   stops_or_ends : (f : Fault) (a b : List Buffer) (x : FaultAt m before t n h f a)
@@ -256,12 +261,7 @@ module _ (m : Memory) (before : List Buffer) (t : ℕ → Descriptor) (n h : ℕ
   pub never_both : (f : Fault) (a b : List Buffer) → FaultAt m before t n h f a
       → Resolves m before t n h b → ⊥
   never_both f a b x y =
-      elim (fronts t n h x.at y.last x.reached.front y.front x.reached.leads y.leads) [
-        | inl o ↦ let e = not_past f a x y.front y.last (front_admitted b y)
-            (omega (arith, y.comes.room)) o in
-            let s = same_front t n x.at y.last x.reached.front y.front o e in
-            stops_or_ends f a b x y s.0 s.1
-        | inr o ↦ let s = same_front t n y.last x.at y.front x.reached.front o
-            (path_ends b y x.reached.front x.at o) in
-            stops_or_ends f a b x y (sym s.0) (sym s.1)
-      ]
+      let s = front_once t n h x.at y.last x.reached.front y.front x.reached.leads y.leads
+      (not_past f a x y.front y.last (front_admitted b y) (omega (arith, y.comes.room)))
+      (path_ends b y x.reached.front x.at) in
+      stops_or_ends f a b x y s.0 s.1

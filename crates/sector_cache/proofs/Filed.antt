@@ -7,6 +7,7 @@ use Rattle.std.proofs.Math.Seq.{take-add}
 use borrow.Rule.Slice.PartMut.{mid_of, put_mid, same_len_mid}
 use Rattle.sector_cache.specs.Backing.{Gets, HasSector, IsPut, Puts, PutsSector, count_of}
 use Rattle.sector_cache.specs.Sector.{sector_of, with_sector}
+use Rattle.sector_cache.proofs.Sectors.{length-with_sector}
 
 -- a front that is longer than the first of two lists, and what is behind it
 take_past : (xs ys : List ℕ) (d n : ℕ) → length xs ≡ d → take (d + n) (xs ++ ys) ≡ xs ++ take n ys
@@ -159,13 +160,7 @@ further sector done n at from old mid new long inside within place before after 
 long_as : (sector : ℕ) (from : List ℕ) (done : ℕ) (old mid : List ℕ) → 512 * (sector + 1) ≤ length old
     → IsPutTo sector from done old mid → length mid ≡ length old
 long_as sector from done old mid inside put =
-    ap length put.put
-    ∙ length-append (take (512 * sector) old) (put.left ++ drop (512 * (sector + 1)) old)
-    ∙ (let rest : length (put.left ++ drop (512 * (sector + 1)) old)
-    ≡ 512 + (length old - 512 * (sector + 1)) =
-    length-append put.left (drop (512 * (sector + 1)) old)
-    ∙ omega (arith, put.long, length-drop (512 * (sector + 1)) old) in
-    omega (arith, rest, length-take-le (512 * sector) old (omega (arith, inside)), inside))
+    ap length put.put ∙ length-with_sector old sector put.left inside put.long
 
 -- the bytes that are left fit into the file
 part_fits : (sector done at : ℕ) (from part old mid : List ℕ) → length from ≡ 512 → done ≤ 512

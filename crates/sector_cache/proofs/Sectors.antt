@@ -1,12 +1,13 @@
 -- Sectors and extents of a list of bytes: how long they are, and what each is after one sector was put in
 -- place of another. Callers of an image cite these of the bytes that it tells. Throughout, a sector lies
 -- inside of the bytes where 512 * (sector + 1) is at most their length.
-use Rattle.std.proofs.Common.{◌≡◌, ℕ, ◌+◌, ◌-◌, ◌*◌, ◌<◌, ◌≤◌, ◌⊎◌, ◌≢◌, inl, inr, List, ◌++◌, length, take, drop, get_or, sym, ◌∙◌, ap, arith}
+use Rattle.std.proofs.Common.{◌≡◌, ℕ, ◌+◌, ◌-◌, ◌*◌, ◌<◌, ◌≤◌, ◌⊎◌, ◌≢◌, inl, inr, List, ◌++◌, length, take, drop, get_or, ◌∙◌, ap, arith}
 use Rattle.std.proofs.Math.Seq.{take-add}
 use Rattle.std.proofs.lemmas.Bool.{cases_lt}
-use Rattle.std.proofs.lemmas.List.{length-take-le, length-take, length-drop, length-append, get_or-take, get_or-drop, get_or_append_left, get_or-append_right, drop-drop, drop-take, take-take, take_at, drop_at, same_lists}
+use Rattle.std.proofs.lemmas.List.{length-take-le, length-take, length-drop, length-append, get_or-take, get_or-drop, drop-drop, drop-take, take-take, take_at, drop_at}
 use borrow.Rule.Slice.PartMut.{put_mid}
 use Rattle.sector_cache.specs.Sector.{extent_of, sector_of, with_sector, with_sectors}
+use Rattle.sector_cache.proofs.Stops.{differs_sector, extent_apart}
 
 -- a write to the 512 bytes from 512 * sector on is a write of the sector
 pub put_mid-sector : (bytes new : List ℕ) (sector at n : ℕ) → at ≡ sector * 512 → n ≡ 512
@@ -46,36 +47,6 @@ length-with_sector bytes sector new inside whole =
 
 -- Byte by byte.
 
--- a byte before the sector is as it was
-pub get_or-with_sector_before : (bytes : List ℕ) (sector : ℕ) (new : List ℕ) (i d : ℕ)
-    → 512 * sector ≤ length bytes → i < 512 * sector
-    → get_or (with_sector bytes sector new) i d ≡ get_or bytes i d
-get_or-with_sector_before bytes sector new i d inside before =
-    get_or_append_left (take (512 * sector) bytes) (new ++ drop (512 * (sector + 1)) bytes) d i
-    (omega (arith, length-take-le (512 * sector) bytes inside))
-    ∙ get_or-take (512 * sector) bytes i d before
-
--- a byte after the sector is as it was
-pub get_or-with_sector_after : (bytes : List ℕ) (sector : ℕ) (new : List ℕ) (i d : ℕ)
-    → 512 * sector ≤ length bytes → length new ≡ 512 → 512 * (sector + 1) ≤ i
-    → get_or (with_sector bytes sector new) i d ≡ get_or bytes i d
-get_or-with_sector_after bytes sector new i d inside whole after =
-    get_or-append_right (take (512 * sector) bytes) (new ++ drop (512 * (sector + 1)) bytes) (512 * sector) i
-    d (length-take-le (512 * sector) bytes inside) (omega arith)
-    ∙ get_or-append_right new (drop (512 * (sector + 1)) bytes) 512 (i - 512 * sector) d whole (omega arith)
-    ∙ get_or-drop (512 * (sector + 1)) bytes (i - 512 * sector - 512) d
-    ∙ ap (λ j. get_or bytes j d) (omega arith)
-
--- a byte of another sector is as it was
-pub get_or-with_sector_other : (bytes : List ℕ) (sector : ℕ) (new : List ℕ) (i d : ℕ)
-    → 512 * sector ≤ length bytes → length new ≡ 512 → (i < 512 * sector) ⊎ (512 * (sector + 1) ≤ i)
-    → get_or (with_sector bytes sector new) i d ≡ get_or bytes i d
-get_or-with_sector_other bytes sector new i d inside whole other =
-    elim other [
-      | inl before ↦ get_or-with_sector_before bytes sector new i d inside before
-      | inr after ↦ get_or-with_sector_after bytes sector new i d inside whole after
-    ]
-
 -- byte i of an extent
 pub get_or-extent_of : (bytes : List ℕ) (start count i d : ℕ) → i < 512 * count
     → get_or (extent_of bytes start count) i d ≡ get_or bytes (512 * start + i) d
@@ -97,36 +68,9 @@ pub extent_of-with_sector_apart : (bytes : List ℕ) (sector : ℕ) (new : List 
     → 512 * (sector + 1) ≤ length bytes → length new ≡ 512 → (sector < start) ⊎ (start + count ≤ sector)
     → extent_of (with_sector bytes sector new) start count ≡ extent_of bytes start count
 extent_of-with_sector_apart bytes sector new start count inside whole apart =
-    same_lists _ _ same_length same_bytes
-  where
-    same_length : length (extent_of (with_sector bytes sector new) start count)
-        ≡ length (extent_of bytes start count)
-    same_length =
-        length-take (512 * count) (drop (512 * start) (with_sector bytes sector new))
-        ∙ omega (
-          arith,
-          length-take (512 * count) (drop (512 * start) bytes),
-          length-drop (512 * start) bytes,
-          length-drop (512 * start) (with_sector bytes sector new),
-          length-with_sector bytes sector new inside whole,
-        )
-
-    same_bytes : (i d : ℕ) → i < length (extent_of (with_sector bytes sector new) start count)
-        → get_or (extent_of (with_sector bytes sector new) start count) i d
-        ≡ get_or (extent_of bytes start count) i d
-    same_bytes i d within =
-        let below : i < 512 * count =
-        omega (
-          arith,
-          within,
-          length-take (512 * count)
-              (drop (512 * start) (with_sector bytes sector new)),
-        ) in
-        let other : (512 * start + i < 512 * sector) ⊎ (512 * (sector + 1) ≤ 512 * start + i) =
-        elim apart [ inl before ↦ inr (omega arith) | inr after ↦ inl (omega arith) ] in
-        get_or-extent_of (with_sector bytes sector new) start count i d below
-        ∙ get_or-with_sector_other bytes sector new (512 * start + i) d (omega arith) whole other
-        ∙ sym (get_or-extent_of bytes start count i d below)
+    extent_apart (512 * sector) (512 * (sector + 1)) start count bytes (with_sector bytes sector new)
+    (differs_sector bytes sector new inside whole)
+    (elim apart [ inl before ↦ inr (omega (arith, before)) | inr after ↦ inl (omega (arith, after)) ])
 
 -- another sector is as it was
 pub sector_of-with_sector_other : (bytes : List ℕ) (sector : ℕ) (new : List ℕ) (other : ℕ)

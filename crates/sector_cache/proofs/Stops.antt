@@ -34,25 +34,6 @@ differs_wider start end from to old new before behind d = record {
       ∙ ap (λ n. drop n old) (let e : to + (end - to) ≡ end = omega (arith, behind) in e);
 }
 
--- a write of a sector
-pub differs_sector : (bytes : List ℕ) (sector : ℕ) (new : List ℕ) → 512 * (sector + 1) ≤ length bytes
-    → length new ≡ 512 → DiffersWithin (512 * sector) (512 * (sector + 1)) bytes
-    (with_sector bytes sector new)
-differs_sector bytes sector new inside whole =
-    let front = take (512 * sector) bytes in
-    let rest = drop (512 * (sector + 1)) bytes in
-    let front_long : length front ≡ 512 * sector =
-    length-take-le (512 * sector) bytes (omega (arith, inside)) in
-    record {
-      before = take_at front (new ++ rest) (512 * sector) front_long;
-      behind =
-          ap (λ n. drop n (with_sector bytes sector new)) (let e : 512 * (sector + 1)
-          ≡ 512 * sector + 512 = omega arith in e)
-          ∙ sym (drop-drop 512 (512 * sector) (with_sector bytes sector new))
-          ∙ ap (drop 512) (drop_at front (new ++ rest) (512 * sector) front_long)
-          ∙ drop_at new rest 512 whole;
-    }
-
 -- a write of sectors in place
 pub differs_sectors : (bytes : List ℕ) (first : ℕ) (new : List ℕ) → 512 * first + length new ≤ length bytes
     → DiffersWithin (512 * first) (512 * first + length new) bytes (with_sectors bytes first new)
@@ -68,6 +49,15 @@ differs_sectors bytes first new inside =
           ∙ ap (drop (length new)) (drop_at front (new ++ rest) (512 * first) front_long)
           ∙ drop_at new rest (length new) refl;
     }
+
+-- a write of a sector
+pub differs_sector : (bytes : List ℕ) (sector : ℕ) (new : List ℕ) → 512 * (sector + 1) ≤ length bytes
+    → length new ≡ 512 → DiffersWithin (512 * sector) (512 * (sector + 1)) bytes
+    (with_sector bytes sector new)
+differs_sector bytes sector new inside whole =
+    let end : 512 * sector + length new ≡ 512 * (sector + 1) = omega (arith, whole) in
+    subst (λ n. DiffersWithin (512 * sector) n bytes (take (512 * sector) bytes ++ (new ++ drop n bytes))) end
+    (differs_sectors bytes sector new (omega (arith, inside, whole)))
 
 -- an extent that is apart from the range
 pub extent_apart : (start end first count : ℕ) (old new : List ℕ) → DiffersWithin start end old new
@@ -101,26 +91,6 @@ module _ (sectors : List ℕ) where
   differs_in_wider wider all old new d =
       record { others = λ sector other. d.others sector (λ here. other (all sector here)) }
 
-  -- the range is one of them
-  pub differs_in_one : (sector : ℕ) → Contains sectors sector → (old new : List ℕ)
-      → DiffersWithin (512 * sector) (512 * (sector + 1)) old new → DiffersInSectors sectors old new
-  differs_in_one sector listed old new d = record { others = same }
-    where
-      same : (other : ℕ) → ¬ Contains sectors other → sector_of new other ≡ sector_of old other
-      same other unlisted =
-          elim (cases_lt other sector) [
-            | inl before ↦ extent_apart (512 * sector) (512 * (sector + 1)) other 1 old new d
-                (inl (omega (arith, before)))
-            | inr from ↦
-                elim (cases_lt sector other) [
-                  | inl behind ↦ extent_apart (512 * sector) (512 * (sector + 1)) other 1 old new d
-                      (inr (omega (arith, behind)))
-                  | inr upto ↦
-                      let here : sector ≡ other = omega (arith, from, upto) in
-                      absurd (unlisted (subst (λ s. Contains sectors s) here listed))
-                ]
-          ]
-
   -- the range is a run of them
   pub differs_in_run : (first n size : ℕ) → size ≡ 512 * n → ((k : ℕ) → k < n → Contains sectors (first + k))
       → (old new : List ℕ)
@@ -143,6 +113,19 @@ module _ (sectors : List ℕ) where
                       (inr (omega (arith, behind, whole)))
                 ]
           ]
+
+  -- the range is one of them
+  pub differs_in_one : (sector : ℕ) → Contains sectors sector → (old new : List ℕ)
+      → DiffersWithin (512 * sector) (512 * (sector + 1)) old new → DiffersInSectors sectors old new
+  differs_in_one sector listed old new d =
+      let end : 512 * (sector + 1) ≡ 512 * sector + 512 = omega arith in
+      differs_in_run sector 1 512 refl here old new
+      (subst (λ n. DiffersWithin (512 * sector) n old new) end d)
+    where
+      here : (k : ℕ) → k < 1 → Contains sectors (sector + k)
+      here k below =
+          let same : sector ≡ sector + k = omega (arith, below) in
+          subst (λ s. Contains sectors s) same listed
 
 -- fronts of which each sector is the same
 fronts_same : (old new : List ℕ) (n : ℕ)

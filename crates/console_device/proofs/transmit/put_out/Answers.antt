@@ -1,7 +1,7 @@
 use Rattle.std.proofs.Common.{◌∙◌}
 use Rattle.chain.specs.Bytes.{readable_of}
 use Rattle.console_device.proofs.Transmitting.{put_out_more}
-use Rattle.console_device.proofs.transmit.put_out_parts.Goals as goal
+use Rattle.console_device.proofs.transmit.put_out.Goals as goal
 
 pub loop-done-preserved : goal.loop-done-preserved
 loop-done-preserved g c = (

@@ -1,7 +1,7 @@
 use Rattle.std.specs.Prelude.{◌≡◌, ◌-◌}
 use Rattle.chain.specs.Bytes.{readable_of}
 use Rattle.console_device.proofs.Transmitting.{IsPuttingOut}
-use Rattle.console_device.proofs.transmit.put_out_parts.Given as goal
+use Rattle.console_device.proofs.transmit.put_out.Given as goal
 
 abbrev pub invariant-loop-done : goal.invariant-loop-done
 invariant-loop-done g l =
