@@ -17,10 +17,13 @@ pub is_bytes : (bs : List ℕ) → AreBytes bs → IsBytes bs
 is_bytes bs h k = elim (cases_lt k (length bs))
     [ inl lt ↦ h k 0 lt | inr le ↦ rw (get_or_past bs k 0 le) (omega arith) ]
 
-pub bytes_above : (bs : List ℕ) → 0 < length (encode_lower bs) → bytes bs ≡ encode_lower bs
+pub bytes_some : (bs : List ℕ) → 0 < length bs → bytes bs ≡ encode_lower bs
 unfolding bytes
-bytes_above [] h = absurd (omega (arith, length-encode_with lower_digits []))
-bytes_above (b ∷ bs) h = refl
+bytes_some [] h = absurd (omega arith)
+bytes_some (b ∷ bs) h = refl
+
+pub bytes_above : (bs : List ℕ) → 0 < length (encode_lower bs) → bytes bs ≡ encode_lower bs
+bytes_above bs h = bytes_some bs (omega (arith, h, length-encode_with lower_digits bs))
 
 pub digits_encoded : (bs : List ℕ) → IsBytes bs → All IsDigit (encode_lower bs)
 unfolding digit encode_with
@@ -36,8 +39,8 @@ digits_encoded (b ∷ bs) h =
 pub bytes_read : (field bs : List ℕ) → 0 < length field → encode_lower bs ≡ field → AreBytes bs
     → IsBytesField field bs
 bytes_read field bs some spelled fits =
-    let enough : 0 < length (encode_lower bs) = omega (arith, ap length spelled) in
-    record { fits = fits; spelled = sym spelled ∙ sym (bytes_above bs enough) }
+    let enough : 0 < length bs = omega (arith, ap length spelled, length-encode_with lower_digits bs) in
+    record { fits = fits; spelled = sym spelled ∙ sym (bytes_some bs enough) }
 
 -- some digits, two and two, are those of bytes
 record AreBytesOf (field : List ℕ) : Type 0 where
@@ -173,11 +176,6 @@ pub all_written : (out text bytes : List ℕ) → out ++ encode_lower bytes ≡ 
 unfolding encode_with
 all_written out text [] so none = sym (append-nil out) ∙ so
 all_written out text (b ∷ bytes) so none = absurd (omega arith)
-
-pub bytes_some : (bs : List ℕ) → 0 < length bs → bytes bs ≡ encode_lower bs
-unfolding bytes
-bytes_some [] h = absurd (omega arith)
-bytes_some (b ∷ bs) h = refl
 
 pub bytes_none : (bs : List ℕ) → length bs ≡ 0 → bytes bs ≡ 45 ∷ []
 unfolding bytes

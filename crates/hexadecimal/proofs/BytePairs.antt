@@ -13,14 +13,11 @@ unfolding digit
 is_pair b = eqb (b / 16 + 256 * (b % 16) + 12336 + 39 * bit_and ((b / 16 + 256 * (b % 16) + 1542) / 16) 257)
     (digit (b / 16) + 256 * digit (b % 16))
 
-abbrev yes : ℕ → Bool
-yes b = true
-
 pub pair_computed : (b : ℕ) → b < 256
     → b / 16 + 256 * (b % 16) + 12336 + 39 * bit_and ((b / 16 + 256 * (b % 16) + 1542) / 16) 257
     ≡ digit (b / 16) + 256 * digit (b % 16)
 unfolding digit
-pair_computed b lt = eqb-true _ _ (agree_below_at is_pair yes 256 b refl lt)
+pair_computed b lt = eqb-true _ _ (agree_below_at is_pair (λ _. true) 256 b refl lt)
 
 pub first_half : (b pair : ℕ) → b < 256 → pair ≡ digit (b / 16) + 256 * digit (b % 16)
     → pair % 256 ≡ digit (b / 16)

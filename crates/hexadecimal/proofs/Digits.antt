@@ -13,17 +13,14 @@ abbrev is_high : ℕ → Bool
 unfolding digit
 is_high d = eqb (digit (10 + d)) (97 + d)
 
-abbrev yes : ℕ → Bool
-yes d = true
-
 -- the digits below ten are `0` to `9`
 pub digit_low : (d : ℕ) → d < 10 → digit d ≡ 48 + d
 unfolding digit
-digit_low d lt = eqb-true _ _ (agree_below_at is_low yes 10 d refl lt)
+digit_low d lt = eqb-true _ _ (agree_below_at is_low (λ _. true) 10 d refl lt)
 
 high_digit : (d : ℕ) → d < 6 → digit (10 + d) ≡ 97 + d
 unfolding digit
-high_digit d lt = eqb-true _ _ (agree_below_at is_high yes 6 d refl lt)
+high_digit d lt = eqb-true _ _ (agree_below_at is_high (λ _. true) 6 d refl lt)
 
 -- the digits from ten on are `a` to `f`
 pub digit_high : (d : ℕ) → 10 ≤ d → d < 16 → digit d ≡ 87 + d

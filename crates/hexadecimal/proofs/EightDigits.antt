@@ -1,22 +1,11 @@
 -- A number of 32 bits by its eight digits, from the pairs of them that its bytes have.
-use Rattle.std.proofs.Common.{◌≡◌, ℕ, zero, suc, ◌+◌, ◌*◌, ◌/◌, ◌%◌, ◌^◌, ◌<◌, List, [], ◌∷◌, get_or, refl, sym, ◌∙◌, arith}
+use Rattle.std.proofs.Common.{◌≡◌, ℕ, ◌+◌, ◌*◌, ◌/◌, ◌%◌, ◌^◌, ◌<◌, List, [], ◌∷◌, refl, sym, ◌∙◌, arith}
 use Rattle.std.specs.Int.{to_le_bytes, w64}
+use Rattle.std.proofs.lemmas.List.Elements.{All-from_recursion}
 use Rattle.std.proofs.lemmas.Nat.{le_bytes_8}
 use Rattle.hexadecimal.specs.Spelling.{digit, fixed}
+use Rattle.hexadecimal.proofs.ByteFields.{is_bytes}
 use Rattle.hexadecimal.proofs.Digits.{digit_small}
-
-eight_small : (a b c d e f g h : ℕ) → a < 256 → b < 256 → c < 256 → d < 256 → e < 256 → f < 256
-    → g < 256 → h < 256
-    → (i : ℕ) → get_or (a ∷ b ∷ c ∷ d ∷ e ∷ f ∷ g ∷ h ∷ []) i 0 < 256
-eight_small a b c d e f g h p q r s t u v w zero = p
-eight_small a b c d e f g h p q r s t u v w (suc zero) = q
-eight_small a b c d e f g h p q r s t u v w (suc (suc zero)) = r
-eight_small a b c d e f g h p q r s t u v w (suc (suc (suc zero))) = s
-eight_small a b c d e f g h p q r s t u v w (suc (suc (suc (suc zero)))) = t
-eight_small a b c d e f g h p q r s t u v w (suc (suc (suc (suc (suc zero))))) = u
-eight_small a b c d e f g h p q r s t u v w (suc (suc (suc (suc (suc (suc zero)))))) = v
-eight_small a b c d e f g h p q r s t u v w (suc (suc (suc (suc (suc (suc (suc zero))))))) = w
-eight_small a b c d e f g h p q r s t u v w (suc (suc (suc (suc (suc (suc (suc (suc i)))))))) = omega arith
 
 -- eight bytes of a number of 64 bits
 eight_bytes : (a b c d e f g h word : ℕ) → a < 256 → b < 256 → c < 256 → d < 256 → e < 256 → f < 256
@@ -24,8 +13,9 @@ eight_bytes : (a b c d e f g h word : ℕ) → a < 256 → b < 256 → c < 256 �
     → word ≡ a + 256 * b + 65536 * (c + 256 * d) + 4294967296 * (e + 256 * f + 65536 * (g + 256 * h))
     → to_le_bytes w64 word ≡ a ∷ b ∷ c ∷ d ∷ e ∷ f ∷ g ∷ h ∷ []
 eight_bytes a b c d e f g h word p q r s t u v w is =
-    le_bytes_8 (a ∷ b ∷ c ∷ d ∷ e ∷ f ∷ g ∷ h ∷ []) word refl (eight_small a b c d e f g h p q r s t u v w)
-    (omega (arith, is))
+    let bs : List ℕ = a ∷ b ∷ c ∷ d ∷ e ∷ f ∷ g ∷ h ∷ [] in
+    le_bytes_8 bs word refl (is_bytes bs (All-from_recursion (λ x. x < 2 ^ 8) bs
+    (p, (q, (r, (s, (t, (u, (v, (w, tt)))))))))) (omega (arith, is))
 
 -- the eight digits of a number, one after another
 spelled_by : (n : ℕ) → fixed 8 n ≡ digit (n / 16 / 16 / 16 / 16 / 16 / 16 / 16 % 16)

@@ -1,43 +1,25 @@
 -- Whether bytes are digits, judged without a branch.
-use Rattle.std.proofs.Common.{◌≡◌, ℕ, ◌+◌, ◌-◌, ◌<◌, ◌≤◌, Bool, true, false, ◌&&◌, ◌||◌, leb, List, All, IsTrue, ◌↔◌, ◌⊎◌, inl, inr, length, get_or, take, drop, refl, sym, subst, arith, length-take}
+use Rattle.std.proofs.Common.{◌≡◌, ℕ, ◌+◌, ◌-◌, ◌<◌, ◌≤◌, Bool, true, ◌&&◌, ◌||◌, leb, List, All, IsTrue, ◌↔◌, inl, inr, length, get_or, take, drop, refl, sym, subst, arith, length-take}
 use Rattle.std.proofs.Math.Seq.{take-add, take-take}
-use Rattle.std.proofs.lemmas.Bool.{leb-true, le-leb}
+use Rattle.std.proofs.lemmas.Bool.{and_from, and_parts, le-leb, leb-true, or_cases, or_left, or_right}
 use Rattle.std.proofs.lemmas.List.{get_or-take}
-use Rattle.std.proofs.lemmas.List.Elements.{All-append, All-more, All-nil, All-take}
+use Rattle.std.proofs.lemmas.List.Elements.{All-append, All-more, All-take}
 use Rattle.hexadecimal.specs.Fields.{IsDigit}
 use Rattle.hexadecimal.proofs.Digits.{digit_cases, digit_high, digit_low}
-
-one_pair : (p q r s : Bool) → ((p && q) || (r && s)) ≡ true → ((p ≡ true) × (q ≡ true))
-    ⊎ ((r ≡ true) × (s ≡ true))
-one_pair true true r s e = inl (refl, refl)
-one_pair true false true true e = inr (refl, refl)
-one_pair true false true false e = absurd cc
-one_pair true false false s e = absurd cc
-one_pair false q true true e = inr (refl, refl)
-one_pair false q true false e = absurd cc
-one_pair false q false s e = absurd cc
-
-first_pair : (p q r s : Bool) → p ≡ true → q ≡ true → ((p && q) || (r && s)) ≡ true
-first_pair true true r s e f = refl
-first_pair true false r s e f = absurd cc
-first_pair false q r s e f = absurd cc
-
-second_pair : (p q r s : Bool) → r ≡ true → s ≡ true → ((p && q) || (r && s)) ≡ true
-second_pair true true r s e f = refl
-second_pair true false r s e f = rw (e, f) refl
-second_pair false q r s e f = rw (e, f) refl
 
 -- the test for a digit
 pub digit_test : (c : ℕ) → IsTrue ((leb 48 c && leb c 57) || (leb 97 c && leb c 102)) ↔ IsDigit c
 digit_test c = (
   λ yes.
-      elim (one_pair (leb 48 c) (leb c 57) (leb 97 c) (leb c 102) yes) [
-        | inl low ↦
+      elim (or_cases (leb 48 c && leb c 57) (leb 97 c && leb c 102) yes) [
+        | inl figure ↦
+            let low = and_parts (leb 48 c) (leb c 57) figure in
             let a : 48 ≤ c = leb-true 48 c low.0 in
             let b : c ≤ 57 = leb-true c 57 low.1 in
             let d = digit_low (c - 48) (omega arith) in
             record { value = c - 48; small = omega arith; is = omega (arith, d) }
-        | inr high ↦
+        | inr letter ↦
+            let high = and_parts (leb 97 c) (leb c 102) letter in
             let a : 97 ≤ c = leb-true 97 c high.0 in
             let b : c ≤ 102 = leb-true c 102 high.1 in
             let d = digit_high (c - 87) (omega arith) (omega arith) in
@@ -47,25 +29,19 @@ digit_test c = (
       let is = h.is in
       let small = h.small in
       elim (digit_cases h.value small) [
-        | inl low ↦ first_pair (leb 48 c) (leb c 57) (leb 97 c) (leb c 102)
-            (le-leb 48 c (omega (arith, low.0, low.1, is))) (le-leb c 57 (omega (arith, low.0, low.1, is)))
-        | inr high ↦ second_pair (leb 48 c) (leb c 57) (leb 97 c) (leb c 102)
-            (le-leb 97 c (omega (arith, high.0, high.1, is)))
-            (le-leb c 102 (omega (arith, high.0, high.1, is)))
+        | inl low ↦ or_left _ _ (and_from _ _ (le-leb 48 c (omega (arith, low.0, low.1, is)))
+            (le-leb c 57 (omega (arith, low.0, low.1, is))))
+        | inr high ↦ or_right _ _ (and_from _ _ (le-leb 97 c (omega (arith, high.0, high.1, is)))
+            (le-leb c 102 (omega (arith, high.0, high.1, is))))
       ],
 )
-
-both : (p q : Bool) → (p && q) ≡ true → (p ≡ true) × (q ≡ true)
-both true true e = (refl, refl)
-both true false e = absurd cc
-both false q e = absurd cc
 
 -- one byte more
 pub judged_more : (xs : List ℕ) (i : ℕ) (all here : Bool) → i < length xs
     → (IsTrue all ↔ All IsDigit (take i xs)) → (IsTrue here ↔ IsDigit (get_or xs i 0))
     → (IsTrue (all && here) ↔ All IsDigit (take (i + 1) xs))
 judged_more xs i all here lt so_far this = (
-  λ yes. let parts = both all here yes in All-more IsDigit xs i 0 lt (so_far.0 parts.0) (this.0 parts.1),
+  λ yes. let parts = and_parts all here yes in All-more IsDigit xs i 0 lt (so_far.0 parts.0) (this.0 parts.1),
   λ h.
       let front = subst (All IsDigit) (take-take i (i + 1) xs (omega arith))
       (All-take IsDigit i (take (i + 1) xs) h) in
@@ -85,9 +61,6 @@ digits_more xs i n front block =
 pub record DigitsBefore (xs : List ℕ) (n : ℕ) : Type 0 where
   pub within : n ≤ length xs
   pub digits : All IsDigit (take n xs)
-
-pub none_before : (xs : List ℕ) → DigitsBefore xs 0
-none_before xs = record { within = omega arith; digits = All-nil IsDigit }
 
 pub block_more : (xs : List ℕ) (n size : ℕ) (all : Bool) → DigitsBefore xs n
     → n + size ≤ length xs → all ≡ true

@@ -182,12 +182,12 @@ same_fixed (suc k) m n lm ln e =
 
 -- ---- reading, digit by digit
 
-pub sixteen : (i j : ℕ) → i ≤ j → 16 ^ i ≤ 16 ^ j
-sixteen i j le = let pos : 0 < 16 = omega arith in pow-le-pow_right pos le
-
 -- before one more digit a number of 64 bits has room for it
 pub room : (field : List ℕ) (i n most : ℕ) → n < 16 ^ i → i < most → n * 16 + 15 < 16 ^ most
-room field i n most lt less = let more = sixteen (i + 1) most (omega arith) in
+room field i n most lt less =
+    let pos : 0 < 16 = omega arith in
+    let within : i + 1 ≤ most = omega arith in
+    let more = pow-le-pow_right pos within in
     let step : n * 16 + 15 < 16 ^ (i + 1) = rw add-one (omega arith) in omega arith
 
 -- n is what the first i bytes of the field say

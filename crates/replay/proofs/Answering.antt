@@ -1,7 +1,7 @@
 -- What a board answers to an event, and its record.
-use Rattle.std.proofs.Common.{◌≡◌, ℕ, ◌<◌, Bool, true, false, List, [], ◌∷◌, ◌++◌, Option, None, Some, length, map, refl, sym, ap, subst, ◌∙◌, append-nil, arith, inl, inr, ◌↔◌, IsTrue}
+use Rattle.std.proofs.Common.{◌≡◌, ◌≢◌, ℕ, ◌<◌, Bool, true, false, List, [], ◌∷◌, ◌++◌, Option, None, Some, length, map, refl, sym, ap, subst, ◌∙◌, append-nil, arith, inl, inr, ◌↔◌, IsTrue}
 use Rattle.std.proofs.Math.Seq.{map-set}
-use Rattle.std.proofs.lemmas.Bool.{cases_Bool}
+use Rattle.std.proofs.lemmas.Bool.{false_from_ne_true, false≢true}
 use Rattle.std.proofs.lemmas.Option.{slice_get_cases, slice_get-map}
 use Rattle.std.specs.List.{slice_get}
 use Rattle.std.specs.Option.{option_map}
@@ -15,16 +15,16 @@ use Rattle.board.specs.declared.event.Event.{Event}
 use Rattle.board.specs.declared.event.EventKind.{EventKind}
 use Rattle.board.specs.declared.event.EventKind.TheVariants.{MemRead, MemWrite, Read}
 use Rattle.board.specs.declared.reply.Reply.{Reply}
-use Rattle.board.specs.declared.reply.Reply.TheVariants.{BadRange, BadSlot, Bytes, Done, Value}
+use Rattle.board.specs.declared.reply.Reply.TheVariants.{BadRange, BadSlot, Bytes, Done, NoMemory, Value}
 use Rattle.board.specs.declared.reply.Record.{Record}
 use Rattle.board.specs.Backing.{HostDisk, tags_in}
 use Rattle.board.specs.Hosting.{has_part, must_wait, notifies_block, tag_in, told_in}
-use Rattle.board.specs.Image.{Health, Tells, bytes_of, health_of}
+use Rattle.board.specs.Image.{Tells, bytes_of, health_of}
 use Rattle.board.specs.Line.{Move}
-use Rattle.board.specs.Machine.{block_irq, console_irq, record_of, register}
-use Rattle.board.specs.Outcome.{Outcome, replies}
+use Rattle.board.specs.Machine.{GivesOverImage, block_irq, console_irq, record_of, register}
+use Rattle.board.specs.Outcome.{replies}
 use Rattle.board.specs.Slot.{BoardSlot, SlotState, state_of}
-use Rattle.board.specs.World.{Answers, BoardState, Handles, MayGive, MayGiveOverImage, MissingStep, SlotStep, World, disturbed_of, extents_of, lacks_memory, seen, world_of}
+use Rattle.board.specs.World.{Answers, BoardState, Handles, MissingStep, SlotStep, World, disturbed_of, extents_of, lacks_memory, seen, world_of}
 use Rattle.board.proofs.OnHost.{passes_by}
 use Rattle.board.proofs.Runs.{answered}
 use Rattle.board.proofs.Alone.{get_set}
@@ -43,15 +43,23 @@ use Rattle.replay.proofs.Begun.{nothing_begins}
 
 -- ---- what is refused
 
+-- an event that left the image and all extents, and put nothing out
+pub changed : {A I : Type 0} (disk : I → Disk) (old new : BoardState I) (event : Event A) (reply : Reply A)
+    → (Tells (disk old.image) → Answers (world_of disk old) event reply [] [] (world_of disk new))
+    → new.image ≡ old.image → extents_of new.slots ≡ extents_of old.slots
+    → AnswersEvent disk old event reply [] new
+changed disk old new event reply answers image extents = record {
+  answers = answers;
+  keeps = record { tells = λ tells. rw image tells; extents = extents };
+}
+
 -- an event of a slot that the board lacks
 pub slot_missing : {A I : Type 0} (disk : I → Disk) (old new : BoardState I) (event : Event A) → new ≡ old
     → slice_get old.slots event.slot ≡ None → AnswersEvent disk old event BadSlot [] new
 slot_missing disk old new event same missing =
     subst (λ b. AnswersEvent disk old event BadSlot [] b) (sym same)
-    (record {
-      answers = λ tells. answered (handles_missing old.slots (disk old.image) event [] missing);
-      keeps = record { tells = λ tells. tells; extents = refl };
-    })
+    (changed disk old old event BadSlot
+    (λ tells. answered (handles_missing old.slots (disk old.image) event [] missing)) refl refl)
 
 pub past_slots : {I : Type 0} (board : BoardState I) (slot : ℕ) → (slot < length board.slots → ⊥)
     → slice_get board.slots slot ≡ None
@@ -70,60 +78,40 @@ no_part (Some disk) what state own free still = by_flight (is_any (tags_in state
     by_flight true is = rw (own, free, still, is) refl
     by_flight false is = rw (own, free, still, is) refl
 
-beside : {A : Type 0} (state : SlotState) (what : EventKind A) (health : Health) (outcome : Outcome A)
-    → told_in what ≡ None → must_wait what ≡ false → notifies_block what state ≡ false
-    → MayGiveOverImage state what health health outcome → MayGive state what health health outcome
-beside state what health outcome own free still given =
-    passes_by state.host state what health outcome (no_part state.host what state own free still) given
-
--- an event that changed nothing
-quiet : {A : Type 0} (slots : List BoardSlot) (disk : Disk) (event : Event A) (reply : Reply A)
-    (found : BoardSlot) → slice_get slots event.slot ≡ Some found → lacks_memory reply ≡ false
-    → MayGive (state_of (bytes_of disk) found) event.what (health_of disk) (health_of disk)
-    (replies (state_of (bytes_of disk) found) reply)
-    → Answers {A = A} (seen slots disk) event reply [] [] (seen slots disk)
-quiet slots disk event reply found here lacks given =
-    let state = state_of (bytes_of disk) found in
-    record {
+-- such an event that changed nothing
+quiet : {A I : Type 0} (disk : I → Disk) (board : BoardState I) (event : Event A) (reply : Reply A)
+    (found : BoardSlot) → slice_get board.slots event.slot ≡ Some found → lacks_memory reply ≡ false
+    → told_in event.what ≡ None → must_wait event.what ≡ false
+    → notifies_block event.what (state_of (bytes_of (disk board.image)) found) ≡ false → reply ≢ NoMemory
+    → (Tells (disk board.image) → GivesOverImage (state_of (bytes_of (disk board.image)) found) event.what
+    (health_of (disk board.image)) (health_of (disk board.image))
+    (replies (state_of (bytes_of (disk board.image)) found) reply))
+    → AnswersEvent disk board event reply [] board
+quiet {A} disk board event reply found here lacks own free still known given =
+    let bytes = bytes_of (disk board.image) in
+    let state = state_of bytes found in
+    let world = world_of disk board in
+    changed disk board board event reply (λ tells. record {
       written = record_of event.slot (replies state reply);
       step =
-          step_there (seen slots disk) (seen slots disk) event _ state
-          (slice_get-map (state_of (bytes_of disk)) slots event.slot
-          ∙ ap (λ (o : Option BoardSlot). option_map (state_of (bytes_of disk)) o) here)
+          step_there world world event _ state
+          (slice_get-map (state_of bytes) board.slots event.slot
+          ∙ ap (λ (o : Option BoardSlot). option_map (state_of bytes) o) here)
           (record {
             outcome = replies state reply;
-            given = given;
+            given =
+                passes_by state.host state event.what (health_of (disk board.image)) (replies state reply)
+                (no_part state.host event.what state own free still)
+                (inl (record { alike = given tells; answered = known; failures = refl }));
             recorded = refl;
-            slots = sym (sym (map-set (state_of (bytes_of disk)) slots event.slot found)
-                ∙ ap (λ ss. map (state_of (bytes_of disk)) ss)
-                (set_same slots event.slot found found here refl));
-            disturbed = rw lacks (noted_none event.slot disk.failures (disturbed_of slots));
+            slots = sym (sym (map-set (state_of bytes) board.slots event.slot found)
+                ∙ ap (λ ss. map (state_of bytes) ss) (set_same board.slots event.slot found found here refl));
+            disturbed = rw lacks (noted_none event.slot (disk board.image).failures (disturbed_of board.slots));
             outside = refl;
           });
       replied = refl;
       appended = refl;
-    }
-
--- a write of memory past its end, or before it
-outside_memory : (A : Type 0) (slots : List BoardSlot) (disk : Disk) (h : ℕ) (found : BoardSlot) (addr : ℕ)
-    (bytes : List ℕ) → slice_get slots h ≡ Some found → ¬ Inside found.memory addr (length bytes)
-    → Answers {A = A} (seen slots disk) (record { slot = h; what = MemWrite addr bytes }) BadRange []
-    [] (seen slots disk)
-outside_memory A slots disk h found addr bytes here out =
-    let test : is_inside found.memory addr (length bytes) ≡ false =
-    elim (cases_Bool (is_inside found.memory addr (length bytes))) [
-      | inl inside ↦ absurd (out ((is_inside-tells found.memory addr (length bytes)).0 inside))
-      | inr no' ↦
-          no'
-    ]
-    in
-    quiet slots disk (record { slot = h; what = MemWrite addr bytes }) BadRange found here refl
-    (beside (state_of (bytes_of disk) found) (MemWrite addr bytes) (health_of disk) _ refl refl refl
-    (inl (record {
-      alike = record { alike = rw test refl; image = refl };
-      answered = λ no'. absurd (cc);
-      failures = refl;
-    })))
+    }) refl refl
 
 pub range_refused : (A : Type 0) {I : Type 0} (disk : I → Disk) (old new : BoardState I) (slot addr : ℕ)
     (bytes : List ℕ) → new ≡ old → slot < length old.slots
@@ -134,13 +122,13 @@ range_refused A disk old new slot addr bytes same there inside =
       | inl found ↦
           let here = found.2 in
           let out = rw here at inside in
+          let test : is_inside found.0.memory addr (length bytes) ≡ false =
+          false_from_ne_true _ (λ yes.
+          false≢true (out.1 ((is_inside-tells found.0.memory addr (length bytes)).0 yes))) in
           subst (λ b. AnswersEvent {A = A} disk old (record { slot = slot; what = MemWrite addr bytes })
           BadRange [] b) (sym same)
-          (record {
-            answers = λ tells. outside_memory A old.slots (disk old.image) slot found.0 addr bytes here
-                (λ h. absurd (let wrong = out.1 h in cc));
-            keeps = record { tells = λ t. t; extents = refl };
-          })
+          (quiet disk old (record { slot = slot; what = MemWrite addr bytes }) BadRange found.0 here
+          refl refl refl refl (λ no'. absurd cc) (λ tells. record { alike = rw test refl; image = refl }))
       | inr none ↦ let past = none.0 in absurd (omega arith)
     ]
 
@@ -154,19 +142,8 @@ part_read A disk board slot addr len part it =
     let test : is_inside it.found.memory addr len ≡ true =
     (is_inside-tells it.found.memory addr len).1 it.inside in
     let is = it.is in
-    record {
-      answers = λ tells.
-          quiet board.slots (disk board.image) (record { slot = slot; what = MemRead addr len }) (Bytes part)
-          it.found it.here refl
-          (beside (state_of (bytes_of (disk board.image)) it.found) (MemRead addr len)
-          (health_of (disk board.image)) _ refl refl refl
-          (inl (record {
-            alike = record { alike = rw (test, is) refl; image = refl };
-            answered = λ no'. absurd (cc);
-            failures = refl;
-          })));
-      keeps = record { tells = λ tells. tells; extents = refl };
-    }
+    quiet disk board (record { slot = slot; what = MemRead addr len }) (Bytes part) it.found it.here
+    refl refl refl refl (λ no'. absurd cc) (λ tells. record { alike = rw (test, is) refl; image = refl })
 
 register_in : (A : Type 0) {I : Type 0} (disk : I → Disk) (board : BoardState I) (slot : ℕ)
     (window : DeviceKind) (offset width value : ℕ) (o : Option BoardSlot) → slice_get board.slots slot ≡ o
@@ -175,27 +152,14 @@ register_in : (A : Type 0) {I : Type 0} (disk : I → Disk) (board : BoardState 
     → AnswersEvent {A = A} disk board
     (record { slot = slot; what = Read window offset width }) (Value value) []
     board
-register_in A disk board slot window offset width value None here is = record {
-  answers = λ tells. absurd (is tells);
-  keeps = record { tells = λ tells. tells; extents = refl };
-}
-register_in A disk board slot window offset width value (Some found) here is = record {
-  answers = λ tells.
-      quiet board.slots (disk board.image) (record { slot = slot; what = Read window offset width })
-      (Value value) found here refl
-      (beside (state_of (bytes_of (disk board.image)) found) (Read window offset width)
-      (health_of (disk board.image)) (replies (state_of (bytes_of (disk board.image)) found) (Value value))
-      refl refl refl
-      (inl (record {
-        alike = record {
-          alike = ap (λ v. replies (state_of (bytes_of (disk board.image)) found) (Value v)) (is tells);
-          image = refl;
-        };
-        answered = λ no'. absurd (cc);
-        failures = refl;
-      })));
-  keeps = record { tells = λ tells. tells; extents = refl };
-}
+register_in A disk board slot window offset width value None here is =
+    changed disk board board _ (Value value) (λ tells. absurd (is tells)) refl refl
+register_in A disk board slot window offset width value (Some found) here is =
+    quiet disk board (record { slot = slot; what = Read window offset width }) (Value value) found here
+    refl refl refl refl (λ no'. absurd cc) (λ tells. record {
+      alike = ap (λ v. replies (state_of (bytes_of (disk board.image)) found) (Value v)) (is tells);
+      image = refl;
+    })
 
 -- a register that was read
 pub register_read : (A : Type 0) {I : Type 0} (disk : I → Disk) (board : BoardState I) (slot : ℕ)
@@ -226,24 +190,10 @@ pub bytes_written : (A : Type 0) {I : Type 0} (disk : I → Disk) (old new : Boa
     → IsSomeAnd (slice_get old.slots slot) (λ found. new.slots
     ≡ slice_set old.slots slot (record found { memory = stored found.memory addr bytes }))
     → AnswersEvent {A = A} disk old (record { slot = slot; what = MemWrite addr bytes }) Done [] new
-bytes_written A disk old new slot addr bytes image answers is = record {
-  answers = answers;
-  keeps = record {
-    tells = λ tells. rw image tells;
-    extents = extents_put old.slots new.slots slot (λ found. stored found.memory addr bytes)
-        (slice_get old.slots slot) refl is;
-  };
-}
-
--- an event that left the image and all extents, and put nothing out
-pub changed : {A I : Type 0} (disk : I → Disk) (old new : BoardState I) (event : Event A) (reply : Reply A)
-    → (Tells (disk old.image) → Answers (world_of disk old) event reply [] [] (world_of disk new))
-    → new.image ≡ old.image → extents_of new.slots ≡ extents_of old.slots
-    → AnswersEvent disk old event reply [] new
-changed disk old new event reply answers image extents = record {
-  answers = answers;
-  keeps = record { tells = λ tells. rw image tells; extents = extents };
-}
+bytes_written A disk old new slot addr bytes image answers is =
+    changed disk old new (record { slot = slot; what = MemWrite addr bytes }) Done answers image
+    (extents_put old.slots new.slots slot (λ found. stored found.memory addr bytes)
+    (slice_get old.slots slot) refl is)
 
 -- ---- the record
 

@@ -1,12 +1,15 @@
 -- What began with an event, by two sets of tags: those that stayed taken, and those that are taken behind it.
-use Rattle.std.proofs.Common.{◌≡◌, ◌≢◌, ℕ, zero, suc, ◌+◌, ◌-◌, ◌*◌, ◌/◌, ◌%◌, ◌^◌, ◌<◌, ◌≤◌, min, Bool, true, false, List, [], ◌∷◌, ◌++◌, Option, None, Some, get_or, refl, sym, ap, subst, ◌∙◌, append_assoc, append-nil, arith, inl, inr, bit_and, w64}
+use Rattle.std.proofs.Common.{◌≡◌, ◌≢◌, ℕ, zero, suc, ◌+◌, ◌-◌, ◌*◌, ◌%◌, ◌^◌, ◌<◌, ◌≤◌, min, Bool, true, false, List, [], ◌∷◌, ◌++◌, Option, None, Some, get_or, refl, sym, ap, subst, ◌∙◌, append_assoc, append-nil, arith, inl, inr, bit_and, w64}
 use Rattle.std.specs.Int.{bit_at, bit_not, trailing_zeros}
 use Rattle.std.specs.List.{flat_map}
 use Rattle.std.specs.Prelude.{if◌then◌else◌, is_none, set}
 use Rattle.std.proofs.lemmas.Bool.{cases_eq, cases_lt}
-use Rattle.std.proofs.lemmas.Nat.Bits.{bit_at-suc, bit_at-zero, bit_at_above, bit_at_and, bit_at_not, bit_at_clear_other, bit_at_clear_same, bit_at-trailing_zeros, same_from_bits}
+use Rattle.std.proofs.lemmas.List.{get_or-set_other}
+use Rattle.std.proofs.lemmas.List.Concat.{flat_map-append}
+use Rattle.std.proofs.lemmas.Nat.Bits.{bit_at-zero, bit_at_above, bit_at_and, bit_at_not, bit_at_clear_other, bit_at_clear_same, bit_at-trailing_zeros, same_from_bits}
 use Rattle.std.proofs.lemmas.Nat.{and_le_l}
 use Rattle.block_device.specs.Flights.{InFlight, taken_bits}
+use Rattle.block_device.proofs.Bits.{bit_taken as bit_there}
 use Rattle.replay.specs.Asking.{TakesOne, begun_text}
 use Rattle.replay.specs.Telling.{begun_between, begun_by_tag, begun_from, told_by_tag}
 use Rattle.trace.specs.Asked.{Begun, asked_field, begun_field, none_mark, other_begun, sign_before}
@@ -20,35 +23,19 @@ abbrev bit_of : Option InFlight → ℕ
 bit_of None = 0
 bit_of (Some here) = 1
 
-even_at : (n i : ℕ) → bit_at (2 * n) (suc i) ≡ bit_at n i
-even_at n i =
-    let half : 2 * n / 2 ≡ n = omega arith in
-    bit_at-suc (2 * n) i ∙ ap (λ (m : ℕ). bit_at m i) half
+bit_in : (tags : List (Option InFlight)) (i : ℕ) (tag : Option InFlight) → get_or tags i None ≡ tag
+    → bit_at (taken_bits tags) i ≡ bit_of tag
+bit_in tags i None is = rw is at (bit_there tags i)
+bit_in tags i (Some here) is = rw is at (bit_there tags i)
 
-odd_at : (n i : ℕ) → bit_at (1 + 2 * n) (suc i) ≡ bit_at n i
-odd_at n i =
-    let half : (1 + 2 * n) / 2 ≡ n = omega arith in
-    bit_at-suc (1 + 2 * n) i ∙ ap (λ (m : ℕ). bit_at m i) half
-
-pub bit_taken : (tags : List (Option InFlight)) (i : ℕ) → bit_at (taken_bits tags) i ≡ bit_of (get_or tags i None)
-bit_taken [] i = bit_at-zero i
-bit_taken (None ∷ tags) zero = omega arith
-bit_taken (Some here ∷ tags) zero = omega arith
-bit_taken (None ∷ tags) (suc i) = even_at (taken_bits tags) i ∙ bit_taken tags i
-bit_taken (Some here ∷ tags) (suc i) = odd_at (taken_bits tags) i ∙ bit_taken tags i
+bit_taken : (tags : List (Option InFlight)) (i : ℕ) → bit_at (taken_bits tags) i ≡ bit_of (get_or tags i None)
+bit_taken tags i = bit_in tags i (get_or tags i None) refl
 
 -- a set of tags without one
 set_same : (tags : List (Option InFlight)) (k : ℕ) → get_or (set tags k None) k None ≡ None
 set_same [] k = refl
 set_same (x ∷ tags) zero = refl
 set_same (x ∷ tags) (suc k) = set_same tags k
-
-set_other : (tags : List (Option InFlight)) (k i : ℕ) → i ≢ k → get_or (set tags k None) i None ≡ get_or tags i None
-set_other [] k i other = refl
-set_other (x ∷ tags) zero zero other = absurd (other refl)
-set_other (x ∷ tags) zero (suc i) other = refl
-set_other (x ∷ tags) (suc k) zero other = refl
-set_other (x ∷ tags) (suc k) (suc i) other = set_other tags k i (λ same. other (ap suc same))
 
 -- the same bits but for one
 without_one : (n rest k : ℕ) (tags : List (Option InFlight)) → n ≡ taken_bits tags → bit_at rest k ≡ 0
@@ -63,7 +50,7 @@ without_one n rest k tags is gone kept =
               rw same (gone ∙ sym (bit_taken (set tags k None) k ∙ ap bit_of (set_same tags k)))
           | inr other ↦
               kept i other ∙ ap (λ (m : ℕ). bit_at m i) is ∙ bit_taken tags i
-              ∙ sym (bit_taken (set tags k None) i ∙ ap bit_of (set_other tags k i other))
+              ∙ sym (bit_taken (set tags k None) i ∙ ap bit_of (get_or-set_other tags k i None None other))
         ]
 
 -- one bit cleared
@@ -260,14 +247,8 @@ text_more [] more = refl
 text_more (one ∷ others) more =
     append_assoc (sign_before true ++ begun_field one) (flat_map other_begun others) (begun_text false more)
     ∙ ap (λ (t : List ℕ). (sign_before true ++ begun_field one) ++ t)
-    (ap (λ (t : List ℕ). flat_map other_begun others ++ t) (behind_others more) ∙ joined_more others)
-  where
-    joined_more : (xs : List Begun)
-        → flat_map other_begun xs ++ flat_map other_begun more ≡ flat_map other_begun (xs ++ more)
-    joined_more [] = refl
-    joined_more (x ∷ xs) =
-        append_assoc (other_begun x) (flat_map other_begun xs) (flat_map other_begun more)
-        ∙ ap (λ (t : List ℕ). other_begun x ++ t) (joined_more xs)
+    (ap (λ (t : List ℕ). flat_map other_begun others ++ t) (behind_others more)
+    ∙ sym (flat_map-append other_begun others more))
 
 -- all of them, with the end of the line
 text_whole : (begun : List Begun)

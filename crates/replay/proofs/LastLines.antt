@@ -15,11 +15,4 @@ pub line_parts : (line : ℕ) (fault : FaultKind) → fault ≢ kind.NoMemory
     → (trace_ending line fault).line ≡ codes "fault trace "
     ++ (decimal line ++ (codes " " ++ ended (kind_name fault)))
 line_parts line kind.NoMemory other = absurd (other refl)
-line_parts line kind.Cut other = parts line (kind_name kind.Cut)
-line_parts line kind.Header other = parts line (kind_name kind.Header)
-line_parts line kind.Word other = parts line (kind_name kind.Word)
-line_parts line kind.Order other = parts line (kind_name kind.Order)
-line_parts line kind.Fields other = parts line (kind_name kind.Fields)
-line_parts line kind.Number other = parts line (kind_name kind.Number)
-line_parts line kind.Choice other = parts line (kind_name kind.Choice)
-line_parts line kind.Bytes other = parts line (kind_name kind.Bytes)
+line_parts line fault other = parts line (kind_name fault)

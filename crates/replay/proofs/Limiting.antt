@@ -71,57 +71,34 @@ module _ (format : Format) where
         all_asked slots (λ k d below. small (suc k) d (omega (arith, below))),
       ) refl
 
--- Slots that are asked for as a trace is, of which what was asked for is taken.
-module _ (format : Format) (Taken : List SlotSpec → Type 0)
-    (good : (slots : List SlotSpec) (i : ℕ) (spec : SlotSpec) → Taken slots
-    → slice_get slots i ≡ Some spec → AreGood spec.regions) (slots asked : List SlotSpec)
-    (same : asked ≡ map (asked_of_board format) slots) where
-  taken_small : Taken asked → All (IsSmallMemory format) slots
-  taken_small taken = all_small format slots (λ i spec there. good (map (asked_of_board format) slots) i
-      spec (subst Taken same taken) there)
-
-  as_described : Taken asked → asked ≡ slots
-  as_described taken = same ∙ all_asked format slots (taken_small taken)
-
-  pub small_of : {V E : Type 0} (result : Result V E) → OnOk result (Taken asked)
-      → OnOk result (All (IsSmallMemory format) slots)
-  small_of (Ok v) taken = taken_small taken
-  small_of (Err e) taken = tt
-
-  pub taken_of : {V E : Type 0} (result : Result V E) → OnOk result (Taken asked) → OnOk result (Taken slots)
-  taken_of (Ok v) taken = subst Taken (as_described taken) taken
-  taken_of (Err e) taken = tt
-
-  -- what is said of a board of the slots that were asked for is said of one of those that are described
-  pub made_of : {V E : Type 0} (Made : V → List SlotSpec → Type 0) (result : Result V E)
-      → OnOk result (Taken asked) → IfOk result (λ v. Made v asked) → IfOk result (λ v. Made v slots)
-  made_of Made (Ok v) taken made = subst (λ (s : List SlotSpec). Made v s) (as_described taken) made
-  made_of Made (Err e) taken made = tt
-
 -- ---- over an image
 
-accepted_good : (sectors cache : ℕ) (slots : List SlotSpec) (i : ℕ) (spec : SlotSpec)
-    → IsAccepted sectors slots cache → slice_get slots i ≡ Some spec → AreGood spec.regions
-accepted_good sectors cache slots i spec accepted there =
-    (accepted.slots_good.each i spec (slice_get_within slots i spec there) there).memory
-
+-- slots that are asked for as a trace is, of which what was asked for is accepted
 module _ (format : Format) (sectors cache : ℕ) (slots asked : List SlotSpec)
     (same : asked ≡ map (asked_of_board format) slots) where
+  accepted_small : IsAccepted sectors asked cache → All (IsSmallMemory format) slots
+  accepted_small accepted = all_small format slots (λ i spec there.
+      let there' : slice_get asked i ≡ Some spec = ap (λ (s : List SlotSpec). slice_get s i) same ∙ there in
+      (accepted.slots_good.each i spec (slice_get_within asked i spec there') there').memory)
+
+  as_described : IsAccepted sectors asked cache → asked ≡ slots
+  as_described accepted = same ∙ all_asked format slots (accepted_small accepted)
+
   pub small_when : {V E : Type 0} (result : Result V E) → OnOk result (IsAccepted sectors asked cache)
       → OnOk result (All (IsSmallMemory format) slots)
-  small_when result accepted =
-      small_of format (λ s. IsAccepted sectors s cache) (accepted_good sectors cache) slots asked
-      same result accepted
+  small_when (Ok v) accepted = accepted_small accepted
+  small_when (Err e) accepted = tt
 
   pub accepted_when : {V E : Type 0} (result : Result V E) → OnOk result (IsAccepted sectors asked cache)
       → OnOk result (IsAccepted sectors slots cache)
-  accepted_when result accepted =
-      taken_of format (λ s. IsAccepted sectors s cache) (accepted_good sectors cache) slots asked
-      same result accepted
+  accepted_when (Ok v) accepted =
+      subst (λ (s : List SlotSpec). IsAccepted sectors s cache) (as_described accepted) accepted
+  accepted_when (Err e) accepted = tt
 
+  -- what is said of a board of the slots that were asked for is said of one of those that are described
   pub made_when : {V E : Type 0} (Made : V → List SlotSpec → Type 0) (result : Result V E)
       → OnOk result (IsAccepted sectors asked cache) → IfOk result (λ v. Made v asked)
       → IfOk result (λ v. Made v slots)
-  made_when Made result accepted made =
-      made_of format (λ s. IsAccepted sectors s cache) (accepted_good sectors cache) slots asked same Made
-      result accepted made
+  made_when Made (Ok v) accepted made =
+      subst (λ (s : List SlotSpec). Made v s) (as_described accepted) made
+  made_when Made (Err e) accepted made = tt

@@ -1,9 +1,10 @@
 -- A board of one slot is the one-slot machine.
-use Rattle.std.proofs.Common.{◌≡◌, ◌≢◌, inl, inr, ℕ, zero, suc, ◌+◌, ◌*◌, true, false, List, [], ◌∷◌, ◌++◌, length, map, take, drop, Option, Some, None, eqb, refl, sym, ◌∙◌, ap, subst, arith, length-drop, take-append-drop}
-use Rattle.std.specs.Prelude.{slice_set, MatchOption}
+use Rattle.std.proofs.Common.{◌≡◌, ◌≢◌, inl, inr, ℕ, ◌+◌, ◌*◌, true, false, List, [], ◌∷◌, ◌++◌, length, map, take, drop, Option, Some, None, eqb, refl, sym, ◌∙◌, ap, subst, arith, length-drop, take-append-drop}
+use Rattle.std.specs.Prelude.{MatchOption}
 use Rattle.std.specs.List.{slice_get}
 use Rattle.std.proofs.lemmas.Bool.Decides.{eqb_tells, nat_tests}
-use Rattle.std.proofs.lemmas.List.{take_all, drop-drop}
+use Rattle.std.proofs.lemmas.List.{take_all, drop-drop, length-set}
+use Rattle.std.proofs.lemmas.Option.{slice_get_cases}
 use Rattle.sector_cache.specs.Disk.{Disk}
 use Rattle.sector_cache.specs.Sector.{extent_of}
 use Rattle.block_device.specs.declared.extent.Extent.{Extent}
@@ -75,15 +76,11 @@ abbrev IsOne : List SlotState → Type 0
 IsOne slots = length slots ≡ 1
 
 nothing_at : (slots : List SlotState) (h : ℕ) → IsOne slots → h ≢ 0 → slice_get slots h ≡ None
-nothing_at [] h one other = absurd (omega arith)
-nothing_at (s ∷ []) zero one other = absurd (other refl)
-nothing_at (s ∷ []) (suc h) one other = refl
-nothing_at (s ∷ t ∷ slots) h one other = absurd (omega arith)
-
-length_set : (slots : List SlotState) (h : ℕ) (s : SlotState) → length (slice_set slots h s) ≡ length slots
-length_set [] h s = refl
-length_set (x ∷ slots) zero s = refl
-length_set (x ∷ slots) (suc h) s = ap suc (length_set slots h s)
+nothing_at slots h one other =
+    elim (slice_get_cases slots h).1 [
+      | inl there ↦ absurd (let lt = there.1 in other (omega arith))
+      | inr none ↦ none.1
+    ]
 
 -- a step leaves as many slots as there were
 as_many_at : {A : Type 0} (old : World) (event : Event A) (written : Record A) (new : World)
@@ -91,7 +88,7 @@ as_many_at : {A : Type 0} (old : World) (event : Event A) (written : Record A) (
     (λ s. SlotStep old event.slot s event.what written new) → length new.slots ≡ length old.slots
 as_many_at old event written new None step = ap (λ (w : World). length w.slots) step.same
 as_many_at old event written new (Some s) step = ap (λ (slots : List SlotState). length slots) step.slots
-    ∙ length_set old.slots event.slot step.outcome.state
+    ∙ length-set old.slots event.slot step.outcome.state
 
 -- an event of another slot finds none
 missed : {A : Type 0} (old : World) (event : Event A) (written : Record A) (after : World) → IsOne old.slots

@@ -97,13 +97,6 @@ sends_runs hosted disk old mid new events more a b c s t u p q = record {
       sends_same a c s u _ _ (text_append hosted p.told q.told) (sends_more a b c s t u _ _ p.sent q.sent);
 }
 
--- the same events by another name
-pub sends_run_of : {A I : Type 0} (hosted : Bool) (disk : I → Disk) (old new : BoardState I)
-    (events others : List (Event A)) (a b s t : Option (List ℕ)) → events ≡ others
-    → SendsRun hosted disk old new events a b s t → SendsRun hosted disk old new others a b s t
-sends_run_of hosted disk old new events others a b s t same p =
-    subst (λ (es : List (Event _)). SendsRun hosted disk old new es a b s t) same p
-
 -- what waited was written
 pub sends_flushed : {A I : Type 0} (hosted : Bool) (disk : I → Disk) (old new : BoardState I)
     (events : List (Event A)) (a b c s t u : Option (List ℕ)) → SendsRun hosted disk old new events a b s t
@@ -159,7 +152,7 @@ after_run disk slots board after image hosted events a b (Err Write) new by kept
   recorded =
       recorded disk slots board after image hosted (take (length events) events) a b None (AppendsFront a b)
       new by kept
-      (sends_run_of hosted disk board after events (take (length events) events) a b (Some []) None
+      (subst (λ (es : List (Event _)). SendsRun hosted disk board after es a b (Some []) None)
       (sym (take_all (length events) events (omega arith))) run) (sent_front a b);
 }
 after_run disk slots board after image hosted events a b (Err NoMemory) new by kept run = record {

@@ -63,27 +63,21 @@ pub record IsField {A : Type 0} (read : Reader A) (text : A → List ℕ) (Fits 
   pub again : (x : A) (rest : List ℕ) → Fits x → read (text x ++ rest) ≡ Ok (x, rest)
 
 -- a step that did not fail: what it read, and that the rest of the steps goes on from there
-pub record Steps {A B : Type 0} (text : A → List ℕ) (Fits : A → Type 0) (bytes : List ℕ)
-    (f : A × List ℕ → Result B Stop) (y : B) : Type 0 where
+pub record Went {A B : Type 0} (read : Reader A) (bytes : List ℕ) (f : A × List ℕ → Result B Stop)
+    (end : Result B Stop) : Type 0 where
   pub value : A
   pub rest : List ℕ
-  pub takes : Takes bytes (text value) rest
-  pub fits : Fits value
-  pub goes_on : f (value, rest) ≡ Ok y
+  pub is : read bytes ≡ Ok (value, rest)
+  pub goes_on : f (value, rest) ≡ end
 
-step_by : {A B : Type 0} (read : Reader A) (text : A → List ℕ) (Fits : A → Type 0) (bytes : List ℕ)
-    (f : A × List ℕ → Result B Stop) (y : B)
-    (r : Result (A × List ℕ) Stop) → IsField read text Fits → IsBytes bytes → read bytes ≡ r
-    → (r >>= f) ≡ Ok y → Steps text Fits bytes f y
-step_by read text Fits bytes f y (Ok x) field fits is e =
-    let t = field.takes bytes x.0 x.1 fits is in
-    record { value = x.0; rest = x.1; takes = t.0; fits = t.1; goes_on = e }
-step_by read text Fits bytes f y (Err d) field fits is e = absurd cc
+went_by : {A B : Type 0} (read : Reader A) (bytes : List ℕ) (f : A × List ℕ → Result B Stop) (y : B)
+    (r : Result (A × List ℕ) Stop) → read bytes ≡ r → (r >>= f) ≡ Ok y → Went read bytes f (Ok y)
+went_by read bytes f y (Ok x) is e = record { value = x.0; rest = x.1; is = is; goes_on = e }
+went_by read bytes f y (Err d) is e = absurd cc
 
-pub step : {A B : Type 0} (read : Reader A) (text : A → List ℕ) (Fits : A → Type 0) (bytes : List ℕ)
-    (f : A × List ℕ → Result B Stop) (y : B)
-    → IsField read text Fits → IsBytes bytes → (read bytes >>= f) ≡ Ok y → Steps text Fits bytes f y
-step read text Fits bytes f y field fits e = step_by read text Fits bytes f y (read bytes) field fits refl e
+pub went : {A B : Type 0} (read : Reader A) (bytes : List ℕ) (f : A × List ℕ → Result B Stop) (y : B)
+    → (read bytes >>= f) ≡ Ok y → Went read bytes f (Ok y)
+went read bytes f y e = went_by read bytes f y (read bytes) refl e
 
 -- ---- fields one behind another
 
@@ -94,12 +88,14 @@ module _ {A B : Type 0} {first : Reader A} {second : Reader B} {text : A → Lis
       → (first & second) bytes ≡ Ok (x, rest)
       → Takes bytes (text x.0 ++ behind x.1) rest × (Fits x.0 × FitsBehind x.1)
   both_takes bytes x rest fits e =
-      let a = step first text Fits bytes _ (x, rest) of_first fits e in
-      let b = step second behind FitsBehind a.rest _ (x, rest) of_second a.takes.rest_fits a.goes_on in
+      let a = went first bytes _ (x, rest) e in
+      let front = of_first.takes bytes a.value a.rest fits a.is in
+      let b = went second a.rest _ (x, rest) a.goes_on in
+      let back = of_second.takes a.rest b.value b.rest front.0.rest_fits b.is in
       let found : A × B = (a.value, b.value) in
       subst (λ (y : (A × B) × List ℕ). Takes bytes (text y.0.0 ++ behind y.0.1) y.1
       × (Fits y.0.0 × FitsBehind y.0.1)) (ok_is (found, b.rest) (x, rest) b.goes_on)
-      (Takes-then _ _ _ _ _ a.takes b.takes, (a.fits, b.fits))
+      (Takes-then _ _ _ _ _ front.0 back.0, (front.1, back.1))
 
   both_again : (x : A × B) (rest : List ℕ) → Fits x.0 × FitsBehind x.1
       → (first & second) ((text x.0 ++ behind x.1) ++ rest) ≡ Ok (x, rest)
@@ -123,10 +119,11 @@ module _ {A B : Type 0} {read : Reader A} {text : A → List ℕ} {Fits : A → 
   made_takes : (bytes : List ℕ) (y : B) (rest : List ℕ) → IsBytes bytes → made make read bytes ≡ Ok (y, rest)
       → Takes bytes (text (parts y)) rest × Fits (parts y)
   made_takes bytes y rest fits e =
-      let x = step read text Fits bytes _ (y, rest) of_parts fits e in
+      let x = went read bytes _ (y, rest) e in
+      let t = of_parts.takes bytes x.value x.rest fits x.is in
       subst (λ (z : B × List ℕ). Takes bytes (text (parts z.0)) z.1 × Fits (parts z.0))
       (ok_is (make x.value, x.rest) (y, rest) x.goes_on)
-      (rw (parts_of x.value x.fits) (x.takes, x.fits))
+      (rw (parts_of x.value t.1) (t.0, t.1))
 
   made_again : (y : B) (rest : List ℕ) → Fits (parts y)
       → made make read (text (parts y) ++ rest) ≡ Ok (y, rest)
@@ -245,9 +242,6 @@ number_field w limit wide = record {
   again = λ n rest lt. number_again w limit wide n rest lt;
 }
 
-pub field16 : IsField (number_at w16) (to_le_bytes w16) (λ n. n < 2 ^ 16)
-field16 = number_field w16 (2 ^ 16) wide16
-
 -- ---- numbers that pass a test, and an identity
 
 pub passed : (b : Bool) (d : Stop) (x y : ℕ × List ℕ) → cond b (Ok x) (Err d) ≡ Ok y → (b ≡ true) × (x ≡ y)
@@ -260,12 +254,12 @@ module _ (w : Width) (limit : ℕ) (wide : IsWide w limit) (test : ℕ → Bool)
   tested_takes : (bytes : List ℕ) (x : ℕ) (rest : List ℕ) → IsBytes bytes
       → tested_at w test why bytes ≡ Ok (x, rest) → Takes bytes (to_le_bytes w x) rest × Fits x
   tested_takes bytes x rest fits e =
-      let found = step (number_at w) (to_le_bytes w) (λ k. k < limit) bytes _ (x, rest)
-      (number_field w limit wide) fits e in
+      let found = went (number_at w) bytes _ (x, rest) e in
+      let t = number_takes w limit wide bytes found.value found.rest fits found.is in
       let is = passed (test found.value) (record { why = why; left = length bytes }) (found.value, found.rest)
       (x, rest) found.goes_on in
       subst (λ (p : ℕ × List ℕ). Takes bytes (to_le_bytes w p.0) p.1 × Fits p.0) is.1
-      (found.takes, passes found.value is.0)
+      (t.0, passes found.value is.0)
 
   tested_again : (x : ℕ) (rest : List ℕ) → Fits x
       → tested_at w test why (to_le_bytes w x ++ rest) ≡ Ok (x, rest)

@@ -1,5 +1,5 @@
 -- A reader that fails stops at the first field that no value has there.
-use Rattle.std.proofs.Common.{◌≡◌, ◌⊎◌, inl, inr, ℕ, zero, suc, ◌+◌, ◌-◌, ◌<◌, ◌≤◌, List, [], ◌∷◌, ◌++◌, length, drop, Result, Ok, Err, refl, sym, ap, subst, ◌∙◌, arith}
+use Rattle.std.proofs.Common.{◌≡◌, ◌⊎◌, inl, inr, ℕ, zero, suc, ◌+◌, ◌-◌, ◌≤◌, List, [], ◌∷◌, ◌++◌, length, drop, Result, Ok, Err, refl, sym, ap, subst, ◌∙◌, arith}
 use Rattle.std.proofs.lemmas.Bool.{cases_lt}
 use Rattle.std.proofs.lemmas.List.{append-nil, drop-append-le, length-append}
 use Rattle.snapshot.specs.declared.fault.Stop.{Stop}
@@ -8,7 +8,7 @@ use Rattle.snapshot.specs.Fields.{Field, joined}
 use Rattle.snapshot.specs.Faults.{BeginsWith, wrong_with}
 use Rattle.snapshot.specs.Reading.{◌>>=◌, ◌&◌, Reader, made}
 use Rattle.snapshot.proofs.Agreement.{behind_it, behind_of, drop_past, front_of, in_front, joined-append}
-use Rattle.snapshot.proofs.Exact.{IsBytes, IsField, both_field, made_field, ok_is, refit}
+use Rattle.snapshot.proofs.Exact.{IsBytes, IsField, Went, both_field, made_field, ok_is, refit, went}
 
 -- what stops the reader, where a value goes on with these fields
 abbrev pub StopsAt : List Field → List ℕ → Stop → Type 0
@@ -44,22 +44,6 @@ pub record IsRead {A : Type 0} (read : Reader A) (text : A → List ℕ) (fields
 
 -- ---- what came of a step
 
-pub record Went {A B : Type 0} (read : Reader A) (bytes : List ℕ) (f : A × List ℕ → Result B Stop)
-    (end : Result B Stop) : Type 0 where
-  pub value : A
-  pub rest : List ℕ
-  pub is : read bytes ≡ Ok (value, rest)
-  pub goes_on : f (value, rest) ≡ end
-
-went_by : {A B : Type 0} (read : Reader A) (bytes : List ℕ) (f : A × List ℕ → Result B Stop) (y : B)
-    (r : Result (A × List ℕ) Stop) → read bytes ≡ r → (r >>= f) ≡ Ok y → Went read bytes f (Ok y)
-went_by read bytes f y (Ok x) is e = record { value = x.0; rest = x.1; is = is; goes_on = e }
-went_by read bytes f y (Err d) is e = absurd cc
-
-pub went : {A B : Type 0} (read : Reader A) (bytes : List ℕ) (f : A × List ℕ → Result B Stop) (y : B)
-    → (read bytes >>= f) ≡ Ok y → Went read bytes f (Ok y)
-went read bytes f y e = went_by read bytes f y (read bytes) refl e
-
 abbrev pub failing : (A : Type 0) → Stop → Result A Stop
 failing A stop = Err stop
 
@@ -77,13 +61,6 @@ pub failed : {A B : Type 0} (read : Reader A) (bytes : List ℕ) (f : A × List 
     → (read bytes >>= f) ≡ Err stop → (read bytes ≡ Err stop) ⊎ Went read bytes f (Err stop)
 failed read bytes f stop e = failed_by read bytes f stop (read bytes) refl e
 
-abbrev answering : {A : Type 0} → A × List ℕ → Result (A × List ℕ) Stop
-answering x = Ok x
-
-answered_once : {A : Type 0} (r : Result (A × List ℕ) Stop) (x y : A × List ℕ) → r ≡ answering x
-    → r ≡ answering y → x ≡ y
-answered_once r x y a b = cc
-
 pub answered_or_failed : {A : Type 0} (r : Result A Stop) (x : A) (stop : Stop) → r ≡ Ok x → r ≡ Err stop → ⊥
 answered_or_failed r x stop a b = cc
 
@@ -99,7 +76,7 @@ module _ {A : Type 0} {read : Reader A} {text : A → List ℕ} {fields : A → 
   pub same_value : (bytes : List ℕ) (x y : A) (left rest : List ℕ) → read bytes ≡ Ok (x, left) → Fits y
       → bytes ≡ joined (fields y) ++ rest → ◌≡◌ {A = A × List ℕ} (y, rest) (x, left)
   same_value bytes x y left rest e fits text_is =
-      answered_once (read bytes) (y, rest) (x, left) (read_again bytes y rest fits text_is) e
+      ok_is (y, rest) (x, left) (sym (read_again bytes y rest fits text_is) ∙ e)
 
   pub front_read : (bytes : List ℕ) (x : A) (left : List ℕ) → IsBytes bytes → read bytes ≡ Ok (x, left)
       → bytes ≡ joined (fields x) ++ left
@@ -113,85 +90,52 @@ stops_more : (xs ys : List Field) (rest : List ℕ) (stop : Stop) → StopsAt xs
 stops_more [] ys rest stop h = absurd h
 stops_more (x ∷ xs) ys rest stop h = h
 
-module _ {A B : Type 0} {first : Reader A} {second : Reader B} {text : A → List ℕ} {behind : B → List ℕ}
-    {one : A → List Field} {other : B → List Field} {Fits : A → Type 0} {FitsBehind : B → Type 0}
-    (of_first : IsRead first text one Fits) (of_second : IsRead second behind other FitsBehind) where
-  abbrev both : A × B → List Field
-  both x = one x.0 ++ other x.1
+-- the fields of one value, and behind them those of another
+abbrev pub both : {A B : Type 0} → (A → List Field) → (B → List Field) → A × B → List Field
+both one other x = one x.0 ++ other x.1
 
-  abbrev both_text : A × B → List ℕ
-  both_text x = text x.0 ++ behind x.1
-
-  abbrev BothFit : A × B → Type 0
-  BothFit x = Fits x.0 × FitsBehind x.1
-
-  both_joins : (x : A × B) → joined (both x) ≡ both_text x
-  both_joins x = joined-append (one x.0) (other x.1) ∙ rw (of_first.joins x.0, of_second.joins x.1) refl
-
-  -- a value of which all of the first part agrees, where the first part is read
-  passed : (bytes : List ℕ) (a : A) (mid : List ℕ) (y : A × B) (n : ℕ) (rest : List ℕ)
-      → first bytes ≡ Ok (a, mid) → Fits y.0 → length (one y.0) ≤ n → BeginsWith bytes (both y) n rest
-      → (y.0 ≡ a) × BeginsWith mid (other y.1) (n - length (one y.0)) rest
-  passed bytes a mid y n rest e fits le h =
-      let parts = behind_of (one y.0) (other y.1) bytes rest n (n - length (one y.0)) (omega arith) h in
-      let same : ◌≡◌ {A = A × List ℕ} (y.0, parts.mid) (a, mid) =
-      same_value of_first bytes a y.0 mid parts.mid e fits parts.front in
-      let counted : parts.more ≡ n - length (one y.0) = (let is = parts.counted in omega arith) in (
-        ap (λ (p : A × List ℕ). p.0) same,
-        subst (λ (p : A × List ℕ). BeginsWith p.1 (other y.1) (n - length (one y.0)) rest) same
-            (subst (λ (k : ℕ). BeginsWith parts.mid (other y.1) k rest) counted parts.behind),
-      )
-
-  both_ends_at : (bytes : List ℕ) (a : A) (mid : List ℕ) (b : B) (left : List ℕ) (y : A × B) (rest : List ℕ)
-      (n : ℕ) → IsBytes bytes
-      → first bytes ≡ Ok (a, mid) → second mid ≡ Ok (b, left) → BothFit y → BeginsWith bytes (both y) n rest
-      → length (one a ++ other b) ≤ n → length (both y) ≤ length (one a ++ other b)
-  both_ends_at bytes a mid b left y rest n bs e d fits h le =
-      let of_found = length-append (one a) (other b) in
-      let of_other = length-append (one y.0) (other y.1) in
+module _ {A B : Type 0} {first : Reader A} {text : A → List ℕ} {one : A → List Field} {Fits : A → Type 0}
+    (of_first : IsRead first text one Fits) (other : B → List Field) where
+  -- where the first value is read, it is the first of each two of which as many fields agree as it has
+  pub past : (bytes : List ℕ) (a : A) (mid : List ℕ) (y : A × B) (n : ℕ) (rest : List ℕ) → IsBytes bytes
+      → first bytes ≡ Ok (a, mid) → Fits y.0 → length (one a) ≤ n → BeginsWith bytes (both one other y) n rest
+      → (y.0 ≡ a) × BeginsWith mid (other y.1) (n - length (one a)) rest
+  past bytes a mid y n rest bs e fits le h =
       elim (cases_lt n (length (one y.0))) [
         | inl lt ↦
-            (let ended = of_first.ends bytes a y.0 mid rest n bs e fits.0
-            (front_of (one y.0) (other y.1) bytes rest n (omega arith) h) (omega arith) in
+            (let ended = of_first.ends bytes a y.0 mid rest n bs e fits
+            (front_of (one y.0) (other y.1) bytes rest n (omega arith) h) le in
             absurd (omega arith))
-        | inr past ↦
-            (let p = passed bytes a mid y n rest e fits.0 past h in
-            let same : length (one y.0) ≡ length (one a) = ap (λ (v : A). length (one v)) p.0 in
-            let ended = of_second.ends mid b y.1 left rest (n - length (one y.0))
-            (of_first.field.takes bytes a mid bs e).0.rest_fits d fits.1 p.1 (omega arith) in
-            omega arith)
+        | inr whole ↦
+            (let parts = behind_of (one y.0) (other y.1) bytes rest n (n - length (one y.0)) (omega arith) h in
+            let same : ◌≡◌ {A = A × List ℕ} (y.0, parts.mid) (a, mid) =
+            same_value of_first bytes a y.0 mid parts.mid e fits parts.front in
+            let counted : parts.more ≡ n - length (one y.0) = (let is = parts.counted in omega arith) in (
+              ap (λ (p : A × List ℕ). p.0) same,
+              subst (λ (p : A × List ℕ). BeginsWith p.1 (other y.1) (n - length (one p.0)) rest) same
+                  (subst (λ (k : ℕ). BeginsWith parts.mid (other y.1) k rest) counted parts.behind),
+            ))
       ]
 
-  both_ends : (bytes : List ℕ) (x y : A × B) (left rest : List ℕ) (n : ℕ) → IsBytes bytes
-      → (first & second) bytes ≡ Ok (x, left) → BothFit y → BeginsWith bytes (both y) n rest
-      → length (both x) ≤ n → length (both y) ≤ length (both x)
-  both_ends bytes x y left rest n bs e fits h le =
-      let a = went first bytes _ (x, left) e in
-      let b = went second a.rest _ (x, left) a.goes_on in
-      let pair : A × B = (a.value, b.value) in
-      let found : pair ≡ x = ap (λ (p : (A × B) × List ℕ). p.0) (ok_is (pair, b.rest) (x, left) b.goes_on) in
-      subst (λ (p : A × B). length (both p) ≤ n → length (both y) ≤ length (both p)) found
-      (both_ends_at bytes a.value a.rest b.value b.rest y rest n bs a.is b.is fits h) le
-
-  -- where the first part fails
+  -- where it isn't read
   module _ (bytes : List ℕ) (stop : Stop) (e : first bytes ≡ Err stop) (s : Stops one Fits bytes stop) where
     not_passed : (y : A × B) (n : ℕ) (rest : List ℕ) → Fits y.0 → length (one y.0) ≤ n
-        → BeginsWith bytes (both y) n rest → ⊥
+        → BeginsWith bytes (both one other y) n rest → ⊥
     not_passed y n rest fits le h =
         let parts = behind_of (one y.0) (other y.1) bytes rest n (n - length (one y.0)) (omega arith) h in
         answered_or_failed (first bytes) (y.0, parts.mid) stop
         (read_again of_first bytes y.0 parts.mid fits parts.front) e
 
-    first_most : (y : A × B) (n : ℕ) (rest : List ℕ) → BothFit y → BeginsWith bytes (both y) n rest
+    pub first_most : (y : A × B) (n : ℕ) (rest : List ℕ) → Fits y.0 → BeginsWith bytes (both one other y) n rest
         → n ≤ s.count
     first_most y n rest fits h =
         elim (cases_lt n (length (one y.0))) [
-          | inl lt ↦ s.most y.0 n rest fits.0 (front_of (one y.0) (other y.1) bytes rest n (omega arith) h)
-          | inr past ↦ absurd (not_passed y n rest fits.0 past h)
+          | inl lt ↦ s.most y.0 n rest fits (front_of (one y.0) (other y.1) bytes rest n (omega arith) h)
+          | inr whole ↦ absurd (not_passed y n rest fits whole h)
         ]
 
-    first_why : (y : A × B) (rest : List ℕ) → BothFit y → BeginsWith bytes (both y) s.count rest
-        → StopsAt (drop s.count (both y)) rest stop
+    pub first_why : (y : A × B) (rest : List ℕ) → Fits y.0 → BeginsWith bytes (both one other y) s.count rest
+        → StopsAt (drop s.count (both one other y)) rest stop
     first_why y rest fits h =
         elim (cases_lt s.count (length (one y.0))) [
           | inl lt ↦
@@ -199,65 +143,89 @@ module _ {A B : Type 0} {first : Reader A} {second : Reader B} {text : A → Lis
               subst (λ (fs : List Field). StopsAt fs rest stop)
               (sym (drop-append-le s.count (one y.0) (other y.1) le))
               (stops_more (drop s.count (one y.0)) (other y.1) rest stop
-              (s.why y.0 rest fits.0 (front_of (one y.0) (other y.1) bytes rest s.count le h))))
-          | inr past ↦ absurd (not_passed y s.count rest fits.0 past h)
+              (s.why y.0 rest fits (front_of (one y.0) (other y.1) bytes rest s.count le h))))
+          | inr whole ↦ absurd (not_passed y s.count rest fits whole h)
         ]
 
-    first_fails : Stops both BothFit bytes stop
-    first_fails = record {
-      count = s.count;
-      value = (s.value, of_second.some);
-      fits = (s.fits, of_second.some_fits);
-      rest = s.rest;
-      begins = in_front (one s.value) (other of_second.some) bytes s.rest s.count s.begins;
-      most = λ y n rest fits h. first_most y n rest fits h;
-      why = λ y rest fits h. first_why y rest fits h;
-    }
+module _ {A B : Type 0} {first : Reader A} {second : Reader B} {text : A → List ℕ} {behind : B → List ℕ}
+    {one : A → List Field} {other : B → List Field} {Fits : A → Type 0} {FitsBehind : B → Type 0}
+    (of_first : IsRead first text one Fits) (of_second : IsRead second behind other FitsBehind) where
+  abbrev both_text : A × B → List ℕ
+  both_text x = text x.0 ++ behind x.1
+
+  abbrev BothFit : A × B → Type 0
+  BothFit x = Fits x.0 × FitsBehind x.1
+
+  both_joins : (x : A × B) → joined (both one other x) ≡ both_text x
+  both_joins x = joined-append (one x.0) (other x.1) ∙ rw (of_first.joins x.0, of_second.joins x.1) refl
+
+  both_ends_at : (bytes : List ℕ) (a : A) (mid : List ℕ) (b : B) (left : List ℕ) (y : A × B) (rest : List ℕ)
+      (n : ℕ) → IsBytes bytes
+      → first bytes ≡ Ok (a, mid) → second mid ≡ Ok (b, left) → BothFit y
+      → BeginsWith bytes (both one other y) n rest
+      → length (one a ++ other b) ≤ n → length (both one other y) ≤ length (one a ++ other b)
+  both_ends_at bytes a mid b left y rest n bs e d fits h le =
+      let of_found = length-append (one a) (other b) in
+      let of_other = length-append (one y.0) (other y.1) in
+      let p = past of_first other bytes a mid y n rest bs e fits.0 (omega arith) h in
+      let same : length (one y.0) ≡ length (one a) = ap (λ (v : A). length (one v)) p.0 in
+      let ended = of_second.ends mid b y.1 left rest (n - length (one a))
+      (of_first.field.takes bytes a mid bs e).0.rest_fits d fits.1 p.1 (omega arith) in
+      omega arith
+
+  both_ends : (bytes : List ℕ) (x y : A × B) (left rest : List ℕ) (n : ℕ) → IsBytes bytes
+      → (first & second) bytes ≡ Ok (x, left) → BothFit y → BeginsWith bytes (both one other y) n rest
+      → length (both one other x) ≤ n → length (both one other y) ≤ length (both one other x)
+  both_ends bytes x y left rest n bs e fits h le =
+      let a = went first bytes _ (x, left) e in
+      let b = went second a.rest _ (x, left) a.goes_on in
+      let pair : A × B = (a.value, b.value) in
+      let found : pair ≡ x = ap (λ (p : (A × B) × List ℕ). p.0) (ok_is (pair, b.rest) (x, left) b.goes_on) in
+      subst (λ (p : A × B). length (both one other p) ≤ n
+      → length (both one other y) ≤ length (both one other p)) found
+      (both_ends_at bytes a.value a.rest b.value b.rest y rest n bs a.is b.is fits h) le
+
+  -- where the first part fails
+  first_fails : (bytes : List ℕ) (stop : Stop) → first bytes ≡ Err stop → Stops one Fits bytes stop
+      → Stops (both one other) BothFit bytes stop
+  first_fails bytes stop e s = record {
+    count = s.count;
+    value = (s.value, of_second.some);
+    fits = (s.fits, of_second.some_fits);
+    rest = s.rest;
+    begins = in_front (one s.value) (other of_second.some) bytes s.rest s.count s.begins;
+    most = λ y n rest fits h. first_most of_first other bytes stop e s y n rest fits.0 h;
+    why = λ y rest fits h. first_why of_first other bytes stop e s y rest fits.0 h;
+  }
 
   -- where the part behind it does
   module _ (bytes : List ℕ) (a : A) (mid : List ℕ) (stop : Stop) (bs : IsBytes bytes)
       (e : first bytes ≡ Ok (a, mid)) (s : Stops other FitsBehind mid stop) where
-    not_short : (y : A × B) (n : ℕ) (rest : List ℕ) → Fits y.0 → n < length (one y.0) → length (one a) ≤ n
-        → BeginsWith bytes (both y) n rest → ⊥
-    not_short y n rest fits lt le h =
-        let ended = of_first.ends bytes a y.0 mid rest n bs e fits
-        (front_of (one y.0) (other y.1) bytes rest n (omega arith) h) le in
-        absurd (omega arith)
-
-    second_most : (y : A × B) (n : ℕ) (rest : List ℕ) → BothFit y → BeginsWith bytes (both y) n rest
+    second_most : (y : A × B) (n : ℕ) (rest : List ℕ) → BothFit y → BeginsWith bytes (both one other y) n rest
         → n ≤ length (one a) + s.count
     second_most y n rest fits h =
         elim (cases_lt n (length (one a))) [
           | inl short ↦ omega arith
           | inr long ↦
-              elim (cases_lt n (length (one y.0))) [
-                | inl lt ↦ absurd (not_short y n rest fits.0 lt long h)
-                | inr past ↦
-                    (let p = passed bytes a mid y n rest e fits.0 past h in
-                    let same : length (one y.0) ≡ length (one a) = ap (λ (v : A). length (one v)) p.0 in
-                    let few = s.most y.1 (n - length (one y.0)) rest fits.1 p.1 in
-                    omega arith)
-              ]
+              (let p = past of_first other bytes a mid y n rest bs e fits.0 long h in
+              let few = s.most y.1 (n - length (one a)) rest fits.1 p.1 in
+              omega arith)
         ]
 
     second_why : (y : A × B) (rest : List ℕ) → BothFit y
-        → BeginsWith bytes (both y) (length (one a) + s.count) rest
-        → StopsAt (drop (length (one a) + s.count) (both y)) rest stop
+        → BeginsWith bytes (both one other y) (length (one a) + s.count) rest
+        → StopsAt (drop (length (one a) + s.count) (both one other y)) rest stop
     second_why y rest fits h =
-        elim (cases_lt (length (one a) + s.count) (length (one y.0))) [
-          | inl lt ↦ absurd (not_short y (length (one a) + s.count) rest fits.0 lt (omega arith) h)
-          | inr past ↦
-              (let p = passed bytes a mid y (length (one a) + s.count) rest e fits.0 past h in
-              let same : length (one a) ≡ length (one y.0) = ap (λ (v : A). length (one v)) (sym p.0) in
-              let behind_is : length (one a) + s.count - length (one y.0) ≡ s.count = omega arith in
-              let here = s.why y.1 rest fits.1
-              (subst (λ (k : ℕ). BeginsWith mid (other y.1) k rest) behind_is p.1) in
-              let past_is : drop (length (one a) + s.count) (both y) ≡ drop s.count (other y.1) =
-              ap (λ (k : ℕ). drop (k + s.count) (both y)) same ∙ drop_past (one y.0) (other y.1) s.count in
-              subst (λ (fs : List Field). StopsAt fs rest stop) (sym past_is) here)
-        ]
+        let p = past of_first other bytes a mid y (length (one a) + s.count) rest bs e fits.0 (omega arith) h in
+        let behind_is : length (one a) + s.count - length (one a) ≡ s.count = omega arith in
+        let here = s.why y.1 rest fits.1
+        (subst (λ (k : ℕ). BeginsWith mid (other y.1) k rest) behind_is p.1) in
+        let past_is : drop (length (one a) + s.count) (both one other y) ≡ drop s.count (other y.1) =
+        ap (λ (v : A). drop (length (one v) + s.count) (both one other y)) (sym p.0)
+        ∙ drop_past (one y.0) (other y.1) s.count in
+        subst (λ (fs : List Field). StopsAt fs rest stop) (sym past_is) here
 
-    second_fails : Stops both BothFit bytes stop
+    second_fails : Stops (both one other) BothFit bytes stop
     second_fails = record {
       count = length (one a) + s.count;
       value = (a, s.value);
@@ -270,7 +238,7 @@ module _ {A B : Type 0} {first : Reader A} {second : Reader B} {text : A → Lis
     }
 
   both_fails : (bytes : List ℕ) (stop : Stop) → IsBytes bytes → (first & second) bytes ≡ Err stop
-      → Stops both BothFit bytes stop
+      → Stops (both one other) BothFit bytes stop
   both_fails bytes stop bs e =
       elim (failed first bytes _ stop e) [
         | inl here ↦ first_fails bytes stop here (of_first.fails bytes stop bs here)
@@ -283,7 +251,7 @@ module _ {A B : Type 0} {first : Reader A} {second : Reader B} {text : A → Lis
             ]
       ]
 
-  pub both_read : IsRead (first & second) both_text both BothFit
+  pub both_read : IsRead (first & second) both_text (both one other) BothFit
   both_read = record {
     field = both_field of_first.field of_second.field;
     joins = λ x. both_joins x;

@@ -3,7 +3,7 @@
 use Rattle.std.proofs.Common.{◌≡◌, inl, inr, ℕ, zero, suc, ◌+◌, ◌-◌, ◌<◌, ◌≤◌, Bool, true, false, cond, ltb, List, [], ◌∷◌, ◌++◌, length, take, drop, Result, Ok, Err, refl, sym, ap, subst, ◌∙◌, arith}
 use Rattle.std.specs.Prelude.{replicate}
 use Rattle.std.proofs.lemmas.Bool.{cases_lt, lt-ltb, ltb-true}
-use Rattle.std.proofs.lemmas.List.{append-nil, drop-append-le, length-append, length-drop, length-replicate, length-take, take-append-drop}
+use Rattle.std.proofs.lemmas.List.{append-nil, length-append, length-drop, length-replicate, length-take, take-append-drop}
 use Rattle.snapshot.specs.declared.fault.SnapshotFault.{SnapshotFault}
 use Rattle.snapshot.specs.declared.fault.Stop.{Stop}
 use Rattle.snapshot.specs.declared.fault.Why.TheVariants.{Short, Trailing}
@@ -11,9 +11,9 @@ use Rattle.snapshot.specs.declared.saved.SavedSlot.{SavedSlot}
 use Rattle.snapshot.specs.Faults.{Agrees, AgreesWith, BeginsWith, IsFirstFault, wrong_with}
 use Rattle.snapshot.specs.Fields.{Field, field, head_fields, joined, snapshot_fields}
 use Rattle.snapshot.specs.Reading.{◌>>=◌, head_at, pending_at, whole_at}
-use Rattle.snapshot.proofs.Agreement.{behind_it, behind_of, drop_past, front_of, in_front}
+use Rattle.snapshot.proofs.Agreement.{behind_it, drop_past, in_front}
 use Rattle.snapshot.proofs.Exact.{IsBytes}
-use Rattle.snapshot.proofs.Explained.{Stops, StopsAt, answered_or_failed, failed, failing, failing_is, front_read, read_again, same_value}
+use Rattle.snapshot.proofs.Explained.{Stops, StopsAt, failed, failing, failing_is, first_most, first_why, front_read, past}
 use Rattle.snapshot.proofs.OfSlot.{head_read, snapshot_or_stop}
 use Rattle.snapshot.proofs.Parts.{HeadFits}
 
@@ -41,59 +41,31 @@ first_fault_once bytes one other a b =
 
 -- ---- what stops the reader of a whole snapshot
 
-pub record IsStopped (bytes : List ℕ) (stop : Stop) : Type 0 where
-  pub count : ℕ
-  pub some : Agrees bytes count
-  pub most : (other : ℕ) → Agrees bytes other → other ≤ count
-  pub why : (saved : SavedSlot) (pending rest : List ℕ) → AgreesWith bytes saved pending count rest
-      → stop
-      ≡ record { why = wrong_with rest (drop count (snapshot_fields saved pending)); left = length rest }
+record IsStopped (bytes : List ℕ) (stop : Stop) : Type 0 where
+  count : ℕ
+  some : Agrees bytes count
+  most : (other : ℕ) → Agrees bytes other → other ≤ count
+  why : (saved : SavedSlot) (pending rest : List ℕ) → AgreesWith bytes saved pending count rest
+      → stop ≡ record { why = wrong_with rest (drop count (snapshot_fields saved pending)); left = length rest }
 
 abbrev fields_of : SavedSlot × ℕ → List Field
 fields_of h = head_fields h.0 h.1
 
-stopped_at : (xs ys : List Field) (rest : List ℕ) (stop : Stop) → StopsAt xs rest stop
-    → stop ≡ record { why = wrong_with rest (xs ++ ys); left = length rest }
-stopped_at [] ys rest stop h = absurd h
-stopped_at (x ∷ xs) ys rest stop h = h
+abbrev last : List ℕ → List Field
+last pending = field pending ∷ []
+
+-- what stands before the pending input, and the input
+abbrev parted : SavedSlot → List ℕ → (SavedSlot × ℕ) × List ℕ
+parted saved pending = ((saved, length pending), pending)
+
+stopped_at : (xs : List Field) (rest : List ℕ) (stop : Stop) → StopsAt xs rest stop
+    → stop ≡ record { why = wrong_with rest xs; left = length rest }
+stopped_at [] rest stop h = absurd h
+stopped_at (x ∷ xs) rest stop h = h
 
 -- before the pending input
 module _ (bytes : List ℕ) (stop : Stop) (e : head_at bytes ≡ Err stop)
     (s : Stops fields_of HeadFits bytes stop) where
-  head_unread : (saved : SavedSlot) (pending rest : List ℕ) (n : ℕ) → AgreesWith bytes saved pending n rest
-      → length (head_fields saved (length pending)) ≤ n → ⊥
-  head_unread saved pending rest n h le =
-      let head = head_fields saved (length pending) in
-      let parts = behind_of head (field pending ∷ []) bytes rest n (n - length head) (omega arith) h.begins in
-      answered_or_failed (head_at bytes) ((saved, length pending), parts.mid) stop
-      (read_again head_read bytes (saved, length pending) parts.mid (h.fits, h.few) parts.front) e
-
-  head_most : (saved : SavedSlot) (pending rest : List ℕ) (n : ℕ) → AgreesWith bytes saved pending n rest
-      → n ≤ s.count
-  head_most saved pending rest n h =
-      elim (cases_lt n (length (head_fields saved (length pending)))) [
-        | inl lt ↦ s.most (saved, length pending) n rest (h.fits, h.few)
-            (front_of (head_fields saved (length pending)) (field pending ∷ []) bytes rest n (omega arith)
-            h.begins)
-        | inr past ↦ absurd (head_unread saved pending rest n h past)
-      ]
-
-  head_why : (saved : SavedSlot) (pending rest : List ℕ) → AgreesWith bytes saved pending s.count rest
-      → stop
-      ≡ record { why = wrong_with rest (drop s.count (snapshot_fields saved pending)); left = length rest }
-  head_why saved pending rest h =
-      let head = head_fields saved (length pending) in
-      elim (cases_lt s.count (length head)) [
-        | inl lt ↦
-            (let le : s.count ≤ length head = omega arith in
-            let here = s.why (saved, length pending) rest (h.fits, h.few)
-            (front_of head (field pending ∷ []) bytes rest s.count le h.begins) in
-            stopped_at (drop s.count head) (field pending ∷ []) rest stop here
-            ∙ ap (λ (fs : List Field). record { why = wrong_with rest fs; left = length rest })
-            (sym (drop-append-le s.count head (field pending ∷ []) le)))
-        | inr past ↦ absurd (head_unread saved pending rest s.count h past)
-      ]
-
   head_some : Agrees bytes s.count
   head_some =
       let input : List ℕ = replicate s.value.1 0 in
@@ -114,8 +86,10 @@ module _ (bytes : List ℕ) (stop : Stop) (e : head_at bytes ≡ Err stop)
   head_stopped = record {
     count = s.count;
     some = head_some;
-    most = λ n h. head_most h.saved h.pending h.rest n h.agrees;
-    why = λ saved pending rest h. head_why saved pending rest h;
+    most = λ n h. first_most head_read last bytes stop e s (parted h.saved h.pending) n h.rest
+        (h.agrees.fits, h.agrees.few) h.agrees.begins;
+    why = λ saved pending rest h. stopped_at (drop s.count (snapshot_fields saved pending)) rest stop
+        (first_why head_read last bytes stop e s (parted saved pending) rest (h.fits, h.few) h.begins);
   }
 
 -- a single field that agrees, or none
@@ -126,52 +100,16 @@ field_agrees mid pending (suc zero) rest h lt =
     h.text ∙ ap (λ (t : List ℕ). t ++ rest) (append-nil pending)
 field_agrees mid pending (suc (suc n)) rest h lt = absurd (let le = h.enough in omega arith)
 
--- what stops the reader in the pending input, and behind it
-short_named : (stop : Stop) (mid rest : List ℕ) (fields : List Field) (pending : List ℕ)
-    → stop ≡ record { why = Short; left = length mid } → mid ≡ rest → fields ≡ field pending ∷ []
-    → length rest < length pending → stop ≡ record { why = wrong_with rest fields; left = length rest }
-short_named stop mid rest fields pending is mid_is fields_is lt =
-    let test : ltb (length rest) (length pending) ≡ true = lt-ltb _ _ lt in
-    rw (is, mid_is, fields_is, test) refl
-
-long_named : (stop : Stop) (left : ℕ) (rest : List ℕ) (fields : List Field)
-    → stop ≡ record { why = Trailing; left = left } → left ≡ length rest → fields ≡ []
-    → stop ≡ record { why = wrong_with rest fields; left = length rest }
-long_named stop left rest fields is left_is fields_is = rw (is, left_is, fields_is) refl
-
 -- behind what was read before the pending input
 module _ (bytes : List ℕ) (x : SavedSlot × ℕ) (mid : List ℕ) (bs : IsBytes bytes)
     (e : head_at bytes ≡ Ok (x, mid)) where
   -- a snapshot that agrees in all of it
-  record Past (saved : SavedSlot) (pending : List ℕ) (n : ℕ) (rest : List ℕ) : Type 0 where
-    same : ◌≡◌ {A = SavedSlot × ℕ} (saved, length pending) x
-    begins : BeginsWith mid (field pending ∷ []) (n - length (fields_of x)) rest
-
   past_of : (saved : SavedSlot) (pending rest : List ℕ) (n : ℕ) → AgreesWith bytes saved pending n rest
-      → length (fields_of x) ≤ n → Past saved pending n rest
+      → length (fields_of x) ≤ n
+      → ◌≡◌ {A = SavedSlot × ℕ} (saved, length pending) x
+      × BeginsWith mid (field pending ∷ []) (n - length (fields_of x)) rest
   past_of saved pending rest n h le =
-      let y : SavedSlot × ℕ = (saved, length pending) in
-      elim (cases_lt n (length (fields_of y))) [
-        | inl lt ↦
-            (let ended = head_read.ends bytes x y mid rest n bs e (h.fits, h.few)
-            (front_of (fields_of y) (field pending ∷ []) bytes rest n (omega arith) h.begins) le in
-            absurd (omega arith))
-        | inr past ↦
-            (let parts = behind_of (fields_of y) (field pending ∷ []) bytes rest n (n - length (fields_of y))
-            (omega arith) h.begins in
-            let found = same_value head_read bytes x y mid parts.mid e (h.fits, h.few) parts.front in
-            let is : y ≡ x = ap (λ (p : (SavedSlot × ℕ) × List ℕ). p.0) found in
-            let mid_is : parts.mid ≡ mid = ap (λ (p : (SavedSlot × ℕ) × List ℕ). p.1) found in
-            let counted : parts.more ≡ n - length (fields_of x) =
-            (let a = parts.counted in
-            let b = ap (λ (z : SavedSlot × ℕ). length (fields_of z)) is in omega arith) in
-            record {
-              same = is;
-              begins = subst (λ (k : ℕ). BeginsWith mid (field pending ∷ []) k rest) counted
-                  (subst (λ (m : List ℕ). BeginsWith m (field pending ∷ []) parts.more rest) mid_is
-                  parts.behind);
-            })
-      ]
+      past head_read last bytes x mid (parted saved pending) n rest bs e (h.fits, h.few) le h.begins
 
   -- the same of one that agrees in all of it and in so many fields more
   fields_left : (saved : SavedSlot) (pending : List ℕ) (k : ℕ)
@@ -198,100 +136,75 @@ module _ (bytes : List ℕ) (x : SavedSlot × ℕ) (mid : List ℕ) (bs : IsByte
             (front_read head_read bytes x mid bs e) h);
       }
 
+  -- what stops the reader where so many fields of the pending input agree, and with none more do
+  stopped_behind : (k : ℕ) (stop : Stop) (some some_rest : List ℕ) → length some ≡ x.1
+      → BeginsWith mid (field some ∷ []) k some_rest
+      → ((pending : List ℕ) (n : ℕ) (rest : List ℕ) → length pending ≡ x.1
+      → BeginsWith mid (field pending ∷ []) n rest → n ≤ k)
+      → ((pending rest : List ℕ) → length pending ≡ x.1 → BeginsWith mid (field pending ∷ []) k rest
+      → stop ≡ record { why = wrong_with rest (drop k (field pending ∷ [])); left = length rest })
+      → IsStopped bytes stop
+  stopped_behind k stop some some_rest len begins most why = record {
+    count = length (fields_of x) + k;
+    some = record {
+      saved = x.0;
+      pending = some;
+      rest = some_rest;
+      agrees = agrees_behind some k some_rest len begins;
+    };
+    most = λ n h. elim (cases_lt n (length (fields_of x))) [
+      | inl lt ↦ omega arith
+      | inr le ↦
+          (let p = past_of h.saved h.pending h.rest n h.agrees le in
+          let few = most h.pending (n - length (fields_of x)) h.rest
+          (ap (λ (y : SavedSlot × ℕ). y.1) p.0) p.1 in
+          omega arith)
+    ];
+    why = λ saved pending rest h.
+        let p = past_of saved pending rest (length (fields_of x) + k) h (omega arith) in
+        let just : length (fields_of x) + k - length (fields_of x) ≡ k = omega arith in
+        why pending rest (ap (λ (y : SavedSlot × ℕ). y.1) p.0)
+        (subst (λ (i : ℕ). BeginsWith mid (field pending ∷ []) i rest) just p.1)
+        ∙ ap (λ (fs : List Field). record { why = wrong_with rest fs; left = length rest })
+        (sym (fields_left saved pending k p.0));
+  }
+
   -- the bytes end in the pending input
-  module _ (stop : Stop) (short : length mid < x.1)
-      (is : stop ≡ record { why = Short; left = length mid }) where
-    short_most : (saved : SavedSlot) (pending rest : List ℕ) (n : ℕ) → AgreesWith bytes saved pending n rest
-        → n ≤ length (fields_of x)
-    short_most saved pending rest n h =
-        elim (cases_lt (length (fields_of x)) n) [
-          | inr le ↦ le
-          | inl lt ↦
-              (let p = past_of saved pending rest n h (omega arith) in
-              let len : length pending ≡ x.1 = ap (λ (y : SavedSlot × ℕ). y.1) p.same in
-              let text = field_agrees mid pending (n - length (fields_of x)) rest p.begins (omega arith) in
-              let all = ap (λ (t : List ℕ). length t) text in
-              absurd (omega (arith, all, len, length-append pending rest)))
-        ]
-
-    short_why : (saved : SavedSlot) (pending rest : List ℕ)
-        → AgreesWith bytes saved pending (length (fields_of x) + 0) rest
-        → stop
-        ≡ record {
-          why = wrong_with rest (drop (length (fields_of x) + 0) (snapshot_fields saved pending));
-          left = length rest;
-        }
-    short_why saved pending rest h =
-        let p = past_of saved pending rest (length (fields_of x) + 0) h (omega arith) in
-        let none : length (fields_of x) + 0 - length (fields_of x) ≡ 0 = omega arith in
-        let here = subst (λ (k : ℕ). BeginsWith mid (field pending ∷ []) k rest) none p.begins in
-        let len : length pending ≡ x.1 = ap (λ (y : SavedSlot × ℕ). y.1) p.same in
-        short_named stop mid rest (drop (length (fields_of x) + 0) (snapshot_fields saved pending))
-        pending is here.text
-        (fields_left saved pending 0 p.same)
-        (omega (arith, short, len, ap (λ (t : List ℕ). length t) here.text))
-
-    short_stopped : IsStopped bytes stop
-    short_stopped = record {
-      count = length (fields_of x) + 0;
-      some = record {
-        saved = x.0;
-        pending = replicate x.1 0;
-        rest = mid;
-        agrees = agrees_behind (replicate x.1 0) 0 mid (length-replicate x.1 0)
-            (record { enough = omega arith; text = refl });
-      };
-      most = λ n h. let le = short_most h.saved h.pending h.rest n h.agrees in omega arith;
-      why = λ saved pending rest h. short_why saved pending rest h;
-    }
+  short_stopped : (stop : Stop) → length mid < x.1 → stop ≡ record { why = Short; left = length mid }
+      → IsStopped bytes stop
+  short_stopped stop short is =
+      stopped_behind 0 stop (replicate x.1 0) mid (length-replicate x.1 0)
+      (record { enough = omega arith; text = refl })
+      (λ pending n rest len h. elim (cases_lt 0 n) [
+        | inl lt ↦ absurd (omega (
+          arith,
+          ap (λ (t : List ℕ). length t) (field_agrees mid pending n rest h lt),
+          len,
+          length-append pending rest,
+        ))
+        | inr le ↦ le
+      ])
+      (λ pending rest len h.
+      let size : length mid ≡ length rest = ap (λ (t : List ℕ). length t) h.text in
+      let test : ltb (length rest) (length pending) ≡ true = lt-ltb _ _ (omega (arith, short, len, size)) in
+      is ∙ rw (size, test) refl)
 
   -- bytes follow the pending input
-  module _ (stop : Stop) (long : x.1 < length mid)
-      (is : stop ≡ record { why = Trailing; left = length (drop x.1 mid) }) where
-    long_most : (saved : SavedSlot) (pending rest : List ℕ) (n : ℕ) → AgreesWith bytes saved pending n rest
-        → n ≤ length (fields_of x) + 1
-    long_most saved pending rest n h =
-        elim (cases_lt n (length (fields_of x))) [
-          | inl lt ↦ omega arith
-          | inr le ↦
-              (let p = past_of saved pending rest n h le in let one = p.begins.enough in omega arith)
-        ]
-
-    long_why : (saved : SavedSlot) (pending rest : List ℕ)
-        → AgreesWith bytes saved pending (length (fields_of x) + 1) rest
-        → stop
-        ≡ record {
-          why = wrong_with rest (drop (length (fields_of x) + 1) (snapshot_fields saved pending));
-          left = length rest;
-        }
-    long_why saved pending rest h =
-        let p = past_of saved pending rest (length (fields_of x) + 1) h (omega arith) in
-        let len : length pending ≡ x.1 = ap (λ (y : SavedSlot × ℕ). y.1) p.same in
-        let text = field_agrees mid pending _ rest p.begins (omega arith) in
-        let all = ap (λ (t : List ℕ). length t) text in
-        let left : length (drop x.1 mid) ≡ length rest =
-        omega (arith, all, len, length-append pending rest, length-drop x.1 mid) in
-        long_named stop (length (drop x.1 mid)) rest
-        (drop (length (fields_of x) + 1) (snapshot_fields saved pending)) is left
-        (fields_left saved pending 1 p.same)
-
-    long_stopped : IsStopped bytes stop
-    long_stopped = record {
-      count = length (fields_of x) + 1;
-      some = record {
-        saved = x.0;
-        pending = take x.1 mid;
-        rest = drop x.1 mid;
-        agrees = agrees_behind (take x.1 mid) 1 (drop x.1 mid) (omega (arith, length-take x.1 mid))
-            (record {
-              enough = omega arith;
-              text = sym (take-append-drop x.1 mid)
-                  ∙ ap (λ (t : List ℕ). t ++ drop x.1 mid) (sym (append-nil (take x.1 mid)));
-            });
-      };
-      most = λ n h. long_most h.saved h.pending h.rest n h.agrees;
-      why = λ saved pending rest h. long_why saved pending rest h;
-    }
+  long_stopped : (stop : Stop) → x.1 < length mid
+      → stop ≡ record { why = Trailing; left = length (drop x.1 mid) } → IsStopped bytes stop
+  long_stopped stop long is =
+      stopped_behind 1 stop (take x.1 mid) (drop x.1 mid) (omega (arith, length-take x.1 mid))
+      (record {
+        enough = omega arith;
+        text = sym (take-append-drop x.1 mid)
+            ∙ ap (λ (t : List ℕ). t ++ drop x.1 mid) (sym (append-nil (take x.1 mid)));
+      })
+      (λ pending n rest len h. let few = h.enough in omega arith)
+      (λ pending rest len h.
+      let all = ap (λ (t : List ℕ). length t) (field_agrees mid pending 1 rest h (omega arith)) in
+      let left : length (drop x.1 mid) ≡ length rest =
+      omega (arith, all, len, length-append pending rest, length-drop x.1 mid) in
+      is ∙ rw left refl)
 
   pending_failed : (a b : Bool) (stop : Stop) → ltb (length mid) x.1 ≡ a → ltb x.1 (length mid) ≡ b
       → cond a (Err (record { why = Short; left = length mid }))
@@ -309,7 +222,7 @@ only_failed : (saved : SavedSlot) (r : Result (List ℕ) Stop) (stop : Stop)
 only_failed saved (Ok p) stop e = absurd cc
 only_failed saved (Err d) stop e = ap Err (failing_is (SavedSlot × List ℕ) d stop e)
 
-pub whole_stopped : (bytes : List ℕ) (stop : Stop) → IsBytes bytes → whole_at bytes ≡ Err stop
+whole_stopped : (bytes : List ℕ) (stop : Stop) → IsBytes bytes → whole_at bytes ≡ Err stop
     → IsStopped bytes stop
 unfolding whole_at
 whole_stopped bytes stop bs e =

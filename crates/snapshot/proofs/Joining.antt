@@ -1,10 +1,10 @@
 -- Texts, written one behind another.
 use mir.Val.{bool_byte}
-use Rattle.std.proofs.Common.{◌≡◌, ◌∙◌, ◌+◌, Bool, true, false, List, ℕ, [], ◌++◌, append_assoc, ap, arith, drop, length, length-append, refl, sym, take}
+use Rattle.std.proofs.Common.{◌≡◌, ◌∙◌, ◌+◌, ◌≤◌, Bool, true, false, List, ℕ, [], ◌++◌, append_assoc, ap, arith, drop, length, length-append, refl, sym, take}
 use Rattle.std.proofs.lemmas.List.{drop-drop, drop_at, take_at}
 use Rattle.snapshot.specs.declared.saved.SavedSlot.{SavedSlot}
 use Rattle.snapshot.specs.Spelling as spelling
-use Rattle.snapshot.specs.Spelling.{Puts, flag, opening, slot, snapshot}
+use Rattle.snapshot.specs.Spelling.{IsSnapshot, Puts, SlotFits, flag, opening, slot, snapshot}
 use Rattle.std.specs.Int.{w32, to_le_bytes}
 
 -- one text behind another
@@ -39,6 +39,11 @@ pub snapshot_len : (s : SavedSlot) (front back head : List ℕ) (count : ℕ) �
 snapshot_len s front back head count is counted =
     let text = ap (λ (xs : List ℕ). length xs) (snapshot_of_head s front back head count is counted) in
     omega (arith, text, length-append head (front ++ back), length-append front back)
+
+pub snapshot_is : (s : SavedSlot) (front back : List ℕ) → SlotFits s → length front + length back ≤ 4096
+    → IsSnapshot (snapshot s (front ++ back)) s (front ++ back)
+snapshot_is s front back fits few =
+    record { spelled = refl; fits = fits; few = omega (arith, few, length-append front back) }
 
 -- ---- in a buffer
 

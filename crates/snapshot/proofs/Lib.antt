@@ -2,7 +2,6 @@ pub mod Agreement
 pub mod Exact
 pub mod Explained
 pub mod First
-pub mod OfWindow
 pub mod OfSlot
 pub mod Parts
 pub mod Single

@@ -10,8 +10,8 @@ use Rattle.snapshot.specs.Fields.{field, head_fields, joined, snapshot_fields}
 use Rattle.snapshot.specs.Reading.{◌>>=◌, head_at, pending_at, whole_at}
 use Rattle.snapshot.specs.Spelling.{IsSnapshot, SlotFits, magic, slot, snapshot}
 use Rattle.snapshot.proofs.Agreement.{joined-append}
-use Rattle.snapshot.proofs.Exact.{IsBytes, guarded, ok_is, wide32, wide64}
-use Rattle.snapshot.proofs.Explained.{IsRead, answered_or_failed, both_read, made_read, reread, went}
+use Rattle.snapshot.proofs.Exact.{IsBytes, guarded, ok_is, went, wide32, wide64}
+use Rattle.snapshot.proofs.Explained.{IsRead, answered_or_failed, both_read, made_read, reread}
 use Rattle.snapshot.proofs.Parts.{HeadFits, slot_read}
 use Rattle.snapshot.proofs.Single.{constant_read, count_read}
 

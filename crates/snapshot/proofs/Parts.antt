@@ -1,6 +1,6 @@
 -- The parts of a slot: what is read is spelled so, what is spelled so is read, and a reader that fails stops at
 -- the first field that no value has there.
-use Rattle.std.proofs.Common.{◌≡◌, inl, inr, ℕ, zero, suc, ◌≤◌, List, [], ◌∷◌, length, drop, Option, Some, None, Ok, Err, refl, sym, ap, subst, ◌∙◌, arith}
+use Rattle.std.proofs.Common.{◌≡◌, inl, inr, ℕ, zero, suc, ◌≤◌, List, [], ◌∷◌, ◌++◌, length, drop, Option, Some, None, Ok, Err, refl, sym, ap, subst, ◌∙◌, arith}
 use Rattle.mmio_window.specs.declared.saved.Reached.{Reached}
 use Rattle.snapshot.specs.declared.fault.Stop.{Stop}
 use Rattle.snapshot.specs.declared.fault.Why.TheVariants.{Short, Choice}
@@ -9,9 +9,8 @@ use Rattle.snapshot.specs.Faults.{BeginsWith}
 use Rattle.snapshot.specs.Fields.{field, joined, negotiation_fields, queue_fields, reached_fields, selectors_fields, served_fields, slot_fields, window_fields}
 use Rattle.snapshot.specs.Reading.{negotiation_at, queue_at, reached_at, selectors_at, served_at, slot_at, window_at}
 use Rattle.snapshot.specs.Spelling.{MayReach, NegotiationFits, QueueFits, ReachedFits, SelectorsFit, SlotFits, WindowFits, negotiation, queue, reached, selectors, served, slot, window}
-use Rattle.snapshot.proofs.Exact.{IsBytes, IsBytes-rest}
+use Rattle.snapshot.proofs.Exact.{IsBytes, IsBytes-rest, IsField, Takes, chosen, ok_is, went}
 use Rattle.snapshot.proofs.Explained.{IsRead, Stops, StopsAt, both_read, failed, failing_is, made_read, reread}
-use Rattle.snapshot.proofs.OfWindow.{reached_field}
 use Rattle.snapshot.proofs.Single.{byte_read, flag_read, identity_read, interrupts_read, read16, read32, read64, stops_short, stops_wrong}
 
 -- ---- how far a queue is served
@@ -21,6 +20,33 @@ unfolding served_at
 served_read =
     made_read (both_read read16 (both_read read16 (both_read read16 read16))) _
     (λ r. (r.place, (r.pending, (r.used_count, r.ahead)))) (λ x fits. refl) (λ r. refl)
+
+reached_takes : (bytes : List ℕ) (r : Option Reached) (rest : List ℕ) → IsBytes bytes
+    → reached_at bytes ≡ Ok (r, rest) → Takes bytes (reached r) rest × MayReach r
+unfolding reached_at
+reached_takes [] r rest fits e = absurd cc
+reached_takes (zero ∷ bytes) r rest fits e = chosen reached MayReach None r 0 bytes rest refl tt fits e
+reached_takes (suc zero ∷ bytes) r rest fits e =
+    let s = went served_at bytes _ (r, rest) e in
+    let t = served_read.field.takes bytes s.value s.rest (IsBytes-rest 1 bytes fits) s.is in
+    subst (λ (x : Option Reached × List ℕ). Takes (1 ∷ bytes) (reached x.0) x.1
+    × MayReach x.0) (ok_is (Some s.value, s.rest) (r, rest) s.goes_on) (
+      record { parts = ap (λ (bs : List ℕ). 1 ∷ bs) t.0.parts; rest_fits = t.0.rest_fits },
+      t.1,
+    )
+reached_takes (suc (suc b) ∷ bytes) r rest fits e = absurd cc
+
+reached_again : (r : Option Reached) (rest : List ℕ) → MayReach r
+    → reached_at (reached r ++ rest) ≡ Ok (r, rest)
+unfolding reached_at
+reached_again None rest fits = refl
+reached_again (Some r) rest fits = rw (served_read.field.again r rest fits) refl
+
+reached_field : IsField reached_at reached MayReach
+reached_field = record {
+  takes = λ bytes r rest fits e. reached_takes bytes r rest fits e;
+  again = λ r rest fits. reached_again r rest fits;
+}
 
 reached_joins : (r : Option Reached) → joined (reached_fields r) ≡ reached r
 reached_joins None = refl

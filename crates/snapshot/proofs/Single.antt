@@ -4,6 +4,7 @@ use Rattle.std.specs.Int.{Width, w16, w32, w64, byte_len, from_le_bytes, to_le_b
 use Rattle.std.proofs.lemmas.Bool.{eqb-true, le-leb, le-ltb, leb-true, lt-ltb, ltb-false, ltb-true}
 use Rattle.std.specs.Prelude.{nat_le}
 use Rattle.mmio_window.specs.declared.interrupts.Interrupts.{Interrupts}
+use Rattle.mmio_window.specs.Interrupts.{interrupt_bits}
 use Rattle.snapshot.specs.declared.fault.Stop.{Stop}
 use Rattle.snapshot.specs.declared.fault.Why.{Why}
 use Rattle.snapshot.specs.declared.fault.Why.TheVariants.{Short, Choice, TooMuchInput}
@@ -12,7 +13,6 @@ use Rattle.snapshot.specs.Reading.{byte_at, constant_at, count_at, flag_at, iden
 use Rattle.snapshot.specs.Spelling.{flag}
 use Rattle.snapshot.proofs.Exact.{Always, IsBytes, IsField, IsWide, Takes, byte_field, chosen, guard_ok, identity_field, number_field, tested_field, wide16, wide32, wide64}
 use Rattle.snapshot.proofs.Explained.{IsRead, StopsAt, alone_read, failed, failing_is}
-use Rattle.snapshot.proofs.OfWindow.{interrupts_field, reasons}
 
 -- ---- how a field stops a reader
 
@@ -147,6 +147,45 @@ flag_stops (suc (suc b) ∷ bytes) stop y e =
 
 pub flag_read : IsRead flag_at choice (λ b. field (choice b) ∷ []) Always
 flag_read = alone_read Choice flag_field false tt (λ bytes stop y e fits. flag_stops bytes stop y e)
+
+abbrev reasons : Interrupts → List ℕ
+reasons i = interrupt_bits i ∷ []
+
+interrupts_takes : (bytes : List ℕ) (i : Interrupts) (rest : List ℕ) → IsBytes bytes
+    → interrupts_at bytes ≡ Ok (i, rest) → Takes bytes (reasons i) rest × Always i
+unfolding interrupts_at
+interrupts_takes [] i rest fits e = absurd cc
+interrupts_takes (zero ∷ bytes) i rest fits e =
+    chosen reasons Always (record { used_buffer = false; configuration_change = false }) i 0 bytes rest
+    refl tt fits e
+interrupts_takes (suc zero ∷ bytes) i rest fits e =
+    chosen reasons Always (record { used_buffer = true; configuration_change = false }) i 1 bytes rest
+    refl tt fits e
+interrupts_takes (suc (suc zero) ∷ bytes) i rest fits e =
+    chosen reasons Always (record { used_buffer = false; configuration_change = true }) i 2 bytes rest
+    refl tt fits e
+interrupts_takes (suc (suc (suc zero)) ∷ bytes) i rest fits e =
+    chosen reasons Always (record { used_buffer = true; configuration_change = true }) i 3 bytes rest
+    refl tt fits e
+interrupts_takes (suc (suc (suc (suc b))) ∷ bytes) i rest fits e = absurd cc
+
+interrupts_again : (used_buffer configuration_change : Bool) (rest : List ℕ)
+    → interrupts_at (interrupt_bits (record {
+      used_buffer = used_buffer;
+      configuration_change = configuration_change;
+    }) ∷ rest)
+    ≡ Ok (record { used_buffer = used_buffer; configuration_change = configuration_change }, rest)
+unfolding interrupts_at
+interrupts_again false false rest = refl
+interrupts_again true false rest = refl
+interrupts_again false true rest = refl
+interrupts_again true true rest = refl
+
+interrupts_field : IsField interrupts_at reasons Always
+interrupts_field = record {
+  takes = λ bytes i rest fits e. interrupts_takes bytes i rest fits e;
+  again = λ i rest fits. interrupts_again i.used_buffer i.configuration_change rest;
+}
 
 interrupts_stops : (bytes : List ℕ) (stop : Stop) (y : Interrupts) → interrupts_at bytes ≡ Err stop
     → StopsAt (field (reasons y) ∷ []) bytes stop

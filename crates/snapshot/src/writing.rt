@@ -37,6 +37,7 @@ pub fn written_len(saved: &SavedSlot, front: &[u8], back: &[u8]) -> usize
 
 /// Writes the snapshot of a slot to the front of a buffer, and answers how many bytes it has. The others stay. It takes
 /// no memory. A buffer that is too short is refused and left as it was.
+#[tactic(auto, using(crate::proofs::Joining::snapshot_is))]
 pub fn write_into(
     saved: &SavedSlot,
     front: &[u8],

@@ -47,40 +47,32 @@ pub record Good (format : Format) (text : List ℕ) (k : ℕ) : Type 0 where
 first_is : (format : Format) (l : List ℕ) (w : Word) → Entered format l w → first_field l ≡ spelled w
 first_is format l w e = ap (λ (fs : List (List ℕ)). get_or fs 0 []) e.cut
 
-others_are : (format : Format) (l : List ℕ) (w : Word) (e : Entered format l w) → other_fields l ≡ e.fields
-others_are format l w e = ap (drop 1) e.cut
+-- what the fields of line k are by a format and a word
+abbrev pub Counted : List ℕ → ℕ → Format → Word → Type 0
+Counted text k format word = AreAsMany format word (other_fields (line_at text k))
 
-counted : (format : Format) (l : List ℕ) (v w : Word) → Entered format l v → first_field l ≡ spelled w
-    → AreAsMany format w (other_fields l)
-counted format l v w e is =
-    let same = same_word v w (sym (first_is format l v e) ∙ is) in
-    subst (λ (x : Word). AreAsMany format x (other_fields l)) same
-    (subst (AreAsMany format v) (sym (others_are format l v e)) e.count)
+abbrev pub Said : List ℕ → ℕ → FaultKind → Format → Word → Type 0
+Said text k fault format word =
+    AllSay fault (shapes format word (other_fields (line_at text k))) (other_fields (line_at text k))
 
-parsed : (format : Format) (l : List ℕ) (v w : Word) (fault : FaultKind) → Entered format l v
-    → first_field l ≡ spelled w → AllSay fault (shapes format w (other_fields l)) (other_fields l)
-parsed format l v w fault e is =
-    let same = same_word v w (sym (first_is format l v e) ∙ is) in
-    subst (λ (x : Word). AllSay fault (shapes format x (other_fields l)) (other_fields l)) same
-    (subst (λ (fs : List (List ℕ)). AllSay fault (shapes format v fs) fs)
-    (sym (others_are format l v e)) (e.say fault))
+-- what holds by the format and the word of a line holds by each that it names
+pub by_each : (format : Format) (text : List ℕ) (k : ℕ) (word : Word) (P : Format → Word → Type 0)
+    → IsOfFormat text format → first_field (line_at text k) ≡ spelled word → P format word
+    → (v : Format) → IsOfFormat text v → (w : Word) → first_field (line_at text k) ≡ spelled w → P v w
+by_each format text k word P names is h v other w first =
+    subst (λ (x : Format). P x w) (same_format format v text names other)
+    (subst (P format) (same_word word w (sym is ∙ first)) h)
 
 module _ (format : Format) (text : List ℕ) (k : ℕ) (g : Good format text k) where
-  good_parsed : (fault : FaultKind) → 2 ≤ k → (v : Format) → IsOfFormat text v → (w : Word)
-      → first_field (line_at text k) ≡ spelled w
-      → AllSay fault (shapes v w (other_fields (line_at text k))) (other_fields (line_at text k))
-  good_parsed fault le v names w is =
+  good_each : (P : Format → Word → List (List ℕ) → Type 0)
+      → ((word : Word) (e : Entered format (line_at text k) word) → P format word e.fields) → 2 ≤ k
+      → (v : Format) → IsOfFormat text v → (w : Word) → first_field (line_at text k) ≡ spelled w
+      → P v w (other_fields (line_at text k))
+  good_each P each le =
       let e = g.entry le in
-      subst (λ (x : Format). AllSay fault (shapes x w (other_fields (line_at text k)))
-      (other_fields (line_at text k))) (same_format format v text g.names names)
-      (parsed format (line_at text k) e.0 w fault e.1 is)
-
-  good_counted : 2 ≤ k → (v : Format) → IsOfFormat text v → (w : Word)
-      → first_field (line_at text k) ≡ spelled w → AreAsMany v w (other_fields (line_at text k))
-  good_counted le v names w is =
-      let e = g.entry le in
-      subst (λ (x : Format). AreAsMany x w (other_fields (line_at text k)))
-      (same_format format v text g.names names) (counted format (line_at text k) e.0 w e.1 is)
+      by_each format text k e.0 (λ (x : Format) (u : Word). P x u (other_fields (line_at text k))) g.names
+      (first_is format (line_at text k) e.0 e.1)
+      (subst (P format e.0) (sym (ap (drop 1) e.1.cut)) (each e.0 e.1))
 
   pub good_passes : (fault : FaultKind) → Passes text k fault
   good_passes kind.Cut = λ owed. g.ended
@@ -88,9 +80,12 @@ module _ (format : Format) (text : List ℕ) (k : ℕ) (g : Good format text k) 
   good_passes kind.Word = λ end le v names. subst (λ (x : Format). HasWord x k (line_at text k))
       (same_format format v text g.names names) (g.word le)
   good_passes kind.Order = λ end. g.order
-  good_passes kind.Fields = λ end. good_counted
+  good_passes kind.Fields = λ end.
+      good_each (λ (x : Format) (u : Word) (fs : List (List ℕ)). AreAsMany x u fs) (λ word e. e.count)
   good_passes kind.NoMemory = tt
-  good_passes fault = λ end. good_parsed fault
+  good_passes fault = λ end.
+      good_each (λ (x : Format) (u : Word) (fs : List (List ℕ)). AllSay fault (shapes x u fs) fs)
+      (λ word e. e.say fault)
 
 abbrev pub IsSlotLine : Format → List ℕ → Type 0
 IsSlotLine format l = Entered format l Slot

@@ -41,7 +41,7 @@ unfolding fields_of
 some_fields line = omega (arith, length-slice_split is_space line)
 
 -- what a search for a byte found
-none_of : (b : ℕ) (xs : List ℕ) (i : ℕ) → Nowhere (Passes (is_one b) xs) 0 i → (k : ℕ) → k < i
+pub none_of : (b : ℕ) (xs : List ℕ) (i : ℕ) → Nowhere (Passes (is_one b) xs) 0 i → (k : ℕ) → k < i
     → get_or xs k 0 ≡ b → ⊥
 none_of b xs i none k lt e = none k (omega arith) lt (eq-eqb (get_or xs k 0) b e)
 

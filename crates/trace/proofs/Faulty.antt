@@ -1,16 +1,15 @@
 -- From what one line is refused for to the fault of the text.
-use Rattle.std.proofs.Common.{◌≡◌, ◌≢◌, ℕ, ◌+◌, ◌<◌, ◌≤◌, List, sym, subst, ◌∙◌, arith, inl, inr}
+use Rattle.std.proofs.Common.{◌≡◌, ◌≢◌, ℕ, ◌+◌, ◌<◌, ◌≤◌, List, sym, subst, arith, inl, inr}
 use Rattle.std.proofs.lemmas.Bool.{cases_eq}
 use Rattle.trace.specs.declared.fault.FaultKind.{FaultKind}
 use Rattle.trace.specs.declared.fault.FaultKind.TheVariants as kind
 use Rattle.trace.specs.declared.format.Format.{Format}
 use Rattle.trace.specs.declared.word.Word.{Word}
 use Rattle.trace.specs.declared.word.Word.TheVariants.{Slot}
-use Rattle.trace.specs.Faults.{AllSay, AreAsMany, MayStand, IsCleanBefore, IsEnded, IsFault, IsOfFormat, IsOwed, Passes, first_field, line_at, order, other_fields}
+use Rattle.trace.specs.Faults.{MayStand, IsCleanBefore, IsEnded, IsFault, IsOfFormat, IsOwed, Passes, first_field, line_at, order, other_fields}
 use Rattle.trace.specs.Refusals.{RefusesFields}
-use Rattle.trace.specs.Words.{IsWordOf, spelled, shapes}
-use Rattle.trace.proofs.Clean.{same_format}
-use Rattle.trace.proofs.Entries.{same_word}
+use Rattle.trace.specs.Words.{IsWordOf, spelled}
+use Rattle.trace.proofs.Clean.{Counted, Said, by_each, same_format}
 use Rattle.trace.proofs.FaultKinds.{same_kind}
 
 -- line k passes the checks before the n-th
@@ -85,34 +84,20 @@ module _ (text : List ℕ) (k : ℕ) (late : 2 ≤ k) (clean : IsCleanBefore tex
           first = is;
         }
 
-    fields_pass : AreAsMany format w (other_fields (line_at text k)) → Passes text k kind.Fields
-    fields_pass same = λ _ _ u other v first.
-        subst (λ (x : Format). AreAsMany x v (other_fields (line_at text k)))
-        (same_format format u text names other)
-        (subst (λ (x : Word). AreAsMany format x (other_fields (line_at text k)))
-        (same_word w v (sym is ∙ first)) same)
-
-    say_pass : (fault : FaultKind)
-        → AllSay fault (shapes format w (other_fields (line_at text k))) (other_fields (line_at text k))
-        → (u : Format) → IsOfFormat text u → (v : Word) → first_field (line_at text k) ≡ spelled v
-        → AllSay fault (shapes u v (other_fields (line_at text k))) (other_fields (line_at text k))
-    say_pass fault all u other v first =
-        subst (λ (x : Format). AllSay fault (shapes x v (other_fields (line_at text k)))
-        (other_fields (line_at text k))) (same_format format u text names other)
-        (subst (λ (x : Word). AllSay fault (shapes format x (other_fields (line_at text k)))
-        (other_fields (line_at text k))) (same_word w v (sym is ∙ first)) all)
+    say_pass : (fault : FaultKind) → Said text k fault format w → (u : Format) → IsOfFormat text u → (v : Word)
+        → first_field (line_at text k) ≡ spelled v → Said text k fault u v
+    say_pass fault all = by_each format text k w (Said text k fault) names is all
 
     before_fields : PassesBefore text k 5
     before_fields =
         then_passes text k kind.Order ordered (then_passes text k kind.Word word_passes before_word)
 
-    before_number : AreAsMany format w (other_fields (line_at text k)) → PassesBefore text k 6
-    before_number same = then_passes text k kind.Fields (fields_pass same) before_fields
+    before_number : Counted text k format w → PassesBefore text k 6
+    before_number same =
+        then_passes text k kind.Fields (λ _ _. by_each format text k w (Counted text k) names is same)
+        before_fields
 
-    before_choice : AreAsMany format w (other_fields (line_at text k))
-        → AllSay kind.Number (shapes format w (other_fields (line_at text k)))
-        (other_fields (line_at text k))
-        → PassesBefore text k 7
+    before_choice : Counted text k format w → Said text k kind.Number format w → PassesBefore text k 7
     before_choice same numbers =
         then_passes text k kind.Number (λ _ _. say_pass kind.Number numbers) (before_number same)
 

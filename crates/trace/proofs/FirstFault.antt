@@ -1,10 +1,10 @@
 -- The first field at fault, found by leaving one field after another.
-use Rattle.std.proofs.Common.{◌≡◌, ◌≢◌, ◌==◌, ◌↔◌, ◌<◌, ◌-◌, ℕ, suc, Bool, true, false, not, IsTrue, MatchBool, List, [], ◌∷◌, ◌++◌, length, take, drop, map, slice_index_or, Option, None, Some, IfSome, refl, sym, ap, subst, ◌∙◌, arith, length-drop}
+use Rattle.std.proofs.Common.{◌≡◌, ◌≢◌, ◌==◌, ◌↔◌, ◌<◌, ◌-◌, ℕ, suc, Bool, true, false, not, IsTrue, MatchBool, List, [], ◌∷◌, ◌++◌, length, drop, map, slice_index_or, Option, None, Some, IfSome, refl, sym, ap, subst, ◌∙◌, arith}
 use Rattle.std.specs.Borrow.{Bor}
 use Rattle.std.specs.Prelude.{⊤}
 use Rattle.std.specs.Option.{is_some}
 use Rattle.std.proofs.lemmas.Bool.{eq-eqb, ne_eqb}
-use Rattle.std.proofs.lemmas.List.{length-map, take_all}
+use Rattle.std.proofs.lemmas.List.{length-map}
 use Rattle.trace.specs.declared.fault.FaultKind.{FaultKind}
 use Rattle.trace.specs.declared.fault.FaultKind.TheVariants as kind
 use Rattle.trace.specs.Refusals.{RefusesFields}
@@ -50,10 +50,6 @@ at_fault_later kind first shape shapes field bytes fields passes is = record {
   of_kind = is.of_kind;
   fails = is.fails;
 }
-
--- a row but for its first, as the code takes it
-pub others_are : (row : List Field) → take (length row - 1) (drop 1 row) ≡ drop 1 row
-others_are row = take_all (length row - 1) (drop 1 row) (omega (arith, length-drop 1 row))
 
 -- the first passes: it has a fault of another kind, or says a value
 pub other_passes : (kind : FaultKind) (shape : Shape) (field : List ℕ) → fault_of shape ≢ kind

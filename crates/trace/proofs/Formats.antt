@@ -1,10 +1,10 @@
 -- What the formats of a trace have in common.
-use Rattle.std.proofs.Common.{◌≡◌, ◌≢◌, ℕ, ◌≤◌, List, get_or, map, refl, arith}
+use Rattle.std.proofs.Common.{◌≡◌, ℕ, ◌≤◌, List, get_or, map, refl, arith}
 use Rattle.board.specs.declared.spec.SlotSpec.{SlotSpec}
 use Rattle.board.specs.declared.spec.Backing.{Backing}
-use Rattle.board.specs.declared.spec.Backing.TheVariants.{Image}
 use Rattle.trace.specs.declared.format.Format.{Format}
 use Rattle.trace.specs.declared.format.Format.TheVariants.{Plain, Extended}
+use Rattle.trace.specs.declared.format.Version.{Version}
 use Rattle.trace.specs.declared.format.Version.TheVariants.{One, Two}
 use Rattle.trace.specs.declared.word.Word.{Word}
 use Rattle.trace.specs.declared.word.Word.TheVariants.{Restore, Complete, Drop, Hold, Release}
@@ -55,30 +55,28 @@ word_goes old new Hold goes h = goes_extended old new goes h
 word_goes old new Release goes h = goes_extended old new goes h
 word_goes old new word goes h = tt
 
+-- what holds in the extended format and, if in one plain format, in each goes along
+goes_by : (P : Format → Type 0) (old new : Format) → GoesInto old new → (P old → P Extended)
+    → ((v w : Version) → P (Plain v) → P (Plain w)) → P old → P new
+goes_by P (Plain v) (Plain w) goes wide same h = same v w h
+goes_by P (Plain v) Extended goes wide same h = wide h
+goes_by P Extended (Plain One) goes wide same h = absurd cc
+goes_by P Extended (Plain Two) goes wide same h = absurd (goes refl)
+goes_by P Extended Extended goes wide same h = h
+
 some_regions : (format : Format) (count : ℕ) → IsPrintableMemory format count → 1 ≤ count
 some_regions (Plain version) count h = omega (arith, h)
 some_regions Extended count h = h
 
-one_region : (format : Format) (count : ℕ) → format ≢ Extended → IsPrintableMemory format count → count ≡ 1
-one_region (Plain version) count plain h = h
-one_region Extended count plain h = absurd (plain refl)
-
 memory_goes : (old new : Format) (count : ℕ) → GoesInto old new → IsPrintableMemory old count
     → IsPrintableMemory new count
-memory_goes old (Plain One) count goes h = one_region old count (λ is. absurd cc) h
-memory_goes old (Plain Two) count goes h = one_region old count goes h
-memory_goes old Extended count goes h = some_regions old count h
-
-on_image : (format : Format) (backing : Backing) → format ≢ Extended → IsPrintableDisk format backing
-    → backing ≡ Image
-on_image (Plain version) backing plain h = h
-on_image Extended backing plain h = absurd (plain refl)
+memory_goes old new count goes h =
+    goes_by (λ (f : Format). IsPrintableMemory f count) old new goes (some_regions old count) (λ v w one. one) h
 
 disk_goes : (old new : Format) (backing : Backing) → GoesInto old new → IsPrintableDisk old backing
     → IsPrintableDisk new backing
-disk_goes old (Plain One) backing goes h = on_image old backing (λ is. absurd cc) h
-disk_goes old (Plain Two) backing goes h = on_image old backing goes h
-disk_goes old Extended backing goes h = tt
+disk_goes old new backing goes h =
+    goes_by (λ (f : Format). IsPrintableDisk f backing) old new goes (λ _. tt) (λ v w image. image) h
 
 slot_goes : (old new : Format) (s : SlotSpec) → GoesInto old new → IsPrintableSlot old s
     → IsPrintableSlot new s

@@ -59,14 +59,20 @@ module _ (format : Format) (text rest : List ℕ)
   at_two : line_at text 2 ≡ get_or (lines_of rest) 0 []
   at_two = ap (λ (ls : List (List ℕ)). get_or ls 1 []) headed
 
+  second : (line after : List ℕ) → lines_of rest ≡ line ∷ lines_of after
+      → (line_at text 2 ≡ line) × IsEnded text 2
+  second line after cut = (
+    at_two ∙ ap (λ (ls : List (List ℕ)). get_or ls 0 []) cut,
+    omega (arith, ap length headed, ap length cut, some_lines after),
+  )
+
   fields_of_second : (fault : FaultKind) → RefusesCache format rest fault → fault ≢ kind.NoMemory
       → IsFault text 2 fault
   fields_of_second fault h known =
-      let here : line_at text 2 ≡ h.line = at_two ∙ ap (λ (ls : List (List ℕ)). get_or ls 0 []) h.cut in
-      let end : IsEnded text 2 = omega (arith, ap length headed, ap length h.cut, some_lines h.rest) in
-      fields_fault text 2 (omega arith) head_clean end format names_it Cache refl tt
-      (ap first_field here ∙ h.first) (λ _ _ j low high. absurd (omega arith)) fault
-      (subst (λ (l : List ℕ). RefusesFields format Cache (other_fields l) fault) (sym here) h.refused) known
+      let here = second h.line h.rest h.cut in
+      fields_fault text 2 (omega arith) head_clean here.1 format names_it Cache refl tt
+      (ap first_field here.0 ∙ h.first) (λ _ _ j low high. absurd (omega arith)) fault
+      (subst (λ (l : List ℕ). RefusesFields format Cache (other_fields l) fault) (sym here.0) h.refused) known
 
   pub second_fault : (fault : FaultKind) → RefusesSecond format rest fault → fault ≢ kind.NoMemory
       → IsFault text 2 fault
@@ -74,8 +80,7 @@ module _ (format : Format) (text rest : List ℕ)
       cut_fault text 2 (omega arith) head_clean (inl (omega arith))
       (λ end. omega (arith, ap length headed, ap length h))
   second_fault kind.Word h known =
-      let here : line_at text 2 ≡ h.line = at_two ∙ ap (λ (ls : List (List ℕ)). get_or ls 0 []) h.cut in
-      let end : IsEnded text 2 = omega (arith, ap length headed, ap length h.cut, some_lines h.rest) in
-      word_fault text 2 (omega arith) head_clean end format names_it
-      (λ w may of is. h.other (sym (ap first_field here) ∙ is ∙ ap spelled (only_cache w may)))
+      let here = second h.line h.rest h.cut in
+      word_fault text 2 (omega arith) head_clean here.1 format names_it
+      (λ w may of is. h.other (sym (ap first_field here.0) ∙ is ∙ ap spelled (only_cache w may)))
   second_fault fault h known = fields_of_second fault h known

@@ -14,10 +14,7 @@ passes_more a b c w x v y u p q = record {
   took = Appends-trans a b c p.gone q.gone p.took q.took;
   rest =
       sym (append_assoc w x y)
-      ∙ ap (λ (t : List ℕ). t ++ y) p.rest
-      ∙ append_assoc p.gone v y
-      ∙ ap (λ (t : List ℕ). p.gone ++ t) q.rest
-      ∙ sym (append_assoc p.gone q.gone u);
+      ∙ rw (p.rest, append_assoc p.gone v y, q.rest) (sym (append_assoc p.gone q.gone u));
 }
 
 breaks_longer : (a b c : Option (List ℕ)) (w x y : List ℕ) → Breaks a b (w ++ x) → Keeps b c

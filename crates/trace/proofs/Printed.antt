@@ -1,6 +1,7 @@
 -- Fields written one after another, and lines.
 use Rattle.std.proofs.Common.{◌≡◌, ℕ, ◌+◌, ◌<◌, List, [], ◌∷◌, ◌++◌, length, get_or, map, take, refl, sym, ap, ◌∙◌}
 use Rattle.std.proofs.lemmas.List.{append-nil, append_assoc, map_more}
+use Rattle.std.proofs.lemmas.List.Concat.{flat_map-append}
 use Rattle.trace.specs.declared.format.Format.{Format}
 use Rattle.trace.specs.Text.{Content, cache_line, ended, event_line, front_text, header, joined, line, slot_line, text, trace_lines}
 use Rattle.trace.proofs.Signs.{joined_push}
@@ -54,9 +55,7 @@ lines_more f front old new xs i x lt is sofar more =
 
 pub joined_append : (xs ys : List (List ℕ)) → joined (xs ++ ys) ≡ joined xs ++ joined ys
 unfolding joined
-joined_append [] ys = refl
-joined_append (x ∷ xs) ys = ap (λ (t : List ℕ). ended x ++ t) (joined_append xs ys)
-    ∙ sym (append_assoc (ended x) (joined xs) (joined ys))
+joined_append xs ys = flat_map-append ended xs ys
 
 front_is : (format : Format) (cache : ℕ) → joined (header format ∷ cache_line cache ∷ [])
     ≡ front_text format cache

@@ -1,8 +1,9 @@
 -- The line of a record, put field after field.
-use Rattle.std.proofs.Common.{◌≡◌, ℕ, ◌/◌, ◌%◌, ◌<◌, ◌≤◌, List, [], ◌∷◌, ◌++◌, Option, codes, get_or, slice_set, length, ◌+◌, ◌-◌, zero, suc, take, drop, refl, sym, ap, ◌∙◌, append_assoc, take-append-drop, arith}
+use Rattle.std.proofs.Common.{◌≡◌, ℕ, ◌/◌, ◌%◌, ◌<◌, ◌≤◌, List, [], ◌∷◌, ◌++◌, Option, codes, get_or, slice_set, length, ◌+◌, ◌-◌, take, drop, refl, sym, ap, ◌∙◌, append_assoc, arith}
 use Rattle.hex.specs.Hex.{encode_lower}
 use Rattle.std.specs.List.{flat_map}
-use Rattle.std.proofs.lemmas.List.{append-nil, take_all}
+use Rattle.std.proofs.lemmas.List.{append-nil, take_all, take_more}
+use Rattle.std.proofs.lemmas.List.Concat.{flat_map-append}
 use Rattle.chain.specs.declared.segment.Segment.{Segment}
 use Rattle.board.specs.declared.reply.Record.{Record}
 use Rattle.board.specs.declared.reply.Reply.{Reply}
@@ -11,27 +12,13 @@ use Rattle.trace.specs.Records.{entry_of, quiet_line, record_fields, record_line
 use Rattle.trace.specs.Sends.{Sends}
 use Rattle.hexadecimal.specs.Spelling.{bytes, digit, fixed, num}
 use Rattle.trace.specs.Text.{line, ended}
-use Rattle.hexadecimal.proofs.ByteFields.{all_written, encode_append}
+use Rattle.hexadecimal.proofs.ByteFields.{all_written, one_block}
 use Rattle.hexadecimal.proofs.Numbers.{num_digit, num_split}
+use Rattle.trace.proofs.Fronts.{one_digit}
 use Rattle.trace.proofs.Passing.{sends_more, sends_same}
 use Rattle.trace.proofs.Printed.{line_push}
 
--- a slot's number by one digit, or by two
-pub slot_one : (n d : ℕ) → n < 16 → d ≡ digit n → d ∷ 32 ∷ [] ≡ num n ++ 32 ∷ []
-slot_one n d lt is = rw (is, num_digit n lt) refl
-
-pub slot_two : (n d e : ℕ) → 16 ≤ n → n < 256 → d ≡ digit (n / 16) → e ≡ digit (n % 16)
-    → d ∷ e ∷ 32 ∷ [] ≡ num n ++ 32 ∷ []
-slot_two n d e le lt p q =
-    let small : n / 16 < 16 = omega arith in
-    rw (p, q, num_split n le, num_digit (n / 16) small) refl
-
--- what begins with a slot's number, by one digit or by two
-pub one_digit : (n d : ℕ) (rest : List ℕ) → n < 16 → d ≡ digit (n % 16) → d ∷ rest ≡ num n ++ rest
-one_digit n d rest lt is =
-    let small : n % 16 ≡ n = omega arith in
-    rw (is, small, num_digit n lt) refl
-
+-- what begins with a number of two digits
 pub two_digits : (n d e : ℕ) (rest : List ℕ) → 16 ≤ n → n < 256 → d ≡ digit (n / 16) → e ≡ digit (n % 16)
     → d ∷ e ∷ rest ≡ num n ++ rest
 two_digits n d e rest le lt p q =
@@ -45,7 +32,9 @@ numbered_one n [] lt is = absurd cc
 numbered_one n (x ∷ []) lt is = absurd cc
 numbered_one n (x ∷ y ∷ xs) lt is =
     let last : y ≡ digit (n % 16) = cc in
-    take_all (length (x ∷ y ∷ xs) - 1) (y ∷ xs) (omega arith) ∙ one_digit n y xs lt last
+    let small : n % 16 ≡ n = omega arith in
+    take_all (length (x ∷ y ∷ xs) - 1) (y ∷ xs) (omega arith)
+    ∙ one_digit n y xs lt (sym (last ∙ ap digit small))
 
 pub numbered_two : (n : ℕ) (xs : List ℕ) → 16 ≤ n → n < 256 → take 2 xs ≡ digit (n / 16) ∷ digit (n % 16) ∷ []
     → xs ≡ num n ++ drop 2 xs
@@ -114,11 +103,7 @@ pub put_more : (a b c s t u : Option (List ℕ)) (bytes rest : List ℕ) (n : �
 put_more a b c s t u bytes rest n p q = record {
   done = p.done ++ encode_lower (take n rest);
   sent = sends_more a b c s t u p.done (encode_lower (take n rest)) p.sent q;
-  whole =
-      append_assoc p.done (encode_lower (take n rest)) (encode_lower (drop n rest))
-      ∙ ap (λ (x : List ℕ). p.done ++ x) (sym (encode_append (take n rest) (drop n rest))
-      ∙ ap encode_lower (take-append-drop n rest))
-      ∙ p.whole;
+  whole = one_block (p.done ++ encode_lower (take n rest)) p.done (encode_lower bytes) rest n p.whole refl;
 }
 
 -- none is left
@@ -160,13 +145,10 @@ asked_is entry asked =
 pub others_more : (runs : List Segment) (i : ℕ) (d : Segment) → i < length runs
     → flat_map other_run (take i runs)
     ++ (44 ∷ run_field (get_or runs i d)) ≡ flat_map other_run (take (i + 1) runs)
-others_more [] i d lt = absurd (omega arith)
-others_more (run ∷ runs) zero d lt = sym (append-nil (other_run run))
-others_more (run ∷ runs) (suc i) d lt =
-    let next : suc (i + 1) ≡ suc i + 1 = omega arith in
-    append_assoc (other_run run) (flat_map other_run (take i runs)) (44 ∷ run_field (get_or runs i d))
-    ∙ ap (λ (t : List ℕ). other_run run ++ t) (others_more runs i d (omega arith))
-    ∙ ap (λ (n : ℕ). flat_map other_run (take n (run ∷ runs))) next
+others_more runs i d lt =
+    let more = get_or runs i d in
+    sym (ap (flat_map other_run) (take_more runs i d lt) ∙ flat_map-append other_run (take i runs) (more ∷ [])
+    ∙ ap (λ (t : List ℕ). flat_map other_run (take i runs) ++ t) (append-nil (other_run more)))
 
 -- runs by the first and the others
 pub runs_are : (runs others : List Segment) (d : Segment) → 0 < length runs

@@ -1,11 +1,10 @@
 -- The field that spells the regions of a memory: its parts are those of the regions, each of two numbers.
-use Rattle.std.proofs.Common.{◌≡◌, ℕ, ◌<◌, ◌≤◌, false, List, [], ◌∷◌, ◌++◌, All, Option, None, Some, IfSome, length, get_or, drop, map, refl, sym, ap, subst, ◌∙◌, arith}
+use Rattle.std.proofs.Common.{◌≡◌, ℕ, ◌<◌, ◌≤◌, List, [], ◌∷◌, ◌++◌, All, Option, None, Some, IfSome, length, get_or, drop, map, refl, sym, ap, subst, ◌∙◌, arith}
 use Rattle.std.specs.Prelude.{OnSome}
 use Rattle.std.specs.List.{AllByRecursion, join_with_byte}
-use Rattle.std.proofs.lemmas.Bool.{eq-eqb, ne_eqb}
-use Rattle.std.proofs.lemmas.List.{append-nil, get_or-map, length-append, length-map}
-use Rattle.std.proofs.lemmas.List.Elements.{All-from_recursion}
-use Rattle.std.proofs.lemmas.List.Splits.{join_with_byte-slice_split, length-slice_split, slice_split_at, slice_split_none}
+use Rattle.std.proofs.lemmas.Bool.{ne_eqb}
+use Rattle.std.proofs.lemmas.List.{append-nil, get_or-map, get_or_at, length-append, length-map}
+use Rattle.std.proofs.lemmas.List.Splits.{join_with_byte-slice_split, length-slice_split}
 use Rattle.hexadecimal.specs.Fields.{IsNum, SpellsNumber}
 use Rattle.hexadecimal.specs.Spelling.{num}
 use Rattle.hexadecimal.proofs.Digits.{digit_above}
@@ -15,12 +14,9 @@ use Rattle.trace.specs.Cuts.{parts, parts_left}
 use Rattle.trace.specs.Spelling.{region_text, regions_text}
 use Rattle.trace.specs.Words.{IsRegionField, IsRegionsField, RegionInRange, Regions, Says}
 use Rattle.trace.proofs.Cutting.{is_byte}
+use Rattle.trace.proofs.Signs.{Free, split_join}
 
 -- ---- parts
-
--- none of the bytes is this sign
-abbrev Free : ℕ → List ℕ → Type 0
-Free sign = AllByRecursion (λ c. is_byte sign c ≡ false)
 
 free_append : (sign : ℕ) (xs ys : List ℕ) → Free sign xs → Free sign ys → Free sign (xs ++ ys)
 free_append sign [] ys hx hy = hy
@@ -40,12 +36,7 @@ free_num sign n low = free_digits sign (num n) low (are_digits_num n)
 parts_joined : (sign : ℕ) (f : List ℕ) (fs : List (List ℕ)) → AllByRecursion (Free sign) (f ∷ fs)
     → parts sign (join_with_byte sign (f ∷ fs)) ≡ f ∷ fs
 unfolding parts
-parts_joined sign f [] h =
-    slice_split_none (is_byte sign) f (All-from_recursion (λ c. is_byte sign c ≡ false) f h.0)
-parts_joined sign f (g ∷ fs) h =
-    slice_split_at (is_byte sign) f sign (join_with_byte sign (g ∷ fs))
-    (All-from_recursion (λ c. is_byte sign c ≡ false) f h.0) (eq-eqb sign sign refl)
-    ∙ ap (λ (xs : List (List ℕ)). f ∷ xs) (parts_joined sign g fs h.1)
+parts_joined sign f fs h = split_join sign f fs h
 
 joined_parts : (sign : ℕ) (bs : List ℕ) → join_with_byte sign (parts sign bs) ≡ bs
 unfolding parts
@@ -130,10 +121,6 @@ pub regions_parts : (regions : List RegionSpec) → 1 ≤ length regions
 regions_parts [] some = absurd (omega (arith, some))
 regions_parts (r ∷ rs) some = parts_joined 44 (region_text r) (map region_text rs) (free_regions (r ∷ rs))
 
-here_of : (xs : List (List ℕ)) (x : List ℕ) (ys : List (List ℕ)) → get_or (xs ++ x ∷ ys) (length xs) [] ≡ x
-here_of [] x ys = refl
-here_of (y ∷ xs) x ys = here_of xs x ys
-
 no_region : RegionSpec
 no_region = record { base = 0; len = 0 }
 
@@ -183,9 +170,7 @@ module _ (field : List ℕ) (items : List RegionSpec) (rest : Option (List ℕ))
         length-map items region_text,
       ) in
       let here : part ≡ region_text (get_or regions (length items) no_region) =
-      sym (here_of (map region_text items) part others)
-      ∙ ap (λ (n : ℕ). get_or (map region_text items ++ part ∷ others) n [])
-      (length-map items region_text)
+      sym (get_or_at (map region_text items) part others [] (length items) (length-map items region_text))
       ∙ ap (λ (xs : List (List ℕ)). get_or xs (length items) []) (sym parts_are)
       ∙ get_or-map region_text regions (length items) no_region [] below in
       none (get_or regions (length items) no_region)

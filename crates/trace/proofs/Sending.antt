@@ -2,14 +2,10 @@
 use Rattle.std.proofs.Common.{◌≡◌, ℕ, ◌+◌, ◌-◌, ◌≤◌, List, ◌++◌, length, take, drop, Option, subst, sym, ap, ◌∙◌, arith, inl, inr, length-drop}
 use Rattle.std.proofs.KnownBytes.{Appends-trans}
 use Rattle.std.proofs.Math.Seq.{take-add, take-append-add}
-use Rattle.std.proofs.lemmas.List.{take-append-le, take_all}
+use Rattle.std.proofs.lemmas.List.{take-append-le, take_all, take_rest}
 use Rattle.std.proofs.lemmas.Bool.{cases_lt}
 use Rattle.std.specs.Io.KnownBytes.{Appends}
 use Rattle.trace.specs.Sends.{AppendsFront}
-
--- what is left of the bytes, as the code takes it
-rest_is : (bytes : List ℕ) (sent : ℕ) → take (length bytes - sent) (drop sent bytes) ≡ drop sent bytes
-rest_is bytes sent = take_all (length bytes - sent) (drop sent bytes) (omega (arith, length-drop sent bytes))
 
 -- n bytes more went out
 pub sent_more : (old mid new : Option (List ℕ)) (bytes : List ℕ) (sent n total : ℕ) → total ≡ sent + n
@@ -19,7 +15,7 @@ pub sent_more : (old mid new : Option (List ℕ)) (bytes : List ℕ) (sent n tot
 sent_more old mid new bytes sent n total sum front next =
     let joined : take total bytes ≡ take sent bytes ++ take n (take (length bytes - sent) (drop sent bytes)) =
     ap (λ k. take k bytes) sum ∙ take-add sent n bytes
-    ∙ ap (λ (rest : List ℕ). take sent bytes ++ take n rest) (sym (rest_is bytes sent)) in
+    ∙ ap (λ (rest : List ℕ). take sent bytes ++ take n rest) (sym (take_rest bytes sent)) in
     subst (Appends old new) (sym joined)
     (Appends-trans old mid new (take sent bytes)
     (take n (take (length bytes - sent) (drop sent bytes))) front next)
@@ -27,7 +23,7 @@ sent_more old mid new bytes sent n total sum front next =
 pub sent_within : (bytes : List ℕ) (sent n total : ℕ) → total ≡ sent + n → sent ≤ length bytes
     → n ≤ length (take (length bytes - sent) (drop sent bytes)) → total ≤ length bytes
 sent_within bytes sent n total sum within some =
-    omega (arith, length-drop sent bytes, ap length (rest_is bytes sent))
+    omega (arith, length-drop sent bytes, ap length (take_rest bytes sent))
 
 -- a front of the first part is one of the whole
 pub front_of_first : (old new : Option (List ℕ)) (one two : List ℕ) → AppendsFront old new one

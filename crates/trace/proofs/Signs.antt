@@ -2,15 +2,16 @@
 -- line its fields.
 use Rattle.std.proofs.Common.{◌≡◌, ℕ, ◌<◌, ◌≤◌, ltb, Bool, true, false, List, [], ◌∷◌, ◌++◌, All, length, refl, sym, ap, ◌∙◌, arith}
 use Rattle.std.specs.List.{AllByRecursion, slice_split, join_with_byte, flat_map, list_all}
-use Rattle.std.proofs.lemmas.Bool.{ltb-true, ne_eqb, and_parts}
+use Rattle.std.proofs.lemmas.Bool.{and_parts, eq-eqb, ltb-true, ne_eqb}
 use Rattle.std.proofs.lemmas.List.{append_assoc, append-nil}
+use Rattle.std.proofs.lemmas.List.Concat.{flat_map-append}
 use Rattle.std.proofs.lemmas.List.Elements.{All-from_recursion, recursion_from_All}
 use Rattle.hex.specs.Hex.{encode_lower}
 use Rattle.std.proofs.lemmas.List.Splits.{slice_split_at, slice_split_none, join_with_byte-slice_split}
 use Rattle.trace.specs.declared.format.Format.{Format}
 use Rattle.trace.specs.declared.format.Format.TheVariants.{Plain, Extended}
 use Rattle.trace.specs.declared.format.Version.TheVariants.{One, Two}
-use Rattle.trace.specs.Cuts.{fields_of, lines_of, is_space, is_line_feed}
+use Rattle.trace.specs.Cuts.{fields_of, lines_of, is_line_feed}
 use Rattle.hexadecimal.specs.Fields.{IsDigit}
 use Rattle.hexadecimal.specs.Spelling.{num, fixed, bytes}
 use Rattle.trace.specs.Text.{line, joined, ended, header}
@@ -51,7 +52,11 @@ above_num n = above_digits (num n) (are_digits_num n)
 pub above_fixed : (k n : ℕ) → Above 32 (fixed k n)
 above_fixed k n = above_digits (fixed k n) (are_digits_fixed k n)
 
-differs : (b : ℕ) (xs : List ℕ) → Above b xs → AllByRecursion (λ c. is_byte b c ≡ false) xs
+-- none of the bytes is this sign
+abbrev pub Free : ℕ → List ℕ → Type 0
+Free sign = AllByRecursion (λ c. is_byte sign c ≡ false)
+
+differs : (b : ℕ) (xs : List ℕ) → Above b xs → Free b xs
 differs b [] h = tt
 differs b (x ∷ xs) h = let first = h.0 in (ne_eqb x b (λ e. omega arith), differs b xs h.1)
 
@@ -71,17 +76,25 @@ bytes_digits (b ∷ bs) h =
 abbrev pub AllAbove : ℕ → List (List ℕ) → Type 0
 AllAbove b = AllByRecursion (Above b)
 
-split_join : (f : List ℕ) (fs : List (List ℕ)) → AllAbove 32 (f ∷ fs)
-    → slice_split is_space (join_with_byte 32 (f ∷ fs)) ≡ f ∷ fs
-split_join f [] h = slice_split_none is_space f (without 32 f h.0)
-split_join f (g ∷ fs) h = slice_split_at is_space f 32 (join_with_byte 32 (g ∷ fs)) (without 32 f h.0) refl
-    ∙ ap (λ (xs : List (List ℕ)). f ∷ xs) (split_join g fs h.1)
+-- pieces that are joined by a sign are cut at it again
+pub split_join : (sign : ℕ) (f : List ℕ) (fs : List (List ℕ)) → AllByRecursion (Free sign) (f ∷ fs)
+    → slice_split (is_byte sign) (join_with_byte sign (f ∷ fs)) ≡ f ∷ fs
+split_join sign f [] h =
+    slice_split_none (is_byte sign) f (All-from_recursion (λ c. is_byte sign c ≡ false) f h.0)
+split_join sign f (g ∷ fs) h =
+    slice_split_at (is_byte sign) f sign (join_with_byte sign (g ∷ fs))
+    (All-from_recursion (λ c. is_byte sign c ≡ false) f h.0) (eq-eqb sign sign refl)
+    ∙ ap (λ (xs : List (List ℕ)). f ∷ xs) (split_join sign g fs h.1)
+
+all_differ : (b : ℕ) (fs : List (List ℕ)) → AllAbove b fs → AllByRecursion (Free b) fs
+all_differ b [] h = tt
+all_differ b (f ∷ fs) h = (differs b f h.0, all_differ b fs h.1)
 
 -- the fields of a line that is made of fields
 pub fields_of-line : (f : List ℕ) (fs : List (List ℕ)) → AllAbove 32 (f ∷ fs)
     → fields_of (line (f ∷ fs)) ≡ f ∷ fs
 unfolding fields_of
-fields_of-line f fs h = split_join f fs h
+fields_of-line f fs h = split_join 32 f fs (all_differ 32 (f ∷ fs) h)
 
 -- a line is made of its fields
 pub line-fields_of : (l : List ℕ) (fs : List (List ℕ)) → fields_of l ≡ fs → l ≡ line fs
@@ -125,10 +138,5 @@ lines_of-line l after h = slice_split_at is_line_feed l 10 after (without 10 l h
 
 pub joined_push : (ls : List (List ℕ)) (l : List ℕ) → joined (ls ++ l ∷ []) ≡ joined ls ++ ended l
 unfolding joined
-joined_push [] l = append-nil (ended l)
-joined_push (m ∷ ls) l = ap (λ (xs : List ℕ). ended m ++ xs) (joined_push ls l)
-    ∙ sym (append_assoc (ended m) (flat_map ended ls) (ended l))
-
-pub above_lines : (xs ys : List (List ℕ)) → AllAbove 10 xs → AllAbove 10 ys → AllAbove 10 (xs ++ ys)
-above_lines [] ys hx hy = hy
-above_lines (x ∷ xs) ys hx hy = (hx.0, above_lines xs ys hx.1 hy)
+joined_push ls l = flat_map-append ended ls (l ∷ [])
+    ∙ ap (λ (xs : List ℕ). flat_map ended ls ++ xs) (append-nil (ended l))

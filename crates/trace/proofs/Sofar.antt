@@ -1,8 +1,8 @@
 -- What has been read so far, and one line more.
-use Rattle.std.proofs.Common.{◌≡◌, ◌≢◌, ℕ, suc, ◌+◌, ◌-◌, ◌<◌, ◌≤◌, Bool, true, false, List, [], ◌∷◌, ◌++◌, All, length, get_or, map, refl, sym, ap, subst, ◌∙◌, arith, inl, inr}
+use Rattle.std.proofs.Common.{◌≡◌, ◌≢◌, ℕ, ◌+◌, ◌-◌, ◌<◌, ◌≤◌, Bool, true, false, List, [], ◌∷◌, ◌++◌, All, length, get_or, map, refl, sym, ap, subst, ◌∙◌, arith, inl, inr}
 use Rattle.std.proofs.lemmas.Bool.{cases_Bool, cases_lt, lt-ltb}
 use Rattle.std.proofs.lemmas.List.{append_assoc, append-nil, length-append, length-map, map_push, get_or-append_right, nil_from_length, length_push}
-use Rattle.std.proofs.lemmas.List.Elements.{All-map, All-nil, All-push}
+use Rattle.std.proofs.lemmas.List.Elements.{All-append, All-map, All-nil, All-push, recursion_from_All}
 use Rattle.std.proofs.lemmas.List.Splits.{length-slice_split}
 use Rattle.board.specs.declared.event.Event.{Event}
 use Rattle.board.specs.declared.spec.SlotSpec.{SlotSpec}
@@ -23,7 +23,7 @@ use Rattle.trace.proofs.Clean.{Good, IsSlotLine, good, good_passes, only_slots, 
 use Rattle.trace.proofs.Entries.{EnteredEvent, entered_cache, entered_event, entered_slot, same_word}
 use Rattle.trace.proofs.Faulty.{cut_fault, fields_fault, order_fault, word_fault}
 use Rattle.trace.proofs.Refused.{may_move}
-use Rattle.trace.proofs.Signs.{AllAbove, above_header, above_lines, joined_push, line-fields_of, lines_of-joined, long_header}
+use Rattle.trace.proofs.Signs.{Above, AllAbove, above_header, joined_push, line-fields_of, lines_of-joined, long_header}
 
 -- what has a text
 pub record Fits {A : Type 0} (c : Content A) : Type 0 where
@@ -44,16 +44,6 @@ event_lines format events range fine words =
     (λ k d lt. entered_event format (get_or events k d)
     (record { fits = range k d lt; printable = fine k d lt }) (words k d lt))
 
-unbroken_slots : (format : Format) (ls : List (List ℕ)) → All (IsSlotLine format) ls → AllAbove 10 ls
-unbroken_slots format [] h = tt
-unbroken_slots format (l ∷ ls) h = let first = h 0 l (omega arith) in
-    (first.unbroken, unbroken_slots format ls (λ k d lt. h (suc k) d (omega arith)))
-
-unbroken_events : (format : Format) (ls : List (List ℕ)) → All (EnteredEvent format) ls → AllAbove 10 ls
-unbroken_events format [] h = tt
-unbroken_events format (l ∷ ls) h = let first = h 0 l (omega arith) in
-    (first.entry.unbroken, unbroken_events format ls (λ k d lt. h (suc k) d (omega arith)))
-
 -- no line of a trace has a line feed in it
 pub unbroken : {A : Type 0} (c : Content A) → Fits c → AllAbove 10 (trace_lines c)
 unfolding trace_lines
@@ -62,11 +52,12 @@ unbroken c h =
       above_header c.format,
       (
         cache.unbroken,
-        above_lines (map (slot_line c.format) c.slots)
-            (map event_line c.events) (unbroken_slots c.format (map (slot_line c.format) c.slots)
-            (slot_lines c.format c.slots h.range.slots h.printable.slots))
-            (unbroken_events c.format (map event_line c.events)
-            (event_lines c.format c.events h.range.events h.printable.events h.printable.words)),
+        recursion_from_All (Above 10) (map (slot_line c.format) c.slots ++ map event_line c.events)
+            (All-append (Above 10) (map (slot_line c.format) c.slots) (map event_line c.events)
+            (λ k d lt. (slot_lines c.format c.slots h.range.slots h.printable.slots k d lt).unbroken)
+            (λ k d lt.
+            (event_lines c.format c.events h.range.events h.printable.events h.printable.words k d
+            lt).entry.unbroken)),
       ),
     )
 
@@ -81,8 +72,10 @@ pub record Sofar {A : Type 0} (text : List ℕ) (c : Content A) (k : ℕ) (rest 
   pub count : k ≡ 3 + (length c.slots + length c.events)
 
 module _ {A : Type 0} (text : List ℕ) (c : Content A) (k : ℕ) (rest : List ℕ) (s : Sofar text c k rest) where
-  pub parts : lines_of text ≡ (header c.format ∷ cache_line c.cache ∷ (map (slot_line c.format) c.slots
-      ++ map event_line c.events)) ++ lines_of rest
+  abbrev front : List (List ℕ)
+  front = header c.format ∷ cache_line c.cache ∷ (map (slot_line c.format) c.slots ++ map event_line c.events)
+
+  pub parts : lines_of text ≡ front ++ lines_of rest
   unfolding trace_lines
   parts = ap lines_of s.spelled ∙ lines_of-joined (trace_lines c) rest (unbroken c s.fits)
 
@@ -112,9 +105,7 @@ module _ {A : Type 0} (text : List ℕ) (c : Content A) (k : ℕ) (rest : List �
   pub next_is : line_at text k ≡ get_or (lines_of rest) 0 []
   next_is =
       let count = s.count in
-      let front : length (header c.format ∷ cache_line c.cache ∷ (map (slot_line c.format) c.slots
-      ++ map event_line c.events))
-      ≡ k - 1 = omega (
+      let long : length front ≡ k - 1 = omega (
         arith,
         slots_len,
         events_len,
@@ -123,8 +114,7 @@ module _ {A : Type 0} (text : List ℕ) (c : Content A) (k : ℕ) (rest : List �
       ) in
       let none : k - 1 - (k - 1) ≡ 0 = omega arith in
       ap (λ (ls : List (List ℕ)). get_or ls (k - 1) []) parts
-      ∙ get_or-append_right (header c.format ∷ cache_line c.cache ∷ (map (slot_line c.format) c.slots
-      ++ map event_line c.events)) (lines_of rest) (k - 1) (k - 1) [] front (omega arith)
+      ∙ get_or-append_right front (lines_of rest) (k - 1) (k - 1) [] long (omega arith)
       ∙ ap (λ (n : ℕ). get_or (lines_of rest) n []) none
 
   pub lines_left : length (lines_of text) + 1 ≡ k + length (lines_of rest)
@@ -137,8 +127,7 @@ module _ {A : Type 0} (text : List ℕ) (c : Content A) (k : ℕ) (rest : List �
         events_len,
         length-append (map (slot_line c.format) c.slots)
             (map event_line c.events),
-        length-append (header c.format ∷ cache_line c.cache ∷ (map (slot_line c.format) c.slots
-            ++ map event_line c.events)) (lines_of rest),
+        length-append front (lines_of rest),
       )
 
   -- the rest is a line that isn't ended
@@ -218,17 +207,13 @@ pub push_slot : {A : Type 0} (c : Content A) (s : SlotSpec) → length c.events 
     → trace_lines (record c { slots = c.slots ++ s ∷ [] }) ≡ trace_lines c ++ slot_line c.format s ∷ []
 unfolding trace_lines
 push_slot c s none =
-    let empty = nil_from_length c.events none in
-    let e : map event_line c.events ≡ [] = ap (map event_line) empty in
-    let v = c.format in
-    ap (λ (ls : List (List ℕ)). (header v ∷ cache_line c.cache ∷ map (slot_line v) (c.slots ++ s ∷ []))
-    ++ ls) e
-    ∙ append-nil (header v ∷ cache_line c.cache ∷ map (slot_line v) (c.slots ++ s ∷ []))
-    ∙ ap (λ (ls : List (List ℕ)). header v ∷ cache_line c.cache ∷ ls) (map_push (slot_line v) c.slots s)
-    ∙ ap (λ (ls : List (List ℕ)). ls
-    ++ slot_line v s ∷ []) (sym (append-nil (header v ∷ cache_line c.cache ∷ map (slot_line v) c.slots))
-    ∙ ap (λ (ls : List (List ℕ)). (header v ∷ cache_line c.cache ∷ map (slot_line v) c.slots)
-    ++ ls) (sym e))
+    let e : map event_line c.events ≡ [] = ap (map event_line) (nil_from_length c.events none) in
+    rw (
+      e,
+      append-nil (map (slot_line c.format) (c.slots ++ s ∷ [])),
+      append-nil (map (slot_line c.format) c.slots),
+      map_push (slot_line c.format) c.slots s,
+    ) refl
 
 pub push_event : {A : Type 0} (c : Content A) (e : Event A)
     → trace_lines (record c { events = c.events ++ e ∷ [] }) ≡ trace_lines c ++ event_line e ∷ []

@@ -1,7 +1,6 @@
 -- Lines that were validated, which are read without a test: their parts by their word, and what was taken off.
 use Rattle.std.proofs.Common.{◌≡◌, ℕ, ◌+◌, ◌*◌, ◌^◌, ◌<◌, ◌≤◌, List, [], ◌∷◌, ◌++◌, length, get_or, drop, refl, sym, ap, subst, ◌∙◌, append_assoc, length-drop, arith}
 use Rattle.mmio_window.specs.declared.device_kind.DeviceKind.{DeviceKind}
-use Rattle.board.specs.declared.event.Event.{Event}
 use Rattle.board.specs.declared.event.EventKind.{EventKind}
 use Rattle.board.specs.declared.event.EventKind.TheVariants as what
 use Rattle.board.specs.declared.event.HostEvent.TheVariants as host
@@ -215,70 +214,60 @@ input_parts A rest h = by_input A rest h.event.slot h.event.what h.after h.begin
 
 -- ---- what was taken off
 
-pub read_taken : (A : Type 0) (rest : List ℕ) (p : ReadParts A rest) (s : ParsedEvent A)
-    (slot offset width : ℕ)
-    (kind : DeviceKind) (after : List ℕ) → slot ≡ p.slot → kind ≡ p.kind → offset ≡ p.offset
-    → width ≡ p.width → after ≡ p.after
-    → s.event ≡ record { slot = slot; what = what.Read kind offset width } → s.bytes.now ≡ []
-    → TakesEvent (spelled Read ++ 32 ∷ rest) s after
-read_taken A rest p s slot offset width kind after e1 e2 e3 e4 e5 is none =
-    let line : IsLineOf {A = A} (spelled Read ++ 32 ∷ rest)
-    (record { slot = slot; what = what.Read kind offset width }) after = rw (e1, e2, e3, e4, e5) p.line in
-    line_taken s (record { slot = slot; what = what.Read kind offset width }) (spelled Read ++ 32 ∷ rest)
-    after
-    line (rw is refl)
+pub read_taken : (A : Type 0) (rest : List ℕ) (p : ReadParts A rest) (s : ParsedEvent A) (after : List ℕ)
+    → after ≡ p.after → s.event ≡ record { slot = p.slot; what = what.Read p.kind p.offset p.width }
+    → s.bytes.now ≡ [] → TakesEvent (spelled Read ++ 32 ∷ rest) s after
+read_taken A rest p s after behind is none =
+    let fine = p.line.fine in
+    rw behind (line_taken s (record { slot = p.slot; what = what.Read p.kind p.offset p.width })
+    (spelled Read ++ 32 ∷ rest) p.after p.line (rw is refl)
     (record {
-      slot = rw is line.fine.fits.slot;
-      what = rw is (record { range = tt; printable = line.fine.printable; none = none });
-    })
+      slot = rw is fine.fits.slot;
+      what = rw is (record { range = tt; printable = fine.printable; none = none });
+    }))
 
-pub write_taken : (A : Type 0) (rest : List ℕ) (p : WriteParts A rest) (s : ParsedEvent A)
-    (slot offset width value : ℕ) (kind : DeviceKind) (after : List ℕ) → slot ≡ p.slot → kind ≡ p.kind
-    → offset ≡ p.offset → width ≡ p.width → value ≡ p.value → after ≡ p.after
-    → s.event ≡ record { slot = slot; what = what.Write kind offset width value } → s.bytes.now ≡ []
-    → TakesEvent (spelled Write ++ 32 ∷ rest) s after
-write_taken A rest p s slot offset width value kind after e1 e2 e3 e4 e5 e6 is none =
-    let event : Event A = record { slot = slot; what = what.Write kind offset width value } in
-    let line : IsLineOf {A = A} (spelled Write ++ 32 ∷ rest) event after =
-    rw (e1, e2, e3, e4, e5, e6) p.line in
-    line_taken s event (spelled Write ++ 32 ∷ rest) after line (rw is refl)
+pub write_taken : (A : Type 0) (rest : List ℕ) (p : WriteParts A rest) (s : ParsedEvent A) (after : List ℕ)
+    → after ≡ p.after → s.event ≡ record { slot = p.slot; what = what.Write p.kind p.offset p.width p.value }
+    → s.bytes.now ≡ [] → TakesEvent (spelled Write ++ 32 ∷ rest) s after
+write_taken A rest p s after behind is none =
+    let fine = p.line.fine in
+    rw behind (line_taken s (record { slot = p.slot; what = what.Write p.kind p.offset p.width p.value })
+    (spelled Write ++ 32 ∷ rest) p.after p.line (rw is refl)
     (record {
-      slot = rw is line.fine.fits.slot;
-      what = rw is (record { range = tt; printable = line.fine.printable; none = none });
-    })
+      slot = rw is fine.fits.slot;
+      what = rw is (record { range = tt; printable = fine.printable; none = none });
+    }))
 
 pub mem_write_taken : (A : Type 0) (rest : List ℕ) (p : MemWriteParts A rest) (s : ParsedEvent A)
-    (slot addr : ℕ) (none after : List ℕ) → slot ≡ p.slot → addr ≡ p.addr → s.bytes.now ≡ bytes p.bs
-    → after ≡ p.after → none ≡ [] → s.event ≡ record { slot = slot; what = what.MemWrite addr none }
+    (none after : List ℕ) → s.bytes.now ≡ bytes p.bs → after ≡ p.after → none ≡ []
+    → s.event ≡ record { slot = p.slot; what = what.MemWrite p.addr none }
     → TakesEvent (spelled MemWrite ++ 32 ∷ rest) s after
-mem_write_taken A rest p s slot addr none after e1 e2 e3 e4 e5 is =
-    let event : Event A = record { slot = slot; what = what.MemWrite addr p.bs } in
-    let line : IsLineOf {A = A} (spelled MemWrite ++ 32 ∷ rest) event after = rw (e1, e2, e4) p.line in
-    let says : IsBytesField s.bytes.now p.bs =
-    record { fits = line.fine.fits.what.each; spelled = e3 } in
-    line_taken s event (spelled MemWrite ++ 32 ∷ rest) after line (rw (is, e3) refl)
+mem_write_taken A rest p s none after said behind empty is =
+    let fine = p.line.fine in
+    let says : IsBytesField s.bytes.now p.bs = record { fits = fine.fits.what.each; spelled = said } in
+    rw behind (line_taken s (record { slot = p.slot; what = what.MemWrite p.addr p.bs })
+    (spelled MemWrite ++ 32 ∷ rest) p.after p.line (rw (is, said) refl)
     (record {
-      slot = rw is line.fine.fits.slot;
+      slot = rw is fine.fits.slot;
       what = rw is (record {
-        from = line.fine.fits.what.from;
-        bytes = record { none = e5; parsed = (p.bs, says) };
+        from = fine.fits.what.from;
+        bytes = record { none = empty; parsed = (p.bs, says) };
       });
-    })
+    }))
 
-pub input_taken : (A : Type 0) (rest : List ℕ) (p : InputParts A rest) (s : ParsedEvent A) (slot : ℕ)
-    (none after : List ℕ) → slot ≡ p.slot → s.bytes.now ≡ bytes p.bs → after ≡ p.after → none ≡ []
-    → s.event ≡ record { slot = slot; what = what.Input none }
+pub input_taken : (A : Type 0) (rest : List ℕ) (p : InputParts A rest) (s : ParsedEvent A)
+    (none after : List ℕ) → s.bytes.now ≡ bytes p.bs → after ≡ p.after → none ≡ []
+    → s.event ≡ record { slot = p.slot; what = what.Input none }
     → TakesEvent (spelled Input ++ 32 ∷ rest) s after
-input_taken A rest p s slot none after e1 e2 e3 e4 is =
-    let event : Event A = record { slot = slot; what = what.Input p.bs } in
-    let line : IsLineOf {A = A} (spelled Input ++ 32 ∷ rest) event after = rw (e1, e3) p.line in
-    let says : IsBytesField s.bytes.now p.bs =
-    record { fits = line.fine.fits.what.each; spelled = e2 } in
-    line_taken s event (spelled Input ++ 32 ∷ rest) after line (rw (is, e2) refl)
+input_taken A rest p s none after said behind empty is =
+    let fine = p.line.fine in
+    let says : IsBytesField s.bytes.now p.bs = record { fits = fine.fits.what.each; spelled = said } in
+    rw behind (line_taken s (record { slot = p.slot; what = what.Input p.bs }) (spelled Input ++ 32 ∷ rest)
+    p.after p.line (rw (is, said) refl)
     (record {
-      slot = rw is line.fine.fits.slot;
-      what = rw is (record { none = e4; parsed = (p.bs, says) });
-    })
+      slot = rw is fine.fits.slot;
+      what = rw is (record { none = empty; parsed = (p.bs, says) });
+    }))
 
 -- ---- what is behind what was read
 

@@ -1,6 +1,6 @@
 -- A text belongs to one trace, and the text of a trace has no fault.
-use Rattle.std.proofs.Common.{◌≡◌, ℕ, suc, ◌+◌, ◌*◌, ◌-◌, ◌^◌, ◌<◌, ◌≤◌, Bool, true, false, List, [], ◌∷◌, ◌++◌, All, length, get_or, drop, map, Result, Ok, refl, sym, ap, subst, ◌∙◌, arith, inl, inr}
-use Rattle.std.proofs.lemmas.List.{append_cancel_right, append-nil, get_or_past}
+use Rattle.std.proofs.Common.{◌≡◌, ℕ, suc, ◌+◌, ◌*◌, ◌-◌, ◌^◌, ◌<◌, ◌≤◌, Bool, true, false, List, [], ◌∷◌, ◌++◌, All, length, get_or, drop, take, map, Result, Ok, refl, sym, ap, subst, ◌∙◌, arith, inl, inr}
+use Rattle.std.proofs.lemmas.List.{append_cancel_right, append-nil, drop_at, get_or_past, take_at}
 use Rattle.std.specs.List.{flat_map}
 use Rattle.std.specs.Prelude.{⊤}
 use Rattle.std.proofs.lemmas.Bool.{cases_eq, cases_lt, cases_order}
@@ -105,17 +105,24 @@ made_slot regions start count backing read_only cols rows identity =
       identity = identity;
     }
 
+same_slot : (rs ss : List RegionSpec) (a b c d : ℕ) (i j : Backing) (p q : Bool) (k l m n : ℕ) (xs ys : List ℕ)
+    → rs ≡ ss → a ≡ b → c ≡ d → i ≡ j → p ≡ q → k ≡ l → m ≡ n → xs ≡ ys
+    → made_slot rs a c i p k m xs ≡ made_slot ss b d j q l n ys
+same_slot rs ss a b c d i j p q k l m n xs ys regions start count backing read_only cols rows identity =
+    rw (regions, start, count, backing, read_only, cols, rows, identity) refl
+
 -- lists with equally long fronts
 same_halves : (xs ys ls rs : List (List ℕ)) → length xs ≡ length ys → xs ++ ls ≡ ys ++ rs
     → (xs ≡ ys) × (ls ≡ rs)
-same_halves [] [] ls rs e h = (refl, h)
-same_halves [] (y ∷ ys) ls rs e h = absurd (omega (arith, e))
-same_halves (x ∷ xs) [] ls rs e h = absurd (omega (arith, e))
-same_halves (x ∷ xs) (y ∷ ys) ls rs e h =
-    let head : x ≡ y = cc in
-    let tail : xs ++ ls ≡ ys ++ rs = cc in
-    let both = same_halves xs ys ls rs (omega (arith, e)) tail in
-    (ap (λ (z : List ℕ). z ∷ xs) head ∙ ap (λ (zs : List (List ℕ)). y ∷ zs) both.0, both.1)
+same_halves xs ys ls rs e h = (
+  sym (take_at xs ls (length ys) e) ∙ ap (take (length ys)) h ∙ take_at ys rs (length ys) refl,
+  sym (drop_at xs ls (length ys) e) ∙ ap (drop (length ys)) h ∙ drop_at ys rs (length ys) refl,
+)
+
+one_region : (r s : RegionSpec) → r.base ≡ s.base → r.len ≡ s.len → r ≡ s
+one_region r s base len =
+    ap (λ (n : ℕ). record { base = n; len = r.len }) base
+    ∙ ap (λ (n : ℕ). record { base = s.base; len = n }) len
 
 -- the memories of slots of one format: one region by its two fields
 same_single : (rs ss : List RegionSpec) → length rs ≡ 1 → length ss ≡ 1
@@ -125,19 +132,14 @@ same_single (r ∷ rs) [] hr hs e = absurd (omega (arith, hs))
 same_single (r ∷ (q ∷ rs)) (s ∷ ss) hr hs e = absurd (omega (arith, hr))
 same_single (r ∷ []) (s ∷ (q ∷ ss)) hr hs e = absurd (omega (arith, hs))
 same_single (r ∷ []) (s ∷ []) hr hs e =
-    let base = same_num r.base s.base (same_at e 0) in
-    let len = same_num r.len s.len (same_at e 1) in
-    ap (λ (n : ℕ). record { base = n; len = r.len } ∷ []) base
-    ∙ ap (λ (n : ℕ). record { base = s.base; len = n } ∷ []) len
+    ap (λ (x : RegionSpec). x ∷ [])
+    (one_region r s (same_num r.base s.base (same_at e 0)) (same_num r.len s.len (same_at e 1)))
 
 -- all regions by one field
 same_region : (r s : RegionSpec) → region_text r ≡ region_text s → r ≡ s
 same_region r s e =
     let both = sym (region_parts r) ∙ ap (parts 43) e ∙ region_parts s in
-    let base = same_num r.base s.base (same_at both 0) in
-    let len = same_num r.len s.len (same_at both 1) in
-    ap (λ (n : ℕ). record { base = n; len = r.len }) base
-    ∙ ap (λ (n : ℕ). record { base = s.base; len = n }) len
+    one_region r s (same_num r.base s.base (same_at both 0)) (same_num r.len s.len (same_at both 1))
 
 same_each : (rs ss : List RegionSpec) → map region_text rs ≡ map region_text ss → rs ≡ ss
 same_each rs ss e =
@@ -196,22 +198,9 @@ same_slot_fields format s t fs ft e =
     let cols = same_num s.cols t.cols (same_at disks.1 3) in
     let rows = same_num s.rows t.rows (same_at disks.1 4) in
     let identity = same_identity format s t fs ft disks.1 in
-    ap (λ (x : List RegionSpec). made_slot x s.extent.start s.extent.count s.backing s.read_only s.cols
-    s.rows s.identity) regions
-    ∙ ap (λ (x : ℕ). made_slot t.regions x s.extent.count s.backing s.read_only s.cols s.rows
-    s.identity) start
-    ∙ ap (λ (x : ℕ). made_slot t.regions t.extent.start x s.backing s.read_only s.cols s.rows
-    s.identity) count
-    ∙ ap (λ (x : Backing). made_slot t.regions t.extent.start t.extent.count x s.read_only s.cols s.rows
-    s.identity) disks.0
-    ∙ ap (λ (x : Bool). made_slot t.regions t.extent.start t.extent.count t.backing x s.cols s.rows
-    s.identity) read_only
-    ∙ ap (λ (x : ℕ). made_slot t.regions t.extent.start t.extent.count t.backing t.read_only x s.rows
-    s.identity) cols
-    ∙ ap (λ (x : ℕ). made_slot t.regions t.extent.start t.extent.count t.backing t.read_only t.cols x
-    s.identity) rows
-    ∙ ap (λ (x : List ℕ). made_slot t.regions t.extent.start t.extent.count t.backing t.read_only
-    t.cols t.rows x) identity
+    same_slot s.regions t.regions s.extent.start t.extent.start s.extent.count t.extent.count s.backing t.backing
+    s.read_only t.read_only s.cols t.cols s.rows t.rows s.identity t.identity regions start count disks.0
+    read_only cols rows identity
 
 -- the first two bytes of the first field, which differ for each event's word
 sign : List (List ℕ) → ℕ
@@ -350,6 +339,12 @@ lines_of_text : {A : Type 0} (c : Content A) → Fits c → lines_of (text c) �
 lines_of_text c h = ap lines_of (sym (append-nil (text c)))
     ∙ lines_of-joined (trace_lines c) [] (unbroken c h)
 
+same_content : {A : Type 0} (f g : Format) (m n : ℕ) (ss ts : List SlotSpec) (ds es : List (Event A)) → f ≡ g
+    → m ≡ n → ss ≡ ts → ds ≡ es
+    → ◌≡◌ {A = Content A} (record { format = f; cache = m; slots = ss; events = ds })
+    (record { format = g; cache = n; slots = ts; events = es })
+same_content f g m n ss ts ds es format cache slots events = rw (format, cache, slots, events) refl
+
 same_lines : {A : Type 0} (c d : Content A) → Fits c → Fits d → trace_lines c ≡ trace_lines d → c ≡ d
 unfolding trace_lines
 same_lines c d hc hd e =
@@ -364,15 +359,7 @@ same_lines c d hc hd e =
     ap (drop 2) e ∙ ap (λ (v : Format). map (slot_line v) d.slots ++ map event_line d.events) (sym format) in
     let parts = same_parts c.format c.slots d.slots c.events d.events
     (all_fine_slots c hc) fine (all_fine c hc) (all_fine d hd) lines in
-    ap (λ (f : Format). record { format = f; cache = c.cache; slots = c.slots; events = c.events }) format
-    ∙ ap (λ (n : ℕ). record { format = d.format; cache = n; slots = c.slots; events = c.events }) cache
-    ∙ ap (λ (ss : List SlotSpec). record {
-      format = d.format;
-      cache = d.cache;
-      slots = ss;
-      events = c.events;
-    }) parts.0
-    ∙ ap (λ es. record { format = d.format; cache = d.cache; slots = d.slots; events = es }) parts.1
+    same_content c.format d.format c.cache d.cache c.slots d.slots c.events d.events format cache parts.0 parts.1
 
 -- a text belongs to one trace
 pub one_trace : {A : Type 0} (c d : Content A) → Fits c → Fits d → text c ≡ text d → c ≡ d

@@ -1,6 +1,6 @@
 -- What was validated of a text so far, and one line more.
-use Rattle.std.proofs.Common.{◌≡◌, ◌≢◌, ℕ, ◌+◌, ◌<◌, ◌≤◌, ◌==◌, Bool, true, false, not, nat_lt, if◌then◌else◌, List, [], ◌∷◌, ◌++◌, length, map, refl, sym, ap, subst, ◌∙◌, arith, inl, inr}
-use Rattle.std.proofs.lemmas.Bool.{cases_Bool, cases_lt, eq-eqb, eqb-true, ltb-false, ltb-true}
+use Rattle.std.proofs.Common.{◌≡◌, ◌≢◌, ℕ, ◌+◌, ◌<◌, ◌≤◌, ◌==◌, Bool, true, not, nat_lt, if◌then◌else◌, List, [], ◌∷◌, ◌++◌, length, map, refl, sym, ap, subst, ◌∙◌, arith, inl, inr}
+use Rattle.std.proofs.lemmas.Bool.{cases_Bool, cases_lt, eq-eqb, eqb-true, ltb-false, ltb-true, not-false, true≢false}
 use Rattle.std.proofs.lemmas.List.{append-nil, length-append, length-map, map_push, nil_from_length}
 use Rattle.std.proofs.lemmas.List.Elements.{All-nil, All-push, All-weaker}
 use Rattle.board.specs.declared.event.Event.{Event}
@@ -232,13 +232,6 @@ pub is_cut_off : (A : Type 0) (whole : List ℕ) (j : Validation) (k : ℕ) (res
     → ValidatedSofar A whole j k rest → lines_of rest ≡ rest ∷ [] → length rest ≢ 0 → IsFault whole k kind.Cut
 is_cut_off A whole j k rest s last some = is_cut whole s.trace k rest s.so last (λ e. some (ap length e))
 
-true_not_false : true ≡ false → ⊥
-true_not_false e = absurd cc
-
-not_false : (b : Bool) → not b ≡ false → b ≡ true
-not_false true e = refl
-not_false false e = absurd cc
-
 -- the next line is refused
 pub is_refused_now : (A : Type 0) (whole : List ℕ) (j : Validation) (k : ℕ) (rest l after : List ℕ)
     (begun : Bool) (fault : FaultKind) → ValidatedSofar A whole j k rest → lines_of rest ≡ l ∷ lines_of after
@@ -247,10 +240,10 @@ pub is_refused_now : (A : Type 0) (whole : List ℕ) (j : Validation) (k : ℕ) 
 is_refused_now A whole j k rest l after begun fault s cut test h known =
     is_refused whole s.trace k rest s.so begun l after fault cut
     (λ so. some_events A whole j k rest s
-    (λ e. absurd (true_not_false (sym so ∙ test ∙ ap not (eq-eqb (length j.events) (length rest) e)))))
+    (λ e. absurd (true≢false (sym so ∙ test ∙ ap not (eq-eqb (length j.events) (length rest) e)))))
     (λ no'. no_events A whole j k rest s
     (eqb-true (length j.events) (length rest)
-    (not_false (length j.events == length rest) (sym test ∙ no'))))
+    (not-false (length j.events == length rest) (sym test ∙ no'))))
     (subst (λ (v : Format). RefusesLine v begun l fault) (sym s.format) h) known
 
 -- the same, or it isn't ended

@@ -1,8 +1,10 @@
-use Rattle.hexadecimal.proofs.Judging.{none_before, one_more}
+use Rattle.std.proofs.lemmas.List.Elements.{All-nil}
+use Rattle.hexadecimal.specs.Fields.{IsDigit}
+use Rattle.hexadecimal.proofs.Judging.{one_more}
 use Rattle.hexadecimal.proofs.byte_field.digits_len.Goals as goal
 
 pub past_blocks-n-requires-clause-digits : goal.past_blocks-n-requires-clause-digits
-past_blocks-n-requires-clause-digits c = (none_before c.args.text.now).digits
+past_blocks-n-requires-clause-digits c = All-nil IsDigit
 
 pub loop-n-preserved : goal.loop-n-preserved
 loop-n-preserved c =

@@ -1,4 +1,4 @@
-use Rattle.std.proofs.Common.{◌≡◌, ◌+◌, ◌-◌, arith, length, length-append, refl}
+use Rattle.std.proofs.Common.{◌≡◌, ◌+◌, ◌-◌, arith, length, refl}
 use Rattle.snapshot.proofs.Joining.{all_put, snapshot_len, snapshot_of_head}
 use Rattle.snapshot.proofs.writing.write_into.Goals as goal
 
@@ -7,13 +7,6 @@ returns-then-into-len-clause-short c =
     let long = snapshot_len c.args.saved.now c.args.front.now c.args.back.now c.head_of-head.result.items _
     c.head_of-head.ensures.text refl in
     (λ is. omega (arith, long, c.len.ensures.value, c.if-into-len.true), λ less. refl)
-
-pub returns-then-into-len-clause-whole : goal.returns-then-into-len-clause-whole
-returns-then-into-len-clause-whole c = record {
-  spelled = refl;
-  fits = c.head_of-head.ensures.fits;
-  few = omega (arith, length-append c.args.front.now c.args.back.now, c.requires);
-}
 
 pub returns-clause-len : goal.returns-clause-len
 returns-clause-len c =
@@ -56,10 +49,3 @@ returns-clause-short c =
       λ less. absurd
           (omega (arith, long, c.len.ensures.value, c.if-into-len.false, less)),
     )
-
-pub returns-clause-whole : goal.returns-clause-whole
-returns-clause-whole c = record {
-  spelled = refl;
-  fits = c.head_of-head.ensures.fits;
-  few = omega (arith, length-append c.args.front.now c.args.back.now, c.requires);
-}

@@ -20,5 +20,5 @@ returns g c =
     let at = input_behind _ c.args.rest.now p c.slot_in-slot.result.0 c.slot_in-slot.result.1.now
     c.slot_in-slot.ensures in
     let same = c.bytes_in.ensures (bytes p.bs) p.after at.1 in
-    input_taken _ c.args.rest.now p c.new.result c.slot_in-slot.result.0 c.new-bytes.result
-    c.bytes_in.result.1.now at.0 (c.new.ensures.bytes ∙ same.0) same.1 c.new-bytes.ensures c.new.ensures.event
+    input_taken _ c.args.rest.now p c.new.result c.new-bytes.result c.bytes_in.result.1.now
+    (c.new.ensures.bytes ∙ same.0) same.1 c.new-bytes.ensures (rw at.0 at c.new.ensures.event)

@@ -31,6 +31,5 @@ returns g c =
     let on = addr_behind _ c.args.rest.now p c.slot_in-slot.result.1.now c.number_in-addr.result.0
     c.number_in-addr.result.1.now at.1 c.number_in-addr.ensures in
     let same = c.bytes_in.ensures (bytes p.bs) p.after on.1 in
-    mem_write_taken _ c.args.rest.now p c.new-2.result c.slot_in-slot.result.0 c.number_in-addr.result.0
-    c.new.result c.bytes_in.result.1.now at.0 on.0 (c.new-2.ensures.bytes ∙ same.0) same.1
-    c.new.ensures c.new-2.ensures.event
+    mem_write_taken _ c.args.rest.now p c.new-2.result c.new.result c.bytes_in.result.1.now
+    (c.new-2.ensures.bytes ∙ same.0) same.1 c.new.ensures (rw (at.0, on.0) at c.new-2.ensures.event)

@@ -27,8 +27,6 @@ returns g c =
     let at = access_behind p.access _ _ is in
     let same = c.access_in-window.ensures p.kind p.offset p.width (10 ∷ p.after) at.1 in
     rw take_rest (
-    read_taken _ c.args.rest.now p c.plain.result c.slot_in-slot.result.0 c.access_in-window.result.1
-    c.access_in-window.result.2 c.access_in-window.result.0 _ at.0 same.0 same.1 same.2
-    (access_past at.1)
-    c.plain.ensures.event c.plain.ensures.bytes
+    read_taken _ c.args.rest.now p c.plain.result _ (access_past at.1)
+    (rw (at.0, same.0, same.1, same.2) at c.plain.ensures.event) c.plain.ensures.bytes
     )

@@ -54,9 +54,7 @@ returns g c =
     c.access_in-window.result.2 at.1 same.2 in
     let value = c.value_in-value.ensures p.value p.after (rw take_rest has) in
     rw take_rest (
-    write_taken _ c.args.rest.now p c.plain.result c.slot_in-slot.result.0 c.access_in-window.result.1
-    c.access_in-window.result.2 c.value_in-value.result c.access_in-window.result.0 _ at.0 same.0 same.1
-    same.2 value
+    write_taken _ c.args.rest.now p c.plain.result _
     (behind_value c.slot_in-slot.result.1.now c.access_in-window.result.2 p.value p.after has)
-    c.plain.ensures.event c.plain.ensures.bytes
+    (rw (at.0, same.0, same.1, same.2, value) at c.plain.ensures.event) c.plain.ensures.bytes
     )
