@@ -20,6 +20,7 @@ use Rattle.block_device.specs.Operation.{LieBy}
 use Rattle.board.specs.declared.event.EventKind.{EventKind}
 use Rattle.board.specs.declared.event.EventKind.TheVariants.{Write, Restore, Host}
 use Rattle.board.specs.Backing.{HostDisk, sectors_by, tags_in}
+use Rattle.board.specs.Flights.{KeepsFlights}
 use Rattle.board.specs.Hosting.{HoldsFlights, block_beside, must_wait, waits_now}
 use Rattle.board.specs.declared.spec.Backing.{Backing}
 use Rattle.board.specs.declared.spec.Backing.TheVariants.{Image, Host}
@@ -143,18 +144,16 @@ held_opened spec memory slot is =
 
 -- An event that doesn't wait leaves what is in flight held.
 pub held_beside : {A : Type 0} (what : EventKind A) (slot new : BoardSlot)
-    → waits_now what slot.host ≡ false
-    → (must_wait what ≡ false → new.block ≡ block_beside what slot) → new.host ≡ slot.host
-    → new.extent ≡ slot.extent → SameRange slot.memory new.memory → HoldsFlights slot → HoldsFlights new
-held_beside {A} what slot new free block host extent same held =
+    → waits_now what slot.host ≡ false → KeepsFlights what slot new → HoldsFlights slot → HoldsFlights new
+held_beside {A} what slot new free keeps held =
     by_tags (is_any (tags_in slot.host)) refl (must_wait what) refl free
   where
     by_tags : (any : Bool) → is_any (tags_in slot.host) ≡ any → (waits : Bool)
         → must_wait what ≡ waits → (any && waits) ≡ false → HoldsFlights new
     by_tags false none waits is free =
-        held_none new (ap (λ (h : Option HostDisk). is_any (tags_in h)) host ∙ none)
+        held_none new (ap (λ (h : Option HostDisk). is_any (tags_in h)) keeps.host ∙ none)
     by_tags true some true is free = absurd (cc)
     by_tags true some false is free =
-        held_by slot new host extent same
-        (subst (λ (w : WindowState). KeepsQueues slot.block w) (sym (block is)) (keeps_queues what slot is))
+        held_by slot new keeps.host keeps.extent keeps.range
+        (subst (λ (w : WindowState). KeepsQueues slot.block w) (sym (keeps.block is)) (keeps_queues what slot is))
         held

@@ -105,8 +105,8 @@ impl<A: Allocator + Copy> Guest<A> {
         // a slot that is there is never said to be missing, and what is refused changes nothing
         ensures limited { PausesByLimit budget result }
         ensures there { result ≢ Turn.Answered Reply.BadSlot }
-        ensures bad_range { result ≡ Turn.Answered Reply.BadRange → self.new ≡ self.old }
-        ensures bad_range_image { result ≡ Turn.Answered Reply.BadRange → cache.new ≡ cache.old }
+        ensures bad_range { result ≡ Turn.Answered Reply.BadRange →
+            (self.new ≡ self.old) × (cache.new ≡ cache.old) }
         ensures no_memory { result ≡ Turn.Answered Reply.NoMemory → (image : List ℕ) →
             MayLackMemoryIn work.entry (state_of image self.old) }
     {
@@ -142,8 +142,8 @@ impl<A: Allocator + Copy> Guest<A> {
         ensures unnoted { IsUnnoted self.old self.new (I.disk cache.old) (I.disk cache.new) result.failed }
         ensures touches { TouchesExtent I.moment I.may_leave I.left_since self.old.extent cache.old cache.new }
         ensures there { result.turn ≢ Turn.Answered Reply.BadSlot }
-        ensures bad_range { result.turn ≡ Turn.Answered Reply.BadRange → self.new ≡ self.old }
-        ensures bad_range_image { result.turn ≡ Turn.Answered Reply.BadRange → cache.new ≡ cache.old }
+        ensures bad_range { result.turn ≡ Turn.Answered Reply.BadRange →
+            (self.new ≡ self.old) × (cache.new ≡ cache.old) }
         ensures no_memory { result.turn ≡ Turn.Answered Reply.NoMemory → (image : List ℕ) →
             MayLackMemory (state_of image self.old) what.now }
     {

@@ -198,8 +198,8 @@ impl<A: Allocator + Copy> Slot<A> {
         ensures touches { TouchesExtent I.moment I.may_leave I.left_since self.old.extent cache.old cache.new }
         ensures limited { PausesByLimit budget result.turn }
         ensures there { result.turn ≢ Turn.Answered Reply.BadSlot }
-        ensures bad_range { result.turn ≡ Turn.Answered Reply.BadRange → self.new ≡ self.old }
-        ensures bad_range_image { result.turn ≡ Turn.Answered Reply.BadRange → cache.new ≡ cache.old }
+        ensures bad_range { result.turn ≡ Turn.Answered Reply.BadRange →
+            (self.new ≡ self.old) × (cache.new ≡ cache.old) }
         ensures no_memory { result.turn ≡ Turn.Answered Reply.NoMemory → (image : List ℕ) →
             MayLackMemory (state_of image self.old) what.now }
     {

@@ -107,11 +107,6 @@ impl<A: Allocator + Copy> Guest<A> {
         ensures begins { (image : List ℕ) (health : Health) →
             Begins (EventKind.Input bytes.now) budget (state_of image self.old) health health
             (state_of image self.new) [] result }
-        ensures rest { self.new ≡ record self.old {
-          memory = self.new.memory;
-          console = self.new.console;
-          pending = self.new.pending;
-        } }
         ensures extent { self.new.extent ≡ self.old.extent }
         ensures disturbed { self.new.disturbed ≡ self.old.disturbed }
         ensures limited { PausesByLimit budget result }

@@ -31,8 +31,6 @@ impl<A: Allocator + Copy> Slot<A> {
           pending = self.new.pending;
         } }
         ensures range { SameRange self.old.memory self.new.memory }
-        ensures extent { self.new.extent ≡ self.old.extent }
-        ensures disturbed { self.new.disturbed ≡ self.old.disturbed }
         ensures limited { PausesByLimit budget result }
         ensures took { result ≡ Turn.More (input_service self.old.pending bytes.now)
             ⊎ result ≡ Turn.Answered (reply_of (input_service self.old.pending bytes.now)) }
@@ -49,8 +47,6 @@ impl<A: Allocator + Copy> Slot<A> {
     pub(super) fn resize(&mut self, cols: u16, rows: u16) -> Reply<A>
         ensures given { GivesQuietly self.old (EventKind.Resize cols rows) self.new result }
         ensures rest { self.new ≡ record self.old { console = self.new.console; cols = cols; rows = rows } }
-        ensures extent { self.new.extent ≡ self.old.extent }
-        ensures disturbed { self.new.disturbed ≡ self.old.disturbed }
         ensures done { result ≡ Reply.Done }
     {
         self.console_device.resize(cols, rows);

@@ -1,7 +1,7 @@
 //! Beside a slot's disk: what comes of its events but for the block device's part, and, of a slot whose disk the host
 //! serves, the block device's looks at its queue.
 
-ghost use Rattle.std.specs.Prelude.{◌≡◌, ◌≢◌, ℕ, List, Some, None, false, get_or, is_none, is_some, IfSome, IfNone, IsSome};
+ghost use Rattle.std.specs.Prelude.{◌≡◌, ◌≢◌, ℕ, List, Some, None, get_or, is_none, is_some, IfSome, IfNone, IsSome};
 ghost use Rattle.std.specs.Bool.{OnTrue, OnFalse};
 ghost use Rattle.std.specs.Option.{option_map};
 ghost use Rattle.guest_memory.specs.Memory.{SameRange};
@@ -12,7 +12,8 @@ ghost use Rattle.board.specs.declared.pause.Pause.{Pause};
 ghost use Rattle.board.specs.declared.pause.Service.{Service};
 ghost use Rattle.board.specs.declared.pause.Turn.{Turn};
 ghost use Rattle.board.specs.declared.reply.Reply.{Reply};
-ghost use Rattle.board.specs.Hosting.{HoldsFlights, LandsTag, LooksAtQueue, block_beside, dropped, device_at, must_wait, notifies_block};
+ghost use Rattle.board.specs.Flights.{KeepsFlights};
+ghost use Rattle.board.specs.Hosting.{HoldsFlights, LandsTag, LooksAtQueue, dropped, device_at, notifies_block};
 ghost use Rattle.board.specs.Image.{Health, sectors_of};
 ghost use Rattle.board.specs.Pausing.{BeginsOverImage, ComesTo, PausesByLimit, ServesTurn, readied};
 ghost use Rattle.board.specs.Slot.{state_of};
@@ -54,11 +55,7 @@ impl<A: Allocator + Copy> Slot<A> {
             (O.bytes out.old) (O.bytes out.new) turn) }
         ensures limited { IfSome result (PausesByLimit budget) }
         ensures limit { O.limit out.new ≡ O.limit out.old }
-        ensures device { device_at self.new ≡ device_at self.old }
-        ensures host { self.new.host ≡ self.old.host }
-        ensures block { must_wait what.now ≡ false → self.new.block ≡ block_beside what.now self.old }
-        ensures range { SameRange self.old.memory self.new.memory }
-        ensures extent { self.new.extent ≡ self.old.extent }
+        ensures keeps { KeepsFlights what.now self.old self.new }
         ensures disturbed { self.new.disturbed ≡ self.old.disturbed }
         ensures there { IfSome result (λ turn. turn ≢ Turn.Answered Reply.BadSlot) }
         ensures bad_range { IfSome result (λ turn. turn ≡ Turn.Answered Reply.BadRange → self.new ≡ self.old) }
@@ -111,11 +108,7 @@ impl<A: Allocator + Copy> Slot<A> {
             (state_of image self.old) (state_of image self.new) (O.bytes out.old) (O.bytes out.new) turn) }
         ensures limited { IfSome result (PausesByLimit budget) }
         ensures limit { O.limit out.new ≡ O.limit out.old }
-        ensures device { device_at self.new ≡ device_at self.old }
-        ensures host { self.new.host ≡ self.old.host }
-        ensures block { self.new.block ≡ block_beside {A = A} (EventKind.Write window offset width value) self.old }
-        ensures range { SameRange self.old.memory self.new.memory }
-        ensures extent { self.new.extent ≡ self.old.extent }
+        ensures keeps { KeepsFlights {A = A} (EventKind.Write window offset width value) self.old self.new }
         ensures disturbed { self.new.disturbed ≡ self.old.disturbed }
         ensures there { IfSome result (λ turn. turn ≢ Turn.Answered Reply.BadSlot) }
         ensures bad_range { IfSome result (λ turn. turn ≡ Turn.Answered Reply.BadRange → self.new ≡ self.old) }
@@ -158,7 +151,6 @@ impl<A: Allocator + Copy> Slot<A> {
             (O.bytes out.old) (O.bytes out.new) result }
         ensures limited { PausesByLimit budget result }
         ensures limit { O.limit out.new ≡ O.limit out.old }
-        ensures device { device_at self.new ≡ device_at self.old }
         ensures host { self.new.host ≡ self.old.host }
         ensures block { self.new.block ≡ self.old.block }
         ensures range { SameRange self.old.memory self.new.memory }

@@ -34,8 +34,6 @@ impl<A: Allocator + Copy> Slot<A> {
         ensures given { GivesQuietly self.old (EventKind.MemWrite addr new.now) self.new result }
         ensures rest { self.new ≡ record self.old { memory = self.new.memory } }
         ensures range { SameRange self.old.memory self.new.memory }
-        ensures extent { self.new.extent ≡ self.old.extent }
-        ensures disturbed { self.new.disturbed ≡ self.old.disturbed }
         ensures there { result ≢ Reply.BadSlot }
         ensures bad_range { result ≡ Reply.BadRange → self.new ≡ self.old }
         ensures no_memory { result ≢ Reply.NoMemory }
@@ -57,8 +55,6 @@ impl<A: Allocator> Slot<A> {
         ensures kept { OnFalse result (self.new ≡ self.old) }
         ensures rest { self.new ≡ record self.old { memory = self.new.memory } }
         ensures range { SameRange self.old.memory self.new.memory }
-        ensures extent { self.new.extent ≡ self.old.extent }
-        ensures disturbed { self.new.disturbed ≡ self.old.disturbed }
     {
         if !self.memory.holds(addr, new.len() as u64) {
             return false;

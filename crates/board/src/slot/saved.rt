@@ -8,7 +8,6 @@ ghost use Rattle.mmio_window.specs.Soundness.{IsSound};
 ghost use Rattle.board.specs.Saved.{IsAs, IsCauseOf, IsLike, IsRestored, IsSavedTo, IsSnapshotOf, OffersFeatures, Prevents, Suits, TakesUp, block_restored, saved_slot, snapshot_of};
 ghost use Rattle.board.specs.declared.event.EventKind.{EventKind};
 ghost use Rattle.board.specs.declared.reply.Reply.{Reply};
-ghost use Rattle.board.specs.Hosting.{device_at};
 ghost use Rattle.board.specs.Image.{Health, sectors_of};
 ghost use Rattle.board.specs.Outcome.{replies};
 ghost use Rattle.board.specs.Slot.{BoardSlot, state_of};
@@ -78,7 +77,6 @@ impl<A: Allocator> Slot<A> {
         ensures fault { IfErr result (IsCauseOf self.old from.now) }
         ensures kept { OnErr result (self.new ≡ self.old) }
         ensures extent { self.new.extent ≡ self.old.extent }
-        ensures device { device_at self.new ≡ device_at self.old }
         ensures host { self.new.host ≡ self.old.host }
         ensures memory { self.new.memory ≡ self.old.memory }
         ensures disturbed { self.new.disturbed ≡ self.old.disturbed }
@@ -98,7 +96,6 @@ impl<A: Allocator> Slot<A> {
             MayGiveOverImage (state_of image self.old) (EventKind.Restore from.now) health health
             (replies (state_of image self.new) result) }
         ensures extent { self.new.extent ≡ self.old.extent }
-        ensures device { device_at self.new ≡ device_at self.old }
         ensures host { self.new.host ≡ self.old.host }
         ensures memory { self.new.memory ≡ self.old.memory }
         ensures disturbed { self.new.disturbed ≡ self.old.disturbed }
@@ -120,7 +117,6 @@ impl<A: Allocator> Slot<A> {
         ensures offers { OffersFeatures self.old }
         ensures kept { OnErr result (self.new ≡ self.old) }
         ensures extent { self.new.extent ≡ self.old.extent }
-        ensures device { device_at self.new ≡ device_at self.old }
         ensures host { self.new.host ≡ self.old.host }
         ensures memory { self.new.memory ≡ self.old.memory }
         ensures disturbed { self.new.disturbed ≡ self.old.disturbed }

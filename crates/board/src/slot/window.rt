@@ -62,7 +62,6 @@ impl<A: Allocator + Copy> Slot<A> {
         ensures written { (image : List ℕ) →
             state_of image self.new ≡ with_write window offset width value (state_of image self.old) }
         ensures extent { self.new.extent ≡ self.old.extent }
-        ensures host { self.new.host ≡ self.old.host }
         ensures disturbed { self.new.disturbed ≡ self.old.disturbed }
     {
         match window {

@@ -1,10 +1,10 @@
-use Rattle.std.proofs.Common.{◌≡◌, ◌≤◌, None, [], arith, length, refl, sym, ◌∙◌, ap}
+use Rattle.std.proofs.Common.{◌≡◌, None, [], refl, sym, ◌∙◌, ap}
 use Rattle.std.specs.List.{slice_get}
-use Rattle.std.proofs.lemmas.Option.{same_Some, slice_get_past}
+use Rattle.std.proofs.lemmas.Option.{same_Some}
 use Rattle.board.specs.Image.{bytes_of, health_of}
 use Rattle.board.specs.World.{disturbed_of, extents_of}
 use Rattle.board.proofs.Access.{disturbed_kept, unmet_turn}
-use Rattle.board.proofs.Lists.{get_set, is_there, others_kept}
+use Rattle.board.proofs.Lists.{get_set, is_there, not_there, others_kept}
 use Rattle.board.proofs.Seats.{extents_of-set, sound_set, takes}
 use Rattle.board.proofs.board.Board.begin_input.Goals as goal
 
@@ -50,10 +50,8 @@ returns-clause-disturbed g c =
 
 pub returns-in_default-clause-shown : goal.returns-in_default-clause-shown
 returns-in_default-clause-shown g c found here =
-    let past : length c.self.inside.slots.items ≤ c.args.slot =
-    grind (arith, c.in_default.ensures.variant.1) in
     let none : slice_get c.self.inside.slots.items c.args.slot ≡ None =
-    slice_get_past c.self.inside.slots.items c.args.slot past in
+    not_there c.self.inside.slots.items c.args.slot c.in_default.ensures.item in
     absurd (cc (here, none))
 
 pub returns-clause-shown : goal.returns-clause-shown

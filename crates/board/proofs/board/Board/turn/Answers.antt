@@ -1,13 +1,13 @@
 use Rattle.std.proofs.Common.{◌≡◌, ℕ, List, ◌≤◌, Option, Some, None, length, sym, ◌∙◌, ap, subst, arith}
 use Rattle.std.specs.Prelude.{IsSomeAnd, slice_set}
 use Rattle.std.specs.List.{slice_get}
-use Rattle.std.proofs.lemmas.Option.{slice_get_past, same_Some}
+use Rattle.std.proofs.lemmas.Option.{same_Some}
 use Rattle.board.specs.Slot.{BoardSlot, state_of}
 use Rattle.board.specs.Image.{Tells}
 use Rattle.board.specs.Pausing.{MayLackMemoryIn}
 use Rattle.board.specs.World.{disturbed_of}
 use Rattle.board.proofs.Outside.{outside_kept}
-use Rattle.board.proofs.Lists.{get_set, is_there, others_kept}
+use Rattle.board.proofs.Lists.{get_set, is_there, not_there, others_kept}
 use Rattle.board.proofs.Seats.{extents_of-set, noted_none, noted_set, set_same, slot_within, stays_in_extents, stays_same, takes}
 use Rattle.board.proofs.Touching.{touches_missing, touches_slot}
 use Rattle.board.proofs.board.Board.turn.Goals as goal
@@ -72,9 +72,10 @@ returns-clause-noted g c =
 
 pub returns-clause-bad_range_keeps : goal.returns-clause-bad_range_keeps
 returns-clause-bad_range_keeps g c refused =
+    let kept = c.turn-turn.ensures.bad_range (sym c.after.ensures.turn ∙ refused) in
     let same = set_same c.self.inside.slots.items c.args.slot c.in-Some.slot.now c.turn-turn.new.self
-    (there g c) (c.turn-turn.ensures.bad_range (sym c.after.ensures.turn ∙ refused)) in
-    rw (same, c.turn-turn.ensures.bad_range_image (sym c.after.ensures.turn ∙ refused)) c.self.view_is
+    (there g c) kept.0 in
+    rw (same, kept.1) c.self.view_is
 
 pub returns-clause-no_memory : goal.returns-clause-no_memory
 returns-clause-no_memory g c lacking =
@@ -91,10 +92,8 @@ returns-clause-others g c other differ =
 
 pub returns-in_default-clause-within : goal.returns-in_default-clause-within
 returns-in_default-clause-within g c limit limited found after here =
-    let past : length c.self.inside.slots.items ≤ c.args.slot =
-    grind (arith, c.in_default.ensures.variant.1) in
     let none : slice_get c.args.self.now.slots c.args.slot ≡ None =
-    rw (← c.self.view_is) (slice_get_past c.self.inside.slots.items c.args.slot past) in
+    rw (← c.self.view_is) (not_there c.self.inside.slots.items c.args.slot c.in_default.ensures.item) in
     absurd (cc)
 
 pub returns-clause-within : goal.returns-clause-within
@@ -124,10 +123,8 @@ returns-clause-touches g c =
 
 pub returns-in_default-clause-shown : goal.returns-in_default-clause-shown
 returns-in_default-clause-shown g c found here =
-    let past : length c.self.inside.slots.items ≤ c.args.slot =
-    grind (arith, c.in_default.ensures.variant.1) in
     let none : slice_get c.args.self.now.slots c.args.slot ≡ None =
-    rw (← c.self.view_is) (slice_get_past c.self.inside.slots.items c.args.slot past) in
+    rw (← c.self.view_is) (not_there c.self.inside.slots.items c.args.slot c.in_default.ensures.item) in
     absurd (cc)
 
 pub returns-clause-shown : goal.returns-clause-shown

@@ -32,21 +32,16 @@ free_of what slot now result same is free =
 
 pub invariant_of-self : goal.invariant_of-self
 invariant_of-self g c =
-    let handled = c.answer_beside_disk.ensures in
     held_beside c.args.what.now c.self.inside.slot c.answer_beside_disk.new.self
     (free_of c.args.what.now c.self.inside.slot c.args.self.now c.holds_up.result c.self.view_is
-    c.holds_up.ensures c.if-holds_up.false)
-    handled.block handled.host handled.extent handled.range c.self.invariant
+    c.holds_up.ensures c.if-holds_up.false) c.answer_beside_disk.ensures.keeps c.self.invariant
 
 pub look-requires : goal.look-requires
-look-requires g c =
-    let handled = c.answer_beside_disk.ensures in
-    record {
-      held = held_beside c.args.what.now c.self.inside.slot c.answer_beside_disk.new.self
-          (free_of c.args.what.now c.self.inside.slot c.args.self.now c.holds_up.result c.self.view_is
-          c.holds_up.ensures c.if-holds_up.false)
-          handled.block handled.host handled.extent handled.range c.self.invariant;
-    }
+look-requires g c = record {
+  held = held_beside c.args.what.now c.self.inside.slot c.answer_beside_disk.new.self
+      (free_of c.args.what.now c.self.inside.slot c.args.self.now c.holds_up.result c.self.view_is
+      c.holds_up.ensures c.if-holds_up.false) c.answer_beside_disk.ensures.keeps c.self.invariant;
+}
 
 -- and one that does changes nothing
 pub returns-then-holds_up : goal.returns-then-holds_up
@@ -94,7 +89,7 @@ returns-in-Some g c =
           (handled.within image limit limited);
       limited = handled.limited;
       limit = handled.limit;
-      extent = handled.extent;
+      extent = handled.keeps.extent;
       disturbed = handled.disturbed;
       there = handled.there;
       bad_range = handled.bad_range;
@@ -122,7 +117,7 @@ returns-in-None g c =
           (state_of image c.look.new.self) Done (g.O.Outlet.bytes c.args.out.now) (part image)
           (notified_given (state_of image slot) (state_of image mid) (state_of image c.look.new.self)
           c.args.what.now health hosted free (rings image) (handled.readied image)
-          (c.look.ensures.looks (subst (λ (h : Option HostDisk). IsSome h) (sym handled.host) hosted) image)));
+          (c.look.ensures.looks (subst (λ (h : Option HostDisk). IsSome h) (sym handled.keeps.host) hosted) image)));
       within = λ image limit limited.
           rw (handled.silent)
           (within_part limit c.args.what.now c.args.budget (state_of image slot)
@@ -132,7 +127,7 @@ returns-in-None g c =
           (g.O.Outlet.bytes c.args.out.now) Done (rings image)));
       limited = λ next is. absurd (cc);
       limit = handled.limit;
-      extent = ap (λ (s : BoardSlot). s.extent) c.look.ensures.rest ∙ handled.extent;
+      extent = ap (λ (s : BoardSlot). s.extent) c.look.ensures.rest ∙ handled.keeps.extent;
       disturbed = ap (λ (s : BoardSlot). s.disturbed) c.look.ensures.rest ∙ handled.disturbed;
       there = λ is. cc;
       bad_range = λ is. absurd (cc);

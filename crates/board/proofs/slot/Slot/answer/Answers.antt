@@ -27,7 +27,7 @@ returns-in-Some-clause-touches g c =
 pub serve_piece-requires : goal.serve_piece-requires
 serve_piece-requires g c = record {
   lies = subst (λ (e : Extent). IsWithin (g.I.Image.disk c.args.cache.now).sector_count e)
-      (sym c.answer_beside_disk.ensures.extent) c.requires.lies;
+      (sym c.answer_beside_disk.ensures.keeps.extent) c.requires.lies;
 }
 
 pub returns-in-None-clause-serves : goal.returns-in-None-clause-serves
@@ -54,14 +54,14 @@ returns-in-None-clause-within g c = λ limit limited.
 
 pub returns-in-None-clause-unnoted : goal.returns-in-None-clause-unnoted
 returns-in-None-clause-unnoted g c =
-    unnoted_behind _ _ _ _ _ _ c.answer_beside_disk.ensures.extent c.answer_beside_disk.ensures.disturbed
+    unnoted_behind _ _ _ _ _ _ c.answer_beside_disk.ensures.keeps.extent c.answer_beside_disk.ensures.disturbed
     c.serve_piece.ensures.unnoted
 
 pub returns-in-None-clause-touches : goal.returns-in-None-clause-touches
 returns-in-None-clause-touches g c =
     subst (λ (e : Extent). TouchesExtent g.I.Image.moment g.I.Image.may_leave g.I.Image.left_since e
     c.args.cache.now c.serve_piece.new.cache)
-    c.answer_beside_disk.ensures.extent c.serve_piece.ensures.touches
+    c.answer_beside_disk.ensures.keeps.extent c.serve_piece.ensures.touches
 
 pub returns-in-None-clause-no_memory : goal.returns-in-None-clause-no_memory
 returns-in-None-clause-no_memory g c = λ lacking image.

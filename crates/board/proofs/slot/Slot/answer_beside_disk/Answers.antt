@@ -1,9 +1,9 @@
-use Rattle.std.proofs.Common.{◌≡◌, ℕ, List, false, refl, ap}
+use Rattle.std.proofs.Common.{◌≡◌, ℕ, List, [], false, refl, ap}
 use Rattle.board.specs.declared.event.EventKind.{EventKind}
 use Rattle.board.specs.declared.event.EventKind.TheVariants.{Input, Restore}
-use Rattle.board.specs.Hosting.{device_at, must_wait}
+use Rattle.board.specs.Hosting.{must_wait}
 use Rattle.board.specs.Slot.{BoardSlot, state_of}
-use Rattle.board.proofs.Beside.{range_of, same_range}
+use Rattle.board.proofs.Beside.{keeps_as, keeps_on, range_of}
 use Rattle.board.proofs.Blocks.{read_given, told_given}
 use Rattle.board.proofs.Turns.{comes_first, silent_answer}
 use Rattle.board.proofs.slot.Slot.answer_beside_disk.Goals as goal
@@ -20,15 +20,13 @@ returns-in-Input-clause-serves g c = λ image health filled.
     (g.O.Outlet.bytes c.args.out.now) refl
     (c.input.ensures.comes image health))
 
-pub returns-in-Input-clause-device : goal.returns-in-Input-clause-device
-returns-in-Input-clause-device g c = ap device_at c.input.ensures.rest
-
-pub returns-in-Input-clause-host : goal.returns-in-Input-clause-host
-returns-in-Input-clause-host g c = ap (λ (slot : BoardSlot). slot.host) c.input.ensures.rest
-
-pub returns-in-Input-clause-block : goal.returns-in-Input-clause-block
-returns-in-Input-clause-block g c free =
-    rw (c.in-Input.is) (ap (λ (slot : BoardSlot). slot.block) c.input.ensures.rest)
+pub returns-in-Input-clause-keeps : goal.returns-in-Input-clause-keeps
+returns-in-Input-clause-keeps g c =
+    let typed = c.input.ensures in
+    rw (c.in-Input.is)
+    (keeps_on _ c.args.self.now _ (keeps_as _ _ _ refl refl refl refl refl)
+    (ap (λ (slot : BoardSlot). slot.block) typed.rest) (ap (λ (slot : BoardSlot). slot.host) typed.rest)
+    typed.range (ap (λ (slot : BoardSlot). slot.extent) typed.rest))
 
 pub returns-clause-serves : goal.returns-clause-serves
 returns-clause-serves g c = λ image health filled.
@@ -53,49 +51,31 @@ returns-clause-serves g c = λ image health filled.
           (silent_answer _ c.args.budget _ _ _ _ _ out refl (told_given (state_of image slot) _ health))
     ]
 
-pub returns-clause-device : goal.returns-clause-device
-returns-clause-device g c =
+pub returns-clause-keeps : goal.returns-clause-keeps
+returns-clause-keeps g c =
+    let slot = c.args.self.now in
     elim c.match-what.branch [
-      | in-Read w ↦ rw (w.self-is) refl
-      | in-MemRead w ↦ rw (w.self-is) refl
-      | in-MemWrite w ↦ rw (w.self-is) (ap device_at w.write_memory-reply.ensures.rest)
-      | in-Resize w ↦ rw (w.self-is) (ap device_at w.resize-reply.ensures.rest)
-      | in-Restore w ↦ rw (w.self-is) w.answer_restore-reply.ensures.device
-      | in-Host w ↦ rw (w.self-is) refl
-    ]
-
-pub returns-clause-host : goal.returns-clause-host
-returns-clause-host g c =
-    elim c.match-what.branch [
-      | in-Read w ↦ rw (w.self-is) refl
-      | in-MemRead w ↦ rw (w.self-is) refl
-      | in-MemWrite w ↦ rw (w.self-is) (ap (λ (slot : BoardSlot). slot.host) w.write_memory-reply.ensures.rest)
-      | in-Resize w ↦ rw (w.self-is) (ap (λ (slot : BoardSlot). slot.host) w.resize-reply.ensures.rest)
-      | in-Restore w ↦ rw (w.self-is) w.answer_restore-reply.ensures.host
-      | in-Host w ↦ rw (w.self-is) refl
-    ]
-
-pub returns-clause-block : goal.returns-clause-block
-returns-clause-block g c free =
-    elim c.match-what.branch [
-      | in-Read w ↦ rw (w.self-is, w.in-Read.is) refl
-      | in-MemRead w ↦ rw (w.self-is, w.in-MemRead.is) refl
-      | in-MemWrite w ↦ rw (w.self-is, w.in-MemWrite.is)
-          (ap (λ (slot : BoardSlot). slot.block) w.write_memory-reply.ensures.rest)
-      | in-Resize w ↦ rw (w.self-is, w.in-Resize.is)
-          (ap (λ (slot : BoardSlot). slot.block) w.resize-reply.ensures.rest)
-      | in-Restore w ↦ absurd (waits w.in-Restore.is free)
-      | in-Host w ↦ rw (w.self-is, w.in-Host.is) refl
-    ]
-
-pub returns-clause-range : goal.returns-clause-range
-returns-clause-range g c =
-    elim c.match-what.branch [
-      | in-Read w ↦ rw (w.self-is) (same_range _)
-      | in-MemRead w ↦ rw (w.self-is) (same_range _)
-      | in-MemWrite w ↦ rw (w.self-is) w.write_memory-reply.ensures.range
-      | in-Resize w ↦ rw (w.self-is)
-          (range_of _ _ (ap (λ (slot : BoardSlot). slot.memory) w.resize-reply.ensures.rest))
-      | in-Restore w ↦ rw (w.self-is) (range_of _ _ w.answer_restore-reply.ensures.memory)
-      | in-Host w ↦ rw (w.self-is) (same_range _)
+      | in-Read w ↦ rw (w.self-is, w.in-Read.is) (keeps_as slot slot _ refl refl refl refl refl)
+      | in-MemRead w ↦ rw (w.self-is, w.in-MemRead.is) (keeps_as slot slot _ refl refl refl refl refl)
+      | in-MemWrite w ↦
+          let put = w.write_memory-reply.ensures in
+          rw (w.self-is, w.in-MemWrite.is)
+          (keeps_on slot slot _ (keeps_as slot slot _ refl refl refl refl refl)
+          (ap (λ (s : BoardSlot). s.block) put.rest) (ap (λ (s : BoardSlot). s.host) put.rest) put.range
+          (ap (λ (s : BoardSlot). s.extent) put.rest))
+      | in-Resize w ↦
+          let resized = w.resize-reply.ensures in
+          rw (w.self-is, w.in-Resize.is)
+          (keeps_as slot _ _ (ap (state_of []) resized.rest) refl refl refl
+          (ap (λ (s : BoardSlot). s.extent) resized.rest))
+      | in-Restore w ↦
+          let restored = w.answer_restore-reply.ensures in
+          rw (w.self-is)
+          (record {
+            block = λ free. absurd (waits w.in-Restore.is free);
+            host = restored.host;
+            range = range_of _ _ restored.memory;
+            extent = restored.extent;
+          })
+      | in-Host w ↦ rw (w.self-is, w.in-Host.is) (keeps_as slot slot _ refl refl refl refl refl)
     ]

@@ -1,34 +1,33 @@
 use Rattle.std.proofs.Common.{◌≡◌, ℕ, List, sym, ap, subst, ◌∙◌, refl}
-use Rattle.guest_memory.specs.Memory.{SameRange}
-use Rattle.guest_memory.proofs.Ranges.{same_trans}
 use Rattle.board.specs.declared.event.EventKind.{EventKind}
 use Rattle.board.specs.declared.event.EventKind.TheVariants.{Write}
 use Rattle.board.specs.declared.pause.Turn.TheVariants.{Answered}
-use Rattle.board.specs.Hosting.{device_at}
 use Rattle.board.specs.Machine.{task_at, with_write}
 use Rattle.board.specs.Pausing.{BeginsOverImage, ServesTurn, asked_by}
 use Rattle.board.specs.Slot.{BoardSlot, state_of}
 use Rattle.board.specs.Task.{Task, Serve}
 use Rattle.board.specs.Within.{BeginsWithinOverImage}
 use Rattle.board.specs.World.{TakesMemory}
-use Rattle.board.proofs.Beside.{not_block, written_block, written_device, written_range}
+use Rattle.board.proofs.Beside.{keeps_on, not_block, written_keeps}
 use Rattle.board.proofs.Turns.{begins_by, begins_within, nothing_turn, put_out_turn, put_out_within}
 use Rattle.board.proofs.slot.Slot.write_beside_disk.Goals as goal
 
-pub returns-in-Serve-Block-clause-device : goal.returns-in-Serve-Block-clause-device
-returns-in-Serve-Block-clause-device g c =
-    written_device c.args.window c.args.offset c.args.width c.args.value c.args.self.now
-    c.write_registers.new.self c.write_registers.ensures.written c.write_registers.ensures.extent
+pub returns-in-Serve-Block-clause-keeps : goal.returns-in-Serve-Block-clause-keeps
+returns-in-Serve-Block-clause-keeps g c =
+    written_keeps c.args.window c.args.offset c.args.width c.args.value _ _
+    c.write_registers.ensures.written c.write_registers.ensures.extent
 
-pub returns-in-Serve-Block-clause-block : goal.returns-in-Serve-Block-clause-block
-returns-in-Serve-Block-clause-block g c =
-    written_block g.row.A.Denot c.args.window c.args.offset c.args.width c.args.value c.args.self.now
-    c.write_registers.new.self c.write_registers.ensures.written
+pub returns-in-PutOut-clause-keeps : goal.returns-in-PutOut-clause-keeps
+returns-in-PutOut-clause-keeps g c =
+    rw (c.emergency-put_out.ensures.same)
+    (rw (c.self.view_is)
+    (written_keeps c.args.window c.args.offset c.args.width c.args.value _ _
+    c.write_registers.ensures.written c.write_registers.ensures.extent))
 
-pub returns-in-Serve-Block-clause-range : goal.returns-in-Serve-Block-clause-range
-returns-in-Serve-Block-clause-range g c =
-    written_range c.args.window c.args.offset c.args.width c.args.value c.args.self.now
-    c.write_registers.new.self c.write_registers.ensures.written
+pub returns-in-Nothing-clause-keeps : goal.returns-in-Nothing-clause-keeps
+returns-in-Nothing-clause-keeps g c =
+    written_keeps c.args.window c.args.offset c.args.width c.args.value _ _
+    c.write_registers.ensures.written c.write_registers.ensures.extent
 
 pub returns-in-Serve : goal.returns-in-Serve
 returns-in-Serve g c =
@@ -57,16 +56,10 @@ returns-in-Serve g c =
           (written.written image) (served.ensures.within image limit limited);
       limited = served.ensures.limited;
       limit = served.ensures.limit;
-      device = served.ensures.device
-          ∙ written_device c.args.window c.args.offset c.args.width c.args.value c.args.self.now
-          c.write_registers.new.self written.written written.extent;
-      host = served.ensures.host ∙ written.host;
-      block = served.ensures.block
-          ∙ written_block g.row.A.Denot c.args.window c.args.offset c.args.width c.args.value c.args.self.now
-          c.write_registers.new.self written.written;
-      range = same_trans _ _ _ (written_range c.args.window c.args.offset c.args.width c.args.value
-          c.args.self.now c.write_registers.new.self written.written) served.ensures.range;
-      extent = served.ensures.extent ∙ written.extent;
+      keeps = keeps_on c.args.self.now c.write_registers.new.self served.new.self
+          (written_keeps c.args.window c.args.offset c.args.width c.args.value _ _
+          written.written written.extent)
+          served.ensures.block served.ensures.host served.ensures.range served.ensures.extent;
       disturbed = served.ensures.disturbed ∙ written.disturbed;
       there = served.ensures.there;
       bad_range = λ refused. absurd (served.ensures.in_range refused);
@@ -107,56 +100,9 @@ returns-in-PutOut-clause-within g c = λ image limit limited.
     c.emergency-put_out.ensures.ok c.emergency-put_out.ensures.fits c.emergency-put_out.ensures.err
     c.emergency-put_out.ensures.refused c.reply_to.ensures.done c.reply_to.ensures.no_memory)))
 
-pub returns-in-PutOut-clause-device : goal.returns-in-PutOut-clause-device
-returns-in-PutOut-clause-device g c =
-    subst (λ (slot : BoardSlot). device_at slot ≡ device_at c.args.self.now) (sym c.self.view_is)
-    (written_device c.args.window c.args.offset c.args.width c.args.value c.args.self.now
-    c.write_registers.new.self c.write_registers.ensures.written c.write_registers.ensures.extent)
-
-pub returns-in-PutOut-clause-block : goal.returns-in-PutOut-clause-block
-returns-in-PutOut-clause-block g c =
-    ap (λ (slot : BoardSlot). slot.block) c.self.view_is
-    ∙ written_block g.row.A.Denot c.args.window c.args.offset c.args.width c.args.value c.args.self.now
-    c.write_registers.new.self c.write_registers.ensures.written
-
-pub returns-in-PutOut-clause-range : goal.returns-in-PutOut-clause-range
-returns-in-PutOut-clause-range g c =
-    subst (λ (slot : BoardSlot). SameRange c.args.self.now.memory slot.memory) (sym c.self.view_is)
-    (written_range c.args.window c.args.offset c.args.width c.args.value c.args.self.now
-    c.write_registers.new.self c.write_registers.ensures.written)
-
 pub returns-in-Nothing-clause-serves : goal.returns-in-Nothing-clause-serves
 returns-in-Nothing-clause-serves g c = λ image health.
     let state = state_of image c.args.self.now in
     rw (c.write_registers.ensures.written image)
     (nothing_turn state c.args.window c.args.offset c.args.width c.args.value c.args.budget health _
     (sym (c.write_registers.ensures.task image) ∙ c.in-Nothing.is))
-
-pub returns-in-Nothing-clause-device : goal.returns-in-Nothing-clause-device
-returns-in-Nothing-clause-device g c =
-    written_device c.args.window c.args.offset c.args.width c.args.value c.args.self.now
-    c.write_registers.new.self c.write_registers.ensures.written c.write_registers.ensures.extent
-
-pub returns-in-Nothing-clause-block : goal.returns-in-Nothing-clause-block
-returns-in-Nothing-clause-block g c =
-    written_block g.row.A.Denot c.args.window c.args.offset c.args.width c.args.value c.args.self.now
-    c.write_registers.new.self c.write_registers.ensures.written
-
-pub returns-in-Nothing-clause-range : goal.returns-in-Nothing-clause-range
-returns-in-Nothing-clause-range g c =
-    written_range c.args.window c.args.offset c.args.width c.args.value c.args.self.now
-    c.write_registers.new.self c.write_registers.ensures.written
-
-pub returns-in-Serve-Block-clause-host : goal.returns-in-Serve-Block-clause-host
-returns-in-Serve-Block-clause-host g c = c.write_registers.ensures.host
-
-pub returns-in-PutOut-clause-host : goal.returns-in-PutOut-clause-host
-returns-in-PutOut-clause-host g c =
-    ap (λ (slot : BoardSlot). slot.host) c.self.view_is ∙ c.write_registers.ensures.host
-
-pub returns-in-Nothing-clause-host : goal.returns-in-Nothing-clause-host
-returns-in-Nothing-clause-host g c = c.write_registers.ensures.host
-
-pub returns-in-PutOut-clause-extent : goal.returns-in-PutOut-clause-extent
-returns-in-PutOut-clause-extent g c =
-    ap (λ (slot : BoardSlot). slot.extent) c.self.view_is ∙ c.write_registers.ensures.extent
