@@ -24,8 +24,8 @@ use Rattle.session.specs.Pausing.{ComesTo}
 use Rattle.session.specs.Session.{IsStep, SessionState, Waiting, limit_of, output_of, world_of}
 use Rattle.session.specs.Steps.{Answer, Asking, Called, Does, Gave, IsAnsweredSo, Takes, Told, Took, after_step, answer_of, asking_of, slot_of}
 use Rattle.session.proofs.PacedAlone.{others_at}
-use Rattle.session.proofs.PacedCalls.{never_busy, never_idle}
 use Rattle.session.proofs.PacedCourses.{by_pause, step_of}
+use Rattle.session.proofs.Suiting.{never_busy, never_idle}
 use Rattle.session.proofs.Waiting.{others_wait}
 
 -- what a guest's own event comes to

@@ -1,6 +1,6 @@
 -- When a call asks the host for something.
 use Rattle.std.proofs.Common.{◌≡◌, ◌≢◌, ◌↔◌, inl, inr, ℕ, zero, suc, Bool, true, false, List, [], ◌∷◌, map, Option, Some, None, refl, sym, ◌∙◌, ap, subst}
-use Rattle.std.specs.Prelude.{◌+◌, ◌^◌, IfOk, IsTrue, Result, Ok, Err}
+use Rattle.std.specs.Prelude.{IfOk, IsTrue, Result, Ok, Err}
 use Rattle.std.specs.List.{slice_get}
 use Rattle.std.specs.Option.{option_and_then, option_map}
 use Rattle.chain.specs.declared.budget.Budget.{Budget}
@@ -20,7 +20,7 @@ use Rattle.block_device.specs.Flights.{taken_bits}
 use Rattle.board.specs.Backing.{HostDisk, tags_in}
 use Rattle.board.specs.Image.{Health}
 use Rattle.board.specs.Pausing as pausing
-use Rattle.board.specs.Pausing.{Begins, GoesOn, GoesOnBy, IsPiece, TurnsTo, asked, is_hosts, readied}
+use Rattle.board.specs.Pausing.{Begins, GoesOnBy, IsPiece, TurnsTo, asked, is_hosts, readied}
 use Rattle.board.specs.Slot.{BoardSlot, SlotState, state_of}
 use Rattle.board.specs.World.{MayGive}
 use Rattle.board.proofs.Identities.{readied_fixed}
@@ -164,22 +164,10 @@ asks_where response (Ok came) asks P says same never =
     (λ is. same.0 ((says.0 is).0), λ p. says.1 (same.1 p, λ more. never more p))
 asks_where response (Err why) asks P says same never = tt
 
--- nothing began
-pub asks_never : {A : Type 0} (response : Response A) (r : Result Progress Refusal)
-    → IfOk r (λ came. (came ≡ progress.Asks) ↔ (IsTrue false × (response ≢ More)))
-    → IfOk r (λ came. came ≢ progress.Asks)
-asks_never response (Ok came) says = λ is. absurd (cc ((says.0 is).0))
-asks_never response (Err why) says = tt
-
 -- the tags that a call found in flight, and left so, say whether something began
 pub asked_where : (before after old new : Option ℕ) (asks : Bool) → before ≡ old → after ≡ new
     → IsTrue asks ↔ (after ≢ before) → IsTrue asks ↔ (new ≢ old)
 asked_where before after old new asks was now says = rw (was, now) at says
-
-pub asked_beside : (tag : ℕ) (before after old new : Option ℕ) (asks : Bool) → before ≡ old → after ≡ new
-    → IsTrue asks ↔ (option_map (λ taken. taken + 2 ^ tag) after ≢ before)
-    → IsTrue asks ↔ (option_map (λ taken. taken + 2 ^ tag) new ≢ old)
-asked_beside tag before after old new asks was now says = rw (was, now) at says
 
 -- ---- a service that goes on
 

@@ -3,9 +3,7 @@ use Rattle.std.proofs.Common.{◌≡◌, ℕ, zero, suc, ◌<◌, ◌≤◌, Boo
 use Rattle.std.specs.Prelude.{if◌then◌else◌}
 use Rattle.std.specs.List.{slice_get}
 use Rattle.std.specs.Option.{option_and_then}
-use Rattle.std.proofs.lemmas.List.{length-set}
-use Rattle.std.proofs.lemmas.Option.{same_Some, slice_get_within, slice_get_past, slice_get_cases}
-use Rattle.chain.specs.declared.budget.Budget.{Budget}
+use Rattle.std.proofs.lemmas.Option.{same_Some, slice_get_within, slice_get_cases}
 use Rattle.board.specs.declared.event.Event.{Event}
 use Rattle.board.specs.declared.pause.Pause.{Pause}
 use Rattle.board.specs.declared.pause.Turn.TheVariants as turn
@@ -13,10 +11,8 @@ use Rattle.board.specs.declared.reply.Reply.{Reply}
 use Rattle.board.specs.declared.reply.Reply.TheVariants.{BadSlot, BadRange}
 use Rattle.board.specs.Pausing.{asked}
 use Rattle.board.specs.Slot.{SlotState, BoardSlot, state_of}
-use Rattle.session.specs.declared.response.Response.{Response}
 use Rattle.session.specs.declared.response.Response.TheVariants.{Answered, Busy}
-use Rattle.session.specs.Pacing.{Call, GoOn, Handle, PacedWorld, Responds, paused_by, slot_in}
-use Rattle.session.specs.Pacing as paced
+use Rattle.session.specs.Pacing.{Handle}
 use Rattle.session.proofs.Access.{answered_turn}
 use Rattle.session.specs.declared.refusal.Refusal.TheVariants as refusal
 use Rattle.session.specs.Answering.{RefusalMeans}
@@ -24,11 +20,7 @@ use Rattle.session.specs.Pausing.{ComesTo, IsCall}
 use Rattle.session.specs.Session.{IsIdle, IsStep, SessionState, world_of}
 use Rattle.session.proofs.Places.{set_same}
 
--- ---- a call of a slot that isn't there, or that is busy
-
-pub called_past : {A : Type 0} (s : SessionState) (call : Call A) → length s.paused ≤ slot_in call
-    → IsCall s call (Answered BadSlot) s
-called_past s call past = rw (slice_get_past s.paused (slot_in call) past) (refl, refl)
+-- ---- a call of a slot that is busy
 
 busy_at : (o : Option (Option Pause)) → (option_and_then (λ (here : Option Pause). here) o ≡ None → ⊥)
     → (pause : Pause) × (o ≡ Some (Some pause))
@@ -117,23 +109,3 @@ pub refused_range : (A : Type 0) (inside : Bool)
     (Answered (if inside then BadRange else BadSlot))
 refused_range A true = refl
 refused_range A false = refl
-
--- ---- how many slots may be paused
-
-as_many_paused : {A : Type 0} (budget : Budget) (call : Call A) (o : Option (Option Pause))
-    (old new : PacedWorld) (response : Response A) (output : List ℕ) (block console : ℕ)
-    → paced.ComesTo budget call o old response output block console new
-    → length new.paused ≡ length old.paused
-as_many_paused budget (Handle begun) (Some None) old new response output block console comes =
-    ap length comes.paused ∙ length-set old.paused begun.slot (paused_by comes.turn)
-as_many_paused budget (GoOn slot) (Some (Some pause)) old new response output block console comes =
-    ap length comes.paused ∙ length-set old.paused slot (paused_by comes.turn)
-as_many_paused budget call o old new response output block console comes =
-    ap (λ (w : PacedWorld). length w.paused) comes.1.same
-
-pub responded_paused : {A : Type 0} (budget : Budget) (call : Call A) (old new : PacedWorld)
-    (response : Response A) (before after : List ℕ) → Responds budget old call response before after new
-    → length new.paused ≡ length old.paused
-responded_paused budget call old new response before after r =
-    as_many_paused budget call (slice_get old.paused (slot_in call)) old new response r.output
-    r.block r.console r.comes

@@ -42,9 +42,8 @@ use Rattle.session.specs.Pacing.{Handle, response_to}
 use Rattle.session.specs.Pausing.{ComesTo, IsBegun, IsEventCall, IsWhole}
 use Rattle.session.specs.Session.{HasNoRead, IsIdle, IsOutside, IsStep, SessionState, world_of}
 use Rattle.session.proofs.Access.{found_at}
-use Rattle.session.proofs.PacedCalls.{never_busy, never_idle}
 use Rattle.session.proofs.Steps.{lacks_puts}
-use Rattle.session.proofs.Suiting.{asks_none, never_paused}
+use Rattle.session.proofs.Suiting.{asks_none, never_busy, never_idle, never_paused}
 use Rattle.session.proofs.Unchanged.{shown_at}
 
 -- ---- what waits for what is in flight, and what finds nothing in flight

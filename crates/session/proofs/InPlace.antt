@@ -1,6 +1,6 @@
 -- What a host puts into a guest's memory between two calls, as the step of that write.
 use Rattle.std.proofs.Common.{◌≡◌, inl, ℕ, ◌+◌, Bool, true, false, ◌||◌, List, [], ◌++◌, length, take, Option, Some, None, refl, sym, ◌∙◌, ap, subst, append-nil, arith}
-use Rattle.std.specs.Prelude.{◌-◌, slice_set}
+use Rattle.std.specs.Prelude.{◌-◌, IsSomeAnd, slice_set}
 use Rattle.std.specs.List.{slice_get}
 use Rattle.std.proofs.lemmas.Bool.Decides.{nat_tests}
 use Rattle.std.proofs.lemmas.List.{map-set, take_all, drop_all}
@@ -72,6 +72,25 @@ pub in_place : (A : Type 0) (old : SessionState) (slot addr : ℕ) (found : Boar
 in_place A old slot addr found bytes here inside =
     was_written A old slot addr found bytes here
     (answers A old.slots (disk_of old) slot found addr bytes here inside)
+
+wrote_at : (A : Type 0) (old : SessionState) (slots : List BoardSlot) (slot addr : ℕ) (bytes : List ℕ)
+    (o : Option BoardSlot) → slice_get old.slots slot ≡ o
+    → IsSomeAnd o (λ found. Inside found.memory addr (length bytes))
+    → IsSomeAnd o (λ found. slots
+    ≡ slice_set old.slots slot (record found { memory = stored found.memory addr bytes }))
+    → IsStep {A = A} old (record { slot = slot; what = MemWrite addr bytes }) Done (record old { slots = slots })
+wrote_at A old slots slot addr bytes None here inside is = absurd is
+wrote_at A old slots slot addr bytes (Some found) here inside is =
+    rw is (in_place A old slot addr found bytes here inside)
+
+-- what a write leaves is its step
+pub wrote : (A : Type 0) (old : SessionState) (slots : List BoardSlot) (slot addr : ℕ) (bytes : List ℕ)
+    → IsSomeAnd (slice_get old.slots slot) (λ found. Inside found.memory addr (length bytes))
+    → IsSomeAnd (slice_get old.slots slot) (λ found. slots
+    ≡ slice_set old.slots slot (record found { memory = stored found.memory addr bytes }))
+    → IsStep {A = A} old (record { slot = slot; what = MemWrite addr bytes }) Done (record old { slots = slots })
+wrote A old slots slot addr bytes inside is =
+    wrote_at A old slots slot addr bytes (slice_get old.slots slot) refl inside is
 
 -- as many bytes as there are, put from the first place on, are all that there is
 put_all : (old new : List ℕ) → length new ≡ length old → put_at old 0 new ≡ new

@@ -29,7 +29,7 @@ use Rattle.session.specs.Session.{IsKept, IsStep, SessionState, output_of, waiti
 use Rattle.session.proofs.Asking.{going_on_keeps, pausing_keeps, seen_at}
 use Rattle.session.proofs.PacedCourses.{by_pause}
 use Rattle.session.proofs.Places.{set_same}
-use Rattle.session.proofs.PacedCalls.{never_busy, never_idle}
+use Rattle.session.proofs.Suiting.{never_busy, never_idle}
 use Rattle.session.proofs.Waiting.{others_wait, same_outlet}
 
 -- ---- an event that waits, and a completion of a free tag

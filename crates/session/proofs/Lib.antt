@@ -1,9 +1,6 @@
 pub mod Midway
 pub mod PacedAlone
-pub mod Turns
-pub mod PacedCalls
 pub mod Access
-pub mod IdleSlots
 pub mod Noted
 pub mod Places
 pub mod Suiting
@@ -13,12 +10,11 @@ pub mod Steps
 pub mod Ranges
 pub mod Calls
 pub mod Quiet
-pub mod SessionTurns
-pub mod Restoring
 pub mod PacedCourses
 pub mod Alone
 pub mod Made
 pub mod InPlace
+pub mod Restored
 pub mod Outputs
 pub mod Telling
 pub mod Loans

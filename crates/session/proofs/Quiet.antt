@@ -1,14 +1,12 @@
--- A call that puts nothing out and touches no output.
-use Rattle.std.proofs.Common.{◌≡◌, ◌⊎◌, inl, inr, ℕ, ◌≤◌, ◌↔◌, Bool, true, false, List, [], length, Option, Some, None, refl, sym, ◌∙◌, ap, subst, append-nil, arith}
-use Rattle.std.specs.Prelude.{IsSomeAnd, if◌then◌else◌}
+-- What is typed to a slot of which nothing is paused: it puts nothing out, and its call touches no output.
+use Rattle.std.proofs.Common.{◌≡◌, ◌⊎◌, inl, inr, ℕ, ◌≤◌, ◌↔◌, Bool, true, false, List, [], length, Option, Some, None, refl, sym, subst, append-nil}
+use Rattle.std.specs.Prelude.{IsSomeAnd, if◌then◌else◌, slice_set}
 use Rattle.std.specs.List.{slice_get}
-use Rattle.std.proofs.lemmas.Option.{slice_get_cases}
 use Rattle.chain.specs.declared.budget.Budget.{Budget}
 use Rattle.sector_cache.specs.declared.memory.MemoryImage.{MemoryImage}
 use Rattle.sector_cache.specs.MemoryImage.{disk_of as memory_disk_of}
-use Rattle.board.specs.declared.event.Event.{Event}
 use Rattle.board.specs.declared.event.EventKind.{EventKind}
-use Rattle.board.specs.declared.event.EventKind.TheVariants.{MemWrite, Input, Restore}
+use Rattle.board.specs.declared.event.EventKind.TheVariants.{Input}
 use Rattle.board.specs.declared.pause.Pause.{Pause}
 use Rattle.board.specs.declared.pause.Service.TheVariants.{Receive}
 use Rattle.board.specs.declared.pause.Turn.{Turn}
@@ -16,34 +14,19 @@ use Rattle.board.specs.declared.pause.Turn.TheVariants as turn
 use Rattle.board.specs.declared.reply.Reply.{Reply}
 use Rattle.board.specs.declared.reply.Reply.TheVariants.{BadSlot, BadRange, NoMemory}
 use Rattle.board.specs.Hosting.{has_part}
-use Rattle.board.specs.Pausing.{HasLimit, asked, input_service}
-use Rattle.board.specs.Slot.{SlotState}
-use Rattle.board.specs.World.{KeepsOthers, extents_of}
+use Rattle.board.specs.Pausing.{Begins, HasLimit, TakesTurn, asked, input_service}
+use Rattle.board.specs.Image.{bytes_of}
+use Rattle.board.specs.Slot.{BoardSlot, SlotState, state_of}
+use Rattle.board.specs.World.{BoardState, KeepsOthers, extents_of, world_of}
 use Rattle.board.specs.Within.{BeginsWithin, TakesWithin, TurnWithin}
-use Rattle.session.specs.declared.response.Response.{Response}
-use Rattle.session.specs.declared.response.Response.TheVariants.{Answered, More, Busy, Idle}
-use Rattle.session.specs.Pacing.{Handle, PacedState, Responds, paced_world}
+use Rattle.session.specs.declared.response.Response.TheVariants.{Answered}
+use Rattle.session.specs.Pacing.{paused_by, response_to}
 use Rattle.session.specs.Answering.{SuitsCall}
-use Rattle.session.specs.Course.{paced_world_of}
-use Rattle.session.specs.Pausing.{IsCall, IsEventCall, IsWhole}
-use Rattle.session.specs.Session.{HasNoRead, SessionState, Waiting}
-use Rattle.session.proofs.Calls.{called_past}
-use Rattle.session.proofs.Parts.{asks_nothing}
+use Rattle.session.specs.Pausing.{IsEventCall}
+use Rattle.session.specs.Session.{SessionState, Waiting}
 use Rattle.session.proofs.Places.{set_same}
-use Rattle.session.proofs.Unchanged.{missing}
-use Rattle.session.proofs.Steps.{as_many, called, shown, suits_call, whole}
+use Rattle.session.proofs.Steps.{called, shown, suits_call, whole}
 
--- ---- an event that puts nothing out, whose call touches no output
-
--- it reads no memory, no outlet decides it, and it is never refused for want of room
-pub record PutsNothingOut {A : Type 0} (what : EventKind A) : Type 0 where
-  pub no_read : HasNoRead what
-  pub quiet :
-      (limit : ℕ) (budget : Budget) (found after : SlotState) (waiting left : List ℕ) (t : Turn A)
-      → BeginsWithin limit what budget found after waiting left t
-  pub room : SuitsCall {A = A} what (Answered NoMemory) → ⊥
-
--- what is typed, a restore and a write of memory put nothing out
 quiet_by : {A : Type 0} (asks : Option Pause) (limit : ℕ) (what : EventKind A) (budget : Budget)
     (found after : SlotState) (waiting left : List ℕ) (t : Turn A)
     → ((reply : Reply A) → TakesWithin limit found what after waiting left reply)
@@ -60,149 +43,69 @@ typed_by : (part : Bool) (pause : Pause) → pause.service ≡ Receive
 typed_by true pause receives = inl refl
 typed_by false pause receives = inr receives
 
-pub quiet_input : {A : Type 0} (bytes : List ℕ) → PutsNothingOut {A = A} (Input bytes)
-quiet_input {A} bytes = record {
-  no_read = tt;
-  quiet = λ limit budget found after waiting left t.
-      quiet_by (asked (Input bytes) found) limit (Input bytes) budget found after waiting left t
-      (λ reply. tt)
-      (typed_by (has_part {A = A} found.host (Input bytes) found) (input_service found.pending bytes) refl);
-  room = λ never. never;
-}
+quiet_input : {A : Type 0} (bytes : List ℕ) (limit : ℕ) (budget : Budget) (found after : SlotState)
+    (waiting left : List ℕ) (t : Turn A) → BeginsWithin limit (Input bytes) budget found after waiting left t
+quiet_input {A} bytes limit budget found after waiting left t =
+    quiet_by (asked (Input bytes) found) limit (Input bytes) budget found after waiting left t
+    (λ reply. tt)
+    (typed_by (has_part {A = A} found.host (Input bytes) found) (input_service found.pending bytes) refl)
 
-pub quiet_restore : {A : Type 0} (bytes : List ℕ) → PutsNothingOut {A = A} (Restore bytes)
-quiet_restore bytes = record {
-  no_read = tt;
-  quiet = λ limit budget found after waiting left t.
-      quiet_by (asked (Restore bytes) found) limit (Restore bytes) budget found after waiting left t
-      (λ reply. tt) (inl (asks_nothing (Restore bytes) found refl));
-  room = λ never. never;
-}
+module _ (A : Type 0) {X : Type 0} (old new : BoardState (MemoryImage X)) (outputs : List Waiting)
+    (paused : List (Option Pause)) (budget : Budget) (slot : ℕ) (bytes : List ℕ) (t : Turn A) where
+  abbrev pub was : SessionState
+  was = shown old.slots (memory_disk_of old.image) outputs paused budget
 
-pub quiet_write : {A : Type 0} (addr : ℕ) (bytes : List ℕ) → PutsNothingOut {A = A} (MemWrite addr bytes)
-quiet_write addr bytes = record {
-  no_read = tt;
-  quiet = λ limit budget found after waiting left t.
-      quiet_by (asked (MemWrite addr bytes) found) limit (MemWrite addr bytes) budget found after waiting left
-      t (λ reply. tt) (inl (asks_nothing (MemWrite addr bytes) found refl));
-  room = λ never. never;
-}
+  abbrev pub now : SessionState
+  now = shown new.slots (memory_disk_of new.image) outputs (slice_set paused slot (paused_by t)) budget
 
--- as many outputs and pauses as slots
-abbrev pub AreAsMany : {X : Type 0} → PacedState (MemoryImage X) → List Waiting → Type 0
-AreAsMany p outputs = (length outputs ≡ length p.board.slots) × (length p.paused ≡ length p.board.slots)
+  -- a slot of either, as its guest sees it
+  abbrev was_at : BoardSlot → SlotState
+  was_at found = state_of (bytes_of (memory_disk_of old.image)) found
 
-pub as_many_still : {X : Type 0} (p p' : PacedState (MemoryImage X)) (outputs : List Waiting)
-    → extents_of p'.board.slots ≡ extents_of p.board.slots → length p'.paused ≡ length p.paused
-    → AreAsMany p outputs → AreAsMany p' outputs
-as_many_still p p' outputs extents paused many =
-    let slots = sym (as_many p.board.slots p'.board.slots extents) in
-    (many.0 ∙ slots, paused ∙ (many.1 ∙ slots))
+  abbrev now_at : BoardSlot → SlotState
+  now_at found = state_of (bytes_of (memory_disk_of new.image)) found
 
-module _ {A X : Type 0} (p p' : PacedState (MemoryImage X)) (outputs : List Waiting) (slot : ℕ)
-    (what : EventKind A) (response : Response A) where
-  abbrev its_event : Event A
-  its_event = record { slot = slot; what = what }
+  -- what the session does
+  pub record Typed : Type 0 where
+    pub call : IsEventCall was slot (Input bytes) (response_to t) now
+    pub suits : SuitsCall {A = A} (Input bytes) (response_to t)
 
-  abbrev at_budget : PacedState (MemoryImage X) → Budget → SessionState
-  at_budget q budget = shown q.board.slots (memory_disk_of q.board.image) outputs q.paused budget
+  -- what is told of a turn by what waits already
+  behind : {world world' : _} (block console : ℕ) (waiting : List ℕ)
+      → TakesTurn (Begins (Input bytes) budget) world slot t block console [] [] world'
+      → TakesTurn (Begins (Input bytes) budget) world slot t block console waiting waiting world'
+  behind block console waiting r = record {
+    output = r.output;
+    taken = r.taken;
+    appended = rw (← r.appended) (sym (append-nil waiting));
+  }
 
-  -- what the paced board says of the call
-  pub record Says : Type 0 where
-    pub responds :
-        Responds p.budget (paced_world memory_disk_of p) (Handle its_event) response [] []
-        (paced_world memory_disk_of p')
-    pub budget : p'.budget ≡ p.budget
-    pub extents : extents_of p'.board.slots ≡ extents_of p.board.slots
-    pub others : KeepsOthers slot p.board.slots p'.board.slots
-    pub not_idle : response ≡ Idle → ⊥
-    pub bad_slot : (response ≡ Answered BadSlot) ↔ (length p.board.slots ≤ slot)
-    pub busy : response ≡ Busy → p' ≡ p
-    pub bad_slot_keeps : response ≡ Answered BadSlot → p' ≡ p
-
-  -- and what the session then does
-  pub record Handled (new : SessionState) : Type 0 where
-    pub call : IsEventCall (at_budget p p.budget) slot what response new
-    pub suits : SuitsCall what response
-
-  module _ (many : AreAsMany p outputs) (event : PutsNothingOut what) (says : Says)
-      (limited : response ≡ More → HasLimit p.budget)
-      (bad_range_keeps : SuitsCall {A = A} what (Answered BadRange) → response ≡ Answered BadRange → p' ≡ p)
-    where
-      abbrev before_it : SessionState
-      before_it = at_budget p p.budget
-
-      abbrev behind_it : SessionState
-      behind_it = at_budget p' p.budget
-
-      paused_as_many : length p.paused ≡ length outputs
-      paused_as_many = many.1 ∙ sym many.0
-
-      -- the session as it was, where the board is
-      same : p' ≡ p → behind_it ≡ before_it
-      same is = ap (λ (q : PacedState (MemoryImage X)). at_budget q p.budget) is
-
-      told_at : (waiting : Waiting)
-          → Responds p.budget (paced_world_of before_it) (Handle its_event) response waiting.bytes
-          waiting.bytes
-          (paced_world_of behind_it)
-      told_at waiting = record {
-        output = says.responds.output;
-        block = says.responds.block;
-        console = says.responds.console;
-        comes = says.responds.comes;
-        appended = rw (← says.responds.appended) (sym (append-nil waiting.bytes));
+  pub typed : (block console : ℕ) (waiting : Waiting) → slice_get outputs slot ≡ Some waiting
+      → length outputs ≡ length old.slots → slice_get paused slot ≡ Some None
+      → TakesTurn (Begins (Input bytes) budget) (world_of memory_disk_of old) slot t block console [] []
+      (world_of memory_disk_of new)
+      → extents_of new.slots ≡ extents_of old.slots → KeepsOthers slot old.slots new.slots
+      → ((next : Pause) → t ≡ turn.More next → HasLimit budget)
+      → (t ≡ turn.Answered BadSlot) ↔ (length old.slots ≤ slot) → Typed
+  typed block console waiting here many is takes extents others limited bad_slot =
+      let same = set_same outputs slot waiting waiting here refl in
+      let r = behind block console waiting.bytes takes in
+      let suited = suits_call A old.slots new.slots _ _ _ _ outputs paused budget slot waiting waiting here refl
+      others extents many (Input bytes) is t block console r in
+      let told : (reply : Reply A) → t ≡ turn.Answered reply → SuitsCall {A = A} (Input bytes) (Answered reply) =
+      λ reply said. subst (λ (u : Turn A). SuitsCall {A = A} (Input bytes) (response_to u)) said suited in
+      record {
+        call = subst (λ (os : List Waiting). IsEventCall was slot (Input bytes) (response_to t)
+            (record now { outputs = os })) same (record {
+              turn = called A old.slots new.slots _ _ _ _ outputs paused budget slot waiting waiting here refl
+                  others extents many (Input bytes) is t block console r
+                  (λ found later a b. quiet_input bytes waiting.limit budget (was_at found) (now_at later) waiting.bytes
+                  waiting.bytes t) limited;
+              whole = whole A old.slots new.slots _ _ _ _ outputs paused budget slot waiting waiting here refl
+                  others extents many (Input bytes) is t block console tt r
+                  (λ found later a b. quiet_input bytes waiting.limit budget (was_at found) (now_at later) waiting.bytes
+                  waiting.bytes t) bad_slot
+                  (λ said. absurd (told BadRange said)) (λ said. absurd (told NoMemory said));
+            });
+        suits = suited;
       }
-
-      handled_at : (o : Option Waiting) → slice_get outputs slot ≡ o → Handled behind_it
-      handled_at None none =
-          let past : length p.board.slots ≤ slot = grind (arith, many.0, slice_get_cases outputs slot) in
-          let far : length p.paused ≤ slot = omega (arith, many.1, past) in
-          let is = says.bad_slot.1 past in
-          record {
-            call = record {
-              turn = rw (is, same (says.bad_slot_keeps is)) (called_past before_it (Handle its_event) far);
-              whole = rw (is, same (says.bad_slot_keeps is)) (missing before_it its_event past);
-            };
-            suits = rw is tt;
-          }
-      handled_at (Some waiting) here =
-          let same_outputs = set_same outputs slot waiting waiting here refl in
-          let told = told_at waiting in
-          let suited = suits_call A p.board.slots p'.board.slots _ _ _ _ outputs p.paused
-          p'.paused p.budget slot
-          waiting waiting here paused_as_many refl says.others says.extents what response
-          told says.not_idle in
-          record {
-            call = record {
-              turn =
-                  subst (λ (os : List Waiting). IsCall before_it (Handle its_event) response
-                  (record behind_it { outputs = os })) same_outputs
-                  (called A p.board.slots p'.board.slots _ _ _ _ outputs p.paused p'.paused
-                  p.budget slot waiting
-                  waiting here paused_as_many refl says.others says.extents what response
-                  (λ found later a b t is. event.quiet waiting.limit p.budget _ _
-                  waiting.bytes waiting.bytes t)
-                  limited (λ is. same (says.busy is)) told);
-              whole =
-                  subst (λ (os : List Waiting). IsWhole before_it its_event response
-                  (record behind_it { outputs = os })) same_outputs
-                  (whole A p.board.slots p'.board.slots _ _ _ _ outputs p.paused p'.paused
-                  p.budget slot waiting
-                  waiting here paused_as_many refl says.others says.extents what response event.no_read told
-                  (λ found later a b t is. event.quiet waiting.limit p.budget _ _
-                  waiting.bytes waiting.bytes t)
-                  says.bad_slot
-                  (λ is. ap (λ (q : PacedState (MemoryImage X)). shown q.board.slots
-                  (memory_disk_of q.board.image) outputs p.paused p.budget)
-                  (bad_range_keeps (subst (λ (a : Response A). SuitsCall what a) is suited) is))
-                  (λ is. absurd (event.room (subst (λ (a : Response A). SuitsCall what a) is suited)))
-                  many.0);
-            };
-            suits = suited;
-          }
-
-      pub handled_quietly : Handled (at_budget p' p'.budget)
-      handled_quietly =
-          subst (λ (b : Budget). Handled (at_budget p' b)) (sym says.budget)
-          (handled_at (slice_get outputs slot) refl)

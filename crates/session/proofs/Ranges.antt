@@ -103,8 +103,25 @@ not_read A s slot addr n outside =
       failures = refl;
     }))) (λ limit found after waiting left reply. tt)
 
+-- and to a write
+pub not_written : (A : Type 0) (s : SessionState) (slot addr : ℕ) (bytes : List ℕ) →
+    (IsSomeAnd (slice_get s.slots slot) (λ found. Inside found.memory addr (length bytes)) → ⊥) →
+    IsStep {A = A} s (record { slot = slot; what = MemWrite addr bytes })
+    (if nat_lt slot (length s.slots) then BadRange else BadSlot) s
+not_written A s slot addr bytes outside =
+    refused_at s (record { slot = slot; what = MemWrite addr bytes }) (slice_get s.slots slot) refl
+    (λ found is. given (state_of s.image found) (MemWrite addr bytes) (world_of s).health
+    (replies (state_of s.image found) BadRange) refl refl refl (inl (record {
+      alike = record {
+        alike = rw (outside_of_slot (slice_get s.slots slot) addr (length bytes) outside found is) refl;
+        image = refl;
+      };
+      answered = λ is. absurd (cc);
+      failures = refl;
+    }))) (λ limit found after waiting left reply. tt)
+
 -- a step that put nothing out keeps whatever stands in the output
-behind : {A : Type 0} {old : World} {event : Event A} {reply : Reply A} {new : World} (output : List ℕ)
+pub behind : {A : Type 0} {old : World} {event : Event A} {reply : Reply A} {new : World} (output : List ℕ)
     → Answers old event reply [] [] new → Answers old event reply output output new
 behind {A} {old} {event} {reply} {new} output answers = record {
   written = answers.written;

@@ -1,6 +1,6 @@
 -- What the board answers, as a step of the session.
-use Rattle.std.proofs.Common.{◌≡◌, ℕ, zero, suc, ◌<◌, ◌≤◌, Bool, ◌↔◌, List, [], ◌∷◌, ◌++◌, length, map, Option, Some, None, refl, sym, ◌∙◌, ap, append-nil, arith}
-use Rattle.std.specs.Prelude.{slice_set, IsSomeAnd, unwrap_or}
+use Rattle.std.proofs.Common.{◌≡◌, ℕ, zero, suc, ◌<◌, ◌≤◌, Bool, ◌↔◌, List, [], ◌∷◌, ◌++◌, length, map, Option, Some, None, refl, sym, ◌∙◌, ap, subst, arith}
+use Rattle.std.specs.Prelude.{slice_set, IsSomeAnd, unwrap_or, Ok}
 use Rattle.std.specs.List.{slice_get}
 use Rattle.std.proofs.lemmas.List.{length-map}
 use Rattle.std.proofs.lemmas.Option.{slice_get_within, same_Some}
@@ -13,32 +13,35 @@ use Rattle.board.specs.declared.event.EventKind.TheVariants.{Write, MemRead}
 use Rattle.board.specs.declared.pause.Pause.{Pause}
 use Rattle.board.specs.declared.pause.Turn.{Turn}
 use Rattle.board.specs.declared.pause.Turn.TheVariants as turn
+use Rattle.board.specs.declared.pause.Work.{Work}
+use Rattle.board.specs.declared.pause.Work.TheVariants as work
 use Rattle.board.specs.declared.reply.Reply.{Reply}
 use Rattle.board.specs.declared.reply.Reply.TheVariants.{BadSlot, BadRange, NoMemory}
 use Rattle.board.specs.declared.pause.Service.TheVariants.{Transmit}
 use Rattle.board.specs.Extent.{outside_of}
 use Rattle.board.specs.Image.{Health, bytes_of}
 use Rattle.board.specs.Machine.{task_at, with_write}
-use Rattle.board.specs.Pausing.{Begins, GoesOn, HasLimit}
+use Rattle.board.specs.Pausing.{Begins, Does, GoesOn, HasLimit, MayLackMemoryIn, TakesTurn}
 use Rattle.board.specs.Slot.{SlotState, BoardSlot, state_of}
 use Rattle.board.specs.declared.task.Task.{Task}
 use Rattle.board.specs.declared.task.Task.TheVariants.{Serve, PutOut}
 use Rattle.board.specs.World.{World, Answers, KeepsOthers, MayLackMemory, TakesMemory, extents_of}
-use Rattle.board.specs.Within.{BeginsWithin, GoesOnWithin, IsPuttingOut, MayPutOut, TakesWithin}
+use Rattle.board.specs.Within.{BeginsWithin, DoesWithin, GoesOnWithin, IsPuttingOut, MayPutOut, TakesWithin}
 use Rattle.board.proofs.Answered.{ended_within, handled}
 use Rattle.board.proofs.Runs.{answered}
 use Rattle.board.proofs.Lists.{others_kept}
 use Rattle.board.proofs.Outside.{length-outside}
 use Rattle.session.specs.declared.response.Response.{Response}
-use Rattle.session.specs.declared.response.Response.TheVariants.{Answered, More, Busy, Idle}
-use Rattle.session.specs.Pacing.{GoOn, Handle, PacedWorld, Responds, paused_by, response_to}
-use Rattle.session.specs.Pacing as paced
-use Rattle.session.specs.Answering.{SuitsCall}
-use Rattle.session.specs.Course.{paced_world_of}
-use Rattle.session.specs.Pausing.{ComesTo, IsCall, IsTurn, IsWhole}
-use Rattle.session.specs.Session.{IsStep, HasNoRead, SessionState, Waiting, none_waiting, limit_of, output_of, world_of}
-use Rattle.session.proofs.Places.{is_there, set_same}
+use Rattle.session.specs.declared.response.Response.TheVariants.{Answered, More}
+use Rattle.session.specs.declared.turn_kind.TurnKind.{TurnKind}
+use Rattle.session.specs.declared.turn_kind.TurnKind.TheVariants.{Begin, Resume}
+use Rattle.session.specs.Pacing.{GoOn, Handle, call_of, paused_by, response_to, work_in}
+use Rattle.session.specs.Answering.{SuitsCall, SuitsTurn}
+use Rattle.session.specs.Pausing.{IsCall, IsTurn, IsWhole, IsWholeCall}
+use Rattle.session.specs.Session.{BeginsNoRead, IsStep, HasNoRead, SessionState, Waiting, none_waiting, limit_of, output_of, world_of}
+use Rattle.session.proofs.Places.{set_same}
 use Rattle.session.proofs.Suiting.{paused_suits, silent, suits}
+use Rattle.session.proofs.Unchanged.{missing}
 use Rattle.session.proofs.Waiting.{limits_set, same_outlet, set_there}
 
 -- ---- an event that the board answered
@@ -133,22 +136,39 @@ within_for : {A : Type 0} (Within : ℕ → SlotState → SlotState → List ℕ
 within_for Within s s' t t' limit limit' before before' after after' turn p q l b a h =
     rw (← p, ← q, l, b, a) h
 
-answered_is : {A : Type 0} (reply : Reply A) (t : Turn A) → Answered reply ≡ response_to t
-    → t ≡ turn.Answered reply
-answered_is reply (turn.Answered other) told = cc (told)
-answered_is reply (turn.More pause) told = absurd (cc (told))
+limits : {A : Type 0} {P : Type 0} (t : Turn A) → ((next : Pause) → t ≡ turn.More next → P) → response_to t ≡ More → P
+limits (turn.Answered reply) h is = absurd (cc (is))
+limits (turn.More pause) h is = h pause refl
+
+-- ---- what a turn of either kind comes to
+
+pub record Turned {A : Type 0} (old : SessionState) (slot : ℕ) (kind : TurnKind A) (response : Response A)
+    (new : SessionState) : Type 0 where
+  pub call : IsCall old (call_of slot kind) response new
+  pub whole : IsWholeCall old (call_of slot kind) response new
+  pub suits : SuitsTurn kind response
+
+-- of a slot that isn't there
+pub turn_past : {A : Type 0} (s : SessionState) (slot : ℕ) (kind : TurnKind A) → slice_get s.paused slot ≡ None
+    → length s.slots ≤ slot → Turned s slot kind (Answered BadSlot) s
+turn_past s slot (Begin what) none past = record {
+  call = rw none (refl, refl);
+  whole = missing s (record { slot = slot; what = what.now }) past;
+  suits = tt;
+}
+turn_past s slot Resume none past = record { call = rw none (refl, refl); whole = tt; suits = tt }
 
 module _ (A : Type 0) (slots slots' : List BoardSlot) (image image' : List ℕ) (dirty dirty' : Bool)
-    (outputs : List Waiting) (paused paused' : List (Option Pause)) (budget : Budget) (slot : ℕ)
-    (before after : Waiting)
-    (here : slice_get outputs slot ≡ Some before) (many : length paused ≡ length outputs)
-    (same_limit : after.limit ≡ before.limit) (others : KeepsOthers slot slots slots')
-    (extents : extents_of slots' ≡ extents_of slots) where
-  abbrev was : SessionState
+    (outputs : List Waiting) (paused : List (Option Pause)) (budget : Budget) (slot : ℕ) (before after : Waiting)
+    (here : slice_get outputs slot ≡ Some before) (same_limit : after.limit ≡ before.limit)
+    (others : KeepsOthers slot slots slots') (extents : extents_of slots' ≡ extents_of slots)
+    (as_many : length outputs ≡ length slots) where
+  abbrev pub was : SessionState
   was = session slots image dirty outputs paused budget
 
-  abbrev now : SessionState
-  now = session slots' image' dirty' (slice_set outputs slot after) paused' budget
+  -- the session behind a turn
+  abbrev pub now : Turn A → SessionState
+  now t = session slots' image' dirty' (slice_set outputs slot after) (slice_set paused slot (paused_by t)) budget
 
   fits : slot < length outputs
   fits = slice_get_within outputs slot before here
@@ -159,224 +179,173 @@ module _ (A : Type 0) (slots slots' : List BoardSlot) (image image' : List ℕ) 
   limited_so : limit_of slot was ≡ before.limit
   limited_so = ap (λ (o : Option Waiting). (unwrap_or o (none_waiting 0)).limit) here
 
-  waits : output_of slot now ≡ after.bytes
-  waits = ap (λ (o : Waiting). o.bytes) (set_there outputs slot after fits)
+  waits : (t : Turn A) → output_of slot (now t) ≡ after.bytes
+  waits t = ap (λ (o : Waiting). o.bytes) (set_there outputs slot after fits)
 
-  -- what an outlet decides, by what the board says of it
-  abbrev Decides : (ℕ → SlotState → SlotState → List ℕ → List ℕ → Turn A → Type 0) → Response A → Type 0
-  Decides Within response = (found later : BoardSlot) → slice_get slots slot ≡ Some found
-      → slice_get slots' slot ≡ Some later → (t : Turn A) → response ≡ response_to t
-      → Within before.limit (state_of image found) (state_of image' later) before.bytes after.bytes t
+  -- what the board says of a turn
+  pub record Says (job : Work A) (t : Turn A) (block console : ℕ) : Type 0 where
+    pub takes :
+        TakesTurn (Does job budget) (world_of was) slot t block console before.bytes after.bytes (world_of (now t))
+    pub within :
+        (found later : BoardSlot) → slice_get slots slot ≡ Some found → slice_get slots' slot ≡ Some later →
+        DoesWithin before.limit job budget (state_of image found) (state_of image' later) before.bytes
+        after.bytes t
+    pub limited : (next : Pause) → t ≡ turn.More next → HasLimit budget
+    pub bad_slot : (t ≡ turn.Answered BadSlot) ↔ (length slots ≤ slot)
+    pub bad_range_keeps : t ≡ turn.Answered BadRange → session slots' image' dirty' outputs paused budget ≡ was
+    pub no_memory :
+        t ≡ turn.Answered NoMemory →
+        IsSomeAnd (slice_get slots slot) (λ found. (bytes : List ℕ) → MayLackMemoryIn job (state_of bytes found))
 
-  -- a turn of the board is one of the session
-  pub turned : (Comes : SlotState → Health → Health → SlotState → List ℕ → Turn A → Type 0)
-      (Within : ℕ → SlotState → SlotState → List ℕ → List ℕ → Turn A → Type 0) (response : Response A)
-      (output : List ℕ)
-      (block console : ℕ)
-      → paced.IsTurn Comes (paced_world_of was) slot response output block console (paced_world_of now)
-      → after.bytes ≡ before.bytes ++ output → Decides Within response
-      → IsTurn Comes Within was slot response now
-  turned Comes Within response output block console t appended decided = record {
-    turn = t.turn;
-    output = output;
+  -- ---- a turn of the board is one of the session
+
+  turned : (Comes : SlotState → Health → Health → SlotState → List ℕ → Turn A → Type 0)
+      (Within : ℕ → SlotState → SlotState → List ℕ → List ℕ → Turn A → Type 0) (t : Turn A) (block console : ℕ)
+      → TakesTurn Comes (world_of was) slot t block console before.bytes after.bytes (world_of (now t))
+      → ((found later : BoardSlot) → slice_get slots slot ≡ Some found → slice_get slots' slot ≡ Some later
+      → Within before.limit (state_of image found) (state_of image' later) before.bytes after.bytes t)
+      → IsTurn Comes Within was slot (response_to t) (now t)
+  turned Comes Within t block console r decided = record {
+    turn = t;
+    output = r.output;
     block = block;
     console = console;
-    taken = t.taken;
-    told = t.told;
-    behind = waits ∙ appended ∙ ap (λ (bytes : List ℕ). bytes ++ output) (sym waited);
-    paused = t.paused;
+    taken = r.taken;
+    told = refl;
+    behind = waits t ∙ r.appended ∙ ap (λ (bytes : List ℕ). bytes ++ r.output) (sym waited);
+    paused = refl;
     within = λ found later there later_there.
         let one = shown_back slots image slot found there in
         let two = shown_back slots' image' slot later later_there in
-        within_for Within _ found _ later before.limit _ before.bytes _ after.bytes _ t.turn one.2 two.2
-        limited_so waited waits (decided one.0 two.0 one.1 two.1 t.turn t.told);
+        within_for Within _ found _ later before.limit _ before.bytes _ after.bytes _ t one.2 two.2
+        limited_so waited (waits t) (decided one.0 two.0 one.1 two.1);
     others = others;
     outputs = others_kept outputs slot after;
     extents = extents;
-    size = same_size (extents_of slots) (extents_of slots') image image' t.taken.outside;
+    size = same_size (extents_of slots) (extents_of slots') image image' r.taken.outside;
     limits = limits_set outputs slot before after here same_limit;
     budget = refl;
   }
 
-  -- one that changes nothing
-  unturned : (output : List ℕ) → after.bytes ≡ before.bytes ++ output → output ≡ []
-      → session slots' image' dirty' outputs paused' budget ≡ was → now ≡ was
-  unturned output appended silent same =
-      let quiet : after ≡ before =
-      same_outlet after before (appended ∙ ap (λ (bytes : List ℕ). before.bytes ++ bytes) silent
-      ∙ append-nil before.bytes) same_limit in
-      rw (quiet, set_same outputs slot before before here refl) same
-
-  -- ---- a service that goes on
-
-  went_at : (response : Response A) (o : Option (Option Pause)) (output : List ℕ) (block console : ℕ)
-      → (o ≡ None → ⊥)
-      → ((pause : Pause) → o ≡ Some (Some pause)
-      → Decides (λ limit found later. GoesOnWithin limit pause budget found later) response)
-      → (response ≡ Idle → session slots' image' dirty' outputs paused' budget ≡ was)
-      → after.bytes ≡ before.bytes ++ output
-      → paced.ComesTo budget (GoOn slot) o (paced_world_of was) response output block console
-      (paced_world_of now)
-      → ComesTo (GoOn slot) o was response now
-  went_at response None output block console there decided idle appended comes = absurd (there refl)
-  went_at response (Some None) output block console there decided idle appended comes =
-      (comes.0, unturned output appended comes.1.silent (idle comes.0))
-  went_at response (Some (Some pause)) output block console there decided idle appended comes =
-      turned (GoesOn pause budget) (λ limit found later. GoesOnWithin limit pause budget found later) response
-      output block console comes appended (decided pause refl)
-
-  pub went_on : (response : Response A) → ((pause : Pause) → slice_get paused slot ≡ Some (Some pause)
-      → Decides (λ limit found later. GoesOnWithin limit pause budget found later) response)
-      → (response ≡ Idle → session slots' image' dirty' outputs paused' budget ≡ was)
-      → Responds budget (paced_world_of was) (GoOn slot) response before.bytes after.bytes
-      (paced_world_of now)
-      → IsCall was (GoOn slot) response now
-  went_on response decided idle r =
-      went_at response (slice_get paused slot) r.output r.block r.console
-      (is_there outputs paused slot before here many) decided idle r.appended r.comes
+  -- a service that goes on
+  pub went_on : (pause : Pause) (t : Turn A) (block console : ℕ) → slice_get paused slot ≡ Some (Some pause)
+      → Says (work.Resume pause) t block console → IsCall was (GoOn slot) (response_to t) (now t)
+  went_on pause t block console is says =
+      rw is (turned (GoesOn pause budget) (λ limit found later. GoesOnWithin limit pause budget found later) t
+      block console says.takes says.within)
 
   -- ---- an event
 
-  module _ (what : EventKind A) where
+  module _ (what : EventKind A) (is : slice_get paused slot ≡ Some None) where
     abbrev event : Event A
     event = record { slot = slot; what = what }
 
-    begun_at : (response : Response A) (o : Option (Option Pause)) (output : List ℕ) (block console : ℕ)
-        → (o ≡ None → ⊥)
-        → Decides (λ limit found later. BeginsWithin limit what budget found later) response
-        → (response ≡ More → HasLimit budget)
-        → (response ≡ Busy → session slots' image' dirty' outputs paused' budget ≡ was)
-        → after.bytes ≡ before.bytes ++ output
-        → paced.ComesTo budget (Handle event) o (paced_world_of was) response output block console
-        (paced_world_of now)
-        → ComesTo (Handle event) o was response now
-    begun_at response None output block console there decided limited busy appended comes =
-        absurd (there refl)
-    begun_at response (Some None) output block console there decided limited busy appended comes = record {
-      turn = turned (Begins what budget) (λ limit found later. BeginsWithin limit what budget found later)
-          response output block console comes appended decided;
-      limited = limited;
-    }
-    begun_at response (Some (Some pause)) output block console there decided limited busy appended comes =
-        (comes.0, unturned output appended comes.1.silent (busy comes.0))
+    -- what the board says of an event that begins
+    abbrev Began : Turn A → ℕ → ℕ → Type 0
+    Began t block console =
+        TakesTurn (Begins what budget) (world_of was) slot t block console before.bytes after.bytes
+        (world_of (now t))
 
-    pub called : (response : Response A)
-        → Decides (λ limit found later. BeginsWithin limit what budget found later) response
-        → (response ≡ More → HasLimit budget)
-        → (response ≡ Busy → session slots' image' dirty' outputs paused' budget ≡ was)
-        → Responds budget (paced_world_of was) (Handle event) response before.bytes after.bytes
-        (paced_world_of now)
-        → IsCall was (Handle event) response now
-    called response decided limited busy r =
-        begun_at response (slice_get paused slot) r.output r.block r.console
-        (is_there outputs paused slot before here many) decided limited busy r.appended r.comes
+    abbrev Decides : Turn A → Type 0
+    Decides t = (found later : BoardSlot) → slice_get slots slot ≡ Some found → slice_get slots' slot ≡ Some later
+        → BeginsWithin before.limit what budget (state_of image found) (state_of image' later) before.bytes
+        after.bytes t
 
-    -- the turn of an event that is answered
-    answered_at : (reply : Reply A) (o : Option (Option Pause)) (output : List ℕ) (block console : ℕ)
-        → (o ≡ None → ⊥) → slice_get paused slot ≡ o → after.bytes ≡ before.bytes ++ output
-        → paced.ComesTo budget (Handle event) o (paced_world_of was) (Answered reply) output block
-        console (paced_world_of now)
-        → (Answers (world_of was) event reply before.bytes after.bytes (world_of now)) × (paused' ≡ paused)
-    answered_at reply None output block console there is appended comes = absurd (there refl)
-    answered_at reply (Some None) output block console there is appended comes =
-        let same = answered_is reply comes.turn comes.told in (
-          answered (handled event budget (world_of was) (world_of now) reply block console
-              before.bytes after.bytes
-              (record { output = output; taken = rw (← same) comes.taken; appended = appended })),
-          comes.paused ∙ ap (λ (t : Turn A). slice_set paused slot (paused_by t)) same
-              ∙ set_same paused slot None None is refl,
-        )
-    answered_at reply (Some (Some pause)) output block console there is appended comes = absurd (cc (comes.0))
+    pub called : (t : Turn A) (block console : ℕ) → Began t block console → Decides t
+        → ((next : Pause) → t ≡ turn.More next → HasLimit budget) → IsCall was (Handle event) (response_to t) (now t)
+    called t block console r decided limited =
+        rw is (record {
+          turn = turned (Begins what budget) (λ limit found later. BeginsWithin limit what budget found later) t
+              block console r decided;
+          limited = limits t limited;
+        })
 
-    abbrev Told : Response A → Type 0
-    Told response = Responds budget (paced_world_of was) (Handle event) response before.bytes
-        after.bytes (paced_world_of now)
+    -- nothing is paused behind an event that is answered
+    still : slice_set paused slot None ≡ paused
+    still = set_same paused slot None None is refl
 
-    told_answers : (reply : Reply A) → Told (Answered reply)
-        → (Answers (world_of was) event reply before.bytes after.bytes (world_of now)) × (paused' ≡ paused)
-    told_answers reply r = answered_at reply (slice_get paused slot) r.output r.block r.console
-        (is_there outputs paused slot before here many) refl r.appended r.comes
+    told_answers : (reply : Reply A) (block console : ℕ) → Began (turn.Answered reply) block console
+        → Answers (world_of was) event reply before.bytes after.bytes (world_of (now (turn.Answered reply)))
+    told_answers reply block console r =
+        answered (handled event budget (world_of was) (world_of (now (turn.Answered reply))) reply block console
+        before.bytes after.bytes r)
 
     -- it is a step
-    stepped : (reply : Reply A) → HasNoRead what → Told (Answered reply)
-        → Decides (λ limit found later. BeginsWithin limit what budget found later) (Answered reply)
-        → (reply ≡ BadSlot) ↔ (length slots ≤ slot)
+    stepped : (reply : Reply A) (block console : ℕ) → HasNoRead what → Began (turn.Answered reply) block console
+        → Decides (turn.Answered reply) → (reply ≡ BadSlot) ↔ (length slots ≤ slot)
         → (reply ≡ BadRange → session slots' image' dirty' outputs paused budget ≡ was)
         → (reply ≡ NoMemory → IsSomeAnd (slice_get slots slot) (λ found. (bytes : List ℕ)
-        → MayLackMemory (state_of bytes found) what)) → length outputs ≡ length slots
-        → IsStep was event reply now
-    stepped reply no_read r decided missing range memory as_many =
-        let both = told_answers reply r in
+        → MayLackMemory (state_of bytes found) what)) → IsStep was event reply (now (turn.Answered reply))
+    stepped reply block console no_read r decided missing range memory =
+        let told = told_answers reply block console r in
         record {
-          answers = answers_at _ _ event reply before.bytes _ after.bytes _ waited waits both.0;
+          answers = answers_at _ _ event reply before.bytes _ after.bytes _ waited (waits (turn.Answered reply)) told;
           others = others;
           outputs = others_kept outputs slot after;
           extents = extents;
-          size = same_size (extents_of slots) (extents_of slots') image image'
-              (told_outside (slice_get paused slot) r.output r.block r.console
-              (is_there outputs paused slot before here many) r.comes);
+          size = same_size (extents_of slots) (extents_of slots') image image' r.taken.outside;
           limits = limits_set outputs slot before after here same_limit;
-          paused = both.1;
+          paused = still;
           budget = refl;
           within = λ found later there later_there.
               let one = shown_back slots image slot found there in
               let two = shown_back slots' image' slot later later_there in
               within_at what reply _ _ _ _ before.limit _ before.bytes _ after.bytes _ one.2 two.2
-              limited_so waited waits
+              limited_so waited (waits (turn.Answered reply))
               (ended_within before.limit what budget _ _ before.bytes after.bytes reply
-              (decided one.0 two.0 one.1 two.1 (turn.Answered reply) refl));
-          refused = λ is found there.
+              (decided one.0 two.0 one.1 two.1));
+          refused = λ lacks found there.
               let one = shown_back slots image slot found there in
               rw (← one.2) (lacks_puts (state_of image one.0) what no_read
-              (lacks_at (slice_get slots slot) image one.0 what one.1 (memory is)));
+              (lacks_at (slice_get slots slot) image one.0 what one.1 (memory lacks)));
           bad_slot = missing;
-          bad_slot_keeps = λ is. let past : length slots ≤ slot = missing.0 is in let here_too = fits in
+          bad_slot_keeps = λ bad. let past : length slots ≤ slot = missing.0 bad in let here_too = fits in
               absurd (omega (arith, as_many, past, here_too));
-          bad_range_keeps = λ is. let quiet : after ≡ before =
-              same_outlet after before (silent both.0 is) same_limit in
-              rw (quiet, set_same outputs slot before before here refl, both.1) (range is);
-          no_memory = λ is. at_image (slice_get slots slot) image what (memory is);
+          bad_range_keeps = λ bad. let quiet : after ≡ before =
+              same_outlet after before (silent told bad) same_limit in
+              rw (quiet, set_same outputs slot before before here refl, still) (range bad);
+          no_memory = λ lacks. at_image (slice_get slots slot) image what (memory lacks);
         }
-      where
-        told_outside : (o : Option (Option Pause)) (output : List ℕ) (block console : ℕ) → (o ≡ None → ⊥)
-            → paced.ComesTo budget (Handle event) o (paced_world_of was) (Answered reply) output block
-            console (paced_world_of now)
-            → (world_of now).outside ≡ (world_of was).outside
-        told_outside None output block console there comes = absurd (there refl)
-        told_outside (Some None) output block console there comes = comes.taken.outside
-        told_outside (Some (Some pause)) output block console there comes = absurd (cc (comes.0))
 
-    pub whole : (response : Response A) → HasNoRead what → Told response
-        → Decides (λ limit found later. BeginsWithin limit what budget found later) response
-        → (response ≡ Answered BadSlot) ↔ (length slots ≤ slot)
-        → (response ≡ Answered BadRange → session slots' image' dirty' outputs paused budget ≡ was)
-        → (response ≡ Answered NoMemory → IsSomeAnd (slice_get slots slot) (λ found. (bytes : List ℕ)
-        → MayLackMemory (state_of bytes found) what)) → length outputs ≡ length slots
-        → IsWhole was event response now
-    whole (Answered reply) no_read r decided missing range memory as_many =
-        stepped reply no_read r decided (
-          λ is. missing.0 (ap (λ (a : Reply A). Answered a) is),
+    pub whole : (t : Turn A) (block console : ℕ) → HasNoRead what → Began t block console → Decides t
+        → (t ≡ turn.Answered BadSlot) ↔ (length slots ≤ slot)
+        → (t ≡ turn.Answered BadRange → session slots' image' dirty' outputs paused budget ≡ was)
+        → (t ≡ turn.Answered NoMemory → IsSomeAnd (slice_get slots slot) (λ found. (bytes : List ℕ)
+        → MayLackMemory (state_of bytes found) what)) → IsWhole was event (response_to t) (now t)
+    whole (turn.Answered reply) block console no_read r decided missing range memory =
+        stepped reply block console no_read r decided (
+          λ bad. missing.0 (ap (λ (a : Reply A). turn.Answered a) bad),
           λ past. cc (missing.1 past),
-        ) (λ is. range (ap (λ (a : Reply A). Answered a) is))
-        (λ is. memory (ap (λ (a : Reply A). Answered a) is)) as_many
-    whole response no_read r decided missing range memory as_many = tt
+        ) (λ bad. range (ap (λ (a : Reply A). turn.Answered a) bad))
+        (λ lacks. memory (ap (λ (a : Reply A). turn.Answered a) lacks))
+    whole (turn.More pause) block console no_read r decided missing range memory = tt
 
-    -- ---- and its response is one of those that it may get
+    -- and its response is one of those that it may get
+    pub suits_call : (t : Turn A) (block console : ℕ) → Began t block console → SuitsCall what (response_to t)
+    suits_call (turn.Answered reply) block console r = suits (told_answers reply block console r)
+    suits_call (turn.More pause) block console r =
+        paused_suits what budget r.taken.state _ _ r.taken.after r.output (turn.More pause) refl r.taken.comes
 
-    more_at : (o : Option (Option Pause)) (output : List ℕ) (block console : ℕ) → (o ≡ None → ⊥)
-        → paced.ComesTo budget (Handle event) o (paced_world_of was) More output block console
-        (paced_world_of now)
-        → SuitsCall {A = A} what More
-    more_at None output block console there comes = absurd (there refl)
-    more_at (Some None) output block console there comes =
-        paused_suits what budget comes.taken.state _ _ comes.taken.after output comes.turn
-        comes.told comes.taken.comes
-    more_at (Some (Some pause)) output block console there comes = absurd (cc (comes.0))
+  -- ---- a turn of either kind
 
-    pub suits_call : (response : Response A) → Told response → (response ≡ Idle → ⊥) → SuitsCall what response
-    suits_call (Answered reply) r not_idle = suits (told_answers reply r).0
-    suits_call More r not_idle =
-        more_at (slice_get paused slot) r.output r.block r.console
-        (is_there outputs paused slot before here many) r.comes
-    suits_call Busy r not_idle = tt
-    suits_call Idle r not_idle = absurd (not_idle refl)
+  pub turn_taken : (kind : TurnKind A) (pause : Option Pause) (job : Work A) (t : Turn A) (block console : ℕ)
+      → slice_get paused slot ≡ Some pause → work_in kind pause ≡ Ok job → BeginsNoRead kind
+      → Says job t block console → Turned was slot kind (response_to t) (now t)
+  turn_taken (Begin what) None job t block console is told no_read says =
+      let same : job ≡ work.Begin what = cc (told) in
+      let begun = subst (λ (j : Work A). Says j t block console) same says in
+      record {
+        call = called what.now is t block console begun.takes begun.within begun.limited;
+        whole = whole what.now is t block console no_read begun.takes begun.within begun.bad_slot
+            begun.bad_range_keeps begun.no_memory;
+        suits = suits_call what.now is t block console begun.takes;
+      }
+  turn_taken Resume (Some pause) job t block console is told no_read says =
+      let same : job ≡ work.Resume pause = cc (told) in
+      record {
+        call = went_on pause t block console is (subst (λ (j : Work A). Says j t block console) same says);
+        whole = tt;
+        suits = tt;
+      }
+  turn_taken (Begin what) (Some pause) job t block console is told no_read says = absurd (cc (told))
+  turn_taken Resume None job t block console is told no_read says = absurd (cc (told))

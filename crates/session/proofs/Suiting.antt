@@ -21,7 +21,7 @@ use Rattle.board.specs.Pausing.{Begins, TurnsTo, asked, asked_over_image}
 use Rattle.board.specs.Slot.{SlotState}
 use Rattle.board.specs.World.{World, Answers, MayGive, MayGiveBy, MayGiveOverImage, MissingStep, SlotStep}
 use Rattle.board.proofs.Replies.{given_replies, of_read, of_write}
-use Rattle.session.specs.declared.response.Response.TheVariants.{More}
+use Rattle.session.specs.declared.response.Response.TheVariants.{More, Busy, Idle}
 use Rattle.session.specs.Pacing.{response_to}
 use Rattle.session.specs.Answering.{Suits, SuitsCall}
 use Rattle.session.proofs.Parts.{asks_nothing}
@@ -137,3 +137,12 @@ paused_suits (Input bytes) budget state before after new output (turn.More pause
 paused_suits what budget state before after new output (turn.Answered reply) told h = absurd (cc (told))
 paused_suits what budget state before after new output (turn.More pause) told h =
     asks_none what budget state before after new output pause refl h
+
+-- a turn is neither busy nor idle
+pub never_busy : {A : Type 0} (t : Turn A) → response_to t ≡ Busy → ⊥
+never_busy (turn.Answered reply) is = cc (is)
+never_busy (turn.More pause) is = cc (is)
+
+pub never_idle : {A : Type 0} (t : Turn A) → response_to t ≡ Idle → ⊥
+never_idle (turn.Answered reply) is = cc (is)
+never_idle (turn.More pause) is = cc (is)

@@ -5,8 +5,8 @@ use Rattle.board.specs.declared.event.EventKind.TheVariants.{Write, Input}
 use Rattle.board.specs.declared.reply.Reply.{Reply}
 use Rattle.board.specs.declared.reply.Reply.TheVariants as reply
 use Rattle.board.specs.Replies.{MayReply}
-use Rattle.session.specs.declared.paced.turn_kind.TurnKind.{TurnKind}
-use Rattle.session.specs.declared.paced.turn_kind.TurnKind.TheVariants.{Begin, Resume}
+use Rattle.session.specs.declared.turn_kind.TurnKind.{TurnKind}
+use Rattle.session.specs.declared.turn_kind.TurnKind.TheVariants.{Begin, Resume}
 use Rattle.session.specs.declared.progress.Progress.{Progress}
 use Rattle.session.specs.declared.progress.Progress.TheVariants as progress
 use Rattle.session.specs.declared.response.Response.{Response}

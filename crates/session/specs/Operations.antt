@@ -35,6 +35,13 @@ abbrev pub HasAskedBeside : ℕ → ℕ → SessionState → SessionState → Ty
 HasAskedBeside slot tag old new =
     option_map (λ taken. taken + 2 ^ tag) (in_flight_at slot new.slots) ≢ in_flight_at slot old.slots
 
+-- an operation began with what the host says, by the tags in flight before and after it
+abbrev pub AskedBy : HostEvent → Option ℕ → Option ℕ → Type 0
+AskedBy (Complete tag verdict) before after = option_map (λ taken. taken + 2 ^ tag) after ≢ before
+AskedBy Drop before after = ⊥
+AskedBy Hold before after = ⊥
+AskedBy Release before after = after ≢ before
+
 -- the slot is there, and something of it is in flight
 abbrev pub HasFlight : ℕ → List BoardSlot → Type 0
 HasFlight slot slots = IsSomeAnd (slice_get slots slot) (λ found. IsTrue (is_any (tags_in found.host)))

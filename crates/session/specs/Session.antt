@@ -20,8 +20,8 @@ use Rattle.board.specs.Within.{MayPutOut, TakesWithin}
 use Rattle.session.specs.Pacing.{paused_at}
 use Rattle.session.specs.declared.guest.GuestSpec.{GuestSpec}
 use Rattle.session.specs.declared.told.Waits.{Waits}
-use Rattle.session.specs.declared.paced.turn_kind.TurnKind.{TurnKind}
-use Rattle.session.specs.declared.paced.turn_kind.TurnKind.TheVariants.{Begin, Resume}
+use Rattle.session.specs.declared.turn_kind.TurnKind.{TurnKind}
+use Rattle.session.specs.declared.turn_kind.TurnKind.TheVariants.{Begin, Resume}
 
 -- What a slot's console put out and nobody has taken yet, and how many bytes of it may wait.
 pub record Waiting : Type 0 where

@@ -1,13 +1,13 @@
 //! What a session is made of.
 
-ghost use Rattle.std.specs.Prelude.{◌≡◌, ◌↔◌, length, map, take, IsTrue, IfOk};
+ghost use Rattle.std.specs.Prelude.{◌≡◌, ◌↔◌, None, length, map, replicate, take, IsTrue, IfOk};
 ghost use Rattle.std.specs.Vec.{vec_items};
 ghost use Rattle.board.specs.Lent.{AreBytesOf};
 ghost use Rattle.session.specs.Refusing.{AreOutlets};
 ghost use Rattle.session.specs.Session.{none_waiting, slots_of};
 
 use crate::output_queue::OutputQueue;
-use board::{RegionSpec, SlotSpec};
+use board::{Pause, RegionSpec, SlotSpec};
 use std::alloc::{AllocError, Allocator};
 use std_alloc::vec::Lodged;
 
@@ -85,4 +85,18 @@ pub(crate) fn outputs<A: Allocator + Copy>(
         outputs.push(OutputQueue::new(alloc, guest.outlet)?)?;
     }
     Ok(outputs)
+}
+
+/// For each guest that nothing of its slot is paused.
+pub(crate) fn none_paused<A: Allocator>(
+    alloc: A,
+    guests: &[GuestSpec],
+) -> Result<Vec<Option<Pause>, A>, AllocError>
+    ensures { IfOk result (λ paused. paused.items ≡ replicate (length guests.now) None) }
+{
+    let mut paused = Vec::with_capacity(alloc, guests.len())?;
+    for _ in 0..guests.len() {
+        paused.push(None)?;
+    }
+    Ok(paused)
 }

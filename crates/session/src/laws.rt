@@ -1,6 +1,6 @@
 //! What holds of every session, by itself. The bodies are empty: each contract is a theorem.
 
-ghost use Rattle.std.specs.Prelude.{◌≡◌, ◌≢◌, ◌/◌, ℕ, List, [], ◌∷◌, length, Some, true, false};
+ghost use Rattle.std.specs.Prelude.{◌≡◌, ◌/◌, ℕ, List, [], ◌∷◌, length, Some, true, false};
 ghost use Rattle.std.specs.List.{slice_get};
 ghost use Rattle.chain.specs.declared.budget.Budget.{Budget};
 ghost use Rattle.guest_memory.specs.Memory.{Inside, Memory, SameRange, stored};

@@ -4,24 +4,25 @@
 //! `session` is a board over an image in memory, where each guest's disk is of the image or one that the host serves, a
 //! module for each kind of call: `registers`, `disk`, `memory`, `console`, `image` and `saved`.
 //!
-//! `paced` is what a session stands on: a board, over any image, whose calls are bounded. A service pauses where the budget
-//! of its call is spent, before its next chain, and goes on when it is told to. `response` says what a call of it comes to,
-//! and `progress` what one of a session does.
+//! Each call serves within the session's budget. A service pauses where the budget is spent, before its next chain, and goes
+//! on when it is told to. `turn_kind` says what a slot is asked to do in a call, `response` what comes of it, and `progress`
+//! what the caller is told.
 //!
 //! `guest` is what a session is made of, and `output_queue` keeps what a console put out. `fault` says why there is no
-//! session, `refusal` why a call was refused, `typed` what became of input, and `laws` what holds of every session.
+//! session, `refusal` why a call was refused, `typed` what became of input, `laws` what holds of every session, and `lines` what holds of every line of calls.
 #![tactic(auto)]
 
 mod fault;
 mod guest;
 mod laws;
+mod lines;
 mod output_queue;
-mod paced;
 mod progress;
 mod refusal;
 mod response;
 mod session;
 mod told;
+mod turn_kind;
 mod typed;
 
 pub use block_device::{Operation, OperationKind, Verdict};
@@ -38,7 +39,7 @@ pub use laws::{
     each_guest_is_alone, the_outlet_decides, what_touches_no_memory_needs_none,
     what_waits_changes_nothing,
 };
-pub use paced::{Paced, PacedFault, each_paced_guest_is_alone, refusals_are_noted};
+pub use lines::{each_paced_guest_is_alone, refusals_are_noted};
 pub use progress::Progress;
 pub use refusal::Refusal;
 pub use response::Response;

@@ -1,15 +1,8 @@
 //! What a console put out, until it is taken.
 
 ghost use Rattle.std.specs.Prelude.{◌≡◌, ◌++◌, ◌-◌, ◌≤◌, Some, length, vec_capacity, min, take, drop, IfOk};
-ghost use Rattle.sector_cache.specs.MemoryImage.{disk_of};
-ghost use Rattle.board.specs.Slot.{BoardSlot, interrupt_words};
-ghost use Rattle.std.specs.List.{slice_get};
-ghost use Rattle.session.specs.Pacing.{IsPacedCall, call_of};
 ghost use Rattle.session.specs.Session.{none_waiting};
 
-use crate::paced::{Paced, TurnKind};
-use crate::response::Shown;
-use board::MemoryImage;
 use console_device::{NoMemory, Outlet};
 use std::alloc::{AllocError, Allocator, Global};
 use std::marker::Model;
@@ -123,24 +116,5 @@ impl<A: Allocator> Outlet for OutputQueue<A> {
         if self.start == self.first.len() {
             self.skip(0);
         }
-    }
-}
-
-impl<A: Allocator + Copy> OutputQueue<A> {
-    /// A slot of the board takes a turn, and what is put out is kept behind what waits.
-    #[inline(always)]
-    pub(crate) fn turn(
-        &mut self,
-        paced: &mut Paced<MemoryImage<A>, A>,
-        slot: u8,
-        kind: TurnKind<'_, A>,
-    ) -> Shown<A>
-        ensures call { IsPacedCall disk_of (Some self.old.limit) paced.old (call_of slot kind.entry) result.response
-            self.old.bytes self.new.bytes paced.new }
-        ensures shown { (found : BoardSlot) → slice_get paced.new.board.slots slot ≡ Some found →
-            (result.block_irq, result.console_irq) ≡ interrupt_words found }
-        ensures limit { self.new.limit ≡ self.old.limit }
-    {
-        paced.turn(slot, kind, self)
     }
 }

@@ -5,10 +5,11 @@ ghost use Rattle.std.specs.Option.{option_map};
 ghost use Rattle.session.specs.declared.progress.Progress.{Progress};
 ghost use Rattle.session.specs.declared.response.Response.{Response};
 ghost use Rattle.session.specs.Answering.{IsServing, Means, served_response};
+ghost use Rattle.session.specs.Operations.{AskedBy};
 
 use crate::refusal::Refusal;
 use crate::response::Response;
-use board::Reply;
+use board::{HostEvent, Reply};
 use std::alloc::Allocator;
 
 /// What a call came to.
@@ -46,15 +47,27 @@ pub(crate) fn has_asked(before: Option<u64>, after: Option<u64>) -> bool
     after != before
 }
 
-/// Whether an operation began with the completion of a tag, by the tags in flight before and after it.
+// Whether an operation began with the completion of a tag, by the tags in flight before and after it.
 #[inline(always)]
-pub(crate) fn has_asked_beside(tag: u8, before: Option<u64>, after: Option<u64>) -> bool
+fn has_asked_beside(tag: u8, before: Option<u64>, after: Option<u64>) -> bool
     ensures { IsTrue result ↔ (option_map (λ taken. taken + 2 ^ tag) after ≢ before) }
 {
     match (before, after) {
         (Some(before), Some(after)) => !is_with(after, tag, before),
         (None, None) => false,
         _ => true,
+    }
+}
+
+/// Whether an operation began with what the host says, by the tags in flight before and after it.
+#[inline(always)]
+pub(crate) fn has_asked_by(told: HostEvent, before: Option<u64>, after: Option<u64>) -> bool
+    ensures { IsTrue result ↔ AskedBy told before after }
+{
+    match told {
+        HostEvent::Complete { tag, verdict: _ } => has_asked_beside(tag, before, after),
+        HostEvent::Drop | HostEvent::Hold => false,
+        HostEvent::Release => has_asked(before, after),
     }
 }
 

@@ -1,7 +1,7 @@
 //! The session: a board over an image in memory, and what its consoles put out. Where the host serves all disks the image is
 //! empty.
 
-ghost use Rattle.std.specs.Prelude.{◌≡◌, ◌≢◌, ◌⊎◌, ◌↔◌, ◌%◌, ◌/◌, ℕ, None, Some, map, length, replicate, IsFalse, IfNone, IfOk, IfSome, OnOk, IfErr, OnErr, IsErrAnd, IsErrOf};
+ghost use Rattle.std.specs.Prelude.{◌≡◌, ◌≢◌, ◌⊎◌, ◌↔◌, ◌%◌, ◌/◌, ◌<◌, ℕ, None, Some, map, length, replicate, IsFalse, IsSome, IsTrue, IfNone, IfOk, IfSome, OnOk, IfErr, OnErr, IsErrAnd, IsErrOf};
 ghost use Rattle.std.specs.List.{slice_get};
 ghost use Rattle.std.specs.Vec.{vec_items};
 ghost use Rattle.chain.specs.Budget.{IsSpent};
@@ -16,10 +16,10 @@ ghost use Rattle.session.specs.declared.fault.SessionFault.{SessionFault};
 ghost use Rattle.board.specs.declared.event.EventKind.{EventKind};
 ghost use Rattle.board.specs.declared.reply.Reply.{Reply};
 ghost use Rattle.session.specs.declared.response.Response.{Response};
-ghost use Rattle.session.specs.Pacing.{call_of};
+ghost use Rattle.session.specs.Pacing.{call_of, paused_at};
 ghost use Rattle.session.specs.Answering.{SuitsCall, SuitsTurn};
 ghost use Rattle.session.specs.Pausing.{IsCall, IsEventCall, IsWholeCall};
-ghost use Rattle.session.specs.Session.{BeginsNoRead, IsIdle, IsOutside, new_session, new_session_over, none_waiting, slots_of, waits_at};
+ghost use Rattle.session.specs.Session.{BeginsNoRead, IsIdle, new_session, new_session_over, none_waiting, slots_of, waits_at};
 ghost use Rattle.session.specs.Refusing.{AreOutlets, IsBoardFault, IsJudged, IsLentRefusedFor, IsRefusedFor};
 
 mod console;
@@ -30,12 +30,12 @@ mod registers;
 mod saved;
 
 use crate::fault::{SessionFault, why_not};
-use crate::guest::{GuestSpec, are_bytes_of, are_outlets, outputs, slots};
+use crate::guest::{GuestSpec, are_bytes_of, are_outlets, none_paused, outputs, slots};
 use crate::output_queue::OutputQueue;
-use crate::paced::{Paced, TurnKind};
-use crate::response::{Response, Turned};
+use crate::response::{Response, Turned, left_by};
 use crate::told::Waits;
-use board::{Board, Budget, MemoryImage, Refused, Reply};
+use crate::turn_kind::TurnKind;
+use board::{Board, Budget, MemoryImage, Pause, Refused, Reply};
 use sector_cache::are_whole_sectors;
 use std::alloc::{AllocError, Allocator, Global};
 use std::marker::Model;
@@ -44,8 +44,11 @@ use std_alloc::vec::Lodged;
 /// Up to sixty-four guests over one image in memory. `new` makes all room: no other call takes memory.
 #[derive(Drop)]
 pub struct Session<A: Allocator = Global> {
-    paced: Paced<MemoryImage<A>, A>,
+    board: Board<MemoryImage<A>, A>,
     outputs: Vec<OutputQueue<A>, A>,
+    // The service of each slot that is paused.
+    paused: Vec<Option<Pause>, A>,
+    budget: Budget,
 }
 
 impl<A: Allocator> Model for Session<A> {
@@ -57,16 +60,16 @@ impl<A: Allocator> Model for Session<A> {
     ghost Value = { SessionState };
 
     ghost view = { λ s. record {
-      slots = s.paced.board.slots;
-      image = bytes_of (memory_disk_of s.paced.board.image);
-      dirty = (memory_disk_of s.paced.board.image).dirty;
+      slots = s.board.slots;
+      image = bytes_of (memory_disk_of s.board.image);
+      dirty = (memory_disk_of s.board.image).dirty;
       outputs = s.outputs.items;
-      paused = s.paced.paused;
-      budget = s.paced.budget;
+      paused = s.paused.items;
+      budget = s.budget;
     } };
 
-    ghost invariant = { λ s. (length s.outputs.items ≡ length s.paced.board.slots)
-        × (length s.paced.paused ≡ length s.paced.board.slots) };
+    ghost invariant = { λ s. (length s.outputs.items ≡ length s.board.slots)
+        × (length s.paused.items ≡ length s.board.slots) };
 }
 
 impl<A: Allocator + Copy> Session<A> {
@@ -148,11 +151,16 @@ impl<A: Allocator + Copy> Session<A> {
         }) }
         ensures fault { IfErr result (λ why. why ≡ SessionFault.NoMemory) }
     {
-        let Ok(paced) = Paced::new(alloc, board, budget) else {
+        let Ok(outputs) = outputs(alloc, guests) else {
             return Err(SessionFault::NoMemory);
         };
-        match outputs(alloc, guests) {
-            Ok(outputs) => Ok(Session { paced, outputs }),
+        match none_paused(alloc, guests) {
+            Ok(paused) => Ok(Session {
+                board,
+                outputs,
+                paused,
+                budget,
+            }),
             Err(AllocError) => Err(SessionFault::NoMemory),
         }
     }
@@ -167,21 +175,26 @@ impl<A: Allocator + Copy> Session<A> {
         ensures as_many { length self.old.paused ≡ length self.old.slots }
         ensures waits { result.waits ≡ waits_at slot self.new }
     {
-        let Some(output) = self.outputs.get_mut(slot as usize) else {
-            return Turned {
-                response: Response::Answered(Reply::BadSlot),
-                waits: None,
-            };
+        let Some(paused) = self.waiting(slot) else {
+            return self.unmoved(slot, Response::Answered(Reply::BadSlot));
         };
-        let shown = output.turn(&mut self.paced, slot, kind);
-        let waits = Waits {
-            block_irq: shown.block_irq,
-            console_irq: shown.console_irq,
-            output: output.len(),
-        };
-        Turned {
-            response: shown.response,
-            waits: Some(waits),
+        match kind.work(paused) {
+            Ok(work) => {
+                let output = &mut self.outputs[slot as usize];
+                let taken = self.board.turn(slot, work, self.budget, output);
+                let output = output.len();
+                self.paused[slot as usize] = left_by(&taken.turn);
+                let waits = Waits {
+                    block_irq: taken.block_irq,
+                    console_irq: taken.console_irq,
+                    output,
+                };
+                Turned {
+                    response: Response::of(taken.turn),
+                    waits: Some(waits),
+                }
+            }
+            Err(response) => self.unmoved(slot, response),
         }
     }
 
@@ -192,11 +205,18 @@ impl<A: Allocator + Copy> Session<A> {
         ensures as_many { length self.old.paused ≡ length self.old.slots }
         ensures waits { result.waits ≡ waits_at slot self.new }
     {
-        let shown = self.paced.type_in(slot, bytes);
-        let waits = self.waits(slot, shown.block_irq, shown.console_irq);
-        Turned {
-            response: shown.response,
-            waits,
+        match self.waiting(slot) {
+            None => self.unmoved(slot, Response::Answered(Reply::BadSlot)),
+            Some(Some(_)) => self.unmoved(slot, Response::Busy),
+            Some(None) => {
+                let taken = self.board.begin_input(slot, bytes, self.budget);
+                self.paused[slot as usize] = left_by(&taken.turn);
+                let waits = self.waits(slot, taken.block_irq, taken.console_irq);
+                Turned {
+                    response: Response::of(taken.turn),
+                    waits,
+                }
+            }
         }
     }
 }
@@ -216,24 +236,44 @@ impl<A: Allocator> Session<A> {
         })
     }
 
-    // Stores bytes into a slot's memory.
-    fn store(&mut self, slot: u8, addr: u64, from: &[u8]) -> Response<A>
-        ensures call { IsEventCall self.old slot (EventKind.MemWrite addr from.now) result self.new }
-        ensures suits { SuitsCall (EventKind.MemWrite addr from.now) result }
-        ensures as_many { length self.old.paused ≡ length self.old.slots }
-        ensures bad_range { (result ≡ Response.Answered Reply.BadRange) ↔
-            (IsIdle slot self.old × IsOutside slot addr (length from.now) self.old.slots) }
+    // A call that changes nothing comes to this.
+    fn unmoved(&self, slot: u8, response: Response<A>) -> Turned<A>
+        ensures response { result.response ≡ response }
+        ensures waits { result.waits ≡ waits_at slot self.now }
     {
-        self.paced.write_memory(slot, addr, from)
+        let waits = match self.board.interrupts(slot) {
+            Some((block_irq, console_irq)) => self.waits(slot, block_irq, console_irq),
+            None => None,
+        };
+        Turned { response, waits }
+    }
+
+    // What is paused of the slot, where there is one.
+    #[inline(always)]
+    fn waiting(&self, slot: u8) -> Option<Option<Pause>>
+        ensures value { result ≡ slice_get self.now.paused slot }
+        ensures there { IsSome result ↔ (slot < length self.now.slots) }
+    {
+        self.paused.get(slot as usize).copied()
+    }
+
+    // The service of the slot that is paused, if one is. There is none for a slot that isn't there.
+    #[inline(always)]
+    fn paused(&self, slot: u8) -> Option<Pause>
+        ensures value { result ≡ paused_at self.now.paused slot }
+        ensures there { IsSome result → slot < length self.now.slots }
+    {
+        self.waiting(slot)?
     }
 
     /// Whether a service of the slot is paused: then each call for the slot is busy, but `go_on`, and those that tell
     /// its interrupts and take its output.
     #[inline(always)]
     pub fn is_paused(&self, slot: u8) -> bool
-        ensures { IsFalse result ↔ IsIdle slot self.now }
+        ensures idle { IsFalse result ↔ IsIdle slot self.now }
+        ensures there { IsTrue result → slot < length self.now.slots }
     {
-        self.paced.paused(slot).is_some()
+        self.paused(slot).is_some()
     }
 }
 

@@ -9,11 +9,11 @@ ghost use Rattle.session.specs.Course.{IsTaken};
 ghost use Rattle.session.specs.Pausing.{IsToldCall, taken_at};
 ghost use Rattle.session.specs.Session.{IsIdle, output_of, waits_at};
 
-use crate::paced::TurnKind;
 use crate::refusal::Refusal;
 use crate::response::Turned;
 use crate::session::Session;
 use crate::told::{Told, done};
+use crate::turn_kind::TurnKind;
 use crate::typed::{Typed, typing};
 use board::EventKind;
 use std::alloc::Allocator;
@@ -64,7 +64,7 @@ impl<A: Allocator> Session<A> {
     fn taken(&self, slot: u8) -> Option<usize>
         ensures { result ≡ taken_at slot self.now }
     {
-        self.paced.paused(slot)?.taken
+        self.paused(slot)?.taken
     }
 
     /// What the slot's console put out and nobody has taken yet, in two parts.

@@ -10,16 +10,16 @@ ghost use Rattle.board.specs.Backing.{tags_in};
 ghost use Rattle.board.specs.Slot.{sectors_in};
 ghost use Rattle.session.specs.declared.progress.Progress.{Progress};
 ghost use Rattle.session.specs.declared.refusal.Refusal.{Refusal};
-ghost use Rattle.session.specs.Answering.{Means, SuitsCall, served_response};
-ghost use Rattle.session.specs.Operations.{HasAsked, HasAskedBeside, HasFree, HasNothing, in_flight_at, operation_at};
-ghost use Rattle.session.specs.Pausing.{IsEventCall, IsToldCall};
+ghost use Rattle.session.specs.Answering.{Means, served_response};
+ghost use Rattle.session.specs.Operations.{AskedBy, HasAsked, HasAskedBeside, HasFree, HasNothing, in_flight_at, operation_at};
+ghost use Rattle.session.specs.Pausing.{IsToldCall};
 ghost use Rattle.session.specs.Session.{IsIdle, waits_at};
 
-use crate::paced::TurnKind;
-use crate::progress::{Progress, has_asked, has_asked_beside, served};
+use crate::progress::{Progress, has_asked_by, served};
 use crate::response::Turned;
 use crate::session::Session;
 use crate::told::Told;
+use crate::turn_kind::TurnKind;
 use block_device::{Operation, Verdict};
 use board::{EventKind, HostEvent};
 use chain::Segment;
@@ -40,15 +40,7 @@ impl<A: Allocator + Copy> Session<A> {
             (IsIdle slot self.old × HasFree slot tag self.old.slots) }
         ensures waits { result.waits ≡ waits_at slot self.new }
     {
-        let before = self.in_flight(slot);
-        let told = HostEvent::Complete { tag, verdict };
-        let Turned { response, waits } = self.host_event(slot, told);
-        let after = self.in_flight(slot);
-        let asks = has_asked_beside(tag, before, after);
-        Told {
-            answer: served(response, asks),
-            waits,
-        }
+        self.say(slot, HostEvent::Complete { tag, verdict })
     }
 
     /// Gives up what is in flight of a slot, as no transfer touches its memory any more: its tags are free, and the device asks
@@ -94,44 +86,31 @@ impl<A: Allocator + Copy> Session<A> {
             (IsIdle slot self.old × HasNothing slot HostEvent.Release self.old.slots) }
         ensures waits { result.waits ≡ waits_at slot self.new }
     {
-        let before = self.in_flight(slot);
-        let Turned { response, waits } = self.host_event(slot, HostEvent::Release);
-        let after = self.in_flight(slot);
-        let asks = has_asked(before, after);
-        Told {
-            answer: served(response, asks),
-            waits,
-        }
+        self.say(slot, HostEvent::Release)
     }
 
-    // The host says this of the disk that it serves a slot, with which no operation begins.
+    // The host says this of the disk that it serves a slot.
+    #[inline(always)]
     fn say(&mut self, slot: u8, told: HostEvent) -> Told<Progress>
         ensures call { IsToldCall {A = A} self.old slot (EventKind.Host told)
             (Means served_response result.answer) self.new }
-        ensures never_asks { IfOk result.answer (λ progress. progress ≢ Progress.Asks) }
+        ensures asks { IfOk result.answer (λ progress. (progress ≡ Progress.Asks) ↔
+            AskedBy told (in_flight_at slot self.old.slots) (in_flight_at slot self.new.slots)) }
         ensures bad_slot { IsErrOf result.answer Refusal.BadSlot ↔ (length self.old.slots ≤ slot) }
         ensures busy { IsErrOf result.answer Refusal.Busy ↔ ¬ IsIdle slot self.old }
         ensures idle { IsErrOf result.answer Refusal.Idle ↔
             (IsIdle slot self.old × HasNothing slot told self.old.slots) }
         ensures waits { result.waits ≡ waits_at slot self.new }
     {
-        let Turned { response, waits } = self.host_event(slot, told);
+        let before = self.in_flight(slot);
+        let what = EventKind::Host(told);
+        let Turned { response, waits } = self.turn(slot, TurnKind::Begin(&what));
+        let after = self.in_flight(slot);
+        let asks = has_asked_by(told, before, after);
         Told {
-            answer: served(response, false),
+            answer: served(response, asks),
             waits,
         }
-    }
-
-    // The event of that.
-    #[inline(always)]
-    fn host_event(&mut self, slot: u8, told: HostEvent) -> Turned<A>
-        ensures call { IsEventCall {A = A} self.old slot (EventKind.Host told) result.response self.new }
-        ensures suits { SuitsCall {A = A} (EventKind.Host told) result.response }
-        ensures as_many { length self.old.paused ≡ length self.old.slots }
-        ensures waits { result.waits ≡ waits_at slot self.new }
-    {
-        let what = EventKind::Host(told);
-        self.turn(slot, TurnKind::Begin(&what))
     }
 }
 
@@ -141,14 +120,14 @@ impl<A: Allocator> Session<A> {
     pub fn in_flight(&self, slot: u8) -> Option<u64>
         ensures { result ≡ in_flight_at slot self.now.slots }
     {
-        self.paced.board().in_flight(slot)
+        self.board.in_flight(slot)
     }
 
     /// What the host is asked to do for a slot with this tag. There is no answer where the tag is free.
     pub fn operation(&self, slot: u8, tag: u8) -> Option<Operation>
         ensures { result ≡ operation_at slot tag self.now.slots }
     {
-        self.paced.board().operation(slot, tag)
+        self.board.operation(slot, tag)
     }
 
     /// Where the bytes of the operation in flight with this tag lie: runs of guest memory, or of a ZEROES of the guest's disk.
@@ -164,6 +143,6 @@ impl<A: Allocator> Session<A> {
             here.flight.operation here.runs))) }
     {
         self.operation(slot, tag)?;
-        self.paced.board().runs(slot, tag)
+        self.board.runs(slot, tag)
     }
 }

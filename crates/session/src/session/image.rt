@@ -11,14 +11,19 @@ impl<A: Allocator> Session<A> {
     pub fn image(&self) -> &[u8]
         ensures { result.now ≡ self.now.image }
     {
-        self.paced.board().image().bytes()
+        self.board.image().bytes()
     }
 
     /// Ends the session, and gives the image's bytes as they stand.
     pub fn into_image(self) -> Vec<u8, A>
         ensures { result.items ≡ self.image }
     {
-        let Session { paced, outputs: _ } = self;
-        paced.into_board().into_image().into_bytes()
+        let Session {
+            board,
+            outputs: _,
+            paused: _,
+            budget: _,
+        } = self;
+        board.into_image().into_bytes()
     }
 }

@@ -15,7 +15,6 @@ ghost use Rattle.session.specs.contracts.session.Session.{the_row};
 
 use crate::refusal::Refusal;
 use crate::session::Session;
-use crate::told::done;
 use board::GuestMemory;
 use std::alloc::Allocator;
 use std_alloc::vec::Lodged;
@@ -32,11 +31,10 @@ impl<A: Allocator> Session<A> {
             (IsIdle slot self.now × IsOutside slot addr (length into.old) self.now.slots) }
         ensures kept { OnErr result (into.new ≡ into.old) }
     {
-        let board = self.paced.board();
         if self.is_paused(slot) {
             return Err(Refusal::Busy);
         }
-        if board.read_memory(slot, addr, into) {
+        if self.board.read_memory(slot, addr, into) {
             return Ok(());
         }
         Err(Refusal::of_range(slot, self.slots()))
@@ -51,7 +49,13 @@ impl<A: Allocator> Session<A> {
         ensures bad_range { IsErrOf result Refusal.BadRange ↔
             (IsIdle slot self.old × IsOutside slot addr (length from.now) self.old.slots) }
     {
-        done(self.store(slot, addr, from))
+        if self.is_paused(slot) {
+            return Err(Refusal::Busy);
+        }
+        if self.board.write_memory(slot, addr, from) {
+            return Ok(());
+        }
+        Err(Refusal::of_range(slot, self.slots()))
     }
 
     /// The slot's memory, as it stands. It is refused for a bad slot, and while a service of the slot is paused.
@@ -63,7 +67,7 @@ impl<A: Allocator> Session<A> {
         ensures missing { IsErrOf result Refusal.BadSlot ↔ (length self.now.slots ≤ slot) }
         ensures busy { IsErrOf result Refusal.Busy → ¬ IsIdle slot self.now }
     {
-        let Some(memory) = self.paced.board().memory(slot) else {
+        let Some(memory) = self.board.memory(slot) else {
             return Err(Refusal::BadSlot);
         };
         if self.is_paused(slot) {
@@ -79,7 +83,7 @@ impl<A: Allocator> Session<A> {
         ensures there { IsTrue result ↔ (slot < length self.old.slots) }
         ensures kept { self.new ≡ record self.old { slots = bits_in slot (slice_get self.old.slots slot) (bits_of bits.items) self.old.slots } }
     {
-        self.paced.keep_pages(slot, bits)
+        self.board.keep_pages(slot, bits)
     }
 
     /// The bytes of the slot's memory from `addr` to the end of the region that holds it, to be read and written in place:
@@ -93,6 +97,6 @@ impl<A: Allocator> Session<A> {
             (with_slot_bytes slot addr self.old)) }
         ensures rest { IsSomeAnd (slice_get self.old.slots slot) (λ found. IsRest found.memory addr result.now) }
     {
-        self.paced.memory_mut(slot, addr)
+        self.board.memory_mut(slot, addr)
     }
 }

@@ -13,12 +13,12 @@ ghost use Rattle.session.specs.Operations.{HasAsked, HoldsUp};
 ghost use Rattle.session.specs.Pausing.{IsToldCall, WentOn};
 ghost use Rattle.session.specs.Session.{IsIdle, waits_at};
 
-use crate::paced::TurnKind;
 use crate::progress::{Progress, has_asked, served};
 use crate::refusal::Refusal;
 use crate::response::{Response, Turned};
 use crate::session::Session;
 use crate::told::Told;
+use crate::turn_kind::TurnKind;
 use board::{Counters, DeviceKind, EventKind, FaultNote, Reply};
 use std::alloc::Allocator;
 
@@ -40,7 +40,7 @@ impl<A: Allocator + Copy> Session<A> {
         if self.is_paused(slot) {
             return Err(Refusal::Busy);
         }
-        match self.paced.board().read(slot, window, offset, width) {
+        match self.board.read(slot, window, offset, width) {
             Some(value) => Ok(value),
             None => Err(Refusal::BadSlot),
         }
@@ -123,21 +123,21 @@ impl<A: Allocator> Session<A> {
     pub fn interrupts(&self, slot: u8) -> Option<(u8, u8)>
         ensures { result ≡ option_map interrupt_words (slice_get self.now.slots slot) }
     {
-        self.paced.board().interrupts(slot)
+        self.board.interrupts(slot)
     }
 
     /// Whether a call of the image failed in an event of the slot. None of an image in memory does.
     pub fn disturbed(&self, slot: u8) -> Option<bool>
         ensures { result ≡ option_map (λ found. false) (slice_get self.now.slots slot) }
     {
-        self.paced.board().memory(slot).map(|_| false)
+        self.board.memory(slot).map(|_| false)
     }
 
     /// What the slot's devices did since the session was made. A restore keeps the numbers.
     pub fn counters(&self, slot: u8) -> Option<Counters>
         ensures { IsSome result ↔ (slot < length self.now.slots) }
     {
-        self.paced.board().counters(slot)
+        self.board.counters(slot)
     }
 
     /// The last fault of a window of the slot, by which the window asked for a reset, and where it was met: none until one
@@ -145,13 +145,13 @@ impl<A: Allocator> Session<A> {
     pub fn last_fault(&self, slot: u8, window: DeviceKind) -> Option<FaultNote>
         ensures { IsSome result → slot < length self.now.slots }
     {
-        self.paced.board().last_fault(slot, window)
+        self.board.last_fault(slot, window)
     }
 
     /// How many slots there are, from 1 to 64. They are numbered from 0.
     pub fn slots(&self) -> usize
         ensures { result ≡ length self.now.slots }
     {
-        self.paced.board().slots()
+        self.board.slots()
     }
 }

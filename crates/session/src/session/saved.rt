@@ -31,7 +31,10 @@ impl<A: Allocator> Session<A> {
             ((¬ IsIdle slot self.now) ⊎ HasFlight slot self.now.slots) }
         ensures not_short { ¬ IsErrOf result SaveRefusal.ShortBuffer }
     {
-        self.paced.saved_len(slot)
+        if self.is_paused(slot) {
+            return Err(SaveRefusal::Busy);
+        }
+        self.board.saved_len(slot)
     }
 
     /// Writes the slot's snapshot to the front of `into`, and answers how many bytes it has; the others stay. Every slot
@@ -47,7 +50,10 @@ impl<A: Allocator> Session<A> {
             (λ found. length into.old < length (snapshot_of found)) }
         ensures kept { OnErr result (into.new ≡ into.old) }
     {
-        self.paced.save(slot, into)
+        if self.is_paused(slot) {
+            return Err(SaveRefusal::Busy);
+        }
+        self.board.save(slot, into)
     }
 
     /// The slot takes up a snapshot of one of the same description, whoever had its disk. The bytes of memory and disk aren't
@@ -68,6 +74,9 @@ impl<A: Allocator> Session<A> {
         ensures fault { (why : RestoreFault) → IsErrOf result (RestoreRefusal.Fault why) →
             IsSomeAnd (slice_get self.old.slots slot) (λ old. IsCauseOf old from.now why) }
     {
-        self.paced.restore(slot, from)
+        if self.is_paused(slot) {
+            return Err(RestoreRefusal::Busy);
+        }
+        self.board.restore(slot, from)
     }
 }

@@ -5,10 +5,7 @@ use Rattle.session.specs.Session.{none_waiting}
 use Rattle.session.proofs.session.Session.of_board.Goals as goal
 
 pub invariant_of-result : goal.invariant_of-result
-invariant_of-result g c =
-    let slots = ap (λ p. length p.board.slots) c.in-Ok.ensures.made in (
-      ap length c.in-Ok-outputs.ensures ∙ length-map c.args.guests.now (λ guest. none_waiting guest.outlet)
-          ∙ sym c.requires ∙ sym slots,
-      ap (λ p. length p.paused) c.in-Ok.ensures.made
-          ∙ length-replicate (length c.args.board.slots) None ∙ sym slots,
-    )
+invariant_of-result g c = (
+  ap length c.in-Ok.ensures ∙ length-map c.args.guests.now (λ guest. none_waiting guest.outlet) ∙ sym c.requires,
+  ap length c.in-Ok-none_paused.ensures ∙ length-replicate (length c.args.guests.now) None ∙ sym c.requires,
+)

@@ -1,35 +1,38 @@
--- What is typed is what the session does.
-use Rattle.std.proofs.Common.{[], refl}
+-- What is typed to a slot of which nothing is paused is what the session does.
+use Rattle.std.proofs.Common.{◌<◌, length, Some, refl, sym, ap, ◌∙◌, arith}
 use Rattle.board.specs.declared.event.EventKind.TheVariants.{Input}
-use Rattle.session.specs.Pacing.{Handle}
-use Rattle.session.proofs.Calls.{responded_paused}
-use Rattle.session.proofs.Quiet.{as_many_still, handled_quietly, quiet_input}
+use Rattle.session.proofs.Access.{found_at}
+use Rattle.session.proofs.Quiet.{Typed, typed}
+use Rattle.session.proofs.Unchanged.{missing}
 use Rattle.session.proofs.session.Session.put_in.Goals as goal
 
-pub invariant_of-self : goal.invariant_of-self
-invariant_of-self g c =
-    let typed = c.type_in-shown in
-    as_many_still c.self.inside.paced typed.new.self c.self.inside.outputs.items typed.ensures.extents
-    (responded_paused c.self.inside.paced.budget
-    (Handle (record { slot = c.args.slot; what = Input c.args.bytes.now })) _ _ typed.result.response [] []
-    (typed.ensures.responds refl)) c.self.invariant
+pub returns-in-None-clause-call : goal.returns-in-None-clause-call
+returns-in-None-clause-call g c =
+    let none = sym c.waiting.ensures.value ∙ c.in-None.is in
+    rw (c.unmoved.ensures.response)
+    (record {
+      turn = rw none (refl, refl);
+      whole = missing c.args.self.now (record { slot = c.args.slot; what = Input c.args.bytes.now })
+          (grind (arith, c.waiting.ensures.there, c.in-None.is));
+    })
 
-pub returns-clause-call : goal.returns-clause-call
-returns-clause-call g c =
-    let typed = c.type_in-shown in
-    let handled = handled_quietly c.self.inside.paced typed.new.self c.self.inside.outputs.items c.args.slot
-    (Input c.args.bytes.now) typed.result.response c.self.invariant (quiet_input c.args.bytes.now)
-    (assumption (typed.ensures, typed.ensures.responds refl)) typed.ensures.limited
-    (λ never is. absurd never) in
-    rw (← c.self.view_is) (handled.call)
+fits : (g : _) (c : goal.After-of g) → c.args.slot < length c.self.inside.board.slots
+fits g c = grind (arith, c.waiting.ensures.there, c.in-Some-None.is, c.self.view_is)
 
-pub returns-clause-suits : goal.returns-clause-suits
-returns-clause-suits g c =
-    (handled_quietly c.self.inside.paced c.type_in-shown.new.self c.self.inside.outputs.items c.args.slot
-    (Input c.args.bytes.now) c.type_in-shown.result.response c.self.invariant
-    (quiet_input c.args.bytes.now)
-    (assumption (c.type_in-shown.ensures, c.type_in-shown.ensures.responds refl))
-    c.type_in-shown.ensures.limited (λ never is. absurd never)).suits
+-- what is typed, by what waits of the slot's output
+told : (g : _) (c : goal.After-of g)
+    → Typed g.row.A.Denot c.self.inside.board c.begin_input-taken.new.self c.self.inside.outputs.items
+    c.self.inside.paused.items c.self.inside.budget c.args.slot c.args.bytes.now c.begin_input-taken.result.turn
+told g c =
+    let t = c.begin_input-taken in
+    let waiting = found_at c.self.inside.outputs.items c.args.slot (omega (arith, fits g c, c.self.invariant.0)) in
+    typed _ c.self.inside.board t.new.self c.self.inside.outputs.items c.self.inside.paused.items
+    c.self.inside.budget c.args.slot c.args.bytes.now t.result.turn t.result.block_irq t.result.console_irq
+    waiting.0 waiting.1 c.self.invariant.0
+    (rw (← c.self.view_is) at (sym c.waiting.ensures.value ∙ c.in-Some-None.is
+    ∙ ap (λ p. Some p) c.in-Some-None.field-0-is))
+    (t.ensures.takes refl (fits g c)) t.ensures.extents t.ensures.others t.ensures.limited t.ensures.bad_slot
 
-pub returns-clause-as_many : goal.returns-clause-as_many
-returns-clause-as_many g c = rw (← c.self.view_is) c.self.invariant.1
+pub returns-in-Some-None-clause-call : goal.returns-in-Some-None-clause-call
+returns-in-Some-None-clause-call g c =
+    rw (c.of.ensures, c.left_by.ensures, ← c.self.view_is) (told g c).call

@@ -24,7 +24,7 @@ returns-then-is_paused g c =
     record {
       turn = called_busy c.args.self.now
           (record { slot = c.args.slot; what = Read c.args.window c.args.offset c.args.width })
-          (λ idle. let is : true ≡ false = c.if-is_paused.ensures.1 idle in absurd (cc (is)));
+          (λ idle. let is : true ≡ false = c.if-is_paused.ensures.idle.1 idle in absurd (cc (is)));
       whole = tt;
     } in
     let says = refuses c.args.self.now c.args.self.now c.args.slot
@@ -44,14 +44,14 @@ was_read : (g : _) (c : goal.Joined-read g) (value : ℕ) → c.read.result ≡ 
 was_read g c value is =
     rw (← c.self.view_is)
     (register_read _ _ c.args.slot c.args.window c.args.offset c.args.width value
-    (rw (c.board.ensures, is) at (c.read.ensures.value refl)))
+    (rw is at (c.read.ensures.value refl)))
 
 is_missing : (g : _) (c : goal.Joined-read g) → c.read.result ≡ None
     → IsStep {A = g.row.A.Denot} c.args.self.now
     (record { slot = c.args.slot; what = Read c.args.window c.args.offset c.args.width }) BadSlot
     c.args.self.now
 is_missing g c is =
-    rw (← c.self.view_is) (missing _ _ (grind (arith, c.board.ensures, is, c.read.ensures.there)))
+    rw (← c.self.view_is) (missing _ _ (grind (arith, is, c.read.ensures.there)))
 
 -- where nothing of the slot is paused
 as_call : (g : _) (c : goal.Joined-read g) (reply : Reply g.row.A.Denot)
@@ -62,7 +62,7 @@ as_call : (g : _) (c : goal.Joined-read g) (reply : Reply g.row.A.Denot)
     (Read c.args.window c.args.offset c.args.width)
     (Answered reply) c.args.self.now
 as_call g c reply step = record {
-  turn = call_of_step c.args.self.now c.args.self.now _ reply (c.if-is_paused.ensures.0 refl)
+  turn = call_of_step c.args.self.now c.args.self.now _ reply (c.if-is_paused.ensures.idle.0 refl)
       (rw (← c.self.view_is) c.self.invariant.1)
       (λ state. asks_nothing (Read c.args.window c.args.offset c.args.width) state refl) step;
   whole = step;

@@ -1,10 +1,9 @@
 -- A range of a guest's memory is read, or refused.
-use Rattle.std.proofs.Common.{◌≡◌, inl, false, true, Ok, Err, refl, length}
+use Rattle.std.proofs.Common.{◌≡◌, inl, false, true, Ok, refl, length}
 use Rattle.std.specs.Prelude.{nat_lt, if◌then◌else◌}
 use Rattle.board.specs.declared.event.Event.{Event}
 use Rattle.board.specs.declared.event.EventKind.TheVariants.{MemRead}
 use Rattle.board.specs.declared.reply.Reply.TheVariants.{BadRange, BadSlot, Bytes}
-use Rattle.session.specs.declared.refusal.Refusal.TheVariants as refusal
 use Rattle.session.specs.declared.response.Response.TheVariants.{Answered, Busy}
 use Rattle.session.specs.Answering.{bytes_response}
 use Rattle.session.specs.Session.{IsIdle, IsStep}
@@ -20,7 +19,7 @@ returns-then-is_paused-clause-call g c = record {
   call = record {
     turn = called_busy c.args.self.now
         (record { slot = c.args.slot; what = MemRead c.args.addr (length c.args.into.now) })
-        (λ idle. let is : true ≡ false = c.if-is_paused.ensures.1 idle in absurd (cc (is)));
+        (λ idle. let is : true ≡ false = c.if-is_paused.ensures.idle.1 idle in absurd (cc (is)));
     whole = tt;
   };
   told = inl refl;
@@ -34,11 +33,11 @@ returns-then-read_memory-clause-call g c =
     (Bytes c.read_memory.new.into) c.args.self.now =
     rw (← c.self.view_is)
     (was_read _ _ c.args.slot c.args.addr (length c.args.into.now) c.read_memory.new.into
-    (rw c.board-board.ensures at (told.inside.0 refl)) (rw c.board-board.ensures at told.read)) in
+    (told.inside.0 refl) (told.read)) in
     record {
       response = Answered (Bytes c.read_memory.new.into);
       call = record {
-        turn = call_of_step c.args.self.now c.args.self.now _ _ (c.if-is_paused.ensures.0 refl)
+        turn = call_of_step c.args.self.now c.args.self.now _ _ (c.if-is_paused.ensures.idle.0 refl)
             (rw (← c.self.view_is) c.self.invariant.1)
             (λ state. asks_nothing (MemRead c.args.addr (length c.args.into.now)) state refl) step;
         whole = step;
@@ -56,12 +55,12 @@ returns-clause-call g c =
     let step : IsStep c.args.self.now reads (if there then BadRange else BadSlot) c.args.self.now =
     rw (← c.self.view_is)
     (not_read _ _ c.args.slot c.args.addr (length c.args.into.now) (λ inside. let is : false
-    ≡ true = c.if-read_memory.ensures.inside.1 (rw (← c.board-board.ensures) at inside) in absurd (cc (is)))) in
+    ≡ true = c.if-read_memory.ensures.inside.1 (inside) in absurd (cc (is)))) in
     rw (c.of_range.ensures, c.slots.ensures) (record {
       response = Answered (if there then BadRange else BadSlot);
       call = record {
         turn = call_of_step c.args.self.now c.args.self.now reads (if there then BadRange else BadSlot)
-            (c.if-is_paused.ensures.0 refl)
+            (c.if-is_paused.ensures.idle.0 refl)
             (rw (← c.self.view_is) c.self.invariant.1)
             (λ state. asks_nothing (MemRead c.args.addr (length c.args.into.now)) state refl) step;
         whole = step;
@@ -70,14 +69,6 @@ returns-clause-call g c =
     })
 
 -- ---- when it is refused
-
-pub returns-then-is_paused-clause-bad_slot : goal.returns-then-is_paused-clause-bad_slot
-unfolding returns-then-is_paused-clause-call
-returns-then-is_paused-clause-bad_slot g c =
-    let told = returns-then-is_paused-clause-call g c in
-    (refuses c.args.self.now c.args.self.now c.args.slot
-    (MemRead c.args.addr (length c.args.into.now)) Busy (bytes_response c.args.into.now) (Err refusal.Busy)
-    (λ done. refl) (inl refl) (rw (← c.self.view_is) c.self.invariant.1) told.call).bad_slot
 
 pub returns-then-read_memory-clause-bad_slot : goal.returns-then-read_memory-clause-bad_slot
 unfolding returns-then-read_memory-clause-call
@@ -92,7 +83,7 @@ pub returns-clause-bad_range : goal.returns-clause-bad_range
 returns-clause-bad_range g c =
     rw (c.of_range.ensures, c.slots.ensures)
     (outside_range c.args.self.now.slots c.args.slot c.args.addr (length c.args.into.now)
-    (IsIdle c.args.slot c.args.self.now) (c.if-is_paused.ensures.0 refl)
+    (IsIdle c.args.slot c.args.self.now) (c.if-is_paused.ensures.idle.0 refl)
     (λ inside. let is : false ≡ true =
-    c.if-read_memory.ensures.inside.1 (rw (← c.self.view_is, ← c.board-board.ensures) at inside) in
+    c.if-read_memory.ensures.inside.1 (rw (← c.self.view_is) at inside) in
     absurd (cc (is))))

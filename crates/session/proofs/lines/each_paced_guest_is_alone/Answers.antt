@@ -1,5 +1,5 @@
 use Rattle.session.proofs.PacedAlone.{alone}
-use Rattle.session.proofs.paced.laws.each_paced_guest_is_alone.Goals as goal
+use Rattle.session.proofs.lines.each_paced_guest_is_alone.Goals as goal
 
 pub returns : goal.returns
 returns g c = alone
