@@ -1,6 +1,6 @@
 //! The memory, and its accesses.
 
-ghost use Rattle.std.specs.Prelude.{◌≡◌, [], ◌+◌, ◌*◌, ◌^◌, ◌≤◌, length};
+ghost use Rattle.std.specs.Prelude.{◌≡◌, [], ◌+◌, ◌*◌, ◌^◌, ◌≤◌, ◌<◌, length};
 ghost use Rattle.guest_memory.specs.Memory.{Inside};
 ghost use Rattle.racing_memory.specs.Past.{newest, seen_again, seen_of};
 
@@ -68,9 +68,7 @@ impl<'a> RacingMemory<'a> {
         for i in 0..into.len() {
             let at = from + i;
             if i == 0 || at % WORD_LEN == 0 {
-                word = self.words[at / WORD_LEN]
-                    .load(Ordering::SeqCst)
-                    .to_le_bytes();
+                word = word_at(self.words, at);
             }
             into[i] = word[at % WORD_LEN];
         }
@@ -85,9 +83,7 @@ impl<'a> RacingMemory<'a> {
         for i in 0..bytes.len() {
             let at = from + i;
             if i == 0 || at % WORD_LEN == 0 {
-                word = self.words[at / WORD_LEN]
-                    .load(Ordering::SeqCst)
-                    .to_le_bytes();
+                word = word_at(self.words, at);
                 change = [0; WORD_LEN];
             }
             change[at % WORD_LEN] = word[at % WORD_LEN] ^ bytes[i];
@@ -95,6 +91,16 @@ impl<'a> RacingMemory<'a> {
                 self.words[at / WORD_LEN].fetch_xor(u64::from_le_bytes(change), Ordering::SeqCst);
             }
         }
+    }
+
+    // Stores bytes from an address on.
+    fn put(&mut self, addr: u64, bytes: &[u8])
+        requires { Inside (newest self.old.base self.old.len self.old.past) addr (length bytes.now) }
+        ensures { self.new ≡ seen_again self.old addr bytes.now }
+    {
+        let from = (addr - self.base) as usize;
+        self.copy_in(from, bytes);
+        self.note(addr, bytes);
     }
 }
 
@@ -138,16 +144,25 @@ impl<'a> Shared for RacingMemory<'a> {
     fn store_u16(&mut self, addr: u64, v: u16) {
         let mut bytes = [0; 2];
         LittleEndian::write_u16(&mut bytes, v);
-        let from = (addr - self.base) as usize;
-        self.copy_in(from, &bytes);
-        self.note(addr, &bytes);
+        self.put(addr, &bytes);
+    }
+
+    fn store_u32(&mut self, addr: u64, v: u32) {
+        let mut bytes = [0; 4];
+        LittleEndian::write_u32(&mut bytes, v);
+        self.put(addr, &bytes);
     }
 
     fn store_u64(&mut self, addr: u64, v: u64) {
         let mut bytes = [0; 8];
         LittleEndian::write_u64(&mut bytes, v);
-        let from = (addr - self.base) as usize;
-        self.copy_in(from, &bytes);
-        self.note(addr, &bytes);
+        self.put(addr, &bytes);
     }
+}
+
+/// The bytes of the word that a place lies in, as one step finds them.
+fn word_at(words: &[AtomicU64], place: usize) -> [u8; WORD_LEN]
+    requires { place < 8 * length words.now }
+{
+    words[place / WORD_LEN].load(Ordering::SeqCst).to_le_bytes()
 }

@@ -9,7 +9,7 @@ use Rattle.chain.specs.Service.{Entry}
 use Rattle.indirect.specs.declared.descriptor.Descriptor.{Descriptor}
 use Rattle.indirect.specs.Descriptors.{split_descriptor}
 use Rattle.indirect.specs.Walks.{Leads, first_of}
-use Rattle.indirect.specs.Lists.{split_tables, EndsBy, TableRefused, ListResolves, ListFails}
+use Rattle.indirect.specs.Lists.{TableKind, split_tables, EndsBy, TableRefused, ListResolves, ListFails}
 use Rattle.split_ring.specs.Ring.{head_of, table_of}
 use Rattle.split_ring.specs.Kind.{entry_of, split_kind}
 use Rattle.shared_memory.specs.Sightings.{Sightings, Loads, memory}
@@ -24,22 +24,22 @@ agree_below t u n h i [] one l = tt
 agree_below t u n h i (x ∷ front) one l =
     (one x l.1.below, agree_below t u n (first_of front i) i front one l.2)
 
-pub list_kept : (negotiated : Bool) (m : Memory) (t u : ℕ → Descriptor) (n h count last : ℕ) (buffers : List Buffer)
-    → AreOne n t u → ListResolves split_tables negotiated m t n h count last buffers
-    → ListResolves split_tables negotiated m u n h count last buffers
-list_kept negotiated m t u n h count last buffers one x = record {
+pub list_kept : (kind : TableKind) (negotiated : Bool) (m : Memory) (t u : ℕ → Descriptor) (n h count last : ℕ) (buffers : List Buffer)
+    → AreOne n t u → ListResolves kind negotiated m t n h count last buffers
+    → ListResolves kind negotiated m u n h count last buffers
+list_kept kind negotiated m t u n h count last buffers one x = record {
   before = x.before;
   reached = reached_kept m [] t u n h count last x.before x.reached
       (agree_below t u n h last x.reached.front one x.reached.leads);
   comes = x.comes;
-  ends = subst (λ (d : Descriptor). EndsBy split_tables negotiated m d.indirect x.before count d buffers)
+  ends = subst (λ (d : Descriptor). EndsBy kind negotiated m d.indirect x.before count d buffers)
       (one last x.comes.below) x.ends;
 }
 
-pub fails_kept : (negotiated : Bool) (m : Memory) (t u : ℕ → Descriptor) (n h : ℕ) (fault : Fault)
-    → AreOne n t u → ListFails split_tables negotiated m t n h fault
-    → ListFails split_tables negotiated m u n h fault
-fails_kept negotiated m t u n h fault one x = record {
+pub fails_kept : (kind : TableKind) (negotiated : Bool) (m : Memory) (t u : ℕ → Descriptor) (n h : ℕ) (fault : Fault)
+    → AreOne n t u → ListFails kind negotiated m t n h fault
+    → ListFails kind negotiated m u n h fault
+fails_kept kind negotiated m t u n h fault one x = record {
   count = x.count;
   at = x.at;
   before = x.before;
@@ -50,7 +50,7 @@ fails_kept negotiated m t u n h fault one x = record {
   past = x.past;
   plain = λ c p. subst (λ (d : Descriptor). Refuses m x.before d.buffer fault) (one x.at c.below)
       (x.plain c (ap (λ (d : Descriptor). d.indirect) (one x.at c.below) ∙ p));
-  indirect = λ c p. subst (λ (d : Descriptor). TableRefused split_tables negotiated m x.before x.count d fault)
+  indirect = λ c p. subst (λ (d : Descriptor). TableRefused kind negotiated m x.before x.count d fault)
       (one x.at c.below) (x.indirect c (ap (λ (d : Descriptor). d.indirect) (one x.at c.below) ∙ p));
 }
 
@@ -64,7 +64,7 @@ offered_at old new ring buffers entry r head one = record {
   last = r.walked.last;
   list = subst (λ (h : ℕ). ListResolves split_tables ring.setup.indirect (memory new) (table_of (memory new) ring)
       ring.setup.size h r.walked.count r.walked.last buffers) head
-      (list_kept ring.setup.indirect (memory new) r.walked.table (table_of (memory new) ring) ring.setup.size
+      (list_kept split_tables ring.setup.indirect (memory new) r.walked.table (table_of (memory new) ring) ring.setup.size
       (head_of r.head_in ring) r.walked.count r.walked.last buffers one r.walked.resolves);
   entry_is = r.entry_is ∙ ap entry_of head;
 }
@@ -76,11 +76,11 @@ pub faulty_at : (old new : Sightings) (ring : RingState) (fault : Fault)
 faulty_at old new ring fault r head one =
     subst (λ (h : ℕ). ListFails split_tables ring.setup.indirect (memory new) (table_of (memory new) ring)
     ring.setup.size h fault) head
-    (fails_kept ring.setup.indirect (memory new) r.walked.table (table_of (memory new) ring) ring.setup.size
+    (fails_kept split_tables ring.setup.indirect (memory new) r.walked.table (table_of (memory new) ring) ring.setup.size
     (head_of r.head_in ring) fault one r.walked.fails)
 
 -- all that a guest which stands still is seen as is one memory
-one_still : (old new : Sightings) → Loads false old new → memory new ≡ memory old
+pub one_still : (old new : Sightings) → Loads false old new → memory new ≡ memory old
 one_still old new loads = loads.interference new.now loads.later (omega arith)
 
 table_still : (old new : Sightings) (addr n : ℕ) (table : ℕ → Descriptor) (m : Memory) → Loads false old new

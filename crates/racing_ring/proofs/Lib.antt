@@ -6,3 +6,7 @@ pub mod Walking
 pub mod Taking
 pub mod Leaving
 pub mod Standing
+pub mod Positions
+pub mod Listing
+pub mod PackedLeaving
+pub mod PackedTaking

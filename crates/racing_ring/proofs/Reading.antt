@@ -1,8 +1,27 @@
 -- What a copy says of the memory that it was made of.
-use Rattle.std.proofs.Common.{◌≡◌, ℕ, ◌∙◌, ap, arith, List}
-use Rattle.guest_memory.specs.Memory.{Memory, Inside, part_of}
+use Rattle.std.proofs.Common.{◌≡◌, ℕ, ◌∙◌, ◌+◌, ◌*◌, ◌≤◌, List, ap, sym, subst, arith, length, take, drop, length-take, length-drop}
+use Rattle.std.proofs.lemmas.List.{places, same_lists}
+use Rattle.byteorder.specs.Endian.{little_number}
+use Rattle.guest_memory.specs.Memory.{Memory, Inside, num, part_of}
 use Rattle.indirect.specs.declared.descriptor.Descriptor.{Descriptor}
-use Rattle.indirect.specs.Descriptors.{StandsIn, split_descriptor}
+use Rattle.indirect.specs.Descriptors.{StandsIn, split_descriptor, split_table}
+use Rattle.indirect.proofs.Entries.{entry_is, number_in}
+
+-- what stands in a copy of n bytes is in memory
+pub stands_at_last : (m : Memory) (addr n : ℕ) (bytes : List ℕ) (Fact : Memory → ℕ → Type 0) → Inside m addr n
+    → bytes ≡ part_of m addr n → StandsIn bytes 0 Fact → Fact m addr
+stands_at_last m addr n bytes Fact inside are stands =
+    let start : addr + 0 ≡ addr = omega arith in
+    subst (λ (a : ℕ). Fact m a) start (stands m addr n inside are)
+
+-- a number that was read of the first bytes
+pub number_first : (bytes : List ℕ) (k v : ℕ) → k ≤ length bytes → v ≡ little_number k bytes
+    → StandsIn bytes 0 (λ m a. v ≡ num m a k)
+number_first bytes k v room read =
+    let whole : take (length bytes) (drop 0 bytes) ≡ bytes =
+    same_lists _ _ (simp (length-take, length-drop) (omega arith)) (λ i d h. grind (arith, places)) in
+    number_in bytes 0 k v (length bytes) (omega (arith, room)) room
+    (read ∙ ap (λ (bs : List ℕ). little_number k bs) (sym whole))
 
 -- a descriptor read of a copy of 16 bytes is the one in memory
 pub copy_stands : (m : Memory) (addr : ℕ) (bytes : List ℕ) (d : Descriptor) → Inside m addr 16
@@ -10,3 +29,9 @@ pub copy_stands : (m : Memory) (addr : ℕ) (bytes : List ℕ) (d : Descriptor) 
     → d ≡ split_descriptor m addr
 copy_stands m addr bytes d inside are stands =
     stands m addr 16 inside are ∙ ap (λ (a : ℕ). split_descriptor m a) (omega arith)
+
+-- and one that was read of a copy of a table is the table's
+pub entry_stands : (m : Memory) (addr len at i : ℕ) (bytes : List ℕ) (d : Descriptor) → Inside m addr len
+    → bytes ≡ part_of m addr len → at ≡ 16 * i → StandsIn bytes at (λ m a. d ≡ split_descriptor m a)
+    → d ≡ split_table m addr i
+entry_stands m addr len at i bytes d inside are place stands = entry_is m addr at i d (stands m addr len inside are) place

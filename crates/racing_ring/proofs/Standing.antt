@@ -10,7 +10,7 @@ use Rattle.shared_memory.specs.Sightings.{Sightings, Stores, memory}
 use Rattle.racing_ring.specs.Split.{IsGiven, IsClosed, StoresEvent}
 
 -- a store into the memory of a guest that stands still
-stored_still : (old new : Sightings) (a k v : ℕ) → Stores false old new a k v → memory new ≡ put_num (memory old) a k v
+pub stored_still : (old new : Sightings) (a k v : ℕ) → Stores false old new a k v → memory new ≡ put_num (memory old) a k v
 stored_still old new a k v s = s.stored ∙ ap (λ (m : Memory). put_num m a k v) s.interference
 
 pub given_still : (old new : Sightings) (ring : RingState) (head len : ℕ) → LiesIn (memory old) ring.setup

@@ -7,10 +7,11 @@ use Rattle.chain.specs.Buffers.{Good}
 use Rattle.indirect.specs.declared.descriptor.Descriptor.{Descriptor}
 use Rattle.indirect.specs.Lists.{split_tables}
 use Rattle.indirect.proofs.Listing.{list_is_good, split_keeps_good}
-use Rattle.split_ring.specs.Ring.{head_of}
+use Rattle.split_ring.specs.Ring.{LiesIn, head_of}
 use Rattle.split_ring.specs.Kind.{entry_of}
-use Rattle.shared_memory.specs.Sightings.{Sightings, Loads, memory}
+use Rattle.shared_memory.specs.Sightings.{Sightings, Loads, SeenAs, memory}
 use Rattle.shared_memory.proofs.Sightings.{seen_last, seen_later, seen_sooner}
+use Rattle.racing_ring.proofs.Lying.{lies_loads}
 use Rattle.racing_ring.specs.Table.{IsTableSeen}
 use Rattle.racing_ring.specs.Walk.{IsWalked, IsWalkFaulty}
 use Rattle.racing_ring.specs.Split.{IsOffered, IsFaulty}
@@ -25,14 +26,20 @@ table_sooner races a b c addr n table l seen i below =
       is = was.is;
     }
 
-module _ (races : Bool) (old mid new : Sightings) (ring : RingState) (head : ℕ) (first : Loads races old mid)
-    (rest : Loads races mid new) (is : head ≡ head_of (memory mid) ring) where
+module _ (races races' : Bool) (old mid new : Sightings) (ring : RingState) (head : ℕ) (first : Loads races old mid)
+    (kept : races' ≡ races) (more : Loads races' mid new) (is : head ≡ head_of (memory mid) ring) where
+  rest : Loads races mid new
+  rest = rw (← kept) more
+
+  was_head : SeenAs old new (memory mid)
+  was_head = seen_later races old mid new (memory mid) rest (seen_last races old mid first)
+
   pub taken : (buffers : List Buffer)
       → IsWalked mid new ring.setup.indirect ring.setup.desc ring.setup.size head buffers
       → IsOffered old new ring buffers (entry_of head)
   taken buffers w = record {
     head_in = memory mid;
-    head_seen = seen_later races old mid new (memory mid) rest (seen_last races old mid first);
+    head_seen = was_head;
     walked = record {
       table = w.table;
       table_seen = table_sooner races old mid new ring.setup.desc ring.setup.size w.table first w.table_seen;
@@ -48,13 +55,16 @@ module _ (races : Bool) (old mid new : Sightings) (ring : RingState) (head : ℕ
       → IsFaulty old new ring fault
   taken_faulty fault w = record {
     head_in = memory mid;
-    head_seen = seen_later races old mid new (memory mid) rest (seen_last races old mid first);
+    head_seen = was_head;
     walked = record {
       table = w.table;
       table_seen = table_sooner races old mid new ring.setup.desc ring.setup.size w.table first w.table_seen;
       fails = rw (← is) w.fails;
     };
   }
+
+  pub lies_taken : LiesIn (memory old) ring.setup → LiesIn (memory new) ring.setup
+  lies_taken lies = lies_loads races mid new ring.setup rest (lies_loads races old mid ring.setup first lies)
 
 -- the buffers of a walk are good
 pub walked_good : (old new : Sightings) (negotiated : Bool) (addr n head : ℕ) (buffers : List Buffer)

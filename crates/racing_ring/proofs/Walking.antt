@@ -12,11 +12,11 @@ use Rattle.indirect.specs.Lists.{split_tables, EndsInTable, TableRefused}
 use Rattle.indirect.proofs.Walking.{Leads-push, admitted_step, named_step}
 use Rattle.indirect.proofs.Listing.{list_plain, list_table, list_full, list_past, list_refused, list_table_refused}
 use Rattle.shared_memory.specs.Sightings.{Sightings, Loads, memory}
-use Rattle.shared_memory.proofs.Sightings.{loads_range, same_back}
+use Rattle.shared_memory.proofs.Sightings.{loads_range, loads_trans, same_back}
 use Rattle.racing_ring.specs.Walk.{IsWalked, IsWalkFaulty}
 use Rattle.racing_ring.specs.Table.{Known, known_at, IsLookedUp}
 use Rattle.racing_ring.proofs.Tables.{reached_kept, reached_range, admits_range, refuses_back}
-use Rattle.racing_ring.proofs.Knowing.{AreKnown, AreSeen, agree_filled, agree_looked, filled, filled_found, filled_seen, known_push, told, told_found}
+use Rattle.racing_ring.proofs.Knowing.{AreKnown, AreSeen, agree_filled, agree_looked, filled, filled_found, filled_seen, known_push, seen_after, seen_looked, told, told_found}
 
 -- how far a walk has come: what was reached through the descriptors that are known, which are those of the walk
 pub record Walked (m : Memory) (known : Known) (n h count i : ℕ) (buffers : List Buffer) : Type 0 where
@@ -39,6 +39,37 @@ walked_looked m sightings addr old new n h count i buffers d looked w =
     record {
       reached = reached_kept m [] (told old) (told new) n h count i buffers w.reached a.0;
       fronts = a.1;
+    }
+
+-- what one look-up leaves of the reads before it, and of the walk
+pub record LookedUp (races : Bool) (old new : Sightings) (addr n h count i : ℕ) (known : Known)
+    (buffers : List Buffer) : Type 0 where
+  pub loads : Loads races old new
+  pub seen : AreSeen old new addr known
+  pub walk : Walked (memory old) known n h count i buffers
+
+pub looked_up : (races races' : Bool) (old mid new : Sightings) (addr n h count i : ℕ) (known known' : Known)
+    (buffers : List Buffer) (d : Descriptor) → races' ≡ races → Loads races old mid → Loads races' mid new
+    → IsLookedUp new addr known known' i d → AreSeen old mid addr known
+    → Walked (memory old) known n h count i buffers → LookedUp races old new addr n h count i known' buffers
+looked_up races races' old mid new addr n h count i known known' buffers d same before loads looked seen walk =
+    let now : Loads races mid new = rw (← same) loads in
+    record {
+      loads = loads_trans races old mid new before now;
+      seen = seen_looked races old mid new addr known known' i d before now looked seen;
+      walk = walked_looked (memory old) new addr known known' n h count i buffers d looked walk;
+    }
+
+-- and what later reads leave
+pub looked_later : (races races' : Bool) (old at new : Sightings) (addr n h count i : ℕ) (known : Known)
+    (buffers : List Buffer) → races' ≡ races → Loads races' at new
+    → LookedUp races old at addr n h count i known buffers → LookedUp races old new addr n h count i known buffers
+looked_later races races' old at new addr n h count i known buffers same loads s =
+    let then : Loads races at new = rw (← same) loads in
+    record {
+      loads = loads_trans races old at new s.loads then;
+      seen = seen_after races old at new addr known then s.seen;
+      walk = s.walk;
     }
 
 -- it is plain, has NEXT, and its buffer is admitted

@@ -4,7 +4,9 @@
 //! opened, a head, and a descriptor until the next chain. An indirect table is copied, and walked in the copy.
 #![tactic(auto)]
 
+mod areas;
 mod laws;
+mod packed;
 mod room;
 mod split;
 mod table;
@@ -13,6 +15,10 @@ mod walk;
 pub use laws::{
     a_chain_that_is_left_alone_is_offered_at_one_moment,
     a_guest_that_stands_still_is_served_as_it_is,
+};
+pub use packed::{
+    RacingPackedRing, a_list_that_is_left_alone_is_offered_at_one_moment,
+    a_packed_ring_that_stands_still_is_served_as_it_is,
 };
 pub use room::Room;
 pub use split::RacingSplitRing;

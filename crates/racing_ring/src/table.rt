@@ -3,16 +3,16 @@
 ghost use Rattle.std.specs.Prelude.{◌≡◌, ℕ, length, [], ◌∷◌, ◌++◌, OnOk, IfErr, OnErr};
 ghost use Rattle.guest_memory.specs.Memory.{part_of};
 ghost use Rattle.chain.specs.Buffers.{Admits, Refuses};
-ghost use Rattle.indirect.specs.Tables.{IsTable, SplitTableResolves, SplitTableFails};
+ghost use Rattle.indirect.specs.Tables.{IsNoTable, IsTable, SplitTableResolves, SplitTableFails};
 ghost use Rattle.indirect.specs.Lists.{split_tables, EndsInTable, TableRefused};
 ghost use Rattle.shared_memory.specs.Sightings.{Loads, memory};
 
-use chain::{Chain, Fault};
+use chain::{Buffer, Chain, Fault, Segment};
 use indirect::Descriptor;
 use shared_memory::Shared;
 
 /// The size of a descriptor in bytes.
-const DESCRIPTOR_LEN: u32 = 16;
+pub(crate) const DESCRIPTOR_LEN: u32 = 16;
 
 /// The largest table, in bytes.
 const MOST_LEN: u32 = 4096;
@@ -53,15 +53,26 @@ fn append_copied<M: Shared>(
     ensures ok { OnOk result (SplitTableResolves (memory (M.sightings mem.new)) addr len chain.old chain.new) }
     ensures fault { IfErr result (λ fault. SplitTableFails (memory (M.sightings mem.new)) addr len chain.old fault chain.new) }
 {
+    test_table(mem, addr, len)?;
+    let copy = &mut room[..len as usize];
+    mem.load(addr, copy);
+    walk_copy(mem, addr, len, copy, chain)
+}
+
+/// Whether the `len` bytes at `addr` may be a table, in either layout. Refused are a length that no table has (`Table`), and
+/// else a table that isn't inside memory (`Range`).
+pub(crate) fn test_table<M: Shared>(mem: &M, addr: u64, len: u32) -> Result<(), Fault>
+    ensures ok { OnOk result (IsTable (memory (M.sightings mem.now)) addr len) }
+    ensures err { OnErr result (¬ IsTable (memory (M.sightings mem.now)) addr len) }
+    ensures fault { IfErr result (IsNoTable (memory (M.sightings mem.now)) addr len) }
+{
     if len == 0 || len > MOST_LEN || len % DESCRIPTOR_LEN != 0 {
         return Err(Fault::Table);
     }
     if !mem.holds(addr, u64::from(len)) {
         return Err(Fault::Range);
     }
-    let copy = &mut room[..len as usize];
-    mem.load(addr, copy);
-    walk_copy(mem, addr, len, copy, chain)
+    Ok(())
 }
 
 /// Walks the copy of the table of `len` bytes at `addr`, and puts its buffers into the chain.
@@ -89,7 +100,7 @@ fn walk_copy<M: Shared>(
         if descriptor.indirect {
             return Err(Fault::Nested);
         }
-        push(mem, descriptor, chain)?;
+        push(mem, descriptor.buffer, chain)?;
         match descriptor.next {
             None => return Ok(()),
             Some(next) => index = u32::from(next),
@@ -98,23 +109,14 @@ fn walk_copy<M: Shared>(
     Err(Fault::Loop)
 }
 
-/// Puts the buffer of a plain descriptor behind the others.
-pub(crate) fn push<M: Shared>(
-    mem: &M,
-    descriptor: Descriptor,
-    chain: &mut Chain,
-) -> Result<(), Fault>
-    ensures ok { OnOk result (Admits (memory (M.sightings mem.now)) chain.old descriptor.buffer) }
-    ensures pushed { OnOk result (chain.new ≡ chain.old ++ descriptor.buffer ∷ []) }
-    ensures fault { IfErr result (Refuses (memory (M.sightings mem.now)) chain.old descriptor.buffer) }
+/// Puts a buffer behind the others.
+pub(crate) fn push<M: Shared>(mem: &M, buffer: Buffer, chain: &mut Chain) -> Result<(), Fault>
+    ensures ok { OnOk result (Admits (memory (M.sightings mem.now)) chain.old buffer) }
+    ensures pushed { OnOk result (chain.new ≡ chain.old ++ buffer ∷ []) }
+    ensures fault { IfErr result (Refuses (memory (M.sightings mem.now)) chain.old buffer) }
     ensures err { OnErr result (chain.new ≡ chain.old) }
 {
-    let segment = descriptor.buffer.segment;
-    let inside = mem.holds(segment.addr, u64::from(segment.len));
-    chain.push_tested(
-        inside,
-        segment.addr,
-        segment.len,
-        descriptor.buffer.writable,
-    )
+    let Segment { addr, len } = buffer.segment;
+    let inside = mem.holds(addr, u64::from(len));
+    chain.push_tested(inside, addr, len, buffer.writable)
 }

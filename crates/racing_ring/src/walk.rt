@@ -47,7 +47,7 @@ pub(crate) fn append_path<M: Shared>(
         if descriptor.indirect {
             return append_table(mem, table.indirect, descriptor, chain, &mut room.table);
         }
-        push(mem, descriptor, chain)?;
+        push(mem, descriptor.buffer, chain)?;
         match descriptor.next {
             None => return Ok(()),
             Some(next) => index = next,

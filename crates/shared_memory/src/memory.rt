@@ -45,6 +45,12 @@ pub trait Shared {
         ensures stores { Stores (races self.old) (sightings self.old) (sightings self.new) addr 2 v }
         ensures races { races self.new ≡ races self.old };
 
+    /// Stores a 32-bit number.
+    fn store_u32(&mut self, addr: u64, v: u32)
+        requires { Inside (memory (sightings self.old)) addr 4 }
+        ensures stores { Stores (races self.old) (sightings self.old) (sightings self.new) addr 4 v }
+        ensures races { races self.new ≡ races self.old };
+
     /// Stores a 64-bit number.
     fn store_u64(&mut self, addr: u64, v: u64)
         requires { Inside (memory (sightings self.old)) addr 8 }
@@ -76,6 +82,10 @@ impl<A: Allocator> Shared for GuestMemory<A> {
 
     fn store_u16(&mut self, addr: u64, v: u16) {
         self.write_u16(addr, v);
+    }
+
+    fn store_u32(&mut self, addr: u64, v: u32) {
+        self.write_u32(addr, v);
     }
 
     fn store_u64(&mut self, addr: u64, v: u64) {

@@ -1,12 +1,13 @@
 //! A ring as it is made, and the memories that it lies in.
 
 ghost use Rattle.std.specs.Prelude.{◌≡◌, ◌↔◌, IsTrue, IsSome, IfSome};
-ghost use Rattle.chain.specs.Setup.{IsAligned, IsUsable, new_ring};
+ghost use Rattle.chain.specs.Setup.{IsUsable, new_ring};
 ghost use Rattle.split_ring.specs.Ring.{IsQueueSize, LiesIn, areas_of};
 ghost use Rattle.shared_memory.specs.Sightings.{memory};
 
+use crate::areas::{fit_in, lie_in};
 use crate::split::RacingSplitRing;
-use chain::{RingState, Setup};
+use chain::{Areas, RingState, Setup};
 use shared_memory::Shared;
 
 /// The largest queue size.
@@ -19,7 +20,7 @@ impl RacingSplitRing {
         ensures usable { IsSome result ↔ IsUsable IsQueueSize areas_of (memory (M.sightings mem.now)) setup }
         ensures made { IfSome result (λ ring. ring ≡ new_ring setup) }
     {
-        if !is_queue_size(setup.size) || !is_aligned(setup) || !lie_in(mem, setup) {
+        if !is_queue_size(setup.size) || !fit_in(mem, setup, areas_of(setup.size)) {
             return None;
         }
         Some(RacingSplitRing {
@@ -31,7 +32,20 @@ impl RacingSplitRing {
     pub fn lies_in<M: Shared>(&self, mem: &M) -> bool
         ensures { IsTrue result ↔ LiesIn (memory (M.sightings mem.now)) self.now.setup }
     {
-        lie_in(mem, self.state.setup)
+        lie_in(mem, self.state.setup, areas_of(self.state.setup.size))
+    }
+}
+
+/// What the layout asks of the areas of a queue of so many descriptors.
+fn areas_of(size: u32) -> Areas
+    ensures { result ≡ areas_of size }
+{
+    let n = u64::from(size);
+    Areas {
+        desc: 16 * n,
+        driver: 6 + 2 * n,
+        device: 6 + 8 * n,
+        driver_alignment: 2,
     }
 }
 
@@ -40,21 +54,4 @@ fn is_queue_size(n: u32) -> bool
     ensures { IsTrue result ↔ IsQueueSize n }
 {
     n <= MOST_DESCRIPTORS && n.is_power_of_two()
-}
-
-/// Whether each area begins at a multiple of its alignment.
-fn is_aligned(setup: Setup) -> bool
-    ensures { IsTrue result ↔ IsAligned setup (areas_of setup.size) }
-{
-    setup.desc % 16 == 0 && setup.driver % 2 == 0 && setup.device % 4 == 0
-}
-
-/// Whether the areas lie in this memory.
-fn lie_in<M: Shared>(mem: &M, setup: Setup) -> bool
-    ensures { IsTrue result ↔ LiesIn (memory (M.sightings mem.now)) setup }
-{
-    let n = u64::from(setup.size);
-    mem.holds(setup.desc, 16 * n)
-        && mem.holds(setup.driver, 6 + 2 * n)
-        && mem.holds(setup.device, 6 + 8 * n)
 }

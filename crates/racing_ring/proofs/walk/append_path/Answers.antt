@@ -1,11 +1,11 @@
 use Rattle.std.proofs.Common.{ℕ, arith, rules, refl}
 use Rattle.std.proofs.lemmas.Result.{IfErr-weaker, on_ok_weaker}
 use Rattle.indirect.specs.Lists.{split_tables, EndsInTable, TableRefused}
-use Rattle.shared_memory.specs.Sightings.{Loads, memory}
-use Rattle.shared_memory.proofs.Sightings.{loads_none, loads_range, loads_trans}
+use Rattle.shared_memory.specs.Sightings.{memory}
+use Rattle.shared_memory.proofs.Sightings.{loads_none, loads_range}
 use Rattle.racing_ring.proofs.Tables.{admits_back, refuses_back}
-use Rattle.racing_ring.proofs.Knowing.{seen_after, seen_looked, seen_none}
-use Rattle.racing_ring.proofs.Walking.{walk_full, walk_past, walk_plain, walk_refused, walk_table, walk_table_refused, walked_looked, walked_start, walked_step}
+use Rattle.racing_ring.proofs.Knowing.{seen_none}
+use Rattle.racing_ring.proofs.Walking.{looked_later, looked_up, walk_full, walk_past, walk_plain, walk_refused, walk_table, walk_table_refused, walked_start, walked_step}
 use Rattle.racing_ring.specs.Walk.{IsWalkFaulty}
 use Rattle.racing_ring.proofs.walk.append_path.Goals as goal
 
@@ -35,134 +35,98 @@ returns-clause-fault g c =
 
 pub loop-count-preserved : goal.loop-count-preserved
 loop-count-preserved g c =
-    let races = g.M.Shared.races c.args.mem.now in
     let old = g.M.Shared.sightings c.args.mem.now in
-    let mid = g.M.Shared.sightings c.loop-count.mem in
-    let new = g.M.Shared.sightings c.descriptor-descriptor.new.mem in
     let i = c.loop-count.invariant in
-    let known = c.descriptor-descriptor.new.self in
     let looked = c.descriptor-descriptor.ensures.looked in
-    let now : Loads races mid new = rw (← i.races) c.descriptor-descriptor.ensures.loads in
-    let all = loads_trans races old mid new i.loads now in
+    let s = looked_up (g.M.Shared.races c.args.mem.now) _ old _ _ c.args.table.addr c.args.table.size c.args.head
+    c.loop-count._count c.loop-count.index _ _ c.loop-count.chain _ i.races i.loads
+    c.descriptor-descriptor.ensures.loads looked i.seen i.walk in
     record {
-      loads = all;
+      loads = s.loads;
       races = rw c.descriptor-descriptor.ensures.races i.races;
-      seen = seen_looked races old mid new c.args.table.addr c.loop-count.room.known known c.loop-count.index
-          c.descriptor-descriptor.result i.loads now looked i.seen;
-      walk = walked_step (memory old) known c.args.table.size c.args.head c.loop-count._count c.loop-count.index
-          c.in-Some.next c.loop-count.chain c.push.new.chain c.descriptor-descriptor.result looked.found
-          c.if-index-table.false c.if-descriptor.false c.in-Some.is
-          (admits_back (memory old) (memory new) c.loop-count.chain c.descriptor-descriptor.result.buffer
-          (loads_range races old new all) c.in_ok-push.ensures.ok)
-          c.in_ok-push.ensures.pushed
-          (walked_looked (memory old) new c.args.table.addr c.loop-count.room.known known c.args.table.size
-          c.args.head c.loop-count._count c.loop-count.index c.loop-count.chain c.descriptor-descriptor.result looked
-          i.walk);
+      seen = s.seen;
+      walk = walked_step (memory old) c.descriptor-descriptor.new.self c.args.table.size c.args.head c.loop-count._count
+          c.loop-count.index c.in-Some.next c.loop-count.chain c.push.new.chain c.descriptor-descriptor.result
+          looked.found c.if-index-table.false c.if-descriptor.false c.in-Some.is
+          (admits_back (memory old) (memory (g.M.Shared.sightings c.descriptor-descriptor.new.mem)) c.loop-count.chain
+          c.descriptor-descriptor.result.buffer (loads_range _ _ _ s.loads) c.in_ok-push.ensures.ok)
+          c.in_ok-push.ensures.pushed s.walk;
     }
 
 pub returns-in-None-clause-ok : goal.returns-in-None-clause-ok
 returns-in-None-clause-ok g c =
-    let races = g.M.Shared.races c.args.mem.now in
     let old = g.M.Shared.sightings c.args.mem.now in
-    let mid = g.M.Shared.sightings c.loop-count.mem in
     let new = g.M.Shared.sightings c.descriptor-descriptor.new.mem in
     let i = c.loop-count.invariant in
-    let known = c.descriptor-descriptor.new.self in
     let looked = c.descriptor-descriptor.ensures.looked in
-    let now : Loads races mid new = rw (← i.races) c.descriptor-descriptor.ensures.loads in
-    let all = loads_trans races old mid new i.loads now in
-    walk_plain races old new c.args.table.indirect c.args.table.addr c.args.table.size c.args.head known all
-    (seen_looked races old mid new c.args.table.addr c.loop-count.room.known known c.loop-count.index
-    c.descriptor-descriptor.result i.loads now looked i.seen)
-    c.loop-count._count c.loop-count.index c.loop-count.chain c.push.new.chain c.descriptor-descriptor.result
-    looked.found c.loop-count-test.true c.if-index-table.false c.if-descriptor.false c.in-None.is
+    let s = looked_up (g.M.Shared.races c.args.mem.now) _ old _ new c.args.table.addr c.args.table.size c.args.head
+    c.loop-count._count c.loop-count.index _ _ c.loop-count.chain _ i.races i.loads
+    c.descriptor-descriptor.ensures.loads looked i.seen i.walk in
+    walk_plain _ old new c.args.table.indirect c.args.table.addr c.args.table.size c.args.head
+    c.descriptor-descriptor.new.self s.loads s.seen c.loop-count._count c.loop-count.index c.loop-count.chain
+    c.push.new.chain c.descriptor-descriptor.result looked.found c.loop-count-test.true c.if-index-table.false
+    c.if-descriptor.false c.in-None.is
     (admits_back (memory old) (memory new) c.loop-count.chain c.descriptor-descriptor.result.buffer
-    (loads_range races old new all) c.in_ok-push.ensures.ok)
-    c.in_ok-push.ensures.pushed
-    (walked_looked (memory old) new c.args.table.addr c.loop-count.room.known known c.args.table.size
-    c.args.head c.loop-count._count c.loop-count.index c.loop-count.chain c.descriptor-descriptor.result looked
-    i.walk)
+    (loads_range _ old new s.loads) c.in_ok-push.ensures.ok)
+    c.in_ok-push.ensures.pushed s.walk
 
 pub returns-in_err-push-clause-fault : goal.returns-in_err-push-clause-fault
 returns-in_err-push-clause-fault g c =
-    let races = g.M.Shared.races c.args.mem.now in
     let old = g.M.Shared.sightings c.args.mem.now in
-    let mid = g.M.Shared.sightings c.loop-count.mem in
     let new = g.M.Shared.sightings c.descriptor-descriptor.new.mem in
     let i = c.loop-count.invariant in
-    let known = c.descriptor-descriptor.new.self in
     let looked = c.descriptor-descriptor.ensures.looked in
-    let now : Loads races mid new = rw (← i.races) c.descriptor-descriptor.ensures.loads in
-    let all = loads_trans races old mid new i.loads now in
-    let fails = walk_refused races old new c.args.table.indirect c.args.table.addr c.args.table.size c.args.head known
-    all
-    (seen_looked races old mid new c.args.table.addr c.loop-count.room.known known c.loop-count.index
-    c.descriptor-descriptor.result i.loads now looked i.seen)
-    c.loop-count._count c.loop-count.index c.loop-count.chain c.descriptor-descriptor.result _
-    looked.found c.loop-count-test.true c.if-index-table.false c.if-descriptor.false
+    let s = looked_up (g.M.Shared.races c.args.mem.now) _ old _ new c.args.table.addr c.args.table.size c.args.head
+    c.loop-count._count c.loop-count.index _ _ c.loop-count.chain _ i.races i.loads
+    c.descriptor-descriptor.ensures.loads looked i.seen i.walk in
+    let fails = walk_refused _ old new c.args.table.indirect c.args.table.addr c.args.table.size c.args.head
+    c.descriptor-descriptor.new.self s.loads s.seen c.loop-count._count c.loop-count.index c.loop-count.chain
+    c.descriptor-descriptor.result _ looked.found c.loop-count-test.true c.if-index-table.false c.if-descriptor.false
     (refuses_back (memory old) (memory new) c.loop-count.chain c.descriptor-descriptor.result.buffer _
-    (loads_range races old new all) c.in_err-push.ensures.fault)
-    (walked_looked (memory old) new c.args.table.addr c.loop-count.room.known known c.args.table.size
-    c.args.head c.loop-count._count c.loop-count.index c.loop-count.chain c.descriptor-descriptor.result looked
-    i.walk) in
+    (loads_range _ old new s.loads) c.in_err-push.ensures.fault)
+    s.walk in
     search (rules, fails)
 
 pub returns-then-descriptor-clause-ok : goal.returns-then-descriptor-clause-ok
 returns-then-descriptor-clause-ok g c =
     let races = g.M.Shared.races c.args.mem.now in
     let old = g.M.Shared.sightings c.args.mem.now in
-    let mid = g.M.Shared.sightings c.loop-count.mem in
-    let at = g.M.Shared.sightings c.descriptor-descriptor.new.mem in
     let new = g.M.Shared.sightings c.append_table.new.mem in
     let i = c.loop-count.invariant in
-    let known = c.descriptor-descriptor.new.self in
-    let looked = c.descriptor-descriptor.ensures.looked in
     let d = c.descriptor-descriptor.result in
     let k = c.loop-count._count in
     let before = c.loop-count.chain in
     let after = c.append_table.new.chain in
-    let now : Loads races mid at = rw (← i.races) c.descriptor-descriptor.ensures.loads in
-    let then : Loads races at new = rw (← i.races, ← c.descriptor-descriptor.ensures.races) c.append_table.ensures.loads in
-    let sofar = loads_trans races old mid at i.loads now in
-    let all = loads_trans races old at new sofar then in
-    let seen = seen_after races old at new c.args.table.addr known then
-    (seen_looked races old mid at c.args.table.addr c.loop-count.room.known known c.loop-count.index d i.loads now
-    looked i.seen) in
-    let walked = walked_looked (memory old) at c.args.table.addr c.loop-count.room.known known c.args.table.size
-    c.args.head k c.loop-count.index before d looked i.walk in
+    let looked = c.descriptor-descriptor.ensures.looked in
+    let s = looked_later races _ old _ new _ c.args.table.size c.args.head k c.loop-count.index _ before
+    (rw c.descriptor-descriptor.ensures.races i.races) c.append_table.ensures.loads
+    (looked_up races _ old _ _ c.args.table.addr c.args.table.size c.args.head k c.loop-count.index _ _ before d i.races
+    i.loads c.descriptor-descriptor.ensures.loads looked i.seen i.walk) in
     on_ok_weaker c.append_table.result
     (λ (ends : (count : ℕ) → EndsInTable split_tables c.args.table.indirect (memory new) before count d after).
-    walk_table races old new c.args.table.indirect c.args.table.addr c.args.table.size c.args.head known all seen
-    k c.loop-count.index before after d looked.found c.loop-count-test.true c.if-index-table.false
-    c.if-descriptor.true (ends k) walked)
+    walk_table races old new c.args.table.indirect c.args.table.addr c.args.table.size c.args.head
+    c.descriptor-descriptor.new.self s.loads s.seen k c.loop-count.index before after d looked.found
+    c.loop-count-test.true c.if-index-table.false c.if-descriptor.true (ends k) s.walk)
     c.append_table.ensures.ok
 
 pub returns-then-descriptor-clause-fault : goal.returns-then-descriptor-clause-fault
 returns-then-descriptor-clause-fault g c =
     let races = g.M.Shared.races c.args.mem.now in
     let old = g.M.Shared.sightings c.args.mem.now in
-    let mid = g.M.Shared.sightings c.loop-count.mem in
-    let at = g.M.Shared.sightings c.descriptor-descriptor.new.mem in
     let new = g.M.Shared.sightings c.append_table.new.mem in
     let i = c.loop-count.invariant in
-    let known = c.descriptor-descriptor.new.self in
-    let looked = c.descriptor-descriptor.ensures.looked in
     let d = c.descriptor-descriptor.result in
     let k = c.loop-count._count in
     let before = c.loop-count.chain in
-    let now : Loads races mid at = rw (← i.races) c.descriptor-descriptor.ensures.loads in
-    let then : Loads races at new = rw (← i.races, ← c.descriptor-descriptor.ensures.races) c.append_table.ensures.loads in
-    let sofar = loads_trans races old mid at i.loads now in
-    let all = loads_trans races old at new sofar then in
-    let seen = seen_after races old at new c.args.table.addr known then
-    (seen_looked races old mid at c.args.table.addr c.loop-count.room.known known c.loop-count.index d i.loads now
-    looked i.seen) in
-    let walked = walked_looked (memory old) at c.args.table.addr c.loop-count.room.known known c.args.table.size
-    c.args.head k c.loop-count.index before d looked i.walk in
+    let looked = c.descriptor-descriptor.ensures.looked in
+    let s = looked_later races _ old _ new _ c.args.table.size c.args.head k c.loop-count.index _ before
+    (rw c.descriptor-descriptor.ensures.races i.races) c.append_table.ensures.loads
+    (looked_up races _ old _ _ c.args.table.addr c.args.table.size c.args.head k c.loop-count.index _ _ before d i.races
+    i.loads c.descriptor-descriptor.ensures.loads looked i.seen i.walk) in
     IfErr-weaker c.append_table.result
     (λ fault. (count : ℕ) → TableRefused split_tables c.args.table.indirect (memory new) before count d fault)
     (IsWalkFaulty old new c.args.table.indirect c.args.table.addr c.args.table.size c.args.head)
     (λ fault refused. walk_table_refused races old new c.args.table.indirect c.args.table.addr c.args.table.size
-    c.args.head known all seen k c.loop-count.index before d fault looked.found c.loop-count-test.true
-    c.if-index-table.false c.if-descriptor.true (refused k) walked)
+    c.args.head c.descriptor-descriptor.new.self s.loads s.seen k c.loop-count.index before d fault looked.found
+    c.loop-count-test.true c.if-index-table.false c.if-descriptor.true (refused k) s.walk)
     c.append_table.ensures.fault
