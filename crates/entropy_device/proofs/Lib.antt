@@ -1,0 +1,4 @@
+pub mod Filling
+pub mod Pool
+pub mod Services
+pub mod Waiting
