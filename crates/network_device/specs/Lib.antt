@@ -1,0 +1,6 @@
+pub mod Config
+pub mod Device
+pub mod Frames
+pub mod Header
+pub mod Network
+pub mod Receiving
