@@ -21,27 +21,21 @@ pub enum Response<A: Allocator = Global> {
     Idle,
 }
 
-impl<A: Allocator> Response<A> {
-    /// What the caller is told of a turn.
-    #[inline(always)]
-    pub(crate) fn of(turn: Turn<A>) -> Response<A>
-        ensures { result ≡ response_to turn }
-    {
-        match turn {
-            Turn::Answered(reply) => Response::Answered(reply),
-            Turn::More(_) => Response::More,
-        }
-    }
-}
-
-/// The service that a turn leaves paused.
+/// Keeps what a turn leaves paused, and answers what the caller is told of it.
 #[inline(always)]
-pub(crate) fn left_by<A: Allocator>(turn: &Turn<A>) -> Option<Pause>
-    ensures { result ≡ paused_by turn.now }
+pub(crate) fn note<A: Allocator>(paused: &mut Option<Pause>, turn: Turn<A>) -> Response<A>
+    ensures told { result ≡ response_to turn }
+    ensures paused { paused.new ≡ paused_by turn }
 {
     match turn {
-        Turn::Answered(_) => None,
-        Turn::More(pause) => Some(*pause),
+        Turn::Answered(reply) => {
+            *paused = None;
+            Response::Answered(reply)
+        }
+        Turn::More(pause) => {
+            *paused = Some(pause);
+            Response::More
+        }
     }
 }
 

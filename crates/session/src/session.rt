@@ -32,7 +32,7 @@ mod saved;
 use crate::fault::{SessionFault, why_not};
 use crate::guest::{GuestSpec, are_bytes_of, are_outlets, none_paused, outputs, slots};
 use crate::output_queue::OutputQueue;
-use crate::response::{Response, Turned, left_by};
+use crate::response::{Response, Turned, note};
 use crate::told::Waits;
 use crate::turn_kind::TurnKind;
 use board::{Board, Budget, MemoryImage, Pause, Refused, Reply};
@@ -183,14 +183,14 @@ impl<A: Allocator + Copy> Session<A> {
                 let output = &mut self.outputs[slot as usize];
                 let taken = self.board.turn(slot, work, self.budget, output);
                 let output = output.len();
-                self.paused[slot as usize] = left_by(&taken.turn);
+                let response = note(&mut self.paused[slot as usize], taken.turn);
                 let waits = Waits {
                     block_irq: taken.block_irq,
                     console_irq: taken.console_irq,
                     output,
                 };
                 Turned {
-                    response: Response::of(taken.turn),
+                    response,
                     waits: Some(waits),
                 }
             }
@@ -210,12 +210,9 @@ impl<A: Allocator + Copy> Session<A> {
             Some(Some(_)) => self.unmoved(slot, Response::Busy),
             Some(None) => {
                 let taken = self.board.begin_input(slot, bytes, self.budget);
-                self.paused[slot as usize] = left_by(&taken.turn);
+                let response = note(&mut self.paused[slot as usize], taken.turn);
                 let waits = self.waits(slot, taken.block_irq, taken.console_irq);
-                Turned {
-                    response: Response::of(taken.turn),
-                    waits,
-                }
+                Turned { response, waits }
             }
         }
     }

@@ -16,11 +16,11 @@ returns-in-None-clause-call g c =
           (grind (arith, c.waiting.ensures.there, c.in-None.is));
     })
 
-fits : (g : _) (c : goal.After-of g) → c.args.slot < length c.self.inside.board.slots
+fits : (g : _) (c : goal.After-waits-waits g) → c.args.slot < length c.self.inside.board.slots
 fits g c = grind (arith, c.waiting.ensures.there, c.in-Some-None.is, c.self.view_is)
 
 -- what is typed, by what waits of the slot's output
-told : (g : _) (c : goal.After-of g)
+told : (g : _) (c : goal.After-waits-waits g)
     → Typed g.row.A.Denot c.self.inside.board c.begin_input-taken.new.self c.self.inside.outputs.items
     c.self.inside.paused.items c.self.inside.budget c.args.slot c.args.bytes.now c.begin_input-taken.result.turn
 told g c =
@@ -35,4 +35,4 @@ told g c =
 
 pub returns-in-Some-None-clause-call : goal.returns-in-Some-None-clause-call
 returns-in-Some-None-clause-call g c =
-    rw (c.of.ensures, c.left_by.ensures, ← c.self.view_is) (told g c).call
+    rw (c.note-response.ensures.told, c.note-response.ensures.paused, ← c.self.view_is) (told g c).call

@@ -18,11 +18,11 @@ returns-in_default-clause-whole g c =
     (turn_past c.args.self.now c.args.slot c.args.kind (sym c.waiting.ensures.value ∙ c.in_default.is)
     (grind (arith, c.waiting.ensures.there, c.in_default.is))).whole
 
-fits : (g : _) (c : goal.After-of g) → c.args.slot < length c.self.inside.board.slots
+fits : (g : _) (c : goal.After-self-in-Ok-1 g) → c.args.slot < length c.self.inside.board.slots
 fits g c = grind (arith, c.waiting.ensures.there, c.in-Some.is, c.self.view_is)
 
 -- the output of that number
-there : (g : _) (c : goal.After-of g)
+there : (g : _) (c : goal.After-self-in-Ok-1 g)
     → slice_get c.self.inside.outputs.items c.args.slot ≡ Some c.index_mut-output.result.now
 there g c =
     slice_get_read c.self.inside.outputs.items (length c.self.inside.outputs.items) c.args.slot
@@ -30,12 +30,12 @@ there g c =
     (omega (arith, fits g c, c.self.invariant.0)) c.index_mut-output.ensures.value
 
 -- whose limit stays
-limit : (g : _) (c : goal.After-of g)
+limit : (g : _) (c : goal.After-self-in-Ok-1 g)
     → c.turn-taken.new.out.limit ≡ c.index_mut-output.result.now.limit
 limit g c = same_Some _ _ c.turn-taken.ensures.limit
 
 -- the turn of the board is one of the session
-abbrev before : (g : _) (c : goal.After-of g) → SessionState
+abbrev before : (g : _) (c : goal.After-self-in-Ok-1 g) → SessionState
 before g c =
     was g.row.A.Denot c.self.inside.board.slots c.turn-taken.new.self.slots
     (bytes_of (memory_disk_of c.self.inside.board.image)) (bytes_of (memory_disk_of c.turn-taken.new.self.image))
@@ -44,7 +44,7 @@ before g c =
     c.index_mut-output.result.now c.turn-taken.new.out (there g c) (limit g c)
     c.turn-taken.ensures.others c.turn-taken.ensures.stays.extents c.self.invariant.0
 
-abbrev behind : (g : _) (c : goal.After-of g) → SessionState
+abbrev behind : (g : _) (c : goal.After-self-in-Ok-1 g) → SessionState
 behind g c =
     now g.row.A.Denot c.self.inside.board.slots c.turn-taken.new.self.slots
     (bytes_of (memory_disk_of c.self.inside.board.image)) (bytes_of (memory_disk_of c.turn-taken.new.self.image))
@@ -53,7 +53,7 @@ behind g c =
     c.index_mut-output.result.now c.turn-taken.new.out (there g c) (limit g c)
     c.turn-taken.ensures.others c.turn-taken.ensures.stays.extents c.self.invariant.0 c.turn-taken.result.turn
 
-taken : (g : _) (c : goal.After-of g)
+taken : (g : _) (c : goal.After-self-in-Ok-1 g)
     → Turned (before g c) c.args.slot c.args.kind (response_to c.turn-taken.result.turn) (behind g c)
 taken g c =
     let t = c.turn-taken in
@@ -77,19 +77,19 @@ invariant_of-self g c =
     let many = sym (as_many c.self.inside.board.slots c.turn-taken.new.self.slots
     c.turn-taken.ensures.stays.extents) in (
       length-set c.self.inside.outputs.items c.args.slot c.turn-taken.new.out ∙ (c.self.invariant.0 ∙ many),
-      length-set c.self.inside.paused.items c.args.slot c.left_by.result ∙ (c.self.invariant.1 ∙ many),
+      length-set c.self.inside.paused.items c.args.slot c.note-response.new.paused ∙ (c.self.invariant.1 ∙ many),
     )
 
 pub returns-in-Ok-clause-call : goal.returns-in-Ok-clause-call
 returns-in-Ok-clause-call g c =
-    rw (c.of.ensures, c.left_by.ensures, ← c.self.view_is) (taken g c).call
+    rw (c.note-response.ensures.told, c.note-response.ensures.paused, ← c.self.view_is) (taken g c).call
 
 pub returns-in-Ok-clause-whole : goal.returns-in-Ok-clause-whole
 returns-in-Ok-clause-whole g c =
-    rw (c.of.ensures, c.left_by.ensures, ← c.self.view_is) (taken g c).whole
+    rw (c.note-response.ensures.told, c.note-response.ensures.paused, ← c.self.view_is) (taken g c).whole
 
 pub returns-in-Ok-clause-suits : goal.returns-in-Ok-clause-suits
-returns-in-Ok-clause-suits g c = rw (c.of.ensures) (taken g c).suits
+returns-in-Ok-clause-suits g c = rw (c.note-response.ensures.told) (taken g c).suits
 
 pub returns-in-Ok-clause-waits : goal.returns-in-Ok-clause-waits
 returns-in-Ok-clause-waits g c =
