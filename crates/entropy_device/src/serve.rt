@@ -3,18 +3,17 @@
 ghost use Rattle.std.specs.Prelude.{◌≡◌};
 ghost use Rattle.guest_memory.specs.Memory.{SameRange};
 ghost use Rattle.mmio_window.specs.Pieces.{ServesTo};
-ghost use Rattle.mmio_window.specs.Queue.{LiesIn};
 ghost use Rattle.mmio_window.specs.Serving.{IsNotified};
 ghost use Rattle.mmio_window.specs.Soundness.{IsSound};
 ghost use Rattle.mmio_window.specs.Window.{queue_at};
 ghost use Rattle.entropy_device.specs.Device.{entropy};
-ghost use Rattle.entropy_device.specs.Waiting.{has_offer, is_starved};
+ghost use Rattle.entropy_device.specs.Waiting.{is_starved};
 
 use crate::device::EntropyDevice;
 use crate::requestq::Requestq;
-use chain::{Budget, Chain, Progress, Virtqueue};
+use chain::{Budget, Chain, Progress};
 use guest_memory::GuestMemory;
-use mmio_window::{Queue, QueueRegisters, Stage, Window, serve_queue, show};
+use mmio_window::{Stage, Window, serve_queue, show};
 use std::alloc::Allocator;
 
 /// The one queue (5.4.2).
@@ -71,26 +70,6 @@ impl EntropyDevice {
         requires sound { IsSound mem.now window.now }
         ensures { result ≡ is_starved mem.now (queue_at 0 window.now) self.now }
     {
-        if !self.is_empty() || !window.may_serve(REQUESTQ) {
-            return false;
-        }
-        match window.registers(u32::from(REQUESTQ)) {
-            Some(
-                QueueRegisters {
-                    ring: Some(queue),
-                    ..
-                },
-            ) => has_offer(queue, mem, room),
-            _ => false,
-        }
+        self.is_empty() && window.has_offer(REQUESTQ, mem, room)
     }
-}
-
-/// Whether a service that is opened now finds a chain. A copy of the queue is asked, so that the queue stays as it is.
-fn has_offer<M: Allocator>(queue: &Queue, mem: &GuestMemory<M>, room: &mut Chain) -> bool
-    requires { LiesIn mem.now queue.now }
-    ensures { result ≡ has_offer mem.now queue.now }
-{
-    let mut asked = queue.copied();
-    asked.open(mem).is_ok() && !matches!(asked.take(mem, room), Ok(None))
 }

@@ -87,7 +87,7 @@ fn offer<A: Allocator>(mem: &mut GuestMemory<A>) {
 fn five_bytes_for_three_and_four_places(rt: HostRuntime) -> Result<(), Fail> {
     let mut mem = GuestMemory::new(rt.alloc(), BASE, 4096)?;
     offer(&mut mem);
-    let mut window = Window::restored(DeviceKind::Block, &LIVE, &mem).ok_or("no window")?;
+    let mut window = Window::restored(DeviceKind::Entropy, &LIVE, &mem).ok_or("no window")?;
     let mut room = Chain::new();
     let mut device = EntropyDevice::new();
     device.serve(&mut mem, &mut window);

@@ -5,6 +5,7 @@ pub mod Soundness
 pub mod QueueKind
 pub mod ReadyLemmas
 pub mod Services
+pub mod OneEnd
 pub mod Pieces
 pub mod PiecesExact
 pub mod Stages

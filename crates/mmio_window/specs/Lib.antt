@@ -14,6 +14,7 @@ pub mod Lending
 pub mod Reading
 pub mod Writing
 pub mod Notifying
+pub mod Offering
 pub mod Pieces
 pub mod FaultNote
 pub mod Leaving

@@ -1,4 +1,4 @@
-//! The two types of device: which queues each has, and whether its configuration changes.
+//! The types of device: which queues each has, and whether its configuration changes.
 
 ghost use Rattle.std.specs.Prelude.{◌≡◌};
 ghost use Rattle.mmio_window.specs.DeviceKind.{configuration_changes, device_id_of, queue_of};
@@ -6,10 +6,14 @@ ghost use Rattle.mmio_window.specs.DeviceKind.{configuration_changes, device_id_
 /// The type of the device behind a window.
 #[derive(Clone, Copy, PartialEq, Eq, Debug)]
 pub enum DeviceKind {
+    /// A network card (5.1), with queue 0 to receive and queue 1 to transmit.
+    Network,
     /// A block device (5.2), with queue 0 for requests.
     Block,
     /// A console (5.3), with queue 0 to receive and queue 1 to transmit.
     Console,
+    /// An entropy device (5.4), with queue 0 for requests.
+    Entropy,
 }
 
 /// A queue that some device has.
@@ -25,8 +29,10 @@ impl DeviceKind {
         ensures { result ≡ device_id_of self }
     {
         match self {
+            DeviceKind::Network => 1,
             DeviceKind::Block => 2,
             DeviceKind::Console => 3,
+            DeviceKind::Entropy => 4,
         }
     }
 
@@ -36,7 +42,7 @@ impl DeviceKind {
     {
         match (q, self) {
             (0, _) => Some(QueueIndex::Queue0),
-            (1, DeviceKind::Console) => Some(QueueIndex::Queue1),
+            (1, DeviceKind::Network | DeviceKind::Console) => Some(QueueIndex::Queue1),
             _ => None,
         }
     }
@@ -45,6 +51,6 @@ impl DeviceKind {
     pub(crate) fn changes_configuration(self) -> bool
         ensures { result ≡ configuration_changes self }
     {
-        self == DeviceKind::Console
+        matches!(self, DeviceKind::Network | DeviceKind::Console)
     }
 }

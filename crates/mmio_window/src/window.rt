@@ -13,6 +13,7 @@ ghost use Rattle.mmio_window.specs.Queue.{LiesIn};
 ghost use Rattle.mmio_window.specs.Soundness.{IsSound};
 ghost use Rattle.mmio_window.specs.Window.{fresh_window, queue_at, with_config_changed, with_config_interrupt, with_reset_asked, with_used_interrupt};
 
+mod offer;
 mod read;
 mod saved;
 mod view;

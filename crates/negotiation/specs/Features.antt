@@ -8,6 +8,20 @@ use Rattle.negotiation.specs.declared.features.Features.{Features}
 abbrev pub feature_bits : Features → ℕ
 feature_bits features = features.0
 
+-- ---- of a network device (5.1.3)
+
+-- its configuration has the largest payload of a frame
+abbrev pub network_mtu : ℕ
+network_mtu = 2 ^ 3
+
+-- its configuration has its address
+abbrev pub network_mac : ℕ
+network_mac = 2 ^ 5
+
+-- its configuration tells whether the link is up
+abbrev pub network_status : ℕ
+network_status = 2 ^ 16
+
 -- ---- of a block device (5.2.3)
 
 -- it tells the most segments that a request may have
@@ -62,10 +76,17 @@ ring_packed = 2 ^ 34
 abbrev pub notification_data : ℕ
 notification_data = 2 ^ 38
 
+-- the features that every device of a board offers
+abbrev pub device_features : ℕ
+device_features = indirect_desc + event_idx + version_1 + ring_packed + notification_data
+
 -- the name of each feature
 abbrev pub feature_names : List Row
 feature_names =
-    (codes "BLOCK_SEG_MAX", block_seg_max)
+    (codes "NETWORK_MTU", network_mtu)
+    ∷ (codes "NETWORK_MAC", network_mac)
+    ∷ (codes "NETWORK_STATUS", network_status)
+    ∷ (codes "BLOCK_SEG_MAX", block_seg_max)
     ∷ (codes "BLOCK_RO", block_ro)
     ∷ (codes "BLOCK_BLK_SIZE", block_blk_size)
     ∷ (codes "BLOCK_FLUSH", block_flush)

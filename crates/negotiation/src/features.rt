@@ -1,7 +1,7 @@
 //! Feature bits: a set of named bits, shown and taken in words of 32.
 
 ghost use Rattle.std.specs.Prelude.{⊤, ◌≡◌};
-ghost use Rattle.negotiation.specs.Features.{feature_bits, feature_names, feature_word, with_feature_word};
+ghost use Rattle.negotiation.specs.Features.{device_features, feature_bits, feature_names, feature_word, with_feature_word};
 
 use bitflags::{Flag, Flags, bitflag_items};
 
@@ -14,6 +14,12 @@ pub struct Features(u64);
 
 bitflag_items! {
     impl Features: u64 {
+        /// The network device's configuration has the largest payload of a frame (5.1.3).
+        const NETWORK_MTU = 1 << 3;
+        /// The network device's configuration has its address (5.1.3).
+        const NETWORK_MAC = 1 << 5;
+        /// The network device's configuration tells whether the link is up (5.1.3).
+        const NETWORK_STATUS = 1 << 16;
         /// The block device tells the most buffers that a request may have (5.2.3).
         const BLOCK_SEG_MAX = 1 << 2;
         /// The block device can't be written (5.2.3).
@@ -64,6 +70,17 @@ impl Flags for Features {
 }
 
 impl Features {
+    /// The features that every device of a board offers (6).
+    pub fn of_every_device() -> Features
+        ensures { feature_bits result ≡ device_features }
+    {
+        Features::INDIRECT_DESC
+            .union(Features::EVENT_IDX)
+            .union(Features::VERSION_1)
+            .union(Features::RING_PACKED)
+            .union(Features::NOTIFICATION_DATA)
+    }
+
     /// The 32 features from bit 32 times `selector` on: none for a selector of 2 and up.
     pub fn word(self, selector: u32) -> u32
         ensures { result ≡ feature_word selector (feature_bits self) }

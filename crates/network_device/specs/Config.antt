@@ -1,11 +1,12 @@
 -- The features of a network device (5.1.3), and its configuration (5.1.4).
-use Rattle.std.specs.Prelude.{ℕ, ◌+◌, ◌^◌, if◌then◌else◌, List, ◌++◌, replicate}
+use Rattle.std.specs.Prelude.{ℕ, ◌+◌, if◌then◌else◌, List, ◌++◌, replicate}
 use Rattle.byteorder.specs.Endian.{little_bytes}
+use Rattle.negotiation.specs.Features.{network_mac, network_mtu, network_status}
 use Rattle.network_device.specs.declared.configuration.NetworkConfiguration.{NetworkConfiguration}
 
--- VIRTIO_NET_F_MTU, VIRTIO_NET_F_MAC and VIRTIO_NET_F_STATUS
+-- the features of its own that a network device offers
 abbrev pub offered : ℕ
-offered = 2 ^ 3 + 2 ^ 5 + 2 ^ 16
+offered = network_mtu + network_mac + network_status
 
 -- 12 bytes: mac in 6, status in 2 (VIRTIO_NET_S_LINK_UP is 1), max_virtqueue_pairs in 2 and mtu in 2. The
 -- third is 0: VIRTIO_NET_F_MQ isn't offered.

@@ -1,28 +1,23 @@
 //! What a driver learns of the device: its own features (5.1.3), and its configuration (5.1.4).
 
 ghost use Rattle.std.specs.Prelude.{◌≡◌, ◌++◌, replicate};
+ghost use Rattle.negotiation.specs.Features.{feature_bits};
 ghost use Rattle.network_device.specs.Config.{config_of, configuration_of, offered};
 
 use byteorder::{ByteOrder, LittleEndian};
-
-/// The configuration has `mtu` (5.1.3).
-pub const VIRTIO_NET_F_MTU: u64 = 1 << 3;
-
-/// The configuration has `mac` (5.1.3).
-pub const VIRTIO_NET_F_MAC: u64 = 1 << 5;
-
-/// The configuration has `status` (5.1.3).
-pub const VIRTIO_NET_F_STATUS: u64 = 1 << 16;
+use negotiation::{Features, Flags};
 
 /// The bit of `status` that says that the link is up (5.1.4).
 const VIRTIO_NET_S_LINK_UP: u16 = 1;
 
 /// The features of its own that a network device offers: no offload, no merged buffers, no control queue, one pair of
 /// queues.
-pub fn offered_features() -> u64
-    ensures { result ≡ offered }
+pub fn offered_features() -> Features
+    ensures { feature_bits result ≡ offered }
 {
-    VIRTIO_NET_F_MTU + VIRTIO_NET_F_MAC + VIRTIO_NET_F_STATUS
+    Features::NETWORK_MTU
+        .union(Features::NETWORK_MAC)
+        .union(Features::NETWORK_STATUS)
 }
 
 /// What the configuration of a network device shows.

@@ -110,6 +110,13 @@ impl<A: Allocator> NetworkDevice<A> {
         self.configuration.space()
     }
 
+    /// What its configuration space shows.
+    pub fn configuration(&self) -> NetworkConfiguration
+        ensures { result ≡ self.now.configuration }
+    {
+        self.configuration
+    }
+
     /// How many frames of the host wait.
     pub fn waiting(&self) -> usize
         ensures { result ≡ length self.now.waiting.frames }

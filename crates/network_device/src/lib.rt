@@ -15,9 +15,7 @@ mod serve;
 mod store;
 mod transmit;
 
-pub use configuration::{
-    NetworkConfiguration, VIRTIO_NET_F_MAC, VIRTIO_NET_F_MTU, VIRTIO_NET_F_STATUS, offered_features,
-};
+pub use configuration::{NetworkConfiguration, offered_features};
 pub use device::{NetworkDevice, RECEIVEQ, TRANSMITQ};
 pub use laws::{
     chains_in_bytes, configuration_in_bytes, features_in_bits, header_in_bytes, one_answer,
