@@ -1,0 +1,172 @@
+-- What is done to a device decides what becomes of it and of the memory.
+use Rattle.std.proofs.Common.{◌≡◌, ℕ, zero, suc, Option, Some, None, List, sym, ◌∙◌, ap, ap₂, subst}
+use Rattle.std.specs.Prelude.{slice_set}
+use Rattle.guest_memory.specs.Memory.{Memory}
+use Rattle.chain.proofs.Servicing.{Decides, one_decided_service}
+use Rattle.chain.specs.Service.{Device, Ending, HasAtMostOneAnswer, Site}
+use Rattle.mmio_window.specs.declared.action.Action.{Action}
+use Rattle.mmio_window.specs.declared.action.Action.TheVariants.{Notify}
+use Rattle.mmio_window.specs.declared.queue.Queue.{Queue}
+use Rattle.mmio_window.specs.Queue.{queue_kind}
+use Rattle.mmio_window.specs.Serving.{NothingHappens, Notified}
+use Rattle.mmio_window.specs.Window.{WindowState, queue_at}
+use Rattle.mmio_window.specs.Writing.{action_of, written}
+use Rattle.mmio_window.proofs.OneEnd.{HasOneService, one_end}
+use Rattle.mmio_window.proofs.QueueKind.{has_at_most_one_chain}
+use Rattle.entropy_device.specs.Device.{entropy}
+use Rattle.entropy_device.proofs.Services.{once as entropy_once}
+use Rattle.network_device.specs.Device.{Passing, passing, receive, transmit}
+use Rattle.network_device.proofs.Answering.{receive_once, transmit_once}
+use Rattle.device_list.specs.Card.{Card, ReceivesFrames, ServesCard, TransmitsFrames, card_limits, kept_behind, with_frame, without_oldest}
+use Rattle.device_list.specs.Device.{DeviceState, Finishes, Receives, ServesAfter, Supplies, TakesSent, Writes}
+use Rattle.device_list.specs.List.{At}
+use Rattle.device_list.specs.Model.{ModelState, Entropy, Network as NetworkModel, Serves, supplied_model, with_card}
+use Rattle.device_list.proofs.Cards.{receive_decides, transmit_decides}
+
+-- a device that decides has one service
+one_service : {State : Type 0} (device : Device State) → HasAtMostOneAnswer device → Decides device → (s : State)
+    → HasOneService device s
+one_service {State} device once decides s m queue a b e f v w x y =
+    let old : Site Queue State = record { memory = m; ring = queue; state = s } in
+    let same = one_decided_service queue_kind device has_at_most_one_chain once decides old a b e f v w x y in
+    (same.site, same.ending, same.wanted)
+
+-- and it ends in one way
+one_ending : {State : Type 0} (device : Device State) (q : ℕ) (queue : Option Queue) (old m n : Memory)
+    (before v w : WindowState) (s0 s t : State) (e f : Ending) → HasOneService device s0
+    → Notified device q queue e old m before v s0 s → Notified device q queue f old n before w s0 t → e ≡ f
+one_ending device q None old m n before v w s0 s t e f once a b = a.0 ∙ sym b.0
+one_ending {State} device q (Some queue) old m n before v w s0 s t e f once a b =
+    let one : Site Queue State = record { memory = m; ring = a.last; state = s } in
+    let other : Site Queue State = record { memory = n; ring = b.last; state = t } in
+    (once old queue one other e f a.wanted b.wanted a.service b.service).1
+
+-- two outcomes are the same
+record AreOne {State : Type 0} (m n : Memory) (v w : WindowState) (one other : State) : Type 0 where
+  memory : m ≡ n
+  window : v ≡ w
+  state : one ≡ other
+
+neither_happens : {State : Type 0} (m n o : Memory) (u v w : WindowState) (s one other : State)
+    → NothingHappens m n u v s one → NothingHappens m o u w s other → AreOne n o v w one other
+neither_happens m n o u v w s one other a b = record {
+  memory = a.memory ∙ sym b.memory;
+  window = a.window ∙ sym b.window;
+  state = a.state ∙ sym b.state;
+}
+
+-- ---- a card
+
+receives_once : (card : Card) (m n o : Memory) (u v w : WindowState) (one other : Card)
+    → ReceivesFrames card m n u v one → ReceivesFrames card m o u w other → AreOne n o v w one other
+receives_once card m n o u v w one other a b =
+    let start = card.network.waiting in
+    let only = one_service receive receive_once receive_decides start in
+    let end = one_end receive 0 (queue_at 0 u) m n o u v w start a.last b.last only
+    (record { ending = a.ending; notified = a.notified }) (record { ending = b.ending; notified = b.notified }) in
+    let ending = one_ending receive 0 (queue_at 0 u) m n o u v w start a.last b.last a.ending b.ending only
+    a.notified b.notified in
+    record {
+      memory = end.memory;
+      window = end.window;
+      state = a.is ∙ ap₂ made ending end.state ∙ sym b.is;
+    }
+  where
+    made : Ending → Passing → Card
+    made ending last = record card { network = record card.network { waiting = kept_behind ending last } }
+
+transmits_once : (card : Card) (m n o : Memory) (u v w : WindowState) (one other : Card)
+    → TransmitsFrames card m n u v one → TransmitsFrames card m o u w other → AreOne n o v w one other
+transmits_once card m n o u v w one other a b =
+    let device = transmit card_limits in
+    let start = passing card.sent card.network.dropped in
+    let end = one_end device 1 (queue_at 1 u) m n o u v w start a.out b.out
+    (one_service device (transmit_once card_limits) (transmit_decides card_limits) start) a.notified b.notified in
+    record {
+      memory = end.memory;
+      window = end.window;
+      state = a.is ∙ ap made end.state ∙ sym b.is;
+    }
+  where
+    made : Passing → Card
+    made out = record { network = record card.network { dropped = out.dropped }; sent = out.frames }
+
+card_once : (card : Card) (q : ℕ) (m n o : Memory) (u v w : WindowState) (one other : Card)
+    → ServesCard card q m n u v one → ServesCard card q m o u w other → AreOne n o v w one other
+card_once card zero m n o u v w one other a b = receives_once card m n o u v w one other a b
+card_once card (suc zero) m n o u v w one other a b = transmits_once card m n o u v w one other a b
+card_once card (suc (suc q)) m n o u v w one other a b = neither_happens m n o u v w card one other a b
+
+-- ---- a device, whichever it is
+
+serves_once : (model : ModelState) (q : ℕ) (m n o : Memory) (u v w : WindowState) (one other : ModelState)
+    → Serves model q m n u v one → Serves model q m o u w other → AreOne n o v w one other
+serves_once (Entropy pool) zero m n o u v w one other a b =
+    let decides : Decides entropy = record { never_both = λ s readable k g gives lacks. lacks } in
+    let end = one_end entropy 0 (queue_at 0 u) m n o u v w pool a.left b.left
+    (one_service entropy entropy_once decides pool) a.notified b.notified in
+    record { memory = end.memory; window = end.window; state = a.is ∙ ap Entropy end.state ∙ sym b.is }
+serves_once (Entropy pool) (suc q) m n o u v w one other a b =
+    neither_happens m n o u v w (Entropy pool) one other a b
+serves_once (NetworkModel card) q m n o u v w one other a b =
+    let same = card_once card q m n o u v w a.after b.after a.serves b.serves in
+    record { memory = same.memory; window = same.window; state = a.is ∙ ap NetworkModel same.state ∙ sym b.is }
+
+finishes_once : (action : Action) (m n o : Memory) (old one other : DeviceState)
+    → Finishes action m n old one → Finishes action m o old other
+    → AreOne n o one.window other.window one.model other.model
+finishes_once (Notify q) m n o old one other a b =
+    serves_once old.model q m n o old.window one.window other.window one.model other.model a b
+finishes_once _ m n o old one other a b =
+    neither_happens m n o old.window one.window other.window old.model one.model other.model a b
+
+same_device : (m n : Memory) (one other : DeviceState)
+    → AreOne m n one.window other.window one.model other.model → one ≡ other
+same_device m n one other same = ap₂ made same.window same.state
+  where
+    made : WindowState → ModelState → DeviceState
+    made w model = record { window = w; model = model }
+
+-- one device of a list is decided, and so is the list
+at_once : (Changes : Memory → Memory → DeviceState → DeviceState → Type 0)
+    → ((m n o : Memory) (old one other : DeviceState) → Changes m n old one → Changes m o old other
+    → AreOne n o one.window other.window one.model other.model)
+    → (i : ℕ) (m n o : Memory) (old new new' : List DeviceState) → At Changes i m n old new
+    → At Changes i m o old new' → (n ≡ o) × (new ≡ new')
+at_once Changes once i m n o old new new' a b =
+    let found : Some a.before ≡ Some b.before = sym a.there ∙ b.there in
+    let before : b.before ≡ a.before = cc (found) in
+    let same = once m n o a.before a.after b.after a.changes
+    (subst (λ (d : DeviceState). Changes m o d b.after) before b.changes) in (
+      same.memory,
+      a.is ∙ ap (λ (d : DeviceState). slice_set old i d) (same_device n o a.after b.after same)
+          ∙ sym b.is,
+    )
+
+pub write_once : (offset width value : ℕ) (i : ℕ) (m n o : Memory) (old new new' : List DeviceState)
+    → At (Writes offset width value) i m n old new → At (Writes offset width value) i m o old new'
+    → (n ≡ o) × (new ≡ new')
+write_once offset width value =
+    at_once (Writes offset width value) (λ m n o old one other a b.
+    finishes_once (action_of offset width value old.window) m n o
+    (record old { window = written offset width value m old.window }) one other a b)
+
+-- what the host changes decides it too
+after_once : (change : ModelState → ModelState) (q : ℕ) (i : ℕ) (m n o : Memory) (old new new' : List DeviceState)
+    → At (ServesAfter change q) i m n old new → At (ServesAfter change q) i m o old new'
+    → (n ≡ o) × (new ≡ new')
+after_once change q =
+    at_once (ServesAfter change q) (λ m n o old one other a b.
+    serves_once (change old.model) q m n o old.window one.window other.window one.model other.model a b)
+
+pub supply_once : (bytes : List ℕ) (i : ℕ) (m n o : Memory) (old new new' : List DeviceState)
+    → At (Supplies bytes) i m n old new → At (Supplies bytes) i m o old new' → (n ≡ o) × (new ≡ new')
+supply_once bytes = after_once (λ model. supplied_model model bytes) 0
+
+pub reception_once : (frame : List ℕ) (i : ℕ) (m n o : Memory) (old new new' : List DeviceState)
+    → At (Receives frame) i m n old new → At (Receives frame) i m o old new' → (n ≡ o) × (new ≡ new')
+reception_once frame = after_once (with_card (with_frame frame)) 0
+
+pub taking_once : (i : ℕ) (m n o : Memory) (old new new' : List DeviceState) → At TakesSent i m n old new
+    → At TakesSent i m o old new' → (n ≡ o) × (new ≡ new')
+taking_once = after_once (with_card without_oldest) 1

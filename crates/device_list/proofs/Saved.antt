@@ -1,0 +1,205 @@
+-- Devices one after another: what is said of the first and of the others is said of all.
+use Rattle.std.proofs.Common.{◌≡◌, ◌∙◌, ◌↔◌, ℕ, zero, suc, ◌-◌, ◌≤◌, Option, Some, Bool, false, List, [], ◌∷◌, length, length-set, slice_index_or, take, drop, refl, sym, ap, subst, arith}
+use Rattle.std.specs.Prelude.{◌<◌, None, IsTrue, nat_le, slice_set}
+use Rattle.std.specs.List.{slice_get}
+use Rattle.guest_memory.specs.Memory.{Memory}
+use Rattle.mmio_window.specs.Saved.{saved_window, window_restored}
+use Rattle.mmio_window.specs.declared.saved.SavedWindow.{SavedWindow}
+use Rattle.mmio_window.specs.Soundness.{IsSound}
+use Rattle.mmio_window.specs.Window.{WindowState}
+use Rattle.std.proofs.lemmas.Bool.{lt-leb}
+use Rattle.snapshot.specs.declared.saved.SavedDevice.{SavedDevice}
+use Rattle.device_list.specs.declared.spec.DeviceSpec.{DeviceSpec}
+use Rattle.device_list.specs.Device.{DeviceState, IsSoundDevice}
+use Rattle.device_list.specs.List.{AreSoundDevices, refusal_of}
+use Rattle.device_list.specs.Model.{features_of, has_bad_mtu, kind_of}
+use Rattle.device_list.specs.Saved.{RestoresEach, SuitDevices, SuitsDevice, device_window_restored, first_restored, saved_device}
+use Rattle.device_list.proofs.Sound.{all_sound}
+
+all_taken : {A : Type 0} (xs : List A) → take (length xs) xs ≡ xs
+all_taken [] = refl
+all_taken (x ∷ xs) = ap (λ (ys : List _). x ∷ ys) (all_taken xs)
+
+abbrev pub behind_first : {A : Type 0} → List A → List A
+behind_first xs = take (length xs - 1) (drop 1 xs)
+
+pub behind_is : {A : Type 0} (x : A) (xs : List A) → behind_first (x ∷ xs) ≡ xs
+behind_is x xs = let len : length (x ∷ xs) - 1 ≡ length xs = omega arith in rw len (all_taken xs)
+
+-- the first suits: all suit where the others do
+pub suits_more : (ss : List SavedDevice) (ds : List DeviceState) (s : SavedDevice) (d : DeviceState) (r : Bool)
+    → 1 ≤ length ss → 1 ≤ length ds → d ≡ slice_index_or ds 0 d → SuitsDevice (slice_index_or ss 0 s) d
+    → (IsTrue r ↔ SuitDevices (behind_first ss) (behind_first ds)) → IsTrue r ↔ SuitDevices ss ds
+suits_more [] ds s d r some more is first others = absurd (omega arith)
+suits_more (x ∷ ss) [] s d r some more is first others = absurd (omega arith)
+suits_more (x ∷ ss) (y ∷ ds) s d r some more is first others =
+    let rest = rw (behind_is x ss, behind_is y ds) at others in
+    (λ yes. (subst (SuitsDevice x) is first, rest.0 yes), λ suit. rest.1 suit.1)
+
+-- the first doesn't suit: not all suit
+pub first_fails : (ss : List SavedDevice) (ds : List DeviceState) (s : SavedDevice) (d : DeviceState)
+    → 1 ≤ length ss → 1 ≤ length ds → d ≡ slice_index_or ds 0 d → (SuitsDevice (slice_index_or ss 0 s) d → ⊥)
+    → SuitDevices ss ds → ⊥
+first_fails [] ds s d some more is not suit = absurd (omega arith)
+first_fails (x ∷ ss) [] s d some more is not suit = absurd (omega arith)
+first_fails (x ∷ ss) (y ∷ ds) s d some more is not suit = not (subst (SuitsDevice x) (sym is) suit.0)
+
+-- not as many
+pub fewer : (ss : List SavedDevice) (ds : List DeviceState) → length ds < 1 → 1 ≤ length ss → SuitDevices ss ds → ⊥
+fewer [] ds none some suit = absurd (omega arith)
+fewer (x ∷ ss) [] none some suit = suit
+fewer (x ∷ ss) (y ∷ ds) none some suit = absurd (omega arith)
+
+pub more : (ss : List SavedDevice) (ds : List DeviceState) → 1 ≤ length ds → length ss < 1 → SuitDevices ss ds → ⊥
+more [] [] some none suit = absurd (omega arith)
+more [] (y ∷ ds) some none suit = suit
+more (x ∷ ss) ds some none suit = absurd (omega arith)
+
+-- a device is added to fewer than six, where its MTU isn't too low
+pub not_refused : (devices : List DeviceState) (spec : DeviceSpec) (n : ℕ) → n ≡ length devices → n < 6
+    → has_bad_mtu spec ≡ false → refusal_of devices spec ≡ None
+not_refused devices spec n is few fits =
+    let room : nat_le 6 (length devices) ≡ false = lt-leb _ _ (omega (arith, is, few)) in rw (room, fits) refl
+
+-- ---- an element
+
+pub got : {A : Type 0} (xs : List A) (i : ℕ) (x : A) → i < length xs → x ≡ slice_index_or xs i x
+    → slice_get xs i ≡ Some x
+got [] i x lt is = absurd (omega arith)
+got (y ∷ xs) zero x lt is = ap Some (sym is)
+got (y ∷ xs) (suc i) x lt is = got xs i x (omega arith) is
+
+pub not_got : {A : Type 0} (xs : List A) (i : ℕ) → length xs ≤ i → slice_get xs i ≡ None
+not_got [] i le = refl
+not_got (y ∷ xs) zero le = absurd (omega arith)
+not_got (y ∷ xs) (suc i) le = not_got xs i (omega arith)
+
+-- ---- the first devices, so many
+
+module _ (m : Memory) (saved : List SavedDevice) (devices : List DeviceState) (count : ℕ) (some : 0 < count) where
+  counted : suc (count - 1) ≡ count
+  counted = omega arith
+
+  again : (r : Option (List DeviceState)) → first_restored m (suc (count - 1)) saved devices ≡ r
+      → first_restored m count saved devices ≡ r
+  again r is = subst (λ (n : ℕ). first_restored m n saved devices ≡ r) counted is
+
+  pub none_saved : slice_get saved (count - 1) ≡ None → first_restored m count saved devices ≡ None
+  none_saved none = again None (rw none refl)
+
+  pub none_there : (s : SavedDevice) → slice_get saved (count - 1) ≡ Some s → slice_get devices (count - 1) ≡ None
+      → first_restored m count saved devices ≡ None
+  none_there s is none = again None (rw (is, none) refl)
+
+  pub none_stands : (s : SavedDevice) (d : DeviceState) → slice_get saved (count - 1) ≡ Some s
+      → slice_get devices (count - 1) ≡ Some d → window_restored (kind_of d.model) m s.window ≡ None
+      → first_restored m count saved devices ≡ None
+  none_stands s d is there none = again None (rw (is, there, none) refl)
+
+  pub none_before : (s : SavedDevice) (d : DeviceState) (w : WindowState) → slice_get saved (count - 1) ≡ Some s
+      → slice_get devices (count - 1) ≡ Some d → window_restored (kind_of d.model) m s.window ≡ Some w
+      → first_restored m (count - 1) saved devices ≡ None → first_restored m count saved devices ≡ None
+  none_before s d w is there stands none = again None (rw (is, there, stands, none) refl)
+
+  pub all_before : (s : SavedDevice) (d : DeviceState) (w : WindowState) (others : List DeviceState) (there : DeviceState)
+      → slice_get saved (count - 1) ≡ Some s → slice_get devices (count - 1) ≡ Some d
+      → window_restored (kind_of d.model) m s.window ≡ Some w
+      → first_restored m (count - 1) saved devices ≡ Some others → slice_get others (count - 1) ≡ Some there
+      → first_restored m count saved devices ≡ Some (slice_set others (count - 1) (record there { window = w }))
+  all_before s d w others there is found stands before after =
+      again (Some (slice_set others (count - 1) (record there { window = w })))
+      (rw (is, found, stands, before, after) refl)
+
+-- a list that is as long has an element there too
+pub within : (i : ℕ) (read seen after items : List DeviceState) → i < length read → read ≡ seen
+    → length after ≡ length seen → items ≡ after → i < length items
+within i read seen after items lt is len same =
+    omega (arith, lt, ap (λ (l : List DeviceState). length l) is, len, ap (λ (l : List DeviceState). length l) same)
+
+-- one of its elements is replaced
+pub set_is : {r : Option (List DeviceState)} (items : List DeviceState) (i : ℕ) (there : DeviceState) (w : WindowState)
+    (d : DeviceState) → d ≡ record { window = w; model = there.model }
+    → r ≡ Some (slice_set items i (record there { window = w })) → r ≡ Some (slice_set items i d)
+set_is items i there w d is set = set ∙ ap (λ (x : DeviceState). Some (slice_set items i x)) (sym is)
+
+pub set_len : (items : List DeviceState) (i : ℕ) (d : DeviceState) (after old : List DeviceState) → items ≡ after
+    → length after ≡ length old → length (slice_set items i d) ≡ length old
+set_len items i d after old is len =
+    length-set items i d ∙ (ap (λ (l : List DeviceState). length l) is ∙ len)
+
+-- ---- what has changed, and that it is sound
+
+-- no element above the one that is replaced changes
+pub set_above : {A : Type 0} (xs : List A) (n i : ℕ) (x : A) → n < i → slice_get (slice_set xs n x) i ≡ slice_get xs i
+set_above [] n i x lt = refl
+set_above (y ∷ xs) n zero x lt = absurd (omega arith)
+set_above (y ∷ xs) zero (suc i) x lt = refl
+set_above (y ∷ xs) (suc n) (suc i) x lt = set_above xs n i x (omega arith)
+
+pub set_above_in : (items after old : List DeviceState) (count i : ℕ) (d : DeviceState) → 0 < count → count ≤ i
+    → items ≡ after → ((k : ℕ) → count - 1 ≤ k → slice_get after k ≡ slice_get old k)
+    → slice_get (slice_set items (count - 1) d) i ≡ slice_get old i
+set_above_in items after old count i d some le is above =
+    set_above items (count - 1) i d (omega arith)
+    ∙ (ap (λ (l : List DeviceState). slice_get l i) is ∙ above i (omega arith))
+
+some_is : {A : Type 0} (x y : A) → Some x ≡ Some y → x ≡ y
+some_is x y e = cc
+
+suits_at : (ss : List SavedDevice) (ds : List DeviceState) (i : ℕ) (s : SavedDevice) (d : DeviceState)
+    → SuitDevices ss ds → slice_get ss i ≡ Some s → slice_get ds i ≡ Some d → SuitsDevice s d
+suits_at [] ds i s d suit is there = absurd cc
+suits_at (x ∷ ss) [] i s d suit is there = absurd cc
+suits_at (x ∷ ss) (y ∷ ds) zero s d suit is there =
+    subst (λ (e : DeviceState). SuitsDevice s e) (some_is y d there)
+    (subst (λ (t : SavedDevice). SuitsDevice t y) (some_is x s is) suit.0)
+suits_at (x ∷ ss) (y ∷ ds) (suc i) s d suit is there = suits_at ss ds i s d suit.1 is there
+
+sound_at : (m : Memory) (ds : List DeviceState) (i : ℕ) (d : DeviceState) → AreSoundDevices m ds → i < length ds
+    → d ≡ slice_index_or ds i d → IsSoundDevice m d
+sound_at m ds i d sound lt is = subst (IsSoundDevice m) (sym is) (sound i d lt)
+
+-- the devices, of which one has its window as it was saved
+pub restored_sound : (m : Memory) (saved : List SavedDevice) (old read after items : List DeviceState) (i : ℕ)
+    (s : SavedDevice) (d there put : DeviceState) (w : WindowState) → SuitDevices saved old → AreSoundDevices m old
+    → AreSoundDevices m after → items ≡ after → slice_get saved i ≡ Some s → i < length read
+    → d ≡ slice_index_or read i d → read ≡ old → slice_get items i ≡ Some there → slice_get after i ≡ slice_get old i
+    → put ≡ record { window = w; model = there.model } → w.kind ≡ kind_of d.model → saved_window w ≡ s.window
+    → IsSound m w → AreSoundDevices m (slice_set items i put)
+restored_sound m saved old read after items i s d there put w suit sound so same is lt found seen now above made kind
+    again here =
+    let at_old : slice_get old i ≡ Some d =
+    subst (λ (l : List DeviceState). slice_get l i ≡ Some d) seen (got read i d lt found) in
+    let suits = suits_at saved old i s d suit is at_old in
+    let was = sound_at m read i d (subst (λ (l : List DeviceState). AreSoundDevices m l) (sym seen) sound) lt found in
+    let model_is : there ≡ d =
+    some_is there d (sym now ∙ (ap (λ (l : List DeviceState). slice_get l i) same ∙ (above ∙ at_old))) in
+    let models : there.model ≡ d.model = ap (λ (e : DeviceState). e.model) model_is in
+    let one : IsSoundDevice m (record { window = w; model = there.model }) = record {
+      kind = kind ∙ ap kind_of (sym models);
+      offers =
+          ap (λ (v : SavedWindow). v.negotiation.offered) again
+          ∙ (suits.offered ∙ (was.offers ∙ ap features_of (sym models)));
+      window = here;
+    } in
+    all_sound m m items i put (record { base = refl; size = refl; gaps = refl })
+    (subst (λ (l : List DeviceState). AreSoundDevices m l) (sym same) so)
+    (subst (IsSoundDevice m) (sym made) one)
+
+-- ---- what is saved gives each window back
+
+pub restores_more : (m : Memory) (ds : List DeviceState) (d : DeviceState) → 1 ≤ length ds → d ≡ slice_index_or ds 0 d
+    → (IsSoundDevice m d → device_window_restored m (saved_device d) d ≡ Some d.window)
+    → (AreSoundDevices m (behind_first ds) → RestoresEach m (behind_first ds)) → AreSoundDevices m ds
+    → RestoresEach m ds
+restores_more m [] d some is first others sound = absurd (omega arith)
+restores_more m (y ∷ ds) d some is first others sound =
+    let rest = rw (behind_is y ds) at others in (
+      subst (λ (e : DeviceState). device_window_restored m (saved_device e) e ≡ Some e.window) is
+          (first (subst (IsSoundDevice m) (sym is) (sound 0 y (omega arith)))),
+      rest (λ k e lt. sound (suc k) e (omega arith)),
+    )
+
+pub restores_none : (m : Memory) (ds : List DeviceState) → length ds < 1 → RestoresEach m ds
+restores_none m [] none = tt
+restores_none m (y ∷ ds) none = absurd (omega arith)

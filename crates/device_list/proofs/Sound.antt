@@ -1,0 +1,90 @@
+-- Devices stay sound where the bytes of the memory change, and where one of them does its part.
+use Rattle.std.proofs.Common.{◌≡◌, ℕ, List, refl, sym, ◌∙◌, subst}
+use Rattle.std.specs.Prelude.{◌<◌, [], ◌∷◌, ◌++◌, Bool, true, false, if◌then◌else◌, get_or, length, slice_set}
+use Rattle.std.proofs.lemmas.List.Elements.{All-get_or, All-push, All-set, All-weaker}
+use Rattle.guest_memory.specs.Memory.{Memory, SameRange}
+use Rattle.mmio_window.proofs.Soundness.{IsSound-same_range}
+use Rattle.mmio_window.specs.declared.action.Action.{Action}
+use Rattle.mmio_window.specs.declared.action.Action.TheVariants.{Notify}
+use Rattle.mmio_window.proofs.Devices.{KeepsDevice, KeepsDevice-written}
+use Rattle.mmio_window.specs.Soundness.{IsSound}
+use Rattle.mmio_window.specs.Window.{WindowState}
+use Rattle.mmio_window.specs.Writing.{action_of, written}
+use Rattle.device_list.specs.declared.spec.DeviceSpec.{DeviceSpec}
+use Rattle.device_list.specs.Device.{DeviceState, Finishes, IsSoundDevice, Writes, fresh_device}
+use Rattle.device_list.specs.List.{AreSoundDevices}
+use Rattle.device_list.specs.Model.{ModelState, features_of, kind_of}
+
+-- a device that was sound is so with this window and this model
+pub made_sound : (m m' : Memory) (d : DeviceState) (w : WindowState) (model : ModelState) → IsSoundDevice m d
+    → w.kind ≡ d.window.kind → w.negotiation.offered ≡ d.window.negotiation.offered
+    → kind_of d.model ≡ kind_of model → features_of d.model ≡ features_of model → IsSound m' w
+    → IsSoundDevice m' (record { window = w; model = model })
+made_sound m m' d w model sound kind offered same_kind same_features here = record {
+  kind = kind ∙ sound.kind ∙ same_kind;
+  offers = offered ∙ sound.offers ∙ same_features;
+  window = here;
+}
+
+pub sound_over : (m m' : Memory) (d : DeviceState) → SameRange m m' → IsSoundDevice m d → IsSoundDevice m' d
+sound_over m m' d range sound = record {
+  kind = sound.kind;
+  offers = sound.offers;
+  window = IsSound-same_range m m' d.window range sound.window;
+}
+
+-- a write leaves a device's window its device's
+pub written_sound : (m m' : Memory) (d : DeviceState) (offset width value : ℕ) (u w : WindowState)
+    (model : ModelState) → u ≡ written offset width value m d.window → IsSoundDevice m d
+    → w.kind ≡ u.kind → w.negotiation.offered ≡ u.negotiation.offered
+    → kind_of model ≡ kind_of d.model → features_of model ≡ features_of d.model → IsSound m' w
+    → IsSoundDevice m' (record { window = w; model = model })
+written_sound m m' d offset width value u w model is sound kind offered same_kind same_features here =
+    let keeps = KeepsDevice-written offset width value m d.window in
+    let now = subst (λ (v : WindowState). KeepsDevice d.window v) (sym is) keeps in
+    made_sound m m' d w model sound (kind ∙ now.kind) (offered ∙ now.offered) (sym same_kind)
+    (sym same_features) here
+
+-- a write that notifies no queue leaves nothing to be done
+finishes_quiet : (action : Action) (m : Memory) (d : DeviceState) → ((q : ℕ) → action ≡ Notify q → ⊥)
+    → Finishes action m m d d
+finishes_quiet (Notify q) m d never = absurd (never q refl)
+finishes_quiet _ m d never = record { memory = refl; window = refl; state = refl }
+
+pub writes_quiet : (offset width value : ℕ) (m : Memory) (d : DeviceState) (w : WindowState) (action : Action)
+    → action ≡ action_of offset width value d.window → w ≡ written offset width value m d.window
+    → ((q : ℕ) → action ≡ Notify q → ⊥) → Writes offset width value m m d (record d { window = w })
+writes_quiet offset width value m d w action does is never =
+    rw (is) (finishes_quiet (action_of offset width value d.window) m
+    (record d { window = written offset width value m d.window }) (λ q notifies. never q (does ∙ notifies)))
+
+-- where one of them changed, and the memory with it
+pub all_sound : (m m' : Memory) (devices : List DeviceState) (i : ℕ) (d : DeviceState) → SameRange m m'
+    → AreSoundDevices m devices → IsSoundDevice m' d → AreSoundDevices m' (slice_set devices i d)
+all_sound m m' devices i d range sound here =
+    All-set (IsSoundDevice m') devices i d here
+    (All-weaker (IsSoundDevice m) (IsSoundDevice m') (λ found was. sound_over m m' found range was) devices sound)
+
+-- and where it changed alone
+pub still_sound : (m m' : Memory) (devices : List DeviceState) → SameRange m m' → AreSoundDevices m devices
+    → AreSoundDevices m' devices
+still_sound m m' devices range sound =
+    All-weaker (IsSoundDevice m) (IsSoundDevice m') (λ found was. sound_over m m' found range was) devices sound
+
+-- a device as after a reset is sound, wherever its memory is
+pub fresh_sound : (m : Memory) (spec : DeviceSpec) → IsSoundDevice m (fresh_device spec)
+fresh_sound m spec = record { kind = refl; offers = refl; window = record { queue_0 = tt; queue_1 = tt } }
+
+-- and so is it behind others, if it is added
+pub added_sound : (m : Memory) (devices after : List DeviceState) (d : DeviceState) (spec : DeviceSpec) (added : Bool)
+    → d ≡ fresh_device spec → after ≡ (if added then devices ++ d ∷ [] else devices) → AreSoundDevices m devices
+    → AreSoundDevices m after
+added_sound m devices after d spec true fresh is sound =
+    rw (is, fresh) (All-push (IsSoundDevice m) devices (fresh_device spec) sound (fresh_sound m spec))
+added_sound m devices after d spec false fresh is sound = rw is sound
+
+-- each of them is
+pub one_sound : (m : Memory) (devices : List DeviceState) (i : ℕ) (d : DeviceState) → AreSoundDevices m devices
+    → i < length devices → d ≡ get_or devices i d → IsSoundDevice m d
+one_sound m devices i d sound within is =
+    subst (λ (found : DeviceState). IsSoundDevice m found) (sym is) (All-get_or (IsSoundDevice m) devices i d within sound)

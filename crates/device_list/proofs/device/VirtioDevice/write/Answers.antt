@@ -1,0 +1,25 @@
+use Rattle.std.proofs.Common.{refl, sym, subst}
+use Rattle.device_list.specs.Device.{DeviceState, IsSoundDevice}
+use Rattle.device_list.specs.Model.{state_of}
+use Rattle.device_list.proofs.Sound.{written_sound, writes_quiet}
+use Rattle.device_list.proofs.device.VirtioDevice.write.Goals as goal
+
+pub returns-in-Notify-clause-sound : goal.returns-in-Notify-clause-sound
+returns-in-Notify-clause-sound g c =
+    let served = c.serve.ensures in
+    written_sound c.args.mem.now c.serve.new.mem _ c.args.offset c.args.width c.args.value c.write.new.self
+    c.serve.new.window (state_of c.serve.new.self) c.write.ensures.written
+    (subst (λ (d : DeviceState). IsSoundDevice c.args.mem.now d) (sym c.self.view_is) c.requires.sound)
+    served.kind served.offered served.same_kind served.same_features served.sound
+
+pub returns-in_default : goal.returns-in_default
+returns-in_default g c =
+    let sound = subst (λ (d : DeviceState). IsSoundDevice c.args.mem.now d) (sym c.self.view_is) c.requires.sound in
+    record {
+      writes = rw (← c.self.view_is) (writes_quiet c.args.offset c.args.width c.args.value c.args.mem.now _
+          c.write.new.self c.write.result c.write.ensures.action c.write.ensures.written c.in_default.not-Notify);
+      range = record { base = refl; size = refl; gaps = refl };
+      sound = written_sound c.args.mem.now c.args.mem.now _ c.args.offset c.args.width c.args.value
+          c.write.new.self c.write.new.self (state_of c.self.inside.model) c.write.ensures.written sound refl refl refl refl
+          (c.write.ensures.sound sound.window);
+    }

@@ -1,0 +1,13 @@
+use Rattle.std.proofs.Common.{◌∙◌, ap, sym}
+use Rattle.mmio_window.specs.Saved.{window_restored}
+use Rattle.snapshot.specs.declared.saved.SavedDevice.{SavedDevice}
+use Rattle.device_list.specs.Model.{kind_of}
+use Rattle.device_list.proofs.Saved.{restores_more}
+use Rattle.device_list.proofs.list.saved.+save_each.Goals as goal
+
+pub returns-in-len1-up-clause-back : goal.returns-in-len1-up-clause-back
+returns-in-len1-up-clause-back g t c = λ m sound.
+    restores_more m c.args.devices.now c.device-item.result c.in-len1-up.len_at_least c.device-item.is
+    (λ here. ap (λ (s : SavedDevice). window_restored (kind_of c.device-item.result.model) m s.window)
+    (sym c.saved.ensures.value) ∙ c.saved.ensures.back m here)
+    (c.save_each.ensures.back m) sound

@@ -1,0 +1,5 @@
+pub mod Card
+pub mod Device
+pub mod List
+pub mod Model
+pub mod Saved

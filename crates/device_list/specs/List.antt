@@ -1,0 +1,48 @@
+-- The list of devices: one of them changes, and the others stay.
+use Rattle.std.specs.Prelude.{◌≡◌, ℕ, All, Bool, nat_le, if◌then◌else◌, Option, Some, None, List, length, slice_set}
+use Rattle.std.specs.List.{slice_get}
+use Rattle.std.specs.Option.{option_and_then, option_map_or}
+use Rattle.guest_memory.specs.Memory.{Memory}
+use Rattle.device_list.specs.declared.spec.AddRefusal.{AddRefusal}
+use Rattle.device_list.specs.declared.spec.AddRefusal.TheVariants.{TooMany, BadMtu, NoMemory}
+use Rattle.device_list.specs.declared.spec.DeviceSpec.{DeviceSpec}
+use Rattle.device_list.specs.Card.{Card}
+use Rattle.device_list.specs.Device.{DeviceState, IsSoundDevice}
+use Rattle.device_list.specs.Model.{card_of, has_bad_mtu, is_starving}
+
+-- each device is sound for the memory
+abbrev pub AreSoundDevices : Memory → List DeviceState → Type 0
+AreSoundDevices m devices = All (IsSoundDevice m) devices
+
+-- Device n is there, and it and the memory change so; the other devices stay.
+pub record At (Changes : Memory → Memory → DeviceState → DeviceState → Type 0) (n : ℕ) (m m' : Memory)
+    (old new : List DeviceState) : Type 0 where
+  pub before : DeviceState
+  pub after : DeviceState
+  pub there : slice_get old n ≡ Some before
+  pub changes : Changes m m' before after
+  pub is : new ≡ slice_set old n after
+
+-- the devices with that of this number changed so, if there is one
+abbrev pub changed_at : (DeviceState → DeviceState) → ℕ → List DeviceState → List DeviceState
+changed_at change n devices = option_map_or (λ d. slice_set devices n (change d)) (slice_get devices n) devices
+
+-- the network card of this number, if there is one
+abbrev pub card_at : ℕ → List DeviceState → Option Card
+card_at n devices = option_and_then (λ d. card_of d.model) (slice_get devices n)
+
+-- Why a device isn't added to these, where it isn't for want of memory: there are six, or its MTU is too low.
+abbrev pub refusal_of : List DeviceState → DeviceSpec → Option AddRefusal
+refusal_of devices spec =
+    if nat_le 6 (length devices) then Some TooMany
+    else if has_bad_mtu spec then Some BadMtu
+    else None
+
+-- It isn't added for this: want of memory comes last.
+abbrev pub IsRefusedFor : List DeviceState → DeviceSpec → AddRefusal → Type 0
+IsRefusedFor devices spec NoMemory = refusal_of devices spec ≡ None
+IsRefusedFor devices spec why = refusal_of devices spec ≡ Some why
+
+-- whether a chain of the device is on offer that waits for what its host supplies or sends
+abbrev pub is_starved_at : Memory → DeviceState → Bool
+is_starved_at m d = is_starving d.model m d.window

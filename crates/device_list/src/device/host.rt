@@ -1,0 +1,118 @@
+//! What the host of a device hands in and takes.
+
+ghost use Rattle.std.specs.Prelude.{◌≡◌, ◌++◌, Some, None, IfErr, OnOk, OnErr, IsSome, is_some};
+ghost use Rattle.std.specs.Bool.{OnTrue, OnFalse};
+ghost use Rattle.std.specs.Option.{option_and_then, option_map};
+ghost use Rattle.guest_memory.specs.Memory.{Memory, SameRange};
+ghost use Rattle.device_list.specs.Card.{oldest_of, receive_refusal};
+ghost use Rattle.device_list.specs.Device.{IsSoundDevice, Receives, Supplies, TakesSent, linked, supply_taken};
+ghost use Rattle.device_list.specs.Model.{card_of, is_starving};
+
+use crate::device::VirtioDevice;
+use crate::model::DeviceModel;
+use crate::refusal::ReceiveRefusal;
+use chain::Chain;
+use guest_memory::GuestMemory;
+use network_device::{RECEIVEQ, TRANSMITQ};
+use std::alloc::Allocator;
+
+impl<A: Allocator> VirtioDevice<A> {
+    /// Whether it is a network card.
+    pub(crate) fn is_card(&self) -> bool
+        ensures { result ≡ is_some (card_of self.now.model) }
+    {
+        matches!(self.model, DeviceModel::Network(_))
+    }
+
+    /// Takes what the host supplies, serves the queue that waits for it, and answers how many bytes it took: there is no
+    /// answer of a device that takes none.
+    pub(crate) fn supply<M: Allocator>(
+        &mut self,
+        bytes: &[u8],
+        mem: &mut GuestMemory<M>,
+        room: &mut Chain,
+    ) -> Option<usize>
+        requires sound { IsSoundDevice mem.old self.old }
+        ensures taken { result ≡ supply_taken bytes.now self.old }
+        ensures supplies { IsSome result → Supplies bytes.now mem.old mem.new self.old self.new }
+        ensures kept { result ≡ None → self.new ≡ self.old }
+        ensures unwritten { result ≡ None → mem.new ≡ mem.old }
+        ensures range { SameRange mem.old mem.new }
+        ensures sound { IsSoundDevice mem.new self.new }
+    {
+        let taken = self.model.supply(bytes)?;
+        self.model.serve(0, mem, &mut self.window, room);
+        Some(taken)
+    }
+
+    /// Takes a frame of the host and serves the receive queue, or refuses the frame.
+    pub(crate) fn receive<M: Allocator>(
+        &mut self,
+        frame: &[u8],
+        mem: &mut GuestMemory<M>,
+        room: &mut Chain,
+    ) -> Result<(), ReceiveRefusal>
+        requires sound { IsSoundDevice mem.old self.old }
+        ensures fits { OnOk result (receive_refusal frame.now (card_of self.old.model) ≡ None) }
+        ensures receives { OnOk result (Receives frame.now mem.old mem.new self.old self.new) }
+        ensures refused { IfErr result (λ why. receive_refusal frame.now (card_of self.old.model) ≡ Some why) }
+        ensures kept { OnErr result (self.new ≡ self.old) }
+        ensures unwritten { OnErr result (mem.new ≡ mem.old) }
+        ensures range { SameRange mem.old mem.new }
+        ensures sound { IsSoundDevice mem.new self.new }
+    {
+        self.model.receive(frame)?;
+        self.model.serve(RECEIVEQ, mem, &mut self.window, room);
+        Ok(())
+    }
+
+    /// The oldest frame that waits for the host, in two parts.
+    pub(crate) fn sent(&self) -> Option<(&[u8], &[u8])>
+        ensures { option_map (λ parts. parts.0.now ++ parts.1.now) result ≡ option_and_then oldest_of (card_of self.now.model) }
+    {
+        self.model.sent()
+    }
+
+    /// Takes that frame away, and serves the transmit queue. False where none waits: nothing has changed then.
+    pub(crate) fn take_sent<M: Allocator>(
+        &mut self,
+        mem: &mut GuestMemory<M>,
+        room: &mut Chain,
+    ) -> bool
+        requires sound { IsSoundDevice mem.old self.old }
+        ensures found { result ≡ is_some (option_and_then oldest_of (card_of self.old.model)) }
+        ensures takes { OnTrue result (TakesSent mem.old mem.new self.old self.new) }
+        ensures kept { OnFalse result (self.new ≡ self.old) }
+        ensures unwritten { OnFalse result (mem.new ≡ mem.old) }
+        ensures range { SameRange mem.old mem.new }
+        ensures sound { IsSoundDevice mem.new self.new }
+    {
+        if !self.model.take_sent() {
+            return false;
+        }
+        self.model.serve(TRANSMITQ, mem, &mut self.window, room);
+        true
+    }
+
+    /// Sets whether the link is up, and tells the driver (5.1.4). False where it is no network card: nothing has changed then.
+    pub(crate) fn set_link(&mut self, up: bool) -> bool
+        ensures found { result ≡ is_some (card_of self.old.model) }
+        ensures linked { OnTrue result (self.new ≡ linked up self.old) }
+        ensures kept { OnFalse result (self.new ≡ self.old) }
+        ensures sound { (m : Memory) → IsSoundDevice m self.old → IsSoundDevice m self.new }
+    {
+        if !self.model.set_link(up) {
+            return false;
+        }
+        self.window.config_changed();
+        true
+    }
+
+    /// Whether a chain is on offer that waits for what the host supplies or sends.
+    pub(crate) fn starved<M: Allocator>(&self, mem: &GuestMemory<M>, room: &mut Chain) -> bool
+        requires sound { IsSoundDevice mem.now self.now }
+        ensures { result ≡ is_starving self.now.model mem.now self.now.window }
+    {
+        self.model.starved(mem, &self.window, room)
+    }
+}

@@ -1,0 +1,72 @@
+//! Laws of the definitions. The bodies are empty: each contract is a theorem.
+
+ghost use Rattle.std.specs.Prelude.{◌≡◌, ◌≢◌, ℕ, Bool, List, [], Some, None, replicate};
+ghost use Rattle.std.specs.List.{slice_get};
+ghost use Rattle.guest_memory.specs.Memory.{Memory};
+ghost use Rattle.device_list.specs.declared.spec.AddRefusal.TheVariants.{BadMtu, TooMany};
+ghost use Rattle.device_list.specs.declared.spec.DeviceSpec.TheVariants.{Entropy, Network};
+ghost use Rattle.device_list.specs.Device.{DeviceState, Receives, Supplies, TakesSent, Writes, fresh_device, linked};
+ghost use Rattle.device_list.specs.List.{At, changed_at, refusal_of};
+ghost use Rattle.device_list.specs.Saved.{AreOfModels, RestoresEach, devices_restored, saved_devices};
+ghost use Rattle.device_list.specs.Model.{features_of, fresh_model};
+
+/// What is written to a device's window decides what becomes of memory and devices.
+pub fn one_write()
+    ensures { (n offset width value : ℕ) (m one other : Memory) (old new new' : List DeviceState) →
+        At (Writes offset width value) n m one old new → At (Writes offset width value) n m other old new' →
+        (one ≡ other) × (new ≡ new') }
+{}
+
+/// And so does what is supplied to it.
+pub fn one_supply()
+    ensures { (n : ℕ) (bytes : List ℕ) (m one other : Memory) (old new new' : List DeviceState) →
+        At (Supplies bytes) n m one old new → At (Supplies bytes) n m other old new' →
+        (one ≡ other) × (new ≡ new') }
+{}
+
+/// And a frame that is handed to it.
+pub fn one_reception()
+    ensures { (n : ℕ) (frame : List ℕ) (m one other : Memory) (old new new' : List DeviceState) →
+        At (Receives frame) n m one old new → At (Receives frame) n m other old new' →
+        (one ≡ other) × (new ≡ new') }
+{}
+
+/// And the taking of a frame that it sent.
+pub fn one_taking()
+    ensures { (n : ℕ) (m one other : Memory) (old new new' : List DeviceState) →
+        At TakesSent n m one old new → At TakesSent n m other old new' →
+        (one ≡ other) × (new ≡ new') }
+{}
+
+/// No other device changes.
+pub fn one_device_changes()
+    ensures write { (n other offset width value : ℕ) (m m' : Memory) (old new : List DeviceState) →
+        At (Writes offset width value) n m m' old new → other ≢ n → slice_get new other ≡ slice_get old other }
+    ensures supply { (n other : ℕ) (bytes : List ℕ) (m m' : Memory) (old new : List DeviceState) →
+        At (Supplies bytes) n m m' old new → other ≢ n → slice_get new other ≡ slice_get old other }
+    ensures reception { (n other : ℕ) (frame : List ℕ) (m m' : Memory) (old new : List DeviceState) →
+        At (Receives frame) n m m' old new → other ≢ n → slice_get new other ≡ slice_get old other }
+    ensures taking { (n other : ℕ) (m m' : Memory) (old new : List DeviceState) →
+        At TakesSent n m m' old new → other ≢ n → slice_get new other ≡ slice_get old other }
+    ensures link { (n other : ℕ) (up : Bool) (devices : List DeviceState) → other ≢ n
+        → slice_get (changed_at (linked up) n devices) other ≡ slice_get devices other }
+{}
+
+/// Six devices are the most, whatever the next one is to be. Else a network card needs an MTU of 68 or more.
+pub fn refusals_in_numbers()
+    ensures most { refusal_of (replicate 6 (fresh_device Entropy)) (Network (replicate 6 0) 67) ≡ Some TooMany }
+    ensures one_more { refusal_of (replicate 5 (fresh_device Entropy)) (Network (replicate 6 0) 68) ≡ None }
+    ensures low { refusal_of [] (Network (replicate 6 0) 67) ≡ Some BadMtu }
+{}
+
+/// Bits 3, 5 and 16 are a network card's own. Bits 28, 29, 32, 34 and 38 are those of every device.
+pub fn features_in_bits()
+    ensures network { (mac : List ℕ) (mtu : ℕ) → features_of (fresh_model (Network mac mtu)) ≡ 297158115368 }
+    ensures entropy { features_of (fresh_model Entropy) ≡ 297158049792 }
+{}
+
+/// Devices of the same models that take up what is saved of devices are then as those.
+pub fn what_is_saved_is_taken_up()
+    ensures { (m : Memory) (devices others : List DeviceState) → RestoresEach m devices →
+        AreOfModels devices others → devices_restored m (saved_devices devices) others ≡ Some devices }
+{}

@@ -1,0 +1,25 @@
+//! The devices that a slot has beside its disk and its console: a list, each device with its register window.
+//!
+//! A `VirtioDevice` is a window and the model behind it. `DeviceModel` has a variant for each type of device, and is where a new
+//! one is put in. A `DeviceList` names its devices by their numbers, from 0 on: a driver writes to their windows, and their host
+//! hands in random bytes and frames and takes frames (`host.rt` of each).
+#![tactic(auto)]
+
+mod card;
+mod device;
+mod laws;
+mod list;
+mod model;
+mod refusal;
+mod spec;
+
+pub use card::{CARD_LIMITS, NetworkCard};
+pub use device::VirtioDevice;
+pub use laws::{
+    features_in_bits, one_device_changes, one_reception, one_supply, one_taking, one_write,
+    refusals_in_numbers, what_is_saved_is_taken_up,
+};
+pub use list::DeviceList;
+pub use model::DeviceModel;
+pub use refusal::ReceiveRefusal;
+pub use spec::{AddRefusal, DeviceSpec, MOST_DEVICES};

@@ -1,0 +1,133 @@
+//! What the host of a list's devices hands in and takes.
+
+ghost use Rattle.std.specs.Prelude.{◌≡◌, ◌++◌, Some, None, IsSome, IfErr, OnOk, OnErr, is_some};
+ghost use Rattle.std.specs.Bool.{OnTrue, OnFalse};
+ghost use Rattle.std.specs.List.{slice_get};
+ghost use Rattle.std.specs.Option.{option_and_then, option_map};
+ghost use Rattle.guest_memory.specs.Memory.{Memory, SameRange};
+ghost use Rattle.device_list.specs.Card.{oldest_of, receive_refusal};
+ghost use Rattle.device_list.specs.Device.{Receives, Supplies, TakesSent, linked, supply_taken};
+ghost use Rattle.device_list.specs.List.{AreSoundDevices, At, card_at, changed_at, is_starved_at};
+
+use crate::list::DeviceList;
+use crate::refusal::ReceiveRefusal;
+use chain::Chain;
+use guest_memory::GuestMemory;
+use std::alloc::Allocator;
+
+impl<A: Allocator> DeviceList<A> {
+    /// Hands a device what its host supplies: random bytes. Its queue is served then. Answers how many bytes it took. There is
+    /// no answer of a device that isn't there, or that takes none: nothing has changed then.
+    pub fn supply<M: Allocator>(
+        &mut self,
+        device: u8,
+        bytes: &[u8],
+        mem: &mut GuestMemory<M>,
+        room: &mut Chain,
+    ) -> Option<usize>
+        requires sound { AreSoundDevices mem.old self.old }
+        ensures taken { result ≡ option_and_then (supply_taken bytes.now) (slice_get self.old device) }
+        ensures supplies { IsSome result → At (Supplies bytes.now) device mem.old mem.new self.old self.new }
+        ensures kept { result ≡ None → self.new ≡ self.old }
+        ensures unwritten { result ≡ None → mem.new ≡ mem.old }
+        ensures range { SameRange mem.old mem.new }
+        ensures sound { AreSoundDevices mem.new self.new }
+    {
+        let found = self.devices.get_mut(usize::from(device))?;
+        found.supply(bytes, mem, room)
+    }
+
+    /// Hands a network card a frame of its host. It waits until the driver offers a chain that it fits: the receive queue is
+    /// served. Where the frame is refused, nothing has changed.
+    pub fn receive<M: Allocator>(
+        &mut self,
+        device: u8,
+        frame: &[u8],
+        mem: &mut GuestMemory<M>,
+        room: &mut Chain,
+    ) -> Result<(), ReceiveRefusal>
+        requires sound { AreSoundDevices mem.old self.old }
+        ensures fits { OnOk result (receive_refusal frame.now (card_at device self.old) ≡ None) }
+        ensures receives { OnOk result (At (Receives frame.now) device mem.old mem.new self.old self.new) }
+        ensures refused { IfErr result (λ why. receive_refusal frame.now (card_at device self.old) ≡ Some why) }
+        ensures kept { OnErr result (self.new ≡ self.old) }
+        ensures unwritten { OnErr result (mem.new ≡ mem.old) }
+        ensures range { SameRange mem.old mem.new }
+        ensures sound { AreSoundDevices mem.new self.new }
+    {
+        let Some(found) = self.devices.get_mut(usize::from(device)) else {
+            return Err(ReceiveRefusal::NoDevice);
+        };
+        found.receive(frame, mem, room)
+    }
+
+    /// Whether the device of this number is there and is a network card.
+    pub fn has_card(&self, device: u8) -> bool
+        ensures { result ≡ is_some (card_at device self.now) }
+    {
+        match self.get(device) {
+            Some(found) => found.is_card(),
+            None => false,
+        }
+    }
+
+    /// The oldest frame of a network card's driver that waits for the host, in two parts. There is none where no frame waits,
+    /// and of a device that isn't there or is no network card.
+    pub fn sent(&self, device: u8) -> Option<(&[u8], &[u8])>
+        ensures { option_map (λ parts. parts.0.now ++ parts.1.now) result ≡ option_and_then oldest_of (card_at device self.now) }
+    {
+        let found = self.get(device)?;
+        found.sent()
+    }
+
+    /// Takes that frame away. The transmit queue is served then, since there is room again. False where there is none: nothing
+    /// has changed then.
+    pub fn take_sent<M: Allocator>(
+        &mut self,
+        device: u8,
+        mem: &mut GuestMemory<M>,
+        room: &mut Chain,
+    ) -> bool
+        requires sound { AreSoundDevices mem.old self.old }
+        ensures found { result ≡ is_some (option_and_then oldest_of (card_at device self.old)) }
+        ensures takes { OnTrue result (At TakesSent device mem.old mem.new self.old self.new) }
+        ensures kept { OnFalse result (self.new ≡ self.old) }
+        ensures unwritten { OnFalse result (mem.new ≡ mem.old) }
+        ensures range { SameRange mem.old mem.new }
+        ensures sound { AreSoundDevices mem.new self.new }
+    {
+        let Some(found) = self.devices.get_mut(usize::from(device)) else {
+            return false;
+        };
+        found.take_sent(mem, room)
+    }
+
+    /// Sets whether the link of a network card is up, and tells its driver (5.1.4). False where the device isn't there or is no
+    /// network card: nothing has changed then.
+    pub fn set_link(&mut self, device: u8, up: bool) -> bool
+        ensures found { result ≡ is_some (card_at device self.old) }
+        ensures linked { OnTrue result (self.new ≡ changed_at (linked up) device self.old) }
+        ensures kept { OnFalse result (self.new ≡ self.old) }
+        ensures sound { (m : Memory) → AreSoundDevices m self.old → AreSoundDevices m self.new }
+    {
+        let Some(found) = self.devices.get_mut(usize::from(device)) else {
+            return false;
+        };
+        found.set_link(up)
+    }
+
+    /// Whether a chain is on offer in a device's queue that waits for what the host supplies or sends. There is no answer of a device
+    /// that isn't there.
+    pub fn starved<M: Allocator>(
+        &self,
+        device: u8,
+        mem: &GuestMemory<M>,
+        room: &mut Chain,
+    ) -> Option<bool>
+        requires sound { AreSoundDevices mem.now self.now }
+        ensures { result ≡ option_map (is_starved_at mem.now) (slice_get self.now device) }
+    {
+        let found = self.get(device)?;
+        Some(found.starved(mem, room))
+    }
+}

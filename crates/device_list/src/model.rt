@@ -1,0 +1,103 @@
+//! What stands behind a device's window.
+
+ghost use Rattle.std.specs.Prelude.{◌≡◌, false, IfOk};
+ghost use Rattle.guest_memory.specs.Memory.{SameRange};
+ghost use Rattle.mmio_window.specs.Soundness.{IsSound};
+ghost use Rattle.negotiation.specs.Features.{feature_bits};
+ghost use Rattle.device_list.specs.Model.{Serves, config_of, features_of, fresh_model, has_bad_mtu, kind_of, state_of};
+
+mod host;
+mod saved;
+
+use crate::card::NetworkCard;
+use crate::spec::DeviceSpec;
+use chain::{Budget, Chain};
+use entropy_device::{EntropyDevice, REQUESTQ};
+use guest_memory::GuestMemory;
+use mmio_window::{CONFIGURATION_LEN, DeviceKind, Stage, Window};
+use negotiation::{Features, Flags};
+use network_device::{NoMemory, offered_features};
+use std::alloc::{Allocator, Global};
+
+/// What stands behind a device's window, by the type of device.
+#[derive(Drop)]
+pub enum DeviceModel<A: Allocator = Global> {
+    /// An entropy device, with the bytes that wait in its pool (5.4).
+    Entropy(EntropyDevice),
+    /// A network card, with the frames that wait each way (5.1).
+    Network(NetworkCard<A>),
+}
+
+impl<A: Allocator + Copy> DeviceModel<A> {
+    /// One for which nothing waits.
+    pub(crate) fn new(alloc: A, spec: DeviceSpec) -> Result<DeviceModel<A>, NoMemory>
+        requires mtu { has_bad_mtu spec ≡ false }
+        ensures { IfOk result (λ model. state_of model ≡ fresh_model spec) }
+    {
+        match spec {
+            DeviceSpec::Entropy => Ok(DeviceModel::Entropy(EntropyDevice::new())),
+            DeviceSpec::Network { mac, mtu } => {
+                let card = NetworkCard::new(alloc, mac, mtu)?;
+                Ok(DeviceModel::Network(card))
+            }
+        }
+    }
+}
+
+impl<A: Allocator> DeviceModel<A> {
+    /// The type of device.
+    pub fn kind(&self) -> DeviceKind
+        ensures { result ≡ kind_of (state_of self.now) }
+    {
+        match self {
+            DeviceModel::Entropy(_) => DeviceKind::Entropy,
+            DeviceModel::Network(_) => DeviceKind::Network,
+        }
+    }
+
+    /// The features that it offers (2.2).
+    pub(crate) fn features(&self) -> Features
+        ensures { feature_bits result ≡ features_of (state_of self.now) }
+    {
+        match self {
+            DeviceModel::Entropy(_) => Features::of_every_device(),
+            DeviceModel::Network(_) => offered_features().union(Features::of_every_device()),
+        }
+    }
+
+    /// Its configuration space (2.5).
+    pub(crate) fn config(&self) -> [u8; CONFIGURATION_LEN]
+        ensures { result ≡ config_of (state_of self.now) }
+    {
+        match self {
+            DeviceModel::Entropy(_) => [0; CONFIGURATION_LEN],
+            DeviceModel::Network(card) => card.config(),
+        }
+    }
+
+    /// Serves the queue of this number in its window. `room` is where the chains stand, one after another.
+    pub(crate) fn serve<M: Allocator>(
+        &mut self,
+        q: u16,
+        mem: &mut GuestMemory<M>,
+        window: &mut Window,
+        room: &mut Chain,
+    )
+        requires sound { IsSound mem.old window.old }
+        ensures serves { Serves (state_of self.old) q mem.old mem.new window.old window.new (state_of self.new) }
+        ensures kind { window.new.kind ≡ window.old.kind }
+        ensures offered { window.new.negotiation.offered ≡ window.old.negotiation.offered }
+        ensures same_kind { kind_of (state_of self.new) ≡ kind_of (state_of self.old) }
+        ensures same_features { features_of (state_of self.new) ≡ features_of (state_of self.old) }
+        ensures range { SameRange mem.old mem.new }
+        ensures sound { IsSound mem.new window.new }
+    {
+        match (self, q) {
+            (DeviceModel::Entropy(entropy), REQUESTQ) => {
+                let _ = entropy.serve_piece(mem, window, Stage::First, Budget::UNLIMITED, room);
+            }
+            (DeviceModel::Entropy(_), _) => (),
+            (DeviceModel::Network(card), _) => card.serve(q, mem, window, room),
+        }
+    }
+}

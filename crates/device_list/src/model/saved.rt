@@ -1,0 +1,41 @@
+//! By what a saved device is known.
+
+ghost use Rattle.std.specs.Prelude.{◌≡◌};
+ghost use Rattle.mmio_window.specs.DeviceKind.{device_id_of};
+ghost use Rattle.device_list.specs.Model.{kind_of, state_of};
+ghost use Rattle.device_list.specs.Saved.{mac_of, mtu_of};
+
+use crate::model::DeviceModel;
+use std::alloc::Allocator;
+
+impl<A: Allocator> DeviceModel<A> {
+    /// The type of device, as DeviceID shows it (4.2.2).
+    pub(crate) fn device_id(&self) -> u32
+        ensures { result ≡ device_id_of (kind_of (state_of self.now)) }
+    {
+        match self {
+            DeviceModel::Network(_) => 1,
+            DeviceModel::Entropy(_) => 4,
+        }
+    }
+
+    /// The address of a network card, and zeros of another device.
+    pub(crate) fn mac(&self) -> [u8; 6]
+        ensures { result ≡ mac_of (state_of self.now) }
+    {
+        match self {
+            DeviceModel::Entropy(_) => [0; 6],
+            DeviceModel::Network(card) => card.configuration().mac,
+        }
+    }
+
+    /// The MTU of a network card, and 0 of another device.
+    pub(crate) fn mtu(&self) -> u16
+        ensures { result ≡ mtu_of (state_of self.now) }
+    {
+        match self {
+            DeviceModel::Entropy(_) => 0,
+            DeviceModel::Network(card) => card.configuration().mtu,
+        }
+    }
+}
