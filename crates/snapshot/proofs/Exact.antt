@@ -7,7 +7,7 @@ use Rattle.std.proofs.lemmas.Nat.{le_bytes_2, le_bytes_4, le_bytes_8, from_le_by
 use Rattle.snapshot.specs.declared.fault.Stop.{Stop}
 use Rattle.snapshot.specs.declared.fault.Why.{Why}
 use Rattle.snapshot.specs.declared.fault.Why.TheVariants.{Short}
-use Rattle.snapshot.specs.Reading.{◌>>=◌, ◌&◌, Reader, byte_at, identity_at, made, number_at, tested_at}
+use Rattle.snapshot.specs.Reading.{◌>>=◌, ◌&◌, ◌&>◌, Reader, byte_at, bytes_at, made, number_at, tested_at}
 
 abbrev pub IsBytes : List ℕ → Type 0
 IsBytes bytes = (i : ℕ) → get_or bytes i 0 < 256
@@ -81,58 +81,64 @@ went read bytes f y e = went_by read bytes f y (read bytes) refl e
 
 -- ---- fields one behind another
 
-module _ {A B : Type 0} {first : Reader A} {second : Reader B} {text : A → List ℕ} {behind : B → List ℕ}
-    {Fits : A → Type 0} {FitsBehind : B → Type 0}
-    (of_first : IsField first text Fits) (of_second : IsField second behind FitsBehind) where
-  both_takes : (bytes : List ℕ) (x : A × B) (rest : List ℕ) → IsBytes bytes
-      → (first & second) bytes ≡ Ok (x, rest)
-      → Takes bytes (text x.0 ++ behind x.1) rest × (Fits x.0 × FitsBehind x.1)
-  both_takes bytes x rest fits e =
+module _ {A B : Type 0} {first : Reader A} {second : A → Reader B} {text : A → List ℕ} {behind : B → List ℕ}
+    {Fits : A → Type 0} {FitsBehind : A → B → Type 0}
+    (of_first : IsField first text Fits) (of_second : (a : A) → IsField (second a) behind (FitsBehind a)) where
+  then_takes : (bytes : List ℕ) (x : A × B) (rest : List ℕ) → IsBytes bytes
+      → (first &> second) bytes ≡ Ok (x, rest)
+      → Takes bytes (text x.0 ++ behind x.1) rest × (Fits x.0 × FitsBehind x.0 x.1)
+  then_takes bytes x rest fits e =
       let a = went first bytes _ (x, rest) e in
       let front = of_first.takes bytes a.value a.rest fits a.is in
-      let b = went second a.rest _ (x, rest) a.goes_on in
-      let back = of_second.takes a.rest b.value b.rest front.0.rest_fits b.is in
+      let b = went (second a.value) a.rest _ (x, rest) a.goes_on in
+      let back = (of_second a.value).takes a.rest b.value b.rest front.0.rest_fits b.is in
       let found : A × B = (a.value, b.value) in
       subst (λ (y : (A × B) × List ℕ). Takes bytes (text y.0.0 ++ behind y.0.1) y.1
-      × (Fits y.0.0 × FitsBehind y.0.1)) (ok_is (found, b.rest) (x, rest) b.goes_on)
+      × (Fits y.0.0 × FitsBehind y.0.0 y.0.1)) (ok_is (found, b.rest) (x, rest) b.goes_on)
       (Takes-then _ _ _ _ _ front.0 back.0, (front.1, back.1))
 
-  both_again : (x : A × B) (rest : List ℕ) → Fits x.0 × FitsBehind x.1
-      → (first & second) ((text x.0 ++ behind x.1) ++ rest) ≡ Ok (x, rest)
-  both_again x rest fits =
+  then_again : (x : A × B) (rest : List ℕ) → Fits x.0 × FitsBehind x.0 x.1
+      → (first &> second) ((text x.0 ++ behind x.1) ++ rest) ≡ Ok (x, rest)
+  then_again x rest fits =
       rw (
         append_assoc (text x.0) (behind x.1) rest,
         of_first.again x.0 (behind x.1 ++ rest) fits.0,
-        of_second.again x.1 rest fits.1,
+        (of_second x.0).again x.1 rest fits.1,
       ) refl
 
-  pub both_field : IsField (first & second) (λ x. text x.0 ++ behind x.1) (λ x. Fits x.0 × FitsBehind x.1)
-  both_field = record {
-    takes = λ bytes x rest fits e. both_takes bytes x rest fits e;
-    again = λ x rest fits. both_again x rest fits;
+  pub then_field : IsField (first &> second) (λ x. text x.0 ++ behind x.1)
+      (λ x. Fits x.0 × FitsBehind x.0 x.1)
+  then_field = record {
+    takes = λ bytes x rest fits e. then_takes bytes x rest fits e;
+    again = λ x rest fits. then_again x rest fits;
   }
 
 -- the same field as a value of another type
 module _ {A B : Type 0} {read : Reader A} {text : A → List ℕ} {Fits : A → Type 0}
-    (of_parts : IsField read text Fits) (make : A → B) (parts : B → A)
-    (parts_of : (x : A) → Fits x → parts (make x) ≡ x) (made_of : (y : B) → make (parts y) ≡ y) where
-  made_takes : (bytes : List ℕ) (y : B) (rest : List ℕ) → IsBytes bytes → made make read bytes ≡ Ok (y, rest)
-      → Takes bytes (text (parts y)) rest × Fits (parts y)
-  made_takes bytes y rest fits e =
+    (of_parts : IsField read text Fits) (make : A → B) (parts : B → A) (text_of : B → List ℕ)
+    (Same : B → Type 0) (parts_of : (x : A) → Fits x → parts (make x) ≡ x)
+    (made_of : (y : B) → Same y → make (parts y) ≡ y) (into : (x : A) → Fits x → Same (make x))
+    (back : (y : B) → Same y → Fits (parts y)) (told : (y : B) → Same y → text (parts y) ≡ text_of y) where
+  remade_takes : (bytes : List ℕ) (y : B) (rest : List ℕ) → IsBytes bytes
+      → made make read bytes ≡ Ok (y, rest) → Takes bytes (text_of y) rest × Same y
+  remade_takes bytes y rest fits e =
       let x = went read bytes _ (y, rest) e in
       let t = of_parts.takes bytes x.value x.rest fits x.is in
-      subst (λ (z : B × List ℕ). Takes bytes (text (parts z.0)) z.1 × Fits (parts z.0))
+      let has = into x.value t.1 in
+      let spelled : text x.value ≡ text_of (make x.value) =
+      ap text (sym (parts_of x.value t.1)) ∙ told (make x.value) has in
+      subst (λ (z : B × List ℕ). Takes bytes (text_of z.0) z.1 × Same z.0)
       (ok_is (make x.value, x.rest) (y, rest) x.goes_on)
-      (rw (parts_of x.value t.1) (t.0, t.1))
+      (subst (λ (s : List ℕ). Takes bytes s x.rest) spelled t.0, has)
 
-  made_again : (y : B) (rest : List ℕ) → Fits (parts y)
-      → made make read (text (parts y) ++ rest) ≡ Ok (y, rest)
-  made_again y rest fits = rw (of_parts.again (parts y) rest fits, made_of y) refl
+  remade_again : (y : B) (rest : List ℕ) → Same y → made make read (text_of y ++ rest) ≡ Ok (y, rest)
+  remade_again y rest has =
+      rw (sym (told y has), of_parts.again (parts y) rest (back y has), made_of y has) refl
 
-  pub made_field : IsField (made make read) (λ y. text (parts y)) (λ y. Fits (parts y))
-  made_field = record {
-    takes = λ bytes y rest fits e. made_takes bytes y rest fits e;
-    again = λ y rest fits. made_again y rest fits;
+  pub remade_field : IsField (made make read) text_of Same
+  remade_field = record {
+    takes = λ bytes y rest fits e. remade_takes bytes y rest fits e;
+    again = λ y rest fits. remade_again y rest fits;
   }
 
 -- the same field, of whose values the same have a spelling
@@ -242,7 +248,7 @@ number_field w limit wide = record {
   again = λ n rest lt. number_again w limit wide n rest lt;
 }
 
--- ---- numbers that pass a test, and an identity
+-- ---- numbers that pass a test, and so many bytes
 
 pub passed : (b : Bool) (d : Stop) (x y : ℕ × List ℕ) → cond b (Ok x) (Err d) ≡ Ok y → (b ≡ true) × (x ≡ y)
 passed true d x y e = (refl, ok_is x y e)
@@ -272,23 +278,26 @@ module _ (w : Width) (limit : ℕ) (wide : IsWide w limit) (test : ℕ → Bool)
     again = λ x rest has. tested_again x rest has;
   }
 
-pub identity_field : IsField identity_at (λ xs. xs) (λ xs. length xs ≡ 20)
-identity_field = record { takes = identity_takes; again = identity_again }
+pub bytes_field : (n : ℕ) → IsField (bytes_at n) (λ xs. xs) (λ xs. length xs ≡ n)
+bytes_field n = record {
+  takes = λ bytes xs rest fits e. bytes_taken n bytes xs rest fits e;
+  again = λ xs rest len. bytes_again n xs rest len;
+}
   where
-    identity_takes : (bytes xs rest : List ℕ) → IsBytes bytes → identity_at bytes ≡ Ok (xs, rest)
-        → Takes bytes xs rest × (length xs ≡ 20)
-    identity_takes bytes xs rest fits e =
-        let g = guard_ok (ltb (length bytes) 20) (record { why = Short; left = length bytes }) (
-          take 20 bytes,
-          drop 20 bytes,
+    bytes_taken : (n : ℕ) (bytes xs rest : List ℕ) → IsBytes bytes → bytes_at n bytes ≡ Ok (xs, rest)
+        → Takes bytes xs rest × (length xs ≡ n)
+    bytes_taken n bytes xs rest fits e =
+        let g = guard_ok (ltb (length bytes) n) (record { why = Short; left = length bytes }) (
+          take n bytes,
+          drop n bytes,
         ) (xs, rest) e in
-        let long : 20 ≤ length bytes = ltb-false _ _ g.0 in
-        subst (λ (p : List ℕ × List ℕ). Takes bytes p.0 p.1 × (length p.0 ≡ 20)) g.1 (
-          record { parts = sym (take-append-drop 20 bytes); rest_fits = IsBytes-drop 20 bytes fits },
-          omega (arith, length-take 20 bytes),
+        let long : n ≤ length bytes = ltb-false _ _ g.0 in
+        subst (λ (p : List ℕ × List ℕ). Takes bytes p.0 p.1 × (length p.0 ≡ n)) g.1 (
+          record { parts = sym (take-append-drop n bytes); rest_fits = IsBytes-drop n bytes fits },
+          omega (arith, length-take n bytes),
         )
 
-    identity_again : (xs rest : List ℕ) → length xs ≡ 20 → identity_at (xs ++ rest) ≡ Ok (xs, rest)
-    identity_again xs rest len =
-        let long : ltb (length (xs ++ rest)) 20 ≡ false = le-ltb _ _ (omega (arith, length-append xs rest)) in
-        rw (long, take_at xs rest 20 len, drop_at xs rest 20 len) refl
+    bytes_again : (n : ℕ) (xs rest : List ℕ) → length xs ≡ n → bytes_at n (xs ++ rest) ≡ Ok (xs, rest)
+    bytes_again n xs rest len =
+        let long : ltb (length (xs ++ rest)) n ≡ false = le-ltb _ _ (omega (arith, length-append xs rest)) in
+        rw (long, take_at xs rest n len, drop_at xs rest n len) refl

@@ -6,9 +6,9 @@ use Rattle.snapshot.specs.declared.fault.Stop.{Stop}
 use Rattle.snapshot.specs.declared.fault.Why.{Why}
 use Rattle.snapshot.specs.Fields.{Field, joined}
 use Rattle.snapshot.specs.Faults.{BeginsWith, wrong_with}
-use Rattle.snapshot.specs.Reading.{◌>>=◌, ◌&◌, Reader, made}
+use Rattle.snapshot.specs.Reading.{◌>>=◌, ◌&◌, ◌&>◌, Reader, made}
 use Rattle.snapshot.proofs.Agreement.{behind_it, behind_of, drop_past, front_of, in_front, joined-append}
-use Rattle.snapshot.proofs.Exact.{IsBytes, IsField, Went, both_field, made_field, ok_is, refit, went}
+use Rattle.snapshot.proofs.Exact.{IsBytes, IsField, Went, ok_is, refit, remade_field, then_field, went}
 
 -- what stops the reader, where a value goes on with these fields
 abbrev pub StopsAt : List Field → List ℕ → Stop → Type 0
@@ -147,60 +147,61 @@ module _ {A B : Type 0} {first : Reader A} {text : A → List ℕ} {one : A → 
           | inr whole ↦ absurd (not_passed y s.count rest fits whole h)
         ]
 
-module _ {A B : Type 0} {first : Reader A} {second : Reader B} {text : A → List ℕ} {behind : B → List ℕ}
-    {one : A → List Field} {other : B → List Field} {Fits : A → Type 0} {FitsBehind : B → Type 0}
-    (of_first : IsRead first text one Fits) (of_second : IsRead second behind other FitsBehind) where
+module _ {A B : Type 0} {first : Reader A} {second : A → Reader B} {text : A → List ℕ} {behind : B → List ℕ}
+    {one : A → List Field} {other : B → List Field} {Fits : A → Type 0} {FitsBehind : A → B → Type 0}
+    (of_first : IsRead first text one Fits) (of_second : (a : A) → IsRead (second a) behind other (FitsBehind a)) where
   abbrev both_text : A × B → List ℕ
   both_text x = text x.0 ++ behind x.1
 
   abbrev BothFit : A × B → Type 0
-  BothFit x = Fits x.0 × FitsBehind x.1
+  BothFit x = Fits x.0 × FitsBehind x.0 x.1
 
-  both_joins : (x : A × B) → joined (both one other x) ≡ both_text x
-  both_joins x = joined-append (one x.0) (other x.1) ∙ rw (of_first.joins x.0, of_second.joins x.1) refl
+  then_joins : (x : A × B) → joined (both one other x) ≡ both_text x
+  then_joins x = joined-append (one x.0) (other x.1) ∙ rw (of_first.joins x.0, (of_second x.0).joins x.1) refl
 
-  both_ends_at : (bytes : List ℕ) (a : A) (mid : List ℕ) (b : B) (left : List ℕ) (y : A × B) (rest : List ℕ)
+  then_ends_at : (bytes : List ℕ) (a : A) (mid : List ℕ) (b : B) (left : List ℕ) (y : A × B) (rest : List ℕ)
       (n : ℕ) → IsBytes bytes
-      → first bytes ≡ Ok (a, mid) → second mid ≡ Ok (b, left) → BothFit y
+      → first bytes ≡ Ok (a, mid) → second a mid ≡ Ok (b, left) → BothFit y
       → BeginsWith bytes (both one other y) n rest
       → length (one a ++ other b) ≤ n → length (both one other y) ≤ length (one a ++ other b)
-  both_ends_at bytes a mid b left y rest n bs e d fits h le =
+  then_ends_at bytes a mid b left y rest n bs e d fits h le =
       let of_found = length-append (one a) (other b) in
       let of_other = length-append (one y.0) (other y.1) in
       let p = past of_first other bytes a mid y n rest bs e fits.0 (omega arith) h in
       let same : length (one y.0) ≡ length (one a) = ap (λ (v : A). length (one v)) p.0 in
-      let ended = of_second.ends mid b y.1 left rest (n - length (one a))
-      (of_first.field.takes bytes a mid bs e).0.rest_fits d fits.1 p.1 (omega arith) in
+      let fits_behind = subst (λ (v : A). FitsBehind v y.1) p.0 fits.1 in
+      let ended = (of_second a).ends mid b y.1 left rest (n - length (one a))
+      (of_first.field.takes bytes a mid bs e).0.rest_fits d fits_behind p.1 (omega arith) in
       omega arith
 
-  both_ends : (bytes : List ℕ) (x y : A × B) (left rest : List ℕ) (n : ℕ) → IsBytes bytes
-      → (first & second) bytes ≡ Ok (x, left) → BothFit y → BeginsWith bytes (both one other y) n rest
+  then_ends : (bytes : List ℕ) (x y : A × B) (left rest : List ℕ) (n : ℕ) → IsBytes bytes
+      → (first &> second) bytes ≡ Ok (x, left) → BothFit y → BeginsWith bytes (both one other y) n rest
       → length (both one other x) ≤ n → length (both one other y) ≤ length (both one other x)
-  both_ends bytes x y left rest n bs e fits h le =
+  then_ends bytes x y left rest n bs e fits h le =
       let a = went first bytes _ (x, left) e in
-      let b = went second a.rest _ (x, left) a.goes_on in
+      let b = went (second a.value) a.rest _ (x, left) a.goes_on in
       let pair : A × B = (a.value, b.value) in
       let found : pair ≡ x = ap (λ (p : (A × B) × List ℕ). p.0) (ok_is (pair, b.rest) (x, left) b.goes_on) in
       subst (λ (p : A × B). length (both one other p) ≤ n
       → length (both one other y) ≤ length (both one other p)) found
-      (both_ends_at bytes a.value a.rest b.value b.rest y rest n bs a.is b.is fits h) le
+      (then_ends_at bytes a.value a.rest b.value b.rest y rest n bs a.is b.is fits h) le
 
   -- where the first part fails
   first_fails : (bytes : List ℕ) (stop : Stop) → first bytes ≡ Err stop → Stops one Fits bytes stop
       → Stops (both one other) BothFit bytes stop
   first_fails bytes stop e s = record {
     count = s.count;
-    value = (s.value, of_second.some);
-    fits = (s.fits, of_second.some_fits);
+    value = (s.value, (of_second s.value).some);
+    fits = (s.fits, (of_second s.value).some_fits);
     rest = s.rest;
-    begins = in_front (one s.value) (other of_second.some) bytes s.rest s.count s.begins;
+    begins = in_front (one s.value) (other (of_second s.value).some) bytes s.rest s.count s.begins;
     most = λ y n rest fits h. first_most of_first other bytes stop e s y n rest fits.0 h;
     why = λ y rest fits h. first_why of_first other bytes stop e s y rest fits.0 h;
   }
 
   -- where the part behind it does
   module _ (bytes : List ℕ) (a : A) (mid : List ℕ) (stop : Stop) (bs : IsBytes bytes)
-      (e : first bytes ≡ Ok (a, mid)) (s : Stops other FitsBehind mid stop) where
+      (e : first bytes ≡ Ok (a, mid)) (s : Stops other (FitsBehind a) mid stop) where
     second_most : (y : A × B) (n : ℕ) (rest : List ℕ) → BothFit y → BeginsWith bytes (both one other y) n rest
         → n ≤ length (one a) + s.count
     second_most y n rest fits h =
@@ -208,7 +209,7 @@ module _ {A B : Type 0} {first : Reader A} {second : Reader B} {text : A → Lis
           | inl short ↦ omega arith
           | inr long ↦
               (let p = past of_first other bytes a mid y n rest bs e fits.0 long h in
-              let few = s.most y.1 (n - length (one a)) rest fits.1 p.1 in
+              let few = s.most y.1 (n - length (one a)) rest (subst (λ (v : A). FitsBehind v y.1) p.0 fits.1) p.1 in
               omega arith)
         ]
 
@@ -218,7 +219,7 @@ module _ {A B : Type 0} {first : Reader A} {second : Reader B} {text : A → Lis
     second_why y rest fits h =
         let p = past of_first other bytes a mid y (length (one a) + s.count) rest bs e fits.0 (omega arith) h in
         let behind_is : length (one a) + s.count - length (one a) ≡ s.count = omega arith in
-        let here = s.why y.1 rest fits.1
+        let here = s.why y.1 rest (subst (λ (v : A). FitsBehind v y.1) p.0 fits.1)
         (subst (λ (k : ℕ). BeginsWith mid (other y.1) k rest) behind_is p.1) in
         let past_is : drop (length (one a) + s.count) (both one other y) ≡ drop s.count (other y.1) =
         ap (λ (v : A). drop (length (one v) + s.count) (both one other y)) (sym p.0)
@@ -237,78 +238,112 @@ module _ {A B : Type 0} {first : Reader A} {second : Reader B} {text : A → Lis
       why = λ y rest fits h. second_why y rest fits h;
     }
 
-  both_fails : (bytes : List ℕ) (stop : Stop) → IsBytes bytes → (first & second) bytes ≡ Err stop
+  then_fails : (bytes : List ℕ) (stop : Stop) → IsBytes bytes → (first &> second) bytes ≡ Err stop
       → Stops (both one other) BothFit bytes stop
-  both_fails bytes stop bs e =
+  then_fails bytes stop bs e =
       elim (failed first bytes _ stop e) [
         | inl here ↦ first_fails bytes stop here (of_first.fails bytes stop bs here)
         | inr w ↦
-            elim (failed second w.rest _ stop w.goes_on) [
+            elim (failed (second w.value) w.rest _ stop w.goes_on) [
               | inl there ↦ second_fails bytes w.value w.rest stop bs w.is
-                  (of_second.fails w.rest stop
+                  ((of_second w.value).fails w.rest stop
                   (of_first.field.takes bytes w.value w.rest bs w.is).0.rest_fits there)
               | inr v ↦ absurd (let never = v.goes_on in cc)
             ]
       ]
 
-  pub both_read : IsRead (first & second) both_text (both one other) BothFit
-  both_read = record {
-    field = both_field of_first.field of_second.field;
-    joins = λ x. both_joins x;
-    some = (of_first.some, of_second.some);
-    some_fits = (of_first.some_fits, of_second.some_fits);
-    ends = λ bytes x y left rest n bs e fits h le. both_ends bytes x y left rest n bs e fits h le;
-    fails = λ bytes stop bs e. both_fails bytes stop bs e;
+  pub then_read : IsRead (first &> second) both_text (both one other) BothFit
+  then_read = record {
+    field = then_field of_first.field (λ a. (of_second a).field);
+    joins = λ x. then_joins x;
+    some = (of_first.some, (of_second of_first.some).some);
+    some_fits = (of_first.some_fits, (of_second of_first.some).some_fits);
+    ends = λ bytes x y left rest n bs e fits h le. then_ends bytes x y left rest n bs e fits h le;
+    fails = λ bytes stop bs e. then_fails bytes stop bs e;
   }
+
+-- where the first says nothing of how the second is read
+pub both_read : {A B : Type 0} {first : Reader A} {second : Reader B} {text : A → List ℕ} {behind : B → List ℕ}
+    {one : A → List Field} {other : B → List Field} {Fits : A → Type 0} {FitsBehind : B → Type 0}
+    → IsRead first text one Fits → IsRead second behind other FitsBehind
+    → IsRead (first & second) (λ x. text x.0 ++ behind x.1) (both one other) (λ x. Fits x.0 × FitsBehind x.1)
+both_read of_first of_second = then_read of_first (λ a. of_second)
 
 -- ---- the same as a value of another type
 
 module _ {A B : Type 0} {read : Reader A} {text : A → List ℕ} {fields : A → List Field} {Fits : A → Type 0}
-    (of_parts : IsRead read text fields Fits) (make : A → B) (parts : B → A)
-    (parts_of : (x : A) → Fits x → parts (make x) ≡ x) (made_of : (y : B) → make (parts y) ≡ y) where
-  made_ends : (bytes : List ℕ) (x y : B) (left rest : List ℕ) (n : ℕ) → IsBytes bytes
-      → made make read bytes ≡ Ok (x, left) → Fits (parts y) → BeginsWith bytes (fields (parts y)) n rest
-      → length (fields (parts x)) ≤ n → length (fields (parts y)) ≤ length (fields (parts x))
-  made_ends bytes x y left rest n bs e fits h le =
+    (of_parts : IsRead read text fields Fits) (make : A → B) (parts : B → A) (text_of : B → List ℕ)
+    (fields_of : B → List Field) (Same : B → Type 0) (parts_of : (x : A) → Fits x → parts (make x) ≡ x)
+    (made_of : (y : B) → Same y → make (parts y) ≡ y) (into : (x : A) → Fits x → Same (make x))
+    (back : (y : B) → Same y → Fits (parts y)) (told : (y : B) → Same y → text (parts y) ≡ text_of y)
+    (listed : (y : B) → Same y → fields (parts y) ≡ fields_of y)
+    (joins : (y : B) → joined (fields_of y) ≡ text_of y) where
+  fields_made : (x : A) → Fits x → fields x ≡ fields_of (make x)
+  fields_made x fits = ap fields (sym (parts_of x fits)) ∙ listed (make x) (into x fits)
+
+  begins_in : (bytes : List ℕ) (y : B) (n : ℕ) (rest : List ℕ) → Same y → BeginsWith bytes (fields_of y) n rest
+      → BeginsWith bytes (fields (parts y)) n rest
+  begins_in bytes y n rest has h =
+      subst (λ (fs : List Field). BeginsWith bytes fs n rest) (sym (listed y has)) h
+
+  remade_ends : (bytes : List ℕ) (x y : B) (left rest : List ℕ) (n : ℕ) → IsBytes bytes
+      → made make read bytes ≡ Ok (x, left) → Same y → BeginsWith bytes (fields_of y) n rest
+      → length (fields_of x) ≤ n → length (fields_of y) ≤ length (fields_of x)
+  remade_ends bytes x y left rest n bs e has h le =
       let v = went read bytes _ (x, left) e in
       let made_is : make v.value ≡ x =
       ap (λ (p : B × List ℕ). p.0) (ok_is (make v.value, v.rest) (x, left) v.goes_on) in
-      let value_is : v.value ≡ parts x =
-      sym (parts_of v.value (of_parts.field.takes bytes v.value v.rest bs v.is).1) ∙ ap parts made_is in
-      subst (λ (a : A). length (fields a) ≤ n → length (fields (parts y)) ≤ length (fields a)) value_is
-      (of_parts.ends bytes v.value (parts y) v.rest rest n bs v.is fits h) le
+      let fits = (of_parts.field.takes bytes v.value v.rest bs v.is).1 in
+      let of_x : fields v.value ≡ fields_of x = fields_made v.value fits ∙ ap fields_of made_is in
+      let len_x : length (fields v.value) ≡ length (fields_of x) = ap (λ (fs : List Field). length fs) of_x in
+      let len_y : length (fields (parts y)) ≡ length (fields_of y) =
+      ap (λ (fs : List Field). length fs) (listed y has) in
+      let ended = of_parts.ends bytes v.value (parts y) v.rest rest n bs v.is (back y has)
+      (begins_in bytes y n rest has h) (omega (arith, len_x, le)) in
+      omega (arith, len_x, len_y, ended)
 
-  made_stops : (bytes : List ℕ) (stop : Stop) → Stops fields Fits bytes stop
-      → Stops (λ y. fields (parts y)) (λ y. Fits (parts y)) bytes stop
-  made_stops bytes stop s =
-      let same : s.value ≡ parts (make s.value) = sym (parts_of s.value s.fits) in
-      record {
-        count = s.count;
-        value = make s.value;
-        fits = subst Fits same s.fits;
-        rest = s.rest;
-        begins = subst (λ (a : A). BeginsWith bytes (fields a) s.count s.rest) same s.begins;
-        most = λ y n rest fits h. s.most (parts y) n rest fits h;
-        why = λ y rest fits h. s.why (parts y) rest fits h;
-      }
+  remade_stops : (bytes : List ℕ) (stop : Stop) → Stops fields Fits bytes stop
+      → Stops fields_of Same bytes stop
+  remade_stops bytes stop s = record {
+    count = s.count;
+    value = make s.value;
+    fits = into s.value s.fits;
+    rest = s.rest;
+    begins = subst (λ (fs : List Field). BeginsWith bytes fs s.count s.rest) (fields_made s.value s.fits)
+        s.begins;
+    most = λ y n rest has h. s.most (parts y) n rest (back y has) (begins_in bytes y n rest has h);
+    why = λ y rest has h.
+        subst (λ (fs : List Field). StopsAt (drop s.count fs) rest stop) (listed y has)
+        (s.why (parts y) rest (back y has) (begins_in bytes y s.count rest has h));
+  }
 
-  made_fails : (bytes : List ℕ) (stop : Stop) → IsBytes bytes → made make read bytes ≡ Err stop
-      → Stops (λ y. fields (parts y)) (λ y. Fits (parts y)) bytes stop
-  made_fails bytes stop bs e =
+  remade_fails : (bytes : List ℕ) (stop : Stop) → IsBytes bytes → made make read bytes ≡ Err stop
+      → Stops fields_of Same bytes stop
+  remade_fails bytes stop bs e =
       elim (failed read bytes _ stop e) [
-        | inl here ↦ made_stops bytes stop (of_parts.fails bytes stop bs here)
+        | inl here ↦ remade_stops bytes stop (of_parts.fails bytes stop bs here)
         | inr v ↦ absurd (let never = v.goes_on in cc)
       ]
 
-  pub made_read : IsRead (made make read) (λ y. text (parts y)) (λ y. fields (parts y)) (λ y. Fits (parts y))
-  made_read = record {
-    field = made_field of_parts.field make parts parts_of made_of;
-    joins = λ y. of_parts.joins (parts y);
+  pub remade_read : IsRead (made make read) text_of fields_of Same
+  remade_read = record {
+    field = remade_field of_parts.field make parts text_of Same parts_of made_of into back told;
+    joins = joins;
     some = make of_parts.some;
-    some_fits = subst Fits (sym (parts_of of_parts.some of_parts.some_fits)) of_parts.some_fits;
-    ends = λ bytes x y left rest n bs e fits h le. made_ends bytes x y left rest n bs e fits h le;
-    fails = λ bytes stop bs e. made_fails bytes stop bs e;
+    some_fits = into of_parts.some of_parts.some_fits;
+    ends = λ bytes x y left rest n bs e fits h le. remade_ends bytes x y left rest n bs e fits h le;
+    fails = λ bytes stop bs e. remade_fails bytes stop bs e;
   }
+
+-- the same, where each value is spelled as its parts are
+pub made_read : {A B : Type 0} {read : Reader A} {text : A → List ℕ} {fields : A → List Field} {Fits : A → Type 0}
+    → IsRead read text fields Fits → (make : A → B) (parts : B → A)
+    → ((x : A) → Fits x → parts (make x) ≡ x) → ((y : B) → make (parts y) ≡ y)
+    → IsRead (made make read) (λ y. text (parts y)) (λ y. fields (parts y)) (λ y. Fits (parts y))
+made_read {A} {B} {read} {text} {fields} {Fits} of_parts make parts parts_of made_of =
+    remade_read of_parts make parts (λ y. text (parts y)) (λ y. fields (parts y)) (λ y. Fits (parts y)) parts_of
+    (λ y fits. made_of y) (λ x fits. subst Fits (sym (parts_of x fits)) fits) (λ y fits. fits)
+    (λ y fits. refl) (λ y fits. refl) (λ y. of_parts.joins (parts y))
 
 -- the same, of whose values the same have a spelling
 pub reread : {A : Type 0} {read : Reader A} {text : A → List ℕ} {fields : A → List Field} {Fits : A → Type 0}

@@ -4,7 +4,7 @@ use Rattle.std.proofs.Common.{◌≡◌, ◌∙◌, ◌+◌, ◌≤◌, Bool, tr
 use Rattle.std.proofs.lemmas.List.{drop-drop, drop_at, take_at}
 use Rattle.snapshot.specs.declared.saved.SavedSlot.{SavedSlot}
 use Rattle.snapshot.specs.Spelling as spelling
-use Rattle.snapshot.specs.Spelling.{IsSnapshot, Puts, SlotFits, flag, opening, slot, snapshot}
+use Rattle.snapshot.specs.Spelling.{IsSnapshot, Puts, SlotFits, flag, opening, slot, snapshot, version_of}
 use Rattle.std.specs.Int.{w32, to_le_bytes}
 
 -- one text behind another
@@ -29,7 +29,7 @@ snapshot_of_head s front back head count is counted =
     rw (
       is,
       all,
-      append_assoc (opening 1) (slot s ++ to_le_bytes w32 count) (front ++ back),
+      append_assoc (opening (version_of s.devices.items)) (slot s ++ to_le_bytes w32 count) (front ++ back),
       append_assoc (slot s) (to_le_bytes w32 count) (front ++ back),
     ) refl
 

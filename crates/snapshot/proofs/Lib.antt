@@ -6,3 +6,4 @@ pub mod OfSlot
 pub mod Parts
 pub mod Single
 pub mod Joining
+pub mod More

@@ -1,39 +1,75 @@
 -- A whole snapshot: what is read is spelled so, and what is spelled so is read.
 use Rattle.std.proofs.Common.{◌≡◌, ℕ, ◌^◌, ◌≤◌, false, ltb, List, [], ◌∷◌, ◌++◌, length, drop, Result, Ok, Err, refl, sym, ap, subst, ◌∙◌, append_assoc, arith}
+use Rattle.std.specs.Prelude.{Bool}
 use Rattle.std.specs.Int.{w32, w64, to_le_bytes}
 use Rattle.std.proofs.lemmas.Bool.{ltb-false, le-ltb}
 use Rattle.std.proofs.lemmas.List.{append-nil}
 use Rattle.snapshot.specs.declared.fault.Stop.{Stop}
-use Rattle.snapshot.specs.declared.fault.Why.TheVariants.{Short, Magic, Version, Trailing}
+use Rattle.snapshot.specs.declared.fault.Why.TheVariants.{Short, Magic, Trailing, Version}
+use Rattle.snapshot.specs.declared.saved.SavedDevice.{SavedDevice}
 use Rattle.snapshot.specs.declared.saved.SavedSlot.{SavedSlot}
-use Rattle.snapshot.specs.Fields.{field, head_fields, joined, snapshot_fields}
+use Rattle.snapshot.specs.Fields.{Field, count_field, field, head_fields, slot_fields, joined, snapshot_fields}
 use Rattle.snapshot.specs.Reading.{◌>>=◌, head_at, pending_at, whole_at}
-use Rattle.snapshot.specs.Spelling.{IsSnapshot, SlotFits, magic, slot, snapshot}
+use Rattle.snapshot.specs.Spelling.{IsSnapshot, SlotFits, magic, slot, snapshot, version_of}
 use Rattle.snapshot.proofs.Agreement.{joined-append}
-use Rattle.snapshot.proofs.Exact.{IsBytes, guarded, ok_is, went, wide32, wide64}
-use Rattle.snapshot.proofs.Explained.{IsRead, answered_or_failed, both_read, made_read, reread}
-use Rattle.snapshot.proofs.Parts.{HeadFits, slot_read}
-use Rattle.snapshot.proofs.Single.{constant_read, count_read}
+use Rattle.snapshot.proofs.Exact.{IsBytes, guarded, ok_is, went, wide64}
+use Rattle.snapshot.proofs.Explained.{IsRead, answered_or_failed, both_read, remade_read, then_read}
+use Rattle.snapshot.proofs.Parts.{HeadFits, has, slot_read}
+use Rattle.snapshot.proofs.Single.{constant_read, count_read, number_of, version_read}
 
 -- ---- all that stands before the pending input
 
 abbrev pub head_text : SavedSlot × ℕ → List ℕ
-head_text h = to_le_bytes w64 magic ++ (to_le_bytes w32 1 ++ (slot h.0 ++ to_le_bytes w32 h.1))
+head_text h =
+    to_le_bytes w64 magic
+    ++ (to_le_bytes w32 (version_of h.0.devices.items) ++ (slot h.0 ++ to_le_bytes w32 h.1))
 
-same_opening : (m v : ℕ) (h : SavedSlot × ℕ) → m ≡ magic → v ≡ 1
-    → ◌≡◌ {A = ℕ × (ℕ × (SavedSlot × ℕ))} (magic, (1, h)) (m, (v, h))
-same_opening m v h is one = rw (is, one) refl
+-- the number of the version says whether there are further devices
+version_is : (ds : List SavedDevice) → number_of (has ds) ≡ version_of ds
+version_is [] = refl
+version_is (d ∷ ds) = refl
+
+abbrev Opening : Type 0
+Opening = ℕ × (Bool × (SavedSlot × ℕ))
+
+abbrev opened : SavedSlot × ℕ → Opening
+opened h = (magic, (has h.0.devices.items, h))
+
+same_opening : (m : ℕ) (further : Bool) (h : SavedSlot × ℕ) → m ≡ magic → has h.0.devices.items ≡ further
+    → ◌≡◌ {A = Opening} (opened h) (m, (further, h))
+same_opening m further h is one = rw (is, ← one) refl
+
+opened_text : (h : SavedSlot × ℕ)
+    → to_le_bytes w64 magic
+    ++ (to_le_bytes w32 (number_of (has h.0.devices.items)) ++ (slot h.0 ++ to_le_bytes w32 h.1))
+    ≡ head_text h
+opened_text h =
+    ap (λ (n : ℕ). to_le_bytes w64 magic ++ (to_le_bytes w32 n ++ (slot h.0 ++ to_le_bytes w32 h.1)))
+    (version_is h.0.devices.items)
+
+opened_fields : (h : SavedSlot × ℕ)
+    → ◌≡◌ {A = List Field} (record { bytes = to_le_bytes w64 magic; wrong = Magic }
+    ∷ record { bytes = to_le_bytes w32 (number_of (has h.0.devices.items)); wrong = Version }
+    ∷ (slot_fields h.0 ++ (count_field h.1 ∷ [])))
+    (head_fields h.0 h.1)
+unfolding head_fields
+opened_fields h =
+    ap (λ (n : ℕ). record { bytes = to_le_bytes w64 magic; wrong = Magic }
+    ∷ record { bytes = to_le_bytes w32 n; wrong = Version }
+    ∷ (slot_fields h.0 ++ (count_field h.1 ∷ []))) (version_is h.0.devices.items)
 
 pub head_read : IsRead head_at head_text (λ h. head_fields h.0 h.1) HeadFits
-unfolding head_at head_fields
+unfolding head_at
 head_read =
-    reread HeadFits
-    (made_read (both_read (constant_read w64 (2 ^ 64) magic Magic wide64 (omega arith))
-    (both_read (constant_read w32 (2 ^ 32) 1 Version wide32 (omega arith))
-    (both_read slot_read count_read))) _
-    (λ h. (magic, (1, h))) (λ x fits. same_opening x.0 x.1.0 x.1.1 fits.0 fits.1.0) (λ h. refl))
-    (λ h fits. fits.1.1)
-    (λ h fits. (refl, (refl, fits)))
+    let of_parts = both_read (constant_read w64 (2 ^ 64) magic Magic wide64 (omega arith))
+    (then_read version_read (λ further. both_read (slot_read further) count_read)) in
+    remade_read of_parts _ opened head_text (λ h. head_fields h.0 h.1) HeadFits
+    (λ x fits. same_opening x.0 x.1.0 x.1.1 fits.0 fits.1.1.0.1) (λ h fits. refl)
+    (λ x fits. (fits.1.1.0.0, fits.1.1.1))
+    (λ h fits. (refl, (tt, ((fits.0, refl), fits.1))))
+    (λ h fits. opened_text h) (λ h fits. opened_fields h)
+    (λ h. ap (λ (fs : List Field). joined fs) (sym (opened_fields h)) ∙ of_parts.joins (opened h)
+    ∙ opened_text h)
 
 pub snapshot_text : (x : SavedSlot) (pending : List ℕ)
     → snapshot x pending ≡ head_text (x, length pending) ++ pending

@@ -1,18 +1,19 @@
 -- Single fields, and what stops a reader at them.
 use Rattle.std.proofs.Common.{◌≡◌, ◌==◌, eq-eqb, inl, inr, ℕ, zero, suc, ◌^◌, ◌<◌, ◌≤◌, Bool, true, false, cond, ltb, List, [], ◌∷◌, ◌++◌, length, take, drop, Ok, Err, refl, sym, ap, ◌∙◌, arith}
 use Rattle.std.specs.Int.{Width, w16, w32, w64, byte_len, from_le_bytes, to_le_bytes}
-use Rattle.std.proofs.lemmas.Bool.{eqb-true, le-leb, le-ltb, leb-true, lt-ltb, ltb-false, ltb-true}
-use Rattle.std.specs.Prelude.{nat_le}
+use Rattle.std.proofs.lemmas.Bool.{and_parts, eqb-true, le-leb, le-ltb, leb-true, lt-ltb, ltb-false, ltb-true}
+use Rattle.std.specs.Prelude.{◌&&◌, ◌||◌, ◌⊎◌, nat_le, replicate}
+use Rattle.std.proofs.lemmas.List.{append-nil, length-replicate}
 use Rattle.mmio_window.specs.declared.interrupts.Interrupts.{Interrupts}
 use Rattle.mmio_window.specs.Interrupts.{interrupt_bits}
 use Rattle.snapshot.specs.declared.fault.Stop.{Stop}
 use Rattle.snapshot.specs.declared.fault.Why.{Why}
-use Rattle.snapshot.specs.declared.fault.Why.TheVariants.{Short, Choice, TooMuchInput}
+use Rattle.snapshot.specs.declared.fault.Why.TheVariants.{Short, Choice, TooMuchInput, Version}
 use Rattle.snapshot.specs.Fields.{Field, field}
-use Rattle.snapshot.specs.Reading.{byte_at, constant_at, count_at, flag_at, identity_at, interrupts_at, number_at, tested_at}
+use Rattle.snapshot.specs.Reading.{byte_at, constant_at, count_at, flag_at, bytes_at, device_count_at, interrupts_at, number_at, tested_at, version_at}
 use Rattle.snapshot.specs.Spelling.{flag}
-use Rattle.snapshot.proofs.Exact.{Always, IsBytes, IsField, IsWide, Takes, byte_field, chosen, guard_ok, identity_field, number_field, tested_field, wide16, wide32, wide64}
-use Rattle.snapshot.proofs.Explained.{IsRead, StopsAt, alone_read, failed, failing_is}
+use Rattle.snapshot.proofs.Exact.{Always, IsBytes, IsField, IsWide, Takes, byte_field, chosen, guard_ok, bytes_field, number_field, tested_field, wide16, wide32, wide64}
+use Rattle.snapshot.proofs.Explained.{IsRead, StopsAt, alone_read, failed, failing_is, remade_read}
 
 -- ---- how a field stops a reader
 
@@ -202,19 +203,76 @@ interrupts_read =
     alone_read Choice interrupts_field (record { used_buffer = false; configuration_change = false }) tt
     (λ bytes stop y e fits. interrupts_stops bytes stop y e)
 
--- ---- an identity
+-- ---- so many bytes
 
-identity_stops : (bytes : List ℕ) (stop : Stop) (y : List ℕ) → identity_at bytes ≡ Err stop → length y ≡ 20
+bytes_stops : (n : ℕ) (bytes : List ℕ) (stop : Stop) (y : List ℕ) → bytes_at n bytes ≡ Err stop → length y ≡ n
     → StopsAt (field y ∷ []) bytes stop
-identity_stops bytes stop y e len =
-    let g = guard_err (ltb (length bytes) 20) (record { why = Short; left = length bytes }) stop
-    (take 20 bytes, drop 20 bytes) e in
-    let short : length bytes < 20 = ltb-true _ _ g.0 in
+bytes_stops n bytes stop y e len =
+    let g = guard_err (ltb (length bytes) n) (record { why = Short; left = length bytes }) stop
+    (take n bytes, drop n bytes) e in
+    let short : length bytes < n = ltb-true _ _ g.0 in
     stops_short bytes (field y) [] stop (omega arith) (sym g.1)
 
-pub identity_read : IsRead identity_at (λ xs. xs) (λ xs. field xs ∷ []) (λ xs. length xs ≡ 20)
-identity_read =
-    alone_read Choice identity_field zeros refl (λ bytes stop y e fits. identity_stops bytes stop y e fits)
-  where
-    zeros : List ℕ
-    zeros = 0 ∷ 0 ∷ 0 ∷ 0 ∷ 0 ∷ 0 ∷ 0 ∷ 0 ∷ 0 ∷ 0 ∷ 0 ∷ 0 ∷ 0 ∷ 0 ∷ 0 ∷ 0 ∷ 0 ∷ 0 ∷ 0 ∷ 0 ∷ []
+pub bytes_read : (n : ℕ) → IsRead (bytes_at n) (λ xs. xs) (λ xs. field xs ∷ []) (λ xs. length xs ≡ n)
+bytes_read n =
+    alone_read Choice (bytes_field n) (replicate n 0) (length-replicate n 0)
+    (λ bytes stop y e fits. bytes_stops n bytes stop y e fits)
+
+-- ---- the version, and how many further devices there are
+
+or_parts : (a b : Bool) → (a || b) ≡ true → (a ≡ true) ⊎ (b ≡ true)
+or_parts true b is = inl refl
+or_parts false b is = inr is
+
+one_or_two : (n : ℕ) → (n == 1 || n == 2) ≡ true → (n ≡ 1) ⊎ (n ≡ 2)
+one_or_two n is =
+    elim (or_parts (n == 1) (n == 2) is) [
+      | inl one ↦ inl (eqb-true n 1 one)
+      | inr two ↦ inr (eqb-true n 2 two)
+    ]
+
+is_version : (n : ℕ) → (n ≡ 1) ⊎ (n ≡ 2) → (n < 2 ^ 32) × ((n == 1 || n == 2) ≡ true)
+is_version n (inl is) = rw is (omega arith, refl)
+is_version n (inr is) = rw is (omega arith, refl)
+
+abbrev pub number_of : Bool → ℕ
+number_of further = cond further 2 1
+
+number_back : (n : ℕ) → (n ≡ 1) ⊎ (n ≡ 2) → number_of (n == 2) ≡ n
+number_back n (inl is) = rw is refl
+number_back n (inr is) = rw is refl
+
+number_there : (further : Bool) → (number_of further == 2) ≡ further
+number_there true = refl
+number_there false = refl
+
+number_is : (further : Bool) → (number_of further ≡ 1) ⊎ (number_of further ≡ 2)
+number_is true = inr refl
+number_is false = inl refl
+
+pub version_read : IsRead version_at (λ b. to_le_bytes w32 (number_of b))
+    (λ b. numbered w32 Version (number_of b) ∷ []) (λ b. Always b)
+version_read =
+    let test : ℕ → Bool = λ n. n == 1 || n == 2 in
+    remade_read
+    (alone_read Version (tested_field w32 (2 ^ 32) wide32 test Version (λ n. (n ≡ 1) ⊎ (n ≡ 2))
+    (λ n is. one_or_two n is) (λ n is. is_version n is)) 1 (inl refl)
+    (λ bytes stop y e fits. tested_stops w32 (2 ^ 32) wide32 test Version bytes stop y e))
+    (λ n. n == 2) number_of _ _ _ (λ n is. number_back n is) (λ b fits. number_there b) (λ n is. tt)
+    (λ b fits. number_is b) (λ b fits. refl) (λ b fits. refl) (λ b. append-nil (to_le_bytes w32 (number_of b)))
+
+abbrev pub IsFew : ℕ → Type 0
+IsFew n = (1 ≤ n) × (n ≤ 6)
+
+few_passes : (n : ℕ) → (nat_le 1 n && nat_le n 6) ≡ true → IsFew n
+few_passes n is = let parts = and_parts _ _ is in (leb-true 1 n parts.0, leb-true n 6 parts.1)
+
+is_few : (n : ℕ) → IsFew n → (n < 2 ^ 32) × ((nat_le 1 n && nat_le n 6) ≡ true)
+is_few n few = (omega (arith, few.1), rw (le-leb 1 n few.0, le-leb n 6 few.1) refl)
+
+pub device_count_read : IsRead device_count_at (to_le_bytes w32) (λ n. numbered w32 Choice n ∷ []) IsFew
+device_count_read =
+    let test : ℕ → Bool = λ n. nat_le 1 n && nat_le n 6 in
+    alone_read Choice (tested_field w32 (2 ^ 32) wide32 test Choice IsFew
+    (λ n is. few_passes n is) (λ n few. is_few n few)) 1 (omega arith, omega arith)
+    (λ bytes stop y e fits. tested_stops w32 (2 ^ 32) wide32 test Choice bytes stop y e)

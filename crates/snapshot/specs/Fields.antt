@@ -9,8 +9,9 @@ use Rattle.mmio_window.specs.declared.saved.SavedWindow.{SavedWindow}
 use Rattle.mmio_window.specs.Interrupts.{interrupt_bits}
 use Rattle.snapshot.specs.declared.fault.Why.{Why}
 use Rattle.snapshot.specs.declared.fault.Why.TheVariants.{Magic, Version, Choice, TooMuchInput}
+use Rattle.snapshot.specs.declared.saved.SavedDevice.{SavedDevice}
 use Rattle.snapshot.specs.declared.saved.SavedSlot.{SavedSlot}
-use Rattle.snapshot.specs.Spelling.{flag, magic}
+use Rattle.snapshot.specs.Spelling.{flag, magic, version_of}
 
 -- A field: its bytes, and what is wrong where as many bytes stand in its place that no snapshot has there.
 pub record Field : Type 0 where
@@ -68,6 +69,23 @@ window_fields w =
     ++ ((queue_fields w.queue_0 ++ queue_fields w.queue_1)
     ++ (field (interrupt_bits w.interrupts ∷ []) ∷ field (to_le_bytes w32 w.config_generation) ∷ []))
 
+-- ---- the further devices
+
+unfoldable pub device_fields : SavedDevice → List Field
+device_fields d =
+    field (to_le_bytes w32 d.device_id)
+    ∷ field d.mac
+    ∷ field (to_le_bytes w16 d.mtu)
+    ∷ window_fields d.window
+
+abbrev pub each_fields : List SavedDevice → List Field
+each_fields [] = []
+each_fields (d ∷ ds) = device_fields d ++ each_fields ds
+
+abbrev pub devices_fields : List SavedDevice → List Field
+devices_fields [] = []
+devices_fields (d ∷ ds) = field (to_le_bytes w32 (length (d ∷ ds))) ∷ each_fields (d ∷ ds)
+
 -- ---- a slot
 
 unfoldable pub slot_fields : SavedSlot → List Field
@@ -80,15 +98,15 @@ slot_fields s =
     ∷ field (to_le_bytes w16 s.cols)
     ∷ field (to_le_bytes w16 s.rows)
     ∷ field (flag s.on_hold ∷ [])
-    ∷ (window_fields s.block ++ window_fields s.console)
+    ∷ (window_fields s.block ++ (window_fields s.console ++ devices_fields s.devices.items))
 
 -- ---- the snapshot
 
 -- the magic and the version
-abbrev pub opening_fields : List Field
-opening_fields =
+abbrev pub opening_fields : ℕ → List Field
+opening_fields version =
     record { bytes = to_le_bytes w64 magic; wrong = Magic }
-    ∷ record { bytes = to_le_bytes w32 1; wrong = Version }
+    ∷ record { bytes = to_le_bytes w32 version; wrong = Version }
     ∷ []
 
 -- how much input is pending
@@ -97,7 +115,7 @@ count_field count = record { bytes = to_le_bytes w32 count; wrong = TooMuchInput
 
 -- all that stands before the pending input, of which there is so much
 unfoldable pub head_fields : SavedSlot → ℕ → List Field
-head_fields s count = opening_fields ++ (slot_fields s ++ (count_field count ∷ []))
+head_fields s count = opening_fields (version_of s.devices.items) ++ (slot_fields s ++ (count_field count ∷ []))
 
 -- The fields of a slot's snapshot with this pending input. That may be any bytes, so its fault is never told.
 abbrev pub snapshot_fields : SavedSlot → List ℕ → List Field

@@ -1,7 +1,8 @@
 -- How the reader goes from left to right: what its private functions give. What comes of it is said by
 -- `IsSnapshot` and `IsFirstFault`; a public clause cites `Gives` of this file alone.
-use Rattle.std.specs.Prelude.{◌≡◌, ◌==◌, ℕ, zero, suc, Bool, true, false, List, [], ◌∷◌, length, take, drop, Option, Some, None, Result, Ok, Err, nat_le, nat_lt, if◌then◌else◌}
+use Rattle.std.specs.Prelude.{◌≡◌, ◌==◌, ◌&&◌, ◌||◌, ℕ, zero, suc, Bool, true, false, List, [], ◌∷◌, length, take, drop, Option, Some, None, Result, Ok, Err, nat_le, nat_lt, if◌then◌else◌}
 use Rattle.std.specs.Int.{Width, w16, w32, w64, byte_len, from_le_bytes}
+use Rattle.arrayvec.specs.ArrayVec.{ArrayVec}
 use Rattle.mmio_window.specs.declared.interrupts.Interrupts.{Interrupts}
 use Rattle.mmio_window.specs.declared.saved.Reached.{Reached}
 use Rattle.mmio_window.specs.declared.saved.SavedNegotiation.{SavedNegotiation}
@@ -11,6 +12,7 @@ use Rattle.mmio_window.specs.declared.saved.SavedWindow.{SavedWindow}
 use Rattle.snapshot.specs.declared.fault.Stop.{Stop}
 use Rattle.snapshot.specs.declared.fault.Why.{Why}
 use Rattle.snapshot.specs.declared.fault.Why.TheVariants.{Short, Magic, Version, Choice, TooMuchInput, Trailing}
+use Rattle.snapshot.specs.declared.saved.SavedDevice.{SavedDevice}
 use Rattle.snapshot.specs.declared.saved.SavedSlot.{SavedSlot}
 use Rattle.snapshot.specs.Spelling.{magic}
 
@@ -39,6 +41,14 @@ abbrev pub ◌&◌ : {A B : Type 0} → Reader A → Reader B → Reader (A × B
 (first & second) bytes = do
   a ← first bytes
   b ← second a.1
+  Ok ((a.0, b.0), b.1)
+
+-- one field behind another, which is read as the first says
+infixr 20 ◌&>◌
+abbrev pub ◌&>◌ : {A B : Type 0} → Reader A → (A → Reader B) → Reader (A × B)
+(first &> second) bytes = do
+  a ← first bytes
+  b ← second a.0 a.1
   Ok ((a.0, b.0), b.1)
 
 -- a value made of what is read
@@ -72,8 +82,9 @@ tested_at w test why bytes = do
 abbrev pub constant_at : Width → ℕ → Why → Reader ℕ
 constant_at w n = tested_at w (λ found. found == n)
 
-abbrev pub identity_at : Reader (List ℕ)
-identity_at bytes = if nat_lt (length bytes) 20 then stop Short bytes else Ok (take 20 bytes, drop 20 bytes)
+-- so many bytes
+abbrev pub bytes_at : ℕ → Reader (List ℕ)
+bytes_at n bytes = if nat_lt (length bytes) n then stop Short bytes else Ok (take n bytes, drop n bytes)
 
 unfoldable pub flag_at : Reader Bool
 flag_at [] = stop Short []
@@ -135,10 +146,31 @@ window_at =
       config_generation = x.1.1.1;
     }) ((negotiation_at & selectors_at) & (queue_at & queue_at) & (interrupts_at & number_at w32))
 
+-- ---- the further devices
+
+unfoldable pub device_at : Reader SavedDevice
+device_at =
+    made (λ x. record { device_id = x.0; mac = x.1.0; mtu = x.1.1.0; window = x.1.1.1 })
+    (number_at w32 & bytes_at 6 & number_at w16 & window_at)
+
+-- so many devices
+abbrev pub many_at : ℕ → Reader (List SavedDevice)
+many_at zero bytes = Ok ([], bytes)
+many_at (suc n) bytes = made (λ x. x.0 ∷ x.1) (device_at & many_at n) bytes
+
+-- how many there are
+abbrev pub device_count_at : Reader ℕ
+device_count_at = tested_at w32 (λ n. nat_le 1 n && nat_le n 6) Choice
+
+-- the devices of a snapshot that has some, or that has none
+unfoldable pub devices_at : Bool → Reader (ArrayVec SavedDevice)
+devices_at false bytes = Ok (record { items = [] }, bytes)
+devices_at true bytes = made (λ x. record { items = x.1 }) (device_count_at &> many_at) bytes
+
 -- ---- a slot
 
-unfoldable pub slot_at : Reader SavedSlot
-slot_at =
+unfoldable pub slot_at : Bool → Reader SavedSlot
+slot_at further =
     made (λ x. record {
       base = x.0.0;
       len = x.0.1.0;
@@ -149,10 +181,12 @@ slot_at =
       rows = x.1.0.1.1.1.0;
       on_hold = x.1.0.1.1.1.1;
       block = x.1.1.0;
-      console = x.1.1.1;
+      console = x.1.1.1.0;
+      devices = x.1.1.1.1;
     })
     ((number_at w64 & number_at w64 & number_at w64)
-    & (flag_at & identity_at & number_at w16 & number_at w16 & flag_at) & (window_at & window_at))
+    & (flag_at & bytes_at 20 & number_at w16 & number_at w16 & flag_at)
+    & (window_at & window_at & devices_at further))
 
 -- ---- the snapshot
 
@@ -160,11 +194,15 @@ slot_at =
 abbrev pub count_at : Reader ℕ
 count_at = tested_at w32 (λ count. nat_le count 4096) TooMuchInput
 
+-- whether the version is that of a snapshot with further devices
+abbrev pub version_at : Reader Bool
+version_at = made (λ n. n == 2) (tested_at w32 (λ n. n == 1 || n == 2) Version)
+
 -- all that stands before the pending input, and how much of that there is
 unfoldable pub head_at : Reader (SavedSlot × ℕ)
 head_at =
     made (λ x. (x.1.1.0, x.1.1.1))
-    (constant_at w64 magic Magic & constant_at w32 1 Version & slot_at & count_at)
+    (constant_at w64 magic Magic & (version_at &> (λ further. slot_at further & count_at)))
 
 -- the pending input, of which there is so much, to the end
 abbrev pub pending_at : ℕ → List ℕ → Result (List ℕ) Stop

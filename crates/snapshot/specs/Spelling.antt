@@ -7,6 +7,7 @@ use Rattle.mmio_window.specs.declared.saved.SavedQueue.{SavedQueue}
 use Rattle.mmio_window.specs.declared.saved.SavedSelectors.{SavedSelectors}
 use Rattle.mmio_window.specs.declared.saved.SavedWindow.{SavedWindow}
 use Rattle.mmio_window.specs.Interrupts.{interrupt_bits}
+use Rattle.snapshot.specs.declared.saved.SavedDevice.{SavedDevice}
 use Rattle.snapshot.specs.declared.saved.SavedSlot.{SavedSlot}
 
 -- ---- a queue
@@ -43,19 +44,40 @@ window w =
     ++ ((queue w.queue_0 ++ queue w.queue_1)
     ++ ((interrupt_bits w.interrupts ∷ []) ++ to_le_bytes w32 w.config_generation))
 
+-- ---- the further devices
+
+-- the type of device, what a network card is known by, and its window
+unfoldable pub device : SavedDevice → List ℕ
+device d = to_le_bytes w32 d.device_id ++ (d.mac ++ (to_le_bytes w16 d.mtu ++ window d.window))
+
+-- devices one behind another
+abbrev pub each : List SavedDevice → List ℕ
+each [] = []
+each (d ∷ ds) = device d ++ each ds
+
+-- how many there are, and the devices: nothing where there is none
+abbrev pub devices : List SavedDevice → List ℕ
+devices [] = []
+devices (d ∷ ds) = to_le_bytes w32 (length (d ∷ ds)) ++ each (d ∷ ds)
+
+-- the version of a snapshot with these devices: the first has none
+abbrev pub version_of : List SavedDevice → ℕ
+version_of [] = 1
+version_of (d ∷ ds) = 2
+
 -- ---- a slot
 
 -- 0 for no, and 1 for yes
 abbrev pub flag : Bool → ℕ
 flag b = if b then 1 else 0
 
--- the memory and the disk, what the guest is told of the disk and the console, whether the slot is on hold, and both
--- windows
+-- the memory and the disk, what the guest is told of the disk and the console, whether the slot is on hold, both
+-- windows, and the further devices
 unfoldable pub slot : SavedSlot → List ℕ
 slot s =
     (to_le_bytes w64 s.base ++ (to_le_bytes w64 s.len ++ to_le_bytes w64 s.sectors))
     ++ (((flag s.read_only ∷ []) ++ (s.identity ++ (to_le_bytes w16 s.cols ++ (to_le_bytes w16 s.rows ++ (flag s.on_hold ∷ [])))))
-    ++ (window s.block ++ window s.console))
+    ++ (window s.block ++ (window s.console ++ devices s.devices.items)))
 
 -- ---- the snapshot
 
@@ -73,10 +95,10 @@ input pending = to_le_bytes w32 (length pending) ++ pending
 
 -- all that stands before the pending input, of which there is so much
 unfoldable pub head : SavedSlot → ℕ → List ℕ
-head s count = opening 1 ++ (slot s ++ to_le_bytes w32 count)
+head s count = opening (version_of s.devices.items) ++ (slot s ++ to_le_bytes w32 count)
 
 unfoldable pub snapshot : SavedSlot → List ℕ → List ℕ
-snapshot s pending = opening 1 ++ (slot s ++ input pending)
+snapshot s pending = opening (version_of s.devices.items) ++ (slot s ++ input pending)
 
 -- ---- what has a spelling: each number has the size of its field
 
@@ -106,11 +128,22 @@ WindowFits w =
     (NegotiationFits w.negotiation × SelectorsFit w.selectors)
     × ((QueueFits w.queue_0 × QueueFits w.queue_1) × (w.config_generation < 2 ^ 32))
 
+abbrev pub DeviceFits : SavedDevice → Type 0
+DeviceFits d = (d.device_id < 2 ^ 32) × ((length d.mac ≡ 6) × ((d.mtu < 2 ^ 16) × WindowFits d.window))
+
+abbrev pub EachFits : List SavedDevice → Type 0
+EachFits [] = Unit {0}
+EachFits (d ∷ ds) = DeviceFits d × EachFits ds
+
+-- six at most
+abbrev pub DevicesFit : List SavedDevice → Type 0
+DevicesFit ds = (length ds ≤ 6) × EachFits ds
+
 abbrev pub SlotFits : SavedSlot → Type 0
 SlotFits s =
     ((s.base < 2 ^ 64) × ((s.len < 2 ^ 64) × (s.sectors < 2 ^ 64)))
     × (((length s.identity ≡ 20) × ((s.cols < 2 ^ 16) × (s.rows < 2 ^ 16)))
-    × (WindowFits s.block × WindowFits s.console))
+    × (WindowFits s.block × (WindowFits s.console × DevicesFit s.devices.items)))
 
 -- The bytes are the snapshot of a slot with this pending input: they spell both, and each has the size of its field.
 pub record IsSnapshot (bytes : List ℕ) (saved : SavedSlot) (pending : List ℕ) : Type 0 where

@@ -1,17 +1,17 @@
 //! The front of a snapshot, up to the pending input, field by field.
 
-ghost use Rattle.std.specs.Prelude.{◌≡◌, ◌<◌, ◌≤◌, ◌+◌, ◌^◌, ◌∷◌, [], length};
+ghost use Rattle.std.specs.Prelude.{◌≡◌, ◌<◌, ◌≤◌, ◌+◌, ◌*◌, ◌^◌, ◌∷◌, [], length};
 ghost use Rattle.std.specs.Int.{w16, w32, w64, to_le_bytes};
-ghost use Rattle.snapshot.specs.Spelling.{MayReach, Puts, QueueFits, SlotFits, WindowFits, head, queue, reached, slot, window};
+ghost use Rattle.snapshot.specs.Spelling.{DeviceFits, DevicesFit, EachFits, MayReach, Puts, QueueFits, SlotFits, WindowFits, device, devices, each, head, queue, reached, slot, version_of, window};
 
-use crate::reading::VERSION;
-use crate::saved::SavedSlot;
+use crate::reading::{VERSION, VERSION_OF_DEVICES};
+use crate::saved::{SavedDevice, SavedSlot};
 use arrayvec::ArrayVec;
 use byteorder::{ByteOrder, LittleEndian};
 use mmio_window::{Reached, SavedQueue, SavedWindow};
 
 /// How long a snapshot is at most, beside the pending input.
-const MOST_FIXED: usize = 290;
+const MOST_FIXED: usize = 1038;
 
 /// Room for the front of a snapshot.
 pub(crate) type Head = ArrayVec<u8, MOST_FIXED>;
@@ -22,19 +22,29 @@ pub(crate) fn head_of(saved: &SavedSlot, pending: usize) -> Head
     requires { pending ≤ 4096 }
     ensures text { result.items ≡ head saved.now pending }
     ensures fits { SlotFits saved.now }
-    ensures len { length result.items ≤ 290 }
+    ensures len { length result.items ≤ 1038 }
 {
     let mut out = ArrayVec::new();
     put(&mut out, b"KALYUBOS");
-    put_u32(&mut out, VERSION);
+    put_u32(&mut out, version_of(saved));
     put_slot(&mut out, saved);
     put_u32(&mut out, pending as u32);
     out
 }
 
+// The version of the snapshot of a slot.
+fn version_of(saved: &SavedSlot) -> u32
+    ensures { result ≡ version_of saved.now.devices.items }
+{
+    match saved.devices.as_slice() {
+        [] => VERSION,
+        [_, ..] => VERSION_OF_DEVICES,
+    }
+}
+
 // Bytes behind what is there.
 fn put(out: &mut Head, bytes: &[u8])
-    requires room { length out.old.items + length bytes.now ≤ 290 }
+    requires room { length out.old.items + length bytes.now ≤ 1038 }
     ensures { Puts out.old.items out.new.items bytes.now (length bytes.now) }
 {
     let Ok(()) = out.try_extend_from_slice(bytes) else {
@@ -43,7 +53,7 @@ fn put(out: &mut Head, bytes: &[u8])
 }
 
 fn put_u8(out: &mut Head, byte: u8)
-    requires room { length out.old.items + 1 ≤ 290 }
+    requires room { length out.old.items + 1 ≤ 1038 }
     ensures puts { Puts out.old.items out.new.items (byte ∷ []) 1 }
     ensures fits { byte < 256 }
 {
@@ -51,7 +61,7 @@ fn put_u8(out: &mut Head, byte: u8)
 }
 
 fn put_u16(out: &mut Head, number: u16)
-    requires room { length out.old.items + 2 ≤ 290 }
+    requires room { length out.old.items + 2 ≤ 1038 }
     ensures puts { Puts out.old.items out.new.items (to_le_bytes w16 number) 2 }
     ensures fits { number < 2 ^ 16 }
 {
@@ -61,7 +71,7 @@ fn put_u16(out: &mut Head, number: u16)
 }
 
 fn put_u32(out: &mut Head, number: u32)
-    requires room { length out.old.items + 4 ≤ 290 }
+    requires room { length out.old.items + 4 ≤ 1038 }
     ensures puts { Puts out.old.items out.new.items (to_le_bytes w32 number) 4 }
     ensures fits { number < 2 ^ 32 }
 {
@@ -71,7 +81,7 @@ fn put_u32(out: &mut Head, number: u32)
 }
 
 fn put_u64(out: &mut Head, number: u64)
-    requires room { length out.old.items + 8 ≤ 290 }
+    requires room { length out.old.items + 8 ≤ 1038 }
     ensures puts { Puts out.old.items out.new.items (to_le_bytes w64 number) 8 }
     ensures fits { number < 2 ^ 64 }
 {
@@ -81,8 +91,8 @@ fn put_u64(out: &mut Head, number: u64)
 }
 
 fn put_slot(out: &mut Head, saved: &SavedSlot)
-    requires room { length out.old.items + 274 ≤ 290 }
-    ensures puts { Puts out.old.items out.new.items (slot saved.now) 274 }
+    requires room { length out.old.items + 1022 ≤ 1038 }
+    ensures puts { Puts out.old.items out.new.items (slot saved.now) 1022 }
     ensures fits { SlotFits saved.now }
 {
     put_u64(out, saved.base);
@@ -95,10 +105,48 @@ fn put_slot(out: &mut Head, saved: &SavedSlot)
     put_u8(out, u8::from(saved.on_hold));
     put_window(out, &saved.block);
     put_window(out, &saved.console);
+    put_devices(out, saved.devices.as_slice());
+}
+
+// How many further devices there are, and the devices: nothing where there is none.
+fn put_devices(out: &mut Head, list: &[SavedDevice])
+    requires few { length list.now ≤ 6 }
+    requires room { length out.old.items + 748 ≤ 1038 }
+    ensures puts { Puts out.old.items out.new.items (devices list.now) 748 }
+    ensures fits { DevicesFit list.now }
+{
+    if list.is_empty() {
+        return;
+    }
+    put_u32(out, list.len() as u32);
+    put_each(out, list);
+}
+
+// Devices one behind another.
+fn put_each(out: &mut Head, list: &[SavedDevice])
+    requires room { length out.old.items + length list.now * 124 ≤ 1038 }
+    ensures puts { Puts out.old.items out.new.items (each list.now) (length list.now * 124) }
+    ensures fits { EachFits list.now }
+{
+    if let [first, rest @ ..] = list {
+        put_device(out, first);
+        put_each(out, rest);
+    }
+}
+
+fn put_device(out: &mut Head, saved: &SavedDevice)
+    requires room { length out.old.items + 124 ≤ 1038 }
+    ensures puts { Puts out.old.items out.new.items (device saved.now) 124 }
+    ensures fits { DeviceFits saved.now }
+{
+    put_u32(out, saved.device_id);
+    put(out, &saved.mac);
+    put_u16(out, saved.mtu);
+    put_window(out, &saved.window);
 }
 
 fn put_window(out: &mut Head, saved: &SavedWindow)
-    requires room { length out.old.items + 112 ≤ 290 }
+    requires room { length out.old.items + 112 ≤ 1038 }
     ensures puts { Puts out.old.items out.new.items (window saved.now) 112 }
     ensures fits { WindowFits saved.now }
 {
@@ -116,7 +164,7 @@ fn put_window(out: &mut Head, saved: &SavedWindow)
 }
 
 fn put_queue(out: &mut Head, saved: &SavedQueue)
-    requires room { length out.old.items + 37 ≤ 290 }
+    requires room { length out.old.items + 37 ≤ 1038 }
     ensures puts { Puts out.old.items out.new.items (queue saved.now) 37 }
     ensures fits { QueueFits saved.now }
 {
@@ -129,7 +177,7 @@ fn put_queue(out: &mut Head, saved: &SavedQueue)
 
 // How far a queue is served, where it is ready.
 fn put_reached(out: &mut Head, saved: Option<Reached>)
-    requires room { length out.old.items + 9 ≤ 290 }
+    requires room { length out.old.items + 9 ≤ 1038 }
     ensures puts { Puts out.old.items out.new.items (reached saved) 9 }
     ensures fits { MayReach saved }
 {

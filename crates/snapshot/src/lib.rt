@@ -13,5 +13,5 @@ mod writing;
 pub use fault::{ShortBuffer, SnapshotFault, Why};
 pub use laws::{bytes_have_one_fault, fields_are_the_spelling};
 pub use reading::read;
-pub use saved::SavedSlot;
+pub use saved::{MOST_DEVICES, SavedDevice, SavedSlot};
 pub use writing::{write, write_into, written_len};

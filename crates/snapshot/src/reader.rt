@@ -2,7 +2,7 @@
 
 ghost use Rattle.std.specs.Prelude.{◌≡◌, ◌<◌, ◌≤◌, MatchResult, drop, length, take};
 ghost use Rattle.std.specs.Int.{w16, w32, w64};
-ghost use Rattle.snapshot.specs.Reading.{Reads, byte_at, flag_at, identity_at, interrupts_at, number_at};
+ghost use Rattle.snapshot.specs.Reading.{Reads, byte_at, flag_at, bytes_at, interrupts_at, number_at};
 
 use crate::fault::{Stop, Why};
 use byteorder::{ByteOrder, LittleEndian};
@@ -61,11 +61,20 @@ impl<'a> Reader<'a> {
 
     /// An identity of 20 bytes.
     pub(crate) fn identity(&mut self) -> Result<[u8; 20], Stop>
-        ensures { Reads identity_at self.old.left.now result self.new.left.now }
+        ensures { Reads (bytes_at 20) self.old.left.now result self.new.left.now }
     {
         let mut identity = [0; 20];
         identity.copy_from_slice(self.front(20)?);
         Ok(identity)
+    }
+
+    /// An address of 6 bytes.
+    pub(crate) fn mac(&mut self) -> Result<[u8; 6], Stop>
+        ensures { Reads (bytes_at 6) self.old.left.now result self.new.left.now }
+    {
+        let mut mac = [0; 6];
+        mac.copy_from_slice(self.front(6)?);
+        Ok(mac)
     }
 
     /// A choice of no and yes.

@@ -1,9 +1,9 @@
 //! Reading a snapshot from left to right.
 
 ghost use Rattle.std.specs.Prelude.{IfErr, IfOk, IsErrOf, ℕ, List, Ok};
-ghost use Rattle.std.specs.Int.{w32, w64};
+ghost use Rattle.std.specs.Int.{w64};
 ghost use Rattle.snapshot.specs.declared.saved.SavedSlot.{SavedSlot};
-ghost use Rattle.snapshot.specs.Reading.{Gives, Reads, constant_at, count_at, head_at, pending_at, whole_at};
+ghost use Rattle.snapshot.specs.Reading.{Gives, Reads, constant_at, count_at, head_at, pending_at, version_at, whole_at};
 ghost use Rattle.snapshot.specs.declared.fault.SnapshotFault.{SnapshotFault};
 ghost use Rattle.snapshot.specs.declared.fault.Why.{Why};
 ghost use Rattle.snapshot.specs.Faults.{IsFirstFault};
@@ -16,8 +16,11 @@ use crate::saved::SavedSlot;
 /// The first eight bytes of a snapshot as a number: KALYUBOS.
 const MAGIC: u64 = 6003089762645983563;
 
-/// The version of the format.
+/// The version of a snapshot without further devices.
 pub(crate) const VERSION: u32 = 1;
+
+/// The version of a snapshot with further devices.
+pub(crate) const VERSION_OF_DEVICES: u32 = 2;
 
 /// How many bytes of input may be pending.
 const MOST_PENDING: u32 = 4096;
@@ -72,8 +75,8 @@ impl Reader<'_> {
         ensures { Reads head_at self.old.left.now result self.new.left.now }
     {
         self.magic()?;
-        self.version()?;
-        let slot = self.slot()?;
+        let further = self.version()?;
+        let slot = self.slot(further)?;
         let count = self.count()?;
         Ok((slot, count))
     }
@@ -89,15 +92,16 @@ impl Reader<'_> {
         Ok(found)
     }
 
-    fn version(&mut self) -> Result<u32, Stop>
-        ensures { Reads (constant_at w32 1 Why.Version) self.old.left.now result self.new.left.now }
+    // Whether the version is that of a snapshot with further devices.
+    fn version(&mut self) -> Result<bool, Stop>
+        ensures { Reads version_at self.old.left.now result self.new.left.now }
     {
         let bytes = self.left;
-        let found = self.u32()?;
-        if found != VERSION {
-            return Err(Stop::at(Why::Version, bytes));
+        match self.u32()? {
+            VERSION => Ok(false),
+            VERSION_OF_DEVICES => Ok(true),
+            _ => Err(Stop::at(Why::Version, bytes)),
         }
-        Ok(found)
     }
 
     // How much input is pending.

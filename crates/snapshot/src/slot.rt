@@ -1,12 +1,15 @@
 //! A slot and its windows, read from the front of the bytes that are left.
 
-ghost use Rattle.std.specs.Prelude.{◌≡◌};
-ghost use Rattle.snapshot.specs.Reading.{Reads, negotiation_at, queue_at, reached_at, selectors_at, served_at, slot_at, window_at};
+ghost use Rattle.std.specs.Prelude.{◌≤◌, ◌+◌, ◌++◌, length};
+ghost use Rattle.snapshot.specs.Reading.{Reads, device_count_at, devices_at, device_at, made, many_at, negotiation_at, queue_at, reached_at, selectors_at, served_at, slot_at, window_at};
 
 use crate::fault::{Stop, Why};
 use crate::reader::Reader;
-use crate::saved::SavedSlot;
+use crate::saved::{MOST_DEVICES, SavedDevice, SavedSlot};
+use arrayvec::ArrayVec;
 use mmio_window::{Reached, SavedNegotiation, SavedQueue, SavedSelectors, SavedWindow};
+
+type Devices = ArrayVec<SavedDevice, MOST_DEVICES>;
 
 impl Reader<'_> {
     #[tactic(auto, unfolding(crate::specs::Reading::served_at))]
@@ -89,10 +92,60 @@ impl Reader<'_> {
             config_generation: self.u32()?,
         })
     }
-    /// All of a slot that stands before its pending input.
+
+    #[tactic(auto, unfolding(crate::specs::Reading::device_at))]
+    fn device(&mut self) -> Result<SavedDevice, Stop>
+        ensures { Reads device_at self.old.left.now result self.new.left.now }
+    {
+        Ok(SavedDevice {
+            device_id: self.u32()?,
+            mac: self.mac()?,
+            mtu: self.u16()?,
+            window: self.window()?,
+        })
+    }
+
+    // How many further devices there are, where there are some.
+    fn device_count(&mut self) -> Result<u32, Stop>
+        ensures { Reads device_count_at self.old.left.now result self.new.left.now }
+    {
+        let bytes = self.left;
+        let count = self.u32()?;
+        if count < 1 || count > MOST_DEVICES as u32 {
+            return Err(Stop::at(Why::Choice, bytes));
+        }
+        Ok(count)
+    }
+
+    // So many more devices behind these.
+    fn more_devices(&mut self, mut devices: Devices, count: u32) -> Result<Devices, Stop>
+        requires room { length devices.items + count ≤ 6 }
+        ensures { Reads (made (λ more. record { items = devices.items ++ more }) (many_at count))
+            self.old.left.now result self.new.left.now }
+    {
+        if count == 0 {
+            return Ok(devices);
+        }
+        devices.push(self.device()?);
+        self.more_devices(devices, count - 1)
+    }
+
+    // The further devices, where there are some.
+    #[tactic(auto, unfolding(crate::specs::Reading::devices_at))]
+    fn devices(&mut self, further: bool) -> Result<Devices, Stop>
+        ensures { Reads (devices_at further) self.old.left.now result self.new.left.now }
+    {
+        if !further {
+            return Ok(ArrayVec::new());
+        }
+        let count = self.device_count()?;
+        self.more_devices(ArrayVec::new(), count)
+    }
+
+    /// All of a slot that stands before its pending input. The version says whether it has further devices.
     #[tactic(auto, unfolding(crate::specs::Reading::slot_at))]
-    pub(crate) fn slot(&mut self) -> Result<SavedSlot, Stop>
-        ensures { Reads slot_at self.old.left.now result self.new.left.now }
+    pub(crate) fn slot(&mut self, further: bool) -> Result<SavedSlot, Stop>
+        ensures { Reads (slot_at further) self.old.left.now result self.new.left.now }
     {
         Ok(SavedSlot {
             base: self.u64()?,
@@ -105,6 +158,7 @@ impl Reader<'_> {
             on_hold: self.flag()?,
             block: self.window()?,
             console: self.window()?,
+            devices: self.devices(further)?,
         })
     }
 }
