@@ -7,7 +7,7 @@ use Rattle.std.proofs.Math.Seq.{map-set_same}
 use Rattle.std.proofs.lemmas.Bool.Decides.{nat_tests}
 use Rattle.std.proofs.lemmas.Option.{get_or_from_slice_get, slice_get-map}
 use Rattle.guest_memory.specs.Memory.{is_inside, stored}
-use Rattle.mmio_window.specs.declared.device_kind.DeviceKind.{DeviceKind}
+use Rattle.board.specs.declared.event.SlotWindow.{SlotWindow}
 use Rattle.sector_cache.specs.Disk.{Disk, IsWhole}
 use Rattle.board.specs.declared.event.EventKind.{EventKind}
 use Rattle.board.specs.declared.event.EventKind.TheVariants.{MemWrite, Restore}
@@ -135,7 +135,7 @@ restore_answers A slots disk h slot new bytes result tells whole sound here exte
     (count_of slot.extent disk tells whole (slot_within disk.sector_count slots h slot sound.within here)))
 
 -- what a register of a slot gives
-pub register_at : (slots : List BoardSlot) (disk : Disk) (h : ℕ) (slot : BoardSlot) (window : DeviceKind)
+pub register_at : (slots : List BoardSlot) (disk : Disk) (h : ℕ) (slot : BoardSlot) (window : SlotWindow)
     (offset width value : ℕ) → Tells disk → IsWhole disk → AreSound disk.sector_count (extents_of slots)
     → slice_get slots h ≡ Some slot
     → ((bytes : List ℕ) → sectors_of (state_of bytes slot).extent ≡ slot.extent.count

@@ -29,7 +29,7 @@ refused_shows state what old new outcome (Unsent console puts h) answered stood 
     answered (ap (λ o. o.reply) h.is)
 refused_shows state what old new outcome (Unput console puts h) answered stood =
     answered (ap (λ o. o.reply) h.alike)
-refused_shows state what old new outcome (Unread addr len is h) answered stood =
+refused_shows state what old new outcome (Unread is h) answered stood =
     answered (ap (λ o. o.reply) h.alike)
 
 -- an event that met no refusal came out as the one-slot machine has it: over an image

@@ -3,7 +3,7 @@ use Rattle.std.proofs.Common.{◌≡◌, ◌≢◌, if◌then◌else◌, inl, in
 use Rattle.chain.specs.declared.budget.Budget.{Budget}
 use Rattle.chain.specs.declared.budget.Progress.TheVariants as progress
 use Rattle.chain.specs.Service.{Ending, Refused}
-use Rattle.mmio_window.specs.declared.device_kind.DeviceKind.{DeviceKind}
+use Rattle.board.specs.declared.event.SlotWindow.{SlotWindow}
 use Rattle.mmio_window.specs.declared.stage.Stage.TheVariants.{First}
 use Rattle.mmio_window.specs.Serving.{Notified}
 use Rattle.mmio_window.specs.Window.{queue_at}
@@ -89,7 +89,7 @@ transmit_ended limit budget mid new waiting left reply (inr (lacks, h)) = record
   replied = lacks;
 }
 
-write_ended : {A : Type 0} (limit : ℕ) (state : SlotState) (window : DeviceKind) (offset width value : ℕ)
+write_ended : {A : Type 0} (limit : ℕ) (state : SlotState) (window : SlotWindow) (offset width value : ℕ)
     (budget : Budget) (new : SlotState) (waiting left : List ℕ) (reply : Reply A) (task : Task)
     → task_at window offset width value state ≡ task
     → TurnWithin limit (asked_by task) (Write window offset width value) budget state new waiting

@@ -13,6 +13,9 @@ use Rattle.mmio_window.specs.Soundness.{IsSound}
 use Rattle.mmio_window.specs.Window.{WindowState}
 use Rattle.mmio_window.proofs.Devices.{KeepsDevice, KeepsDevice-refused, KeepsDevice-served}
 use Rattle.mmio_window.proofs.Soundness.{IsSound-same_range}
+use Rattle.device_list.specs.Device.{DeviceState}
+use Rattle.device_list.specs.List.{AreSoundDevices}
+use Rattle.device_list.proofs.Sound.{still_sound}
 use Rattle.board.specs.Slot.{IsSoundSlot}
 
 -- a piece of the transmit queue's service, however it ends
@@ -28,10 +31,11 @@ transmit_keeps stage served refused budget queue m m' w w' s s' (Err why) ok no_
 -- ---- a slot stays sound
 
 -- where its memory changed
-pub memory_changed : (m m' : Memory) (read_only : Bool) (block console : WindowState) (pending : List ℕ)
-    → IsSoundSlot m read_only block console pending → SameRange m m'
-    → IsSoundSlot m' read_only block console pending
-memory_changed m m' read_only block console pending sound range = record {
+pub memory_changed : {devices : List DeviceState} (m m' : Memory) (read_only : Bool) (block console : WindowState)
+    (pending : List ℕ)
+    → IsSoundSlot m read_only block console pending devices → SameRange m m'
+    → IsSoundSlot m' read_only block console pending devices
+memory_changed {devices} m m' read_only block console pending sound range = record {
   block_kind = sound.block_kind;
   block_offers = sound.block_offers;
   block_generation = sound.block_generation;
@@ -40,14 +44,15 @@ memory_changed m m' read_only block console pending sound range = record {
   block_sound = IsSound-same_range m m' block range sound.block_sound;
   console_sound = IsSound-same_range m m' console range sound.console_sound;
   pending_fits = sound.pending_fits;
+  devices_sound = still_sound m m' devices range sound.devices_sound;
 }
 
 -- where its block device was at work
-pub block_changed : (m m' : Memory) (read_only : Bool) (block block' console : WindowState) (pending : List ℕ)
-    → IsSoundSlot m read_only block console pending → KeepsDevice block block'
+pub block_changed : {devices : List DeviceState} (m m' : Memory) (read_only : Bool) (block block' console : WindowState) (pending : List ℕ)
+    → IsSoundSlot m read_only block console pending devices → KeepsDevice block block'
     → IsSound m' block' → SameRange m m'
-    → IsSoundSlot m' read_only block' console pending
-block_changed m m' read_only block block' console pending sound keeps here range = record {
+    → IsSoundSlot m' read_only block' console pending devices
+block_changed {devices} m m' read_only block block' console pending sound keeps here range = record {
   block_kind = keeps.kind ∙ sound.block_kind;
   block_offers = keeps.offered ∙ sound.block_offers;
   block_generation = keeps.generation (ap configuration_changes sound.block_kind) ∙ sound.block_generation;
@@ -56,15 +61,16 @@ block_changed m m' read_only block block' console pending sound keeps here range
   block_sound = here;
   console_sound = IsSound-same_range m m' console range sound.console_sound;
   pending_fits = sound.pending_fits;
+  devices_sound = still_sound m m' devices range sound.devices_sound;
 }
 
 -- and where its console was
-pub console_changed : (m m' : Memory) (read_only : Bool) (block console console' : WindowState)
+pub console_changed : {devices : List DeviceState} (m m' : Memory) (read_only : Bool) (block console console' : WindowState)
     (pending pending' : List ℕ)
-    → IsSoundSlot m read_only block console pending → KeepsDevice console console'
+    → IsSoundSlot m read_only block console pending devices → KeepsDevice console console'
     → IsSound m' console' → SameRange m m'
-    → length pending' ≤ 4096 → IsSoundSlot m' read_only block console' pending'
-console_changed m m' read_only block console console' pending pending' sound keeps here range fits = record {
+    → length pending' ≤ 4096 → IsSoundSlot m' read_only block console' pending' devices
+console_changed {devices} m m' read_only block console console' pending pending' sound keeps here range fits = record {
   block_kind = sound.block_kind;
   block_offers = sound.block_offers;
   block_generation = sound.block_generation;
@@ -73,4 +79,21 @@ console_changed m m' read_only block console console' pending pending' sound kee
   block_sound = IsSound-same_range m m' block range sound.block_sound;
   console_sound = here;
   pending_fits = fits;
+  devices_sound = still_sound m m' devices range sound.devices_sound;
+}
+
+-- and where a further device was
+pub devices_changed : (m m' : Memory) (read_only : Bool) (block console : WindowState) (pending : List ℕ)
+    (devices devices' : List DeviceState) → IsSoundSlot m read_only block console pending devices → SameRange m m'
+    → AreSoundDevices m' devices' → IsSoundSlot m' read_only block console pending devices'
+devices_changed m m' read_only block console pending devices devices' sound range here = record {
+  block_kind = sound.block_kind;
+  block_offers = sound.block_offers;
+  block_generation = sound.block_generation;
+  console_kind = sound.console_kind;
+  console_offers = sound.console_offers;
+  block_sound = IsSound-same_range m m' block range sound.block_sound;
+  console_sound = IsSound-same_range m m' console range sound.console_sound;
+  pending_fits = sound.pending_fits;
+  devices_sound = here;
 }

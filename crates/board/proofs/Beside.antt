@@ -2,8 +2,8 @@
 use Rattle.std.proofs.Common.{◌≡◌, ◌≢◌, ℕ, List, [], Bool, true, false, Option, Some, None, refl, sym, ◌∙◌, ap, subst}
 use Rattle.guest_memory.specs.Memory.{Memory, SameRange}
 use Rattle.guest_memory.proofs.Ranges.{same_trans}
-use Rattle.mmio_window.specs.declared.device_kind.DeviceKind.{DeviceKind}
-use Rattle.mmio_window.specs.declared.device_kind.DeviceKind.TheVariants.{Block, Console}
+use Rattle.board.specs.declared.event.SlotWindow.{SlotWindow}
+use Rattle.board.specs.declared.event.SlotWindow.TheVariants.{Block, Console}
 use Rattle.sector_cache.specs.Disk.{Disk}
 use Rattle.block_device.specs.declared.extent.Extent.{Extent}
 use Rattle.block_device.specs.Extent.{StaysInExtent}
@@ -26,7 +26,7 @@ device_count None extent = refl
 device_count (Some disk) extent = refl
 
 -- the slot's window was written
-abbrev pub IsWritten : DeviceKind → ℕ → ℕ → ℕ → BoardSlot → BoardSlot → Type 0
+abbrev pub IsWritten : SlotWindow → ℕ → ℕ → ℕ → BoardSlot → BoardSlot → Type 0
 IsWritten window offset width value old new = (image : List ℕ)
     → state_of image new ≡ with_write window offset width value (state_of image old)
 
@@ -47,7 +47,7 @@ keeps_as old new state is block host memory extent = record {
   extent = extent;
 }
 
-pub written_keeps : {A : Type 0} (window : DeviceKind) (offset width value : ℕ) (old new : BoardSlot)
+pub written_keeps : {A : Type 0} (window : SlotWindow) (offset width value : ℕ) (old new : BoardSlot)
     → IsWritten window offset width value old new → new.extent ≡ old.extent
     → KeepsFlights {A = A} (Write window offset width value) old new
 written_keeps Block offset width value old new is extent = keeps_as old new _ (is []) refl refl refl extent

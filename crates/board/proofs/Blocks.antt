@@ -5,7 +5,7 @@ use Rattle.std.specs.Option.{option_map}
 use Rattle.guest_memory.specs.Memory.{Memory}
 use Rattle.sector_cache.specs.Disk.{Disk, IsWhole}
 use Rattle.sector_cache.specs.Sector.{extent_of}
-use Rattle.mmio_window.specs.declared.device_kind.DeviceKind.{DeviceKind}
+use Rattle.board.specs.declared.event.SlotWindow.{SlotWindow}
 use Rattle.mmio_window.specs.Window.{WindowState}
 use Rattle.block_device.specs.declared.device.BlockDevice.{BlockDevice}
 use Rattle.block_device.specs.declared.extent.Extent.{Extent}
@@ -69,7 +69,7 @@ block_served slot memory block = record slot { memory = memory; block = block }
 -- ---- events
 
 -- a read of a window
-pub read_given : {A : Type 0} (state : SlotState) (window : DeviceKind) (offset width value : ℕ)
+pub read_given : {A : Type 0} (state : SlotState) (window : SlotWindow) (offset width value : ℕ)
     (health : Health) → value ≡ register state window offset width
     → MayGiveOverImage {A = A} state (Read window offset width) health health (replies state (Value value))
 read_given state window offset width value health is = inl (record {

@@ -25,6 +25,7 @@ use Rattle.board.specs.Machine.{GivesOverImage, task_at, with_write}
 use Rattle.board.specs.Outcome.{Outcome}
 use Rattle.board.specs.Slot.{BoardSlot, SlotState, state_of}
 use Rattle.board.specs.Task.{Finishes, Nothing, PutOut, Serve, Task, device_of}
+use Rattle.board.proofs.FurtherDevices.{device_image}
 use Rattle.board.proofs.OnHost.{failing_over_image}
 use Rattle.board.specs.World.{MayGive, MayGiveOverImage, MissingStep, SlotStep, World, seen}
 use Rattle.board.proofs.Chains.{kept}
@@ -74,6 +75,8 @@ served_clean state (event.Input bytes) old new outcome clean h = same_dirty old 
 served_clean state (event.Resize cols rows) old new outcome clean h = same_dirty old new h.image clean
 served_clean state (event.Restore bytes) old new outcome clean h = same_dirty old new h.image clean
 served_clean state (event.Host said) old new outcome clean h = same_dirty old new h.image clean
+served_clean state (event.Device n what) old new outcome clean h =
+    same_dirty old new (device_image n what state old new outcome h) clean
 
 clean_over_image : {A : Type 0} (state : SlotState) (what : EventKind A) (old new : Health)
     (outcome : Outcome A) → new.failures ≡ old.failures → old.dirty ≡ false
@@ -85,7 +88,7 @@ clean_over_image state what old new outcome same clean (inr h) =
       | Failed block h ↦ absurd (omega (arith, h.failures, same))
       | Unsent console puts h ↦ same_dirty old new h.image clean
       | Unput console puts h ↦ same_dirty old new h.image clean
-      | Unread addr len is h ↦ same_dirty old new h.image clean
+      | Unread is h ↦ same_dirty old new h.image clean
     ]
 
 given_clean : {A : Type 0} (state : SlotState) (what : EventKind A) (old new : Health) (outcome : Outcome A)

@@ -21,7 +21,7 @@ over_image_failures state what old new outcome (inr refused) =
       | Failed block h ↦ omega (arith, h.failures)
       | Unsent console puts h ↦ same_failures old new h.image
       | Unput console puts h ↦ same_failures old new h.image
-      | Unread addr len is h ↦ same_failures old new h.image
+      | Unread is h ↦ same_failures old new h.image
     ]
 
 pub given_failures : {A : Type 0} (state : SlotState) (what : EventKind A) (old new : Health)

@@ -5,7 +5,7 @@ use Rattle.std.proofs.lemmas.List.Elements.{All-cons, All-nil, All-weaker}
 use Rattle.guest_memory.specs.Memory.{Memory, SameRange}
 use Rattle.guest_memory.proofs.Ranges.{inside_same}
 use Rattle.chain.specs.declared.segment.Segment.{Segment}
-use Rattle.mmio_window.specs.declared.device_kind.DeviceKind.TheVariants.{Block}
+use Rattle.board.specs.declared.event.SlotWindow.TheVariants.{Block}
 use Rattle.mmio_window.specs.declared.queue.Queue.{Queue}
 use Rattle.mmio_window.specs.declared.queue.Token.{Token}
 use Rattle.mmio_window.specs.Queue.{AreAhead, TagFits, tag_places}

@@ -87,7 +87,7 @@ as_left saved bytes state new has text taken =
     as_saved saved (slot_in state) (slot_in new) (snapshot_of saved) (read.saved, read.pending) text
     (like_saved saved (slot_in state) suits has.memory) same read.takes_up in
     ap (λ (slot : BoardSlot). seen_in new.extent slot) is
-    ∙ rw (taken.extent, has.memory, has.extent, has.host) refl
+    ∙ rw (taken.extent, has.memory, has.extent, has.host, has.devices) refl
 
 -- the front of the buffer is the snapshot
 front_is : (saved : BoardSlot) (buffer text : List ℕ) (len : ℕ) → IsSavedTo saved buffer text len

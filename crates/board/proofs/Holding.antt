@@ -2,7 +2,7 @@
 use Rattle.std.proofs.Common.{◌≡◌, ◌≢◌, ◌∙◌, inl, inr, ℕ, zero, suc, Bool, true, false, Option, Some, None, List, [], ◌∷◌, get_or, refl, sym, ap, subst}
 use Rattle.std.specs.Prelude.{IsSome, ◌&&◌}
 use Rattle.std.proofs.lemmas.Bool.{cases_eq}
-use Rattle.mmio_window.specs.declared.device_kind.DeviceKind.TheVariants.{Block}
+use Rattle.board.specs.declared.event.SlotWindow.TheVariants.{Block}
 use Rattle.block_device.specs.declared.operation.Verdict.{Verdict}
 use Rattle.block_device.specs.Flights.{HostedQueue, InFlight, freed, is_any}
 use Rattle.block_device.proofs.Landing.{landed_free, landed_others}

@@ -6,7 +6,6 @@ use Rattle.std.proofs.lemmas.Option.{same_Some}
 use Rattle.guest_memory.specs.Memory.{Memory}
 use Rattle.chain.specs.declared.segment.Buffer.{Buffer}
 use Rattle.mmio_window.specs.declared.device_kind.DeviceKind.{DeviceKind}
-use Rattle.mmio_window.specs.declared.device_kind.DeviceKind.TheVariants.{Block, Console}
 use Rattle.mmio_window.specs.declared.queue.Queue.{Queue}
 use Rattle.mmio_window.specs.declared.queue_registers.QueueRegisters.{QueueRegisters}
 use Rattle.mmio_window.specs.declared.stage.Stage.{Stage}
@@ -62,8 +61,7 @@ asked_now device stage old here new next =
 -- a queue that stands open has no part in whether its driver can flush
 stable_in : (kind : DeviceKind) (change : QueueRegisters → QueueRegisters) (w : WindowState)
     → wants_stable (with_registers_in (queue_of kind 0) change w) ≡ wants_stable w
-stable_in Block change w = refl
-stable_in Console change w = refl
+stable_in _ change w = refl
 
 stable_open : (w : WindowState) (ring : Queue) → wants_stable (with_ring 0 w ring) ≡ wants_stable w
 stable_open w ring =

@@ -8,7 +8,6 @@ use Rattle.chain.specs.declared.segment.Buffer.{Buffer}
 use Rattle.chain.specs.declared.segment.Segment.{Segment}
 use Rattle.chain.specs.Service.{Spent}
 use Rattle.mmio_window.specs.declared.device_kind.DeviceKind.{DeviceKind}
-use Rattle.mmio_window.specs.declared.device_kind.DeviceKind.TheVariants.{Block, Console}
 use Rattle.mmio_window.specs.declared.queue.Queue.{Queue}
 use Rattle.mmio_window.specs.declared.queue_registers.QueueRegisters.{QueueRegisters}
 use Rattle.mmio_window.specs.declared.stage.Stage.{Stage}
@@ -35,8 +34,7 @@ use Rattle.board.proofs.Looking.{IsLeftByLandings, IsLeftByLooks, landing_left, 
 
 registers_kept : (kind : DeviceKind) (change : QueueRegisters → QueueRegisters) (w : WindowState)
     → KeepsDevice w (with_registers_in (queue_of kind 0) change w)
-registers_kept Block change w = record { kind = refl; offered = refl; generation = λ never. refl }
-registers_kept Console change w = record { kind = refl; offered = refl; generation = λ never. refl }
+registers_kept _ change w = record { kind = refl; offered = refl; generation = λ never. refl }
 
 ring_kept : (w : WindowState) (ring : Queue) → KeepsDevice w (with_ring 0 w ring)
 ring_kept w ring = registers_kept w.kind (λ registers. record registers { ring = Some ring }) w

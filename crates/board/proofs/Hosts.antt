@@ -3,19 +3,21 @@ use Rattle.std.proofs.Common.{◌≡◌, ◌≢◌, ℕ, zero, Bool, true, false
 use Rattle.std.specs.Prelude.{◌&&◌, ◌||◌, if◌then◌else◌, IfErr, IsSome, OnErr, OnOk, Ok, Err, Result, is_some}
 use Rattle.chain.specs.declared.budget.Budget.{Budget}
 use Rattle.block_device.specs.Flights.{is_any}
-use Rattle.mmio_window.specs.declared.device_kind.DeviceKind.{DeviceKind}
-use Rattle.mmio_window.specs.declared.device_kind.DeviceKind.TheVariants.{Block}
+use Rattle.board.specs.declared.event.SlotWindow.{SlotWindow}
+use Rattle.board.specs.declared.event.SlotWindow.TheVariants.{Block}
 use Rattle.board.specs.declared.event.EventKind.{EventKind}
 use Rattle.board.specs.declared.event.HostEvent.{HostEvent}
-use Rattle.board.specs.declared.event.EventKind.TheVariants.{Write, Input, Restore, Host}
+use Rattle.board.specs.declared.event.DeviceEvent.{DeviceEvent}
+use Rattle.board.specs.declared.event.EventKind.TheVariants.{Write, Input, Restore, Host, Device}
 use Rattle.board.specs.declared.pause.Pause.{Pause}
 use Rattle.board.specs.declared.pause.Service.{Service}
 use Rattle.mmio_window.specs.declared.stage.Stage.TheVariants.{Next}
 use Rattle.board.specs.declared.pause.Turn.{Turn}
 use Rattle.board.specs.declared.pause.Turn.TheVariants.{Answered}
 use Rattle.board.specs.declared.reply.Reply.{Reply}
-use Rattle.board.specs.declared.reply.Reply.TheVariants.{Busy}
+use Rattle.board.specs.declared.reply.Reply.TheVariants.{Busy, NoMemory}
 use Rattle.board.specs.Backing.{HostDisk, tags_in}
+use Rattle.board.specs.Devices.{GivesDevice}
 use Rattle.board.specs.Hosting.{HostGives, HostOrGives, LooksAtQueue, OwnGives, has_part, is_block_task, must_wait, notifies_block, told_in, waits_now}
 use Rattle.board.specs.Image.{Health, sectors_of}
 use Rattle.board.specs.Outcome.{Outcome, does, replies}
@@ -33,6 +35,7 @@ use Rattle.mmio_window.specs.declared.action.Action.{Action}
 use Rattle.mmio_window.specs.declared.action.Action.TheVariants as action
 use Rattle.board.specs.Within.{BeginsWithin, BeginsWithinOverImage, TakesWithin, TurnWithin}
 use Rattle.board.specs.World.{MayGive, MayGiveBy, MayGiveOverImage}
+use Rattle.board.proofs.FurtherDevices.{device_given}
 use Rattle.board.proofs.OnHost.{passes_by, turns_as}
 use Rattle.board.proofs.Ways.{must_by}
 
@@ -97,6 +100,15 @@ pub input_passes : (A : Type 0) (host : Option HostDisk) (bytes : List ℕ) (sta
     → has_part {A = A} host (Input bytes) state ≡ false
 input_passes A host bytes state =
     no_part {A = A} host (Input bytes) state refl (no_wait (is_any (tags_in state.host))) refl
+
+-- in what is done to a further device it has none
+pub device_passes : {A : Type 0} (n : ℕ) (what : DeviceEvent A) (old new : SlotState) (reply : Reply A)
+    (health : Health) → reply ≢ NoMemory → GivesDevice n what old health health (replies new reply)
+    → MayGive old (Device n what) health health (replies new reply)
+device_passes n what old new reply health answered h =
+    passes_by old.host old (Device n what) health (replies new reply)
+    (no_part old.host (Device n what) old refl (no_wait (is_any (tags_in old.host))) refl)
+    (device_given n what old new reply health answered h)
 
 -- a service of the console goes on as over an image
 pub goes_on : (host : Option HostDisk) (which : Service) → which ≢ service.Block
@@ -212,7 +224,7 @@ silent_write limit state new offset width value waiting reply (PutOut byte) is =
     absurd (block_puts (action_at Block offset width value state) byte is)
 silent_write limit state new offset width value waiting reply _ is = rw is tt
 
-ring_silent : {A : Type 0} (limit : ℕ) (state new : SlotState) (window : DeviceKind) (offset width value : ℕ)
+ring_silent : {A : Type 0} (limit : ℕ) (state new : SlotState) (window : SlotWindow) (offset width value : ℕ)
     (waiting : List ℕ) (reply : Reply A) (task : Task) → task_at window offset width value state ≡ task
     → is_block_task task ≡ true
     → TakesWithin limit state (Write window offset width value) new waiting waiting reply

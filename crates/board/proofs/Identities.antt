@@ -3,11 +3,11 @@
 use Rattle.std.proofs.Common.{◌≡◌, inl, inr, ℕ, List, [], ◌∷◌, refl, sym, ap, ◌∙◌}
 use Rattle.std.specs.Prelude.{⊤}
 use Rattle.std.proofs.Math.Seq.{map-set_same}
-use Rattle.mmio_window.specs.declared.device_kind.DeviceKind.{DeviceKind}
-use Rattle.mmio_window.specs.declared.device_kind.DeviceKind.TheVariants.{Block, Console}
+use Rattle.board.specs.declared.event.SlotWindow.{SlotWindow}
+use Rattle.board.specs.declared.event.SlotWindow.TheVariants.{Block, Console}
 use Rattle.board.specs.declared.event.Event.{Event}
 use Rattle.board.specs.declared.event.EventKind.{EventKind}
-use Rattle.board.specs.declared.event.EventKind.TheVariants.{Write, MemRead, MemWrite, Input, Restore}
+use Rattle.board.specs.declared.event.EventKind.TheVariants.{Write, MemRead, MemWrite, Input, Restore, Device}
 use Rattle.board.specs.declared.reply.Record.{Record}
 use Rattle.board.specs.declared.pause.Service.TheVariants as service
 use Rattle.board.specs.Hosting.{IsNoRestore}
@@ -19,6 +19,7 @@ use Rattle.board.specs.Slot.{SlotState}
 use Rattle.board.specs.Task.{Task, Nothing, Serve, PutOut, Finishes}
 use Rattle.board.specs.World.{World, MayGive, Step, identities_of}
 use Rattle.std.proofs.lemmas.Option.{get_or_from_slice_get}
+use Rattle.board.proofs.FurtherDevices.{device_rest}
 use Rattle.board.proofs.Replies.{of_read, of_write}
 use Rattle.board.proofs.Restoring.{restored_host, restored_named}
 use Rattle.board.proofs.Refusals.{Failed, Unput, Unread, Unsent, was_refused}
@@ -47,7 +48,7 @@ same : {Keeps : Type 0} (state : SlotState) → Fixed Keeps state state
 same state = record { identity = refl; host = refl; on_hold = λ keeps. refl }
 
 -- a write of a window's registers
-write_fixed : {Keeps : Type 0} (window : DeviceKind) (offset width value : ℕ) (state : SlotState)
+write_fixed : {Keeps : Type 0} (window : SlotWindow) (offset width value : ℕ) (state : SlotState)
     → Fixed Keeps state (with_write window offset width value state)
 write_fixed Block offset width value state = record { identity = refl; host = refl; on_hold = λ keeps. refl }
 write_fixed Console offset width value state = record { identity = refl; host = refl; on_hold = λ keeps. refl }
@@ -90,6 +91,8 @@ served_fixed state (Restore bytes) old new outcome h = record {
   host = restored_host state bytes outcome h.alike;
   on_hold = λ keeps. absurd keeps;
 }
+served_fixed state (Device n what) old new outcome h =
+    fixed state outcome _ (device_rest n what state old new outcome h) refl refl refl
 served_fixed state _ old new outcome h = fixed state outcome _ h.alike refl refl refl
 
 pub given_fixed : {A : Type 0} (state : SlotState) (what : EventKind A) (old new : Health)
@@ -101,7 +104,7 @@ given_fixed state what old new outcome (inr h) =
       | Failed block h ↦ fixed state outcome _ h.service.is refl refl refl
       | Unsent console puts h ↦ fixed state outcome _ h.is refl refl refl
       | Unput console puts h ↦ fixed state outcome _ h.alike refl refl refl
-      | Unread addr len is h ↦ fixed state outcome _ h.alike refl refl refl
+      | Unread is h ↦ fixed state outcome _ h.alike refl refl refl
     ]
 
 -- ---- a guest whose disk the host serves

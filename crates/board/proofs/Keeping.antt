@@ -12,7 +12,7 @@ use Rattle.sector_cache.specs.Disk.{Disk, written}
 use Rattle.sector_cache.specs.Sector.{with_sector}
 use Rattle.sector_cache.proofs.Sectors.{length-with_sector}
 use Rattle.mmio_window.specs.declared.action.Action.TheVariants as action
-use Rattle.mmio_window.specs.declared.device_kind.DeviceKind.TheVariants.{Console}
+use Rattle.board.specs.declared.event.SlotWindow.TheVariants.{Console}
 use Rattle.mmio_window.specs.declared.queue.Queue.{Queue}
 use Rattle.mmio_window.specs.Queue.{queue_kind}
 use Rattle.mmio_window.specs.Window.{WindowState, queue_at}
@@ -228,7 +228,7 @@ beside_over_image state what before after outcome rose (inr h) =
           record { rest = kept.rest; memory = kept.memory; extent = kept.extent }
       | Unsent console puts h ↦ absurd (never before after rose h.image)
       | Unput console puts h ↦ absurd (never before after rose h.image)
-      | Unread addr len is h ↦ absurd (never before after rose h.image)
+      | Unread is h ↦ absurd (never before after rose h.image)
     ]
 
 given_beside : {A : Type 0} (state : SlotState) (what : EventKind A) (before after : Health)
@@ -386,7 +386,7 @@ lacks_over_image state what old new outcome lacks (inr h) =
       | Unput console puts h ↦
           let kept = unchanged_beside (record state { console = console }) outcome h.alike in
           record { slot = record { rest = kept.rest; memory = kept.memory }; image = h.image }
-      | Unread addr len is h ↦ record { slot = unchanged_beside state outcome h.alike; image = h.image }
+      | Unread is h ↦ record { slot = unchanged_beside state outcome h.alike; image = h.image }
     ]
 
 pub lacking_event_keeps : {A : Type 0} (old new : World) (e : Event A) (written : Record A)

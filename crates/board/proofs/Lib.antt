@@ -3,6 +3,7 @@ pub mod Saving
 pub mod Restoring
 pub mod OneRun
 pub mod Blocks
+pub mod FurtherDevices
 pub mod Outside
 pub mod Lists
 pub mod Seats

@@ -17,7 +17,7 @@ use Rattle.board.proofs.Steps.{noted_along}
 lacks : {A : Type 0} (answer : Reply A) → lacks_memory answer ≡ false → answer ≢ reply.NoMemory
 lacks answer has none = let said : lacks_memory answer ≡ true = ap lacks_memory none in cc
 
-had_memory : {A : Type 0} (answer : Reply A) → answer ≢ reply.NoMemory → lacks_memory answer ≡ false
+pub had_memory : {A : Type 0} (answer : Reply A) → answer ≢ reply.NoMemory → lacks_memory answer ≡ false
 had_memory reply.NoMemory had = absurd (had refl)
 had_memory _ had = refl
 

@@ -1,13 +1,13 @@
 -- The one-slot machine is deterministic, and how its image fared before an event is never seen.
 use Rattle.std.proofs.Common.{◌≡◌, ℕ, Bool, true, false, Option, Some, None, List, [], refl, sym, ◌∙◌, ap, subst}
 use Rattle.guest_memory.specs.Memory.{Memory}
-use Rattle.chain.specs.Service.{Device, Site, Ending, IsService, HasAtMostOneAnswer}
+use Rattle.chain.specs.Service.{Site, HasAtMostOneAnswer}
 use Rattle.chain.proofs.Servicing.{at_most_one_service, never_refused}
 use Rattle.sector_cache.specs.Disk.{Disk}
 use Rattle.mmio_window.specs.declared.queue.Queue.{Queue}
 use Rattle.mmio_window.specs.Queue.{queue_kind}
-use Rattle.mmio_window.specs.Serving.{IsNotified, after_service}
-use Rattle.mmio_window.specs.Window.{WindowState, with_ring, queue_at}
+use Rattle.mmio_window.specs.Window.{WindowState, queue_at}
+use Rattle.mmio_window.proofs.OneEnd.{SameEnd, HasOneService, one_end}
 use Rattle.mmio_window.proofs.QueueKind.{has_at_most_one_chain}
 use Rattle.block_device.specs.declared.device.BlockDevice.{BlockDevice}
 use Rattle.block_device.specs.Device.{exact_device}
@@ -18,6 +18,7 @@ use Rattle.console_device.proofs.Services.{receive_once, receive_never_refused}
 use Rattle.board.specs.declared.event.EventKind.{EventKind}
 use Rattle.board.specs.declared.event.HostEvent.{HostEvent}
 use Rattle.board.specs.declared.event.EventKind.TheVariants.{Write, Input, Restore}
+use Rattle.board.specs.declared.event.EventKind.TheVariants as event
 use Rattle.board.specs.declared.reply.Reply.{Reply}
 use Rattle.board.specs.declared.reply.Reply.TheVariants.{Done, Took}
 use Rattle.board.specs.declared.reply.Record.{Record}
@@ -29,6 +30,7 @@ use Rattle.board.specs.Machine.{task_at, with_write, with_input, Gives, GivesBy,
 use Rattle.board.specs.Outcome.{Outcome, replies, does}
 use Rattle.board.specs.Slot.{SlotState}
 use Rattle.board.specs.Task.{Task, Nothing, Serve, PutOut, device_of, IsBlockService, IsReceiveService, IsTransmitService, Finishes}
+use Rattle.board.proofs.FurtherDevices.{device_anyhow, device_once}
 use Rattle.board.proofs.Guests.{AtRest, exact_at_rest}
 use Rattle.board.proofs.OneHosted.{hosted_once}
 use Rattle.board.proofs.Restoring.{restored_once}
@@ -70,6 +72,8 @@ rests_over_image state (Write window offset width value) before after outcome h 
     record { after = rested.health; gives = rested.finishes }
 rests_over_image state (Input bytes) before after outcome h =
     record { after = at_rest; gives = record { notified = h.notified; is = h.is; image = refl } }
+rests_over_image state (event.Device n what) before after outcome h =
+    record { after = at_rest; gives = device_anyhow n what state before after at_rest outcome h }
 rests_over_image state _ before after outcome h =
     record { after = at_rest; gives = record { alike = h.alike; image = refl } }
 
@@ -90,6 +94,8 @@ rests_beside state (Write window offset width value) health outcome quiet h =
     health outcome quiet h
 rests_beside state (Input bytes) health outcome quiet h =
     record { notified = h.notified; is = h.is; image = refl }
+rests_beside state (event.Device n what) health outcome quiet h =
+    device_anyhow n what state health health at_rest outcome h
 rests_beside state _ health outcome quiet h =
     record { alike = h.alike; image = refl }
 
@@ -142,44 +148,6 @@ next_of state what before after outcome h = next_by state.host state what before
 
 -- ---- there is at most one outcome
 
--- what two services leave is the same
-record SameEnd {State : Type 0} (m n : Memory) (v w : WindowState) (s t : State) : Type 0 where
-  memory : m ≡ n
-  window : v ≡ w
-  state : s ≡ t
-
--- from a state there is at most one service
-abbrev HasOneService : {State : Type 0} → Device State → State → Type 0
-HasOneService {State} device s =
-    (m : Memory) (queue : Queue) (a b : Site Queue State) (e f : Ending) (v w : Bool)
-    → IsService queue_kind device (record { memory = m; ring = queue; state = s }) a e v
-    → IsService queue_kind device (record { memory = m; ring = queue; state = s }) b f w
-    → (a ≡ b) × (e ≡ f) × (v ≡ w)
-
-notified_once : {State : Type 0} (device : Device State) (q : ℕ) (queue : Option Queue) (old m n : Memory)
-    (before v w : WindowState) (s0 s t : State) → HasOneService device s0
-    → IsNotified device q queue old m before v s0 s → IsNotified device q queue old n before w s0 t
-    → SameEnd m n v w s t
-notified_once device q None old m n before v w s0 s t once a b = record {
-  memory = a.notified.1.memory ∙ sym b.notified.1.memory;
-  window = a.notified.1.window ∙ sym b.notified.1.window;
-  state = a.notified.1.state ∙ sym b.notified.1.state;
-}
-notified_once {State} device q (Some queue) old m n before v w s0 s t once a b =
-    let x = a.notified in
-    let y = b.notified in
-    let one : Site Queue State = record { memory = m; ring = x.last; state = s } in
-    let other : Site Queue State = record { memory = n; ring = y.last; state = t } in
-    let same = once old queue one other a.ending b.ending x.wanted y.wanted x.service y.service in
-    let ring : x.last ≡ y.last = ap (λ (z : Site Queue State). z.ring) same.0 in
-    record {
-      memory = ap (λ (z : Site Queue State). z.memory) same.0;
-      window = x.window ∙ (ap (λ (r : Queue). after_service a.ending x.wanted (with_ring q before r)) ring
-          ∙ (ap (λ (e : Ending). after_service e x.wanted (with_ring q before y.last)) same.1
-          ∙ (ap (λ (z : Bool). after_service b.ending z (with_ring q before y.last)) same.2 ∙ sym y.window)));
-      state = ap (λ (z : Site Queue State). z.state) same.0;
-    }
-
 -- of the block device over a disk that tells its bytes
 one_block : (device : BlockDevice) (bytes : List ℕ) (health : Health)
     → HasOneService (exact_device device) (disk_with bytes health)
@@ -221,7 +189,7 @@ block_once : {A : Type 0} (device : BlockDevice) (old : SlotState) (h k : Health
 block_once device old h k one other a b =
     let end : SameEnd one.state.memory other.state.memory one.state.block other.state.block
     (disk_with one.state.extent h) (disk_with other.state.extent k) =
-    notified_once (exact_device device) 0 (queue_at 0 old.block) old.memory one.state.memory
+    one_end (exact_device device) 0 (queue_at 0 old.block) old.memory one.state.memory
     other.state.memory old.block one.state.block other.state.block (disk_with old.extent at_rest)
     (disk_with one.state.extent h) (disk_with other.state.extent k) (one_block device old.extent at_rest)
     a.notified b.notified in
@@ -244,7 +212,7 @@ received_once : {A : Type 0} (old : SlotState) (reply : Reply A) (h k : Health) 
 received_once old reply h k one other a b =
     let end : SameEnd one.state.memory other.state.memory one.state.console other.state.console
     one.state.pending other.state.pending =
-    notified_once receive 0 (queue_at 0 old.console) old.memory one.state.memory other.state.memory
+    one_end receive 0 (queue_at 0 old.console) old.memory one.state.memory other.state.memory
     old.console one.state.console other.state.console old.pending one.state.pending other.state.pending
     (one_receive old.pending) a.notified b.notified in
     a.is ∙ (ap (λ (s : SlotState). replies s reply)
@@ -265,7 +233,7 @@ transmitted_once : {A : Type 0} (old : SlotState) (h k : Health) (one other : Ou
 transmitted_once old h k one other a b =
     let end : SameEnd one.state.memory other.state.memory one.state.console other.state.console
     one.output other.output =
-    notified_once exact_transmit 1 (queue_at 1 old.console) old.memory one.state.memory other.state.memory
+    one_end exact_transmit 1 (queue_at 1 old.console) old.memory one.state.memory other.state.memory
     old.console one.state.console other.state.console [] one.output other.output (one_transmit [])
     a.notified b.notified in
     a.is ∙ (same_transmitted old one.state.memory other.state.memory one.state.console other.state.console
@@ -288,6 +256,7 @@ over_image_once state (Input bytes) h k one other a b =
     received_once (with_input bytes state) (Took (fitting state.pending bytes)) h k one other a b
 over_image_once state (Restore bytes) h k one other a b =
     restored_once state bytes one other a.alike b.alike
+over_image_once state (event.Device n what) h k one other a b = device_once n what state at_rest h k one other a b
 over_image_once state _ h k one other a b = a.alike ∙ sym b.alike
 
 -- and whoever has the guest's disk

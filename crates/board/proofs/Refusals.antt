@@ -1,12 +1,12 @@
 -- An event that was refused was so in one of four ways.
-use Rattle.std.proofs.Common.{◌≡◌, ◌⊎◌, inl, inr, ℕ, zero, suc, ◌%◌, ◌==◌, Bool, true, false, refl}
-use Rattle.std.specs.Prelude.{if◌then◌else◌, ◌^◌}
+use Rattle.std.proofs.Common.{◌⊎◌, inl, inr, ℕ, zero, suc, ◌%◌, ◌==◌, Bool, true, false}
+use Rattle.std.specs.Prelude.{if◌then◌else◌, ◌^◌, ⊤}
 use Rattle.mmio_window.specs.declared.action.Action.{Action}
 use Rattle.mmio_window.specs.declared.action.Action.TheVariants as action
-use Rattle.mmio_window.specs.declared.device_kind.DeviceKind.TheVariants.{Block, Console}
+use Rattle.board.specs.declared.event.SlotWindow.TheVariants.{Block, Console}
 use Rattle.mmio_window.specs.Window.{WindowState}
 use Rattle.board.specs.declared.event.EventKind.{EventKind}
-use Rattle.board.specs.declared.event.EventKind.TheVariants.{Write, MemRead}
+use Rattle.board.specs.declared.event.EventKind.TheVariants.{Write, MemRead, Device}
 use Rattle.board.specs.declared.reply.Reply.TheVariants.{NoMemory}
 use Rattle.board.specs.Image.{Health}
 use Rattle.board.specs.Machine.{action_at, with_write}
@@ -16,7 +16,13 @@ use Rattle.board.specs.Task.{Nothing, PutOut, emergency_write, task_of}
 use Rattle.board.specs.Within.{IsPuttingOut, MayPutOut}
 use Rattle.board.specs.World.{IsCutShort, IsFailedService, IsRefused, IsRefusedTransmit}
 
--- Calls of the image failed; or there was no memory for the bytes of a chain, for one byte, or for a read.
+-- an event is no write of a window
+abbrev IsNoWrite : {A : Type 0} → EventKind A → Type 0
+IsNoWrite (Write window offset width value) = ⊥
+IsNoWrite what = ⊤
+
+-- Calls of the image failed; or there was no memory for the bytes of a chain, for one byte, for a read, or for what
+-- is done to a further device.
 pub data WasRefused {A : Type 0} (state : SlotState) (what : EventKind A) (old new : Health)
     (outcome : Outcome A) : Type 0 where
   Failed :
@@ -31,7 +37,7 @@ pub data WasRefused {A : Type 0} (state : SlotState) (what : EventKind A) (old n
       → IsDetermined outcome (replies (record state { console = console }) NoMemory) old new
       → WasRefused state what old new outcome
   Unread :
-      (addr len : ℕ) → what ≡ MemRead addr len → IsDetermined outcome (replies state NoMemory) old new
+      IsNoWrite what → IsDetermined outcome (replies state NoMemory) old new
       → WasRefused state what old new outcome
 
 block_refused : {A : Type 0} (act : Action) (state : SlotState) (old new : Health) (outcome : Outcome A)
@@ -80,5 +86,7 @@ was_refused state (Write Console offset width value) old new outcome h =
     new
     outcome came.0 came.1
 was_refused state (MemRead addr len) old new outcome h =
-    Unread addr len refl (record { alike = h.unchanged; image = h.image })
+    Unread tt (record { alike = h.unchanged; image = h.image })
+was_refused state (Device n what) old new outcome h =
+    Unread tt (record { alike = h.unchanged; image = h.image })
 was_refused state _ old new outcome h = absurd h

@@ -2,11 +2,11 @@
 use Rattle.std.proofs.Common.{◌≡◌, inl, inr, ℕ, Bool, true, false, Some, List, length, sym, ap, subst}
 use Rattle.std.specs.Prelude.{if◌then◌else◌}
 use Rattle.guest_memory.specs.Memory.{is_inside, part_of, stored}
-use Rattle.mmio_window.specs.declared.device_kind.DeviceKind.{DeviceKind}
+use Rattle.board.specs.declared.event.SlotWindow.{SlotWindow}
 use Rattle.board.specs.declared.event.EventKind.{EventKind}
 use Rattle.board.specs.declared.event.HostEvent.{HostEvent}
 use Rattle.board.specs.declared.event.HostEvent.TheVariants.{Complete, Drop, Hold, Release}
-use Rattle.board.specs.declared.event.EventKind.TheVariants.{Read, Write, MemRead, MemWrite, Input, Restore, Host}
+use Rattle.board.specs.declared.event.EventKind.TheVariants.{Read, Write, MemRead, MemWrite, Input, Restore, Host, Device}
 use Rattle.board.specs.declared.reply.Reply.{Reply}
 use Rattle.board.specs.declared.reply.Reply.TheVariants.{Done, Bytes, BadRange, BadState, Busy, Idle, NoMemory}
 use Rattle.board.specs.declared.pause.Service.TheVariants.{Block}
@@ -21,6 +21,7 @@ use Rattle.board.specs.Restoring.{IsRestoring}
 use Rattle.board.specs.Slot.{SlotState}
 use Rattle.board.specs.Task.{Task, Nothing, Serve, PutOut, Finishes}
 use Rattle.board.specs.World.{MayGive, MayGiveOverImage}
+use Rattle.board.proofs.FurtherDevices.{device_replies, never_idle, never_waiting, unmet_replies}
 use Rattle.board.proofs.Refusals.{Failed, Unput, Unread, Unsent, WasRefused, was_refused}
 use Rattle.board.proofs.Ways.{Drops, Holds, Lands, Looks, Passes, Releases, Rests, Waits, Way, by_disk, must_by}
 
@@ -65,7 +66,7 @@ restore_replies {A} state bytes outcome (inl taken) =
 restore_replies {A} state bytes outcome (inr refused) =
     by_reply (Restore bytes) outcome.reply BadState (ap (λ (o : Outcome A). o.reply) refused.1) tt
 
-refused_replies : {A : Type 0} (window : DeviceKind) (offset width value : ℕ) (state : SlotState)
+refused_replies : {A : Type 0} (window : SlotWindow) (offset width value : ℕ) (state : SlotState)
     (old new : Health) (outcome : Outcome A) → WasRefused state (Write window offset width value) old new
     outcome
     → MayReplyOverImage (Write window offset width value) outcome.reply
@@ -78,7 +79,7 @@ refused_replies {A} window offset width value state old new outcome (Unsent cons
 refused_replies {A} window offset width value state old new outcome (Unput console puts h) =
     by_reply (Write window offset width value) outcome.reply NoMemory (ap (λ (o : Outcome A). o.reply)
     h.alike) tt
-refused_replies window offset width value state old new outcome (Unread addr len is h) = absurd (cc)
+refused_replies window offset width value state old new outcome (Unread is h) = absurd is
 
 pub given_over_image : {A : Type 0} (state : SlotState) (what : EventKind A) (old new : Health)
     (outcome : Outcome A) → MayGiveOverImage state what old new outcome
@@ -101,12 +102,17 @@ given_over_image state (Write window offset width value) old new outcome (inr re
     refused_replies window offset width value state old new outcome
     (was_refused state (Write window offset width value) old new outcome refused)
 given_over_image {A} state (MemRead addr len) old new outcome (inr unread) = rw unread.unchanged tt
+given_over_image state (Device n what) old new outcome (inl served) =
+    device_replies n what state old new outcome served.alike
+given_over_image state (Device n what) old new outcome (inr unmet) =
+    unmet_replies n what state old new outcome unmet
 given_over_image state _ old new outcome (inr never) = absurd never
 given_over_image state _ old new outcome (inl served) = rw served.alike.alike tt
 
 -- over an image no event is told that its slot is busy
 pub never_busy : {A : Type 0} (what : EventKind A) → MayReplyOverImage what Busy → ⊥
 never_busy (Read window offset width) may = may
+never_busy (Device n what) may = never_waiting what may
 never_busy _ may = may
 
 -- the host alone says what there is nothing to do for, and the image has no part in it
@@ -116,6 +122,7 @@ pub idle_tells : {A : Type 0} (state : SlotState) (what : EventKind A) (old new 
 idle_tells state (Host said) old new outcome may (inl served) =
     (served.alike.alike, served.alike.image)
 idle_tells state (Host said) old new outcome may (inr never) = absurd never
+idle_tells state (Device n what) old new outcome may h = absurd (never_idle what may)
 idle_tells state _ old new outcome may h = absurd may
 
 -- ---- whoever has the disk

@@ -152,6 +152,7 @@ suits_in image slot saved counted suits = record {
   block = suits.block;
   console = suits.console;
   on_hold = suits.on_hold;
+  devices = suits.devices;
 }
 
 suits_out : (image : List ℕ) (slot : BoardSlot) (saved : SavedSlot) → IsCounted image slot
@@ -165,6 +166,7 @@ suits_out image slot saved counted suits = record {
   block = suits.block;
   console = suits.console;
   on_hold = suits.on_hold;
+  devices = suits.devices;
 }
 
 taken_in : (image : List ℕ) (slot new : BoardSlot) (bytes : List ℕ) → IsCounted image slot

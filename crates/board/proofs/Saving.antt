@@ -40,7 +40,7 @@ block_it m w never restores other same = never_counted w.config_generation _ nev
 
 -- the snapshot of a slot that is sound
 is_snapshot : (slot : BoardSlot) (bytes : List ℕ)
-    → IsSoundSlot slot.memory slot.read_only slot.block slot.console slot.pending
+    → IsSoundSlot slot.memory slot.read_only slot.block slot.console slot.pending slot.devices
     → ((m : Memory) → IsSound m slot.block
     → window_restored slot.block.kind m (saved_window slot.block) ≡ Some slot.block)
     → ((m : Memory) → IsSound m slot.console → window_restored slot.console.kind m (saved_window slot.console)
@@ -57,7 +57,7 @@ is_snapshot slot bytes sound block console spelled = record {
 -- what was written of it
 pub saved_as : {V E : Type 0} (items : V → List ℕ) (result : Result V E) (slot : BoardSlot)
     (saved : SavedSlot) (front back : List ℕ)
-    → IsSoundSlot slot.memory slot.read_only slot.block slot.console slot.pending → saved ≡ saved_slot slot
+    → IsSoundSlot slot.memory slot.read_only slot.block slot.console slot.pending slot.devices → saved ≡ saved_slot slot
     → front ++ back ≡ slot.pending
     → ((m : Memory) → IsSound m slot.block → window_restored slot.block.kind m saved.block ≡ Some slot.block)
     → ((m : Memory) → IsSound m slot.console → window_restored slot.console.kind m saved.console
@@ -71,7 +71,7 @@ saved_as items (Err why) slot saved front back sound is pending block console te
 -- the same in a buffer
 pub saved_to_as : {E : Type 0} (result : Result ℕ E) (slot : BoardSlot) (saved : SavedSlot)
     (front back old new : List ℕ)
-    → IsSoundSlot slot.memory slot.read_only slot.block slot.console slot.pending → saved ≡ saved_slot slot
+    → IsSoundSlot slot.memory slot.read_only slot.block slot.console slot.pending slot.devices → saved ≡ saved_slot slot
     → front ++ back ≡ slot.pending
     → ((m : Memory) → IsSound m slot.block → window_restored slot.block.kind m saved.block ≡ Some slot.block)
     → ((m : Memory) → IsSound m slot.console → window_restored slot.console.kind m saved.console
@@ -111,6 +111,7 @@ suits_it slot other bytes is like offers = record {
   block = is.offers.block ∙ ap block_features (sym like.read_only) ∙ sym offers.block;
   console = is.offers.console ∙ sym offers.console;
   on_hold = like.on_hold;
+  devices = refl;
 }
 
 -- a slot that has taken it up is as the one that was saved

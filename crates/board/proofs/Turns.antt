@@ -28,7 +28,7 @@ use Rattle.block_device.specs.Outcome.{Outcome, Completes, Ends}
 use Rattle.block_device.proofs.Exact.{exact_unless}
 use Rattle.block_device.proofs.Guests.{Same, does_anywhere, guest_device}
 use Rattle.console_device.specs.Device.{Fits, MayRefuse, exact_transmit, transmit, transmit_fitting, transmit_within, transmitted}
-use Rattle.mmio_window.specs.declared.device_kind.DeviceKind.{DeviceKind}
+use Rattle.board.specs.declared.event.SlotWindow.{SlotWindow}
 use Rattle.board.specs.declared.event.EventKind.{EventKind}
 use Rattle.board.specs.declared.event.EventKind.TheVariants.{Write}
 use Rattle.board.specs.declared.pause.Pause.{Pause}
@@ -355,7 +355,7 @@ at_once what budget state old new after reply out out' is h = record {
 }
 
 -- what comes of a write, by the task that it leaves
-pub task_given : {A : Type 0} (state : SlotState) (window : DeviceKind) (task : Task) (offset width value : ℕ)
+pub task_given : {A : Type 0} (state : SlotState) (window : SlotWindow) (task : Task) (offset width value : ℕ)
     (old new : Health) (outcome : Came A) → task_at window offset width value state ≡ task
     → (Finishes task (with_write window offset width value state) old new outcome
     × ((outcome.reply ≢ NoMemory) × (new.failures ≡ old.failures)))
@@ -372,7 +372,7 @@ task_given {A} state window task offset width value old new outcome is (inr h) =
     outcome) (sym is) h)
 
 -- a write that leaves nothing
-pub nothing_turn : {A : Type 0} (state : SlotState) (window : DeviceKind) (offset width value : ℕ)
+pub nothing_turn : {A : Type 0} (state : SlotState) (window : SlotWindow) (offset width value : ℕ)
     (budget : Budget) (health : Health) (out : List ℕ) → task_at window offset width value state ≡ Nothing
     → ServesTurn (BeginsOverImage {A = A} (Write window offset width value) budget) state health health
     (with_write window offset width value state) (Answered Done) out out
@@ -387,7 +387,7 @@ nothing_turn {A} state window offset width value budget health out is =
     })
 
 -- or a byte to be put out
-pub put_out_turn : {A E : Type 0} (state : SlotState) (window : DeviceKind) (offset width value byte : ℕ)
+pub put_out_turn : {A E : Type 0} (state : SlotState) (window : SlotWindow) (offset width value byte : ℕ)
     (budget : Budget) (health : Health) (before after : List ℕ) (r : Result (Unit {0}) E) (reply : Reply A)
     → task_at window offset width value state ≡ PutOut byte
     → OnOk r (after ≡ before ++ byte ∷ []) → OnErr r (after ≡ before) → OnOk r (reply ≡ Done)
@@ -448,7 +448,7 @@ put_within limit o byte state waiting left (Err x) reply limited put fits kept p
     let full : MayRefuse (Some limit) (length waiting + 1) = rw limited at past in
     record { stays = refl; fits = λ some. absurd (omega (arith, full, some)); refused = λ past. (kept, none) }
 
-pub put_out_within : {A E : Type 0} (limit : ℕ) (o : Option ℕ) (state : SlotState) (window : DeviceKind)
+pub put_out_within : {A E : Type 0} (limit : ℕ) (o : Option ℕ) (state : SlotState) (window : SlotWindow)
     (offset width value byte : ℕ) (budget : Budget) (waiting left : List ℕ) (r : Result (Unit {0}) E)
     (reply : Reply A) → o ≡ Some limit
     → task_at window offset width value state ≡ PutOut byte

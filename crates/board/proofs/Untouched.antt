@@ -2,12 +2,13 @@
 use Rattle.std.proofs.Common.{◌≡◌, inl, inr, ℕ, Bool, true, false, Option, Some, None, List, refl, sym, ◌∙◌, ap, subst}
 use Rattle.std.specs.Prelude.{IsSome}
 use Rattle.guest_memory.specs.Memory.{Memory, SameRange}
-use Rattle.mmio_window.specs.declared.device_kind.DeviceKind.{DeviceKind}
-use Rattle.mmio_window.specs.declared.device_kind.DeviceKind.TheVariants.{Block, Console}
+use Rattle.mmio_window.specs.declared.device_kind.DeviceKind.TheVariants as kind
+use Rattle.board.specs.declared.event.SlotWindow.{SlotWindow}
+use Rattle.board.specs.declared.event.SlotWindow.TheVariants.{Block, Console}
 use Rattle.mmio_window.specs.Window.{WindowState}
 use Rattle.snapshot.specs.declared.saved.SavedSlot.{SavedSlot}
 use Rattle.board.specs.declared.event.EventKind.{EventKind}
-use Rattle.board.specs.declared.event.EventKind.TheVariants.{Read, Write, MemRead, Resize, Restore, Host}
+use Rattle.board.specs.declared.event.EventKind.TheVariants.{Read, Write, MemRead, Resize, Restore, Host, Device}
 use Rattle.board.specs.declared.event.HostEvent.{HostEvent}
 use Rattle.board.specs.declared.event.HostEvent.TheVariants.{Complete, Drop, Hold, Release}
 use Rattle.block_device.specs.declared.operation.Verdict.{Verdict}
@@ -58,6 +59,7 @@ suits_over old m same saved h = record {
   block = h.block;
   console = h.console;
   on_hold = h.on_hold;
+  devices = h.devices;
 }
 
 module _ (old : SlotState) (m : Memory) (same : SameRange old.memory m) where
@@ -73,7 +75,7 @@ module _ (old : SlotState) (m : Memory) (same : SameRange old.memory m) where
           takes_up = record {
             suits = suits_over old m same saved took.suits;
             block = block_over old.memory m saved.block same ∙ took.block;
-            console = window_over Console old.memory m saved.console same ∙ took.console;
+            console = window_over kind.Console old.memory m saved.console same ∙ took.console;
             is = ap (λ (slot : BoardSlot). record slot { memory = m }) took.is;
           };
         };
@@ -92,7 +94,7 @@ module _ (old : SlotState) (m : Memory) (same : SameRange old.memory m) where
     (
       subst (λ (w : Option WindowState). IsSome w)
           (sym (block_over old.memory m saved.block same)) h.1.0,
-      window_over Console old.memory m saved.console same ∙ h.1.1,
+      window_over kind.Console old.memory m saved.console same ∙ h.1.1,
     ),
   )
 
@@ -129,7 +131,7 @@ saved_over slot m same = rw (same.base, same.size) refl
 -- ---- what a write leaves to be done
 
 -- the slot behind a write, over the other memory
-pub write_over : (window : DeviceKind) (offset width value : ℕ) (old : SlotState) (m : Memory)
+pub write_over : (window : SlotWindow) (offset width value : ℕ) (old : SlotState) (m : Memory)
     → SameRange old.memory m
     → with_write window offset width value (over_memory m old)
     ≡ over_memory m (with_write window offset width value old)
@@ -140,13 +142,13 @@ write_over Console offset width value old m same =
     ap (λ (w : WindowState). record old { memory = m; console = w })
     (written_over offset width value old.memory m old.console same)
 
-write_stays : (window : DeviceKind) (offset width value : ℕ) (old : SlotState)
+write_stays : (window : SlotWindow) (offset width value : ℕ) (old : SlotState)
     → (with_write window offset width value old).memory ≡ old.memory
 write_stays Block offset width value old = refl
 write_stays Console offset width value old = refl
 
 -- and it leaves the same
-pub task_over : (window : DeviceKind) (offset width value : ℕ) (old : SlotState) (m : Memory)
+pub task_over : (window : SlotWindow) (offset width value : ℕ) (old : SlotState) (m : Memory)
     → task_at window offset width value (over_memory m old) ≡ task_at window offset width value old
 task_over Block offset width value old m = refl
 task_over Console offset width value old m = refl
@@ -204,6 +206,7 @@ refused_over old (Write window offset width value) m before after outcome none s
       rw (write_over window offset width value old m same, task_over window offset width value old m) cut.1,
     )
 refused_over old (MemRead addr len) m before after outcome none same h = absurd (cc (none))
+refused_over old (Device n what) m before after outcome none same h = absurd (cc (none))
 refused_over old what m before after outcome none same h = absurd h
 
 may_over : {A : Type 0} (old : SlotState) (what : EventKind A) (m : Memory) (before after : Health)

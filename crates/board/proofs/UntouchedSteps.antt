@@ -7,8 +7,8 @@ use Rattle.std.proofs.lemmas.List.{set-set}
 use Rattle.std.proofs.lemmas.Option.{same_Some}
 use Rattle.guest_memory.specs.Memory.{Memory, SameRange}
 use Rattle.mmio_window.specs.declared.action.Action.TheVariants as action
-use Rattle.mmio_window.specs.declared.device_kind.DeviceKind.{DeviceKind}
-use Rattle.mmio_window.specs.declared.device_kind.DeviceKind.TheVariants.{Block, Console}
+use Rattle.board.specs.declared.event.SlotWindow.{SlotWindow}
+use Rattle.board.specs.declared.event.SlotWindow.TheVariants.{Block, Console}
 use Rattle.mmio_window.specs.declared.register.Register.{Register}
 use Rattle.mmio_window.specs.declared.register.Register.TheVariants.{QueueNotify, Status}
 use Rattle.mmio_window.specs.Configuration.{is_configuration_access, narrowed}
@@ -79,7 +79,7 @@ emergency : (puts : Bool) (byte : ℕ) → serves_queue (if puts then PutOut byt
 emergency true byte = refl
 emergency false byte = refl
 
-configuration_leaves : (window : DeviceKind) (offset width value : ℕ) (is_answered : Bool)
+configuration_leaves : (window : SlotWindow) (offset width value : ℕ) (is_answered : Bool)
     → serves_queue (task_of window
     (if is_answered then action.ConfigWrite offset width (narrowed width value) else action.None)) ≡ false
 configuration_leaves Block offset width value true = refl
@@ -88,18 +88,18 @@ configuration_leaves Console offset width value true =
     emergency (offset == emergency_write) (narrowed width value % 2 ^ 8)
 configuration_leaves Console offset width value false = refl
 
-nothing_leaves : (window : DeviceKind) → serves_queue (task_of window action.None) ≡ false
+nothing_leaves : (window : SlotWindow) → serves_queue (task_of window action.None) ≡ false
 nothing_leaves Block = refl
 nothing_leaves Console = refl
 
-status_leaves : (window : DeviceKind) (resets : Bool)
+status_leaves : (window : SlotWindow) (resets : Bool)
     → serves_queue (task_of window (if resets then action.Reset else action.None)) ≡ false
 status_leaves Block true = refl
 status_leaves Block false = refl
 status_leaves Console true = refl
 status_leaves Console false = refl
 
-register_leaves : (window : DeviceKind) (found : Option Register) (value : ℕ) (w : WindowState)
+register_leaves : (window : SlotWindow) (found : Option Register) (value : ℕ) (w : WindowState)
     → found ≢ Some QueueNotify
     → serves_queue (task_of window (option_map_or (λ r. register_action r value w) found action.None)) ≡ false
 register_leaves window None value w other = nothing_leaves window
@@ -107,7 +107,7 @@ register_leaves window (Some QueueNotify) value w other = absurd (other refl)
 register_leaves window (Some Status) value w other = status_leaves window (value == 0)
 register_leaves window (Some name) value w other = nothing_leaves window
 
-write_leaves : (window : DeviceKind) (offset width value : ℕ) (w : WindowState) (control whole : Bool)
+write_leaves : (window : SlotWindow) (offset width value : ℕ) (w : WindowState) (control whole : Bool)
     → register_at offset ≢ Some QueueNotify
     → serves_queue (task_of window (if control
     then (if whole then option_map_or (λ r. register_action r value w) (register_at offset) action.None
@@ -120,7 +120,7 @@ write_leaves window offset width value w true false other = nothing_leaves windo
 write_leaves window offset width value w false whole other =
     configuration_leaves window offset width value (is_configuration_access offset width)
 
-pub only_notify : (A : Type 0) (state : SlotState) (window : DeviceKind) (offset width value : ℕ)
+pub only_notify : (A : Type 0) (state : SlotState) (window : SlotWindow) (offset width value : ℕ)
     → register_at offset ≢ Some QueueNotify
     → touches_memory {A = A} (Write window offset width value) state ≡ false
 only_notify A state window offset width value other =

@@ -7,7 +7,7 @@ use Rattle.chain.specs.Service.{Device, Refused}
 use Rattle.mmio_window.specs.declared.stage.Stage.{Stage}
 use Rattle.mmio_window.specs.declared.stage.Stage.TheVariants.{First}
 use Rattle.sector_cache.specs.Disk.{Disk}
-use Rattle.mmio_window.specs.declared.device_kind.DeviceKind.{DeviceKind}
+use Rattle.board.specs.declared.event.SlotWindow.{SlotWindow}
 use Rattle.mmio_window.specs.Window.{queue_at}
 use Rattle.mmio_window.proofs.Pieces.{notified_once}
 use Rattle.block_device.specs.Device.{block_device, exact_device}
@@ -126,7 +126,7 @@ transmit_ended budget mid before after new output reply (inr (lacks, (is, h))) =
   image = h.image;
 })
 
-write_whole : {A : Type 0} (state : SlotState) (window : DeviceKind) (offset width value : ℕ)
+write_whole : {A : Type 0} (state : SlotState) (window : SlotWindow) (offset width value : ℕ)
     (budget : Budget) (before after : Health) (new : SlotState) (output : List ℕ) (reply : Reply A)
     (task : Task) → task_at window offset width value state ≡ task
     → TurnsTo (λ c. MayGiveOverImage state (Write window offset width value) before after c) (asked_by task)
@@ -196,7 +196,7 @@ by_passing {A} disk state what before after outcome free image h = record {
   image = image;
 }
 
-hosted_write : {A : Type 0} (disk : HostDisk) (state : SlotState) (window : DeviceKind)
+hosted_write : {A : Type 0} (disk : HostDisk) (state : SlotState) (window : SlotWindow)
     (offset width value : ℕ) (budget : Budget) (before after : Health) (new : SlotState) (output : List ℕ)
     (reply : Reply A) (task : Task) → task_at window offset width value state ≡ task
     → has_part {A = A} (Some disk) (Write window offset width value) state ≡ false

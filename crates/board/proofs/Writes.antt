@@ -1,12 +1,12 @@
 -- What writes leave of a slot's memory, a service leaves too, and so does each event.
-use Rattle.std.proofs.Common.{◌≡◌, inl, inr, ℕ, Bool, true, false, Option, Some, None, List, [], ◌∷◌, refl, sym, ◌∙◌, ap, subst}
-use Rattle.std.specs.Prelude.{if◌then◌else◌}
+use Rattle.std.proofs.Common.{◌≡◌, inl, inr, ℕ, zero, suc, Bool, true, false, Option, Some, None, List, [], ◌∷◌, refl, sym, ◌∙◌, ap, subst}
+use Rattle.std.specs.Prelude.{if◌then◌else◌, is_none, is_some}
 use Rattle.byteorder.specs.Endian.{little_bytes}
 use Rattle.guest_memory.specs.Memory.{Memory, put, put_num}
 use Rattle.chain.specs.Bytes.{writable_of}
 use Rattle.chain.specs.Service.{Device, Ending, Entry, Course, Site, after, scattered, used_len, wrote}
-use Rattle.mmio_window.specs.declared.device_kind.DeviceKind.{DeviceKind}
-use Rattle.mmio_window.specs.declared.device_kind.DeviceKind.TheVariants.{Block, Console}
+use Rattle.board.specs.declared.event.SlotWindow.{SlotWindow}
+use Rattle.board.specs.declared.event.SlotWindow.TheVariants.{Block, Console}
 use Rattle.mmio_window.specs.declared.queue.Queue.{Queue}
 use Rattle.mmio_window.specs.declared.queue.Queue.TheVariants.{Split, Packed}
 use Rattle.mmio_window.specs.declared.stage.Stage.{Stage}
@@ -22,8 +22,22 @@ use Rattle.block_device.specs.Flights.{HostedQueue, InFlight, unlimited}
 use Rattle.block_device.specs.Request.{code_of}
 use Rattle.block_device.specs.Hosting.{CompletesIn}
 use Rattle.block_device.proofs.Unasked.{any_disk}
+use Rattle.device_list.specs.Model.{ModelState, Entropy, Network}
+use Rattle.device_list.specs.Device as device
+use Rattle.device_list.specs.Device.{DeviceState, Receives, TakesSent}
+use Rattle.device_list.specs.Card.{receive_refusal, with_frame, without_oldest}
+use Rattle.device_list.specs.List.{card_at}
+use Rattle.device_list.specs.Model.{Serves, supplied_model, with_card}
+use Rattle.board.specs.declared.event.DeviceEvent.{DeviceEvent}
+use Rattle.board.specs.declared.event.DeviceEvent.TheVariants as event
+use Rattle.board.specs.Devices.{Alters, DoesIf, DoesTo, oldest_at}
+use Rattle.board.proofs.FurtherDevices.{of_device}
+use Rattle.mmio_window.specs.declared.action.Action.{Action}
+use Rattle.mmio_window.specs.declared.action.Action.TheVariants.{Notify}
+use Rattle.mmio_window.specs.Writing.{action_of, written}
 use Rattle.board.specs.declared.event.EventKind.{EventKind}
 use Rattle.board.specs.declared.event.EventKind.TheVariants.{Write, MemRead, MemWrite, Input, Restore}
+use Rattle.board.specs.declared.event.EventKind.TheVariants as kind
 use Rattle.board.specs.declared.pause.Service.TheVariants as service
 use Rattle.board.specs.declared.reply.Reply.{Reply}
 use Rattle.board.specs.Hosting.{CompletesTag, LooksAtQueue, hosted_device, hosted_queue, released}
@@ -181,7 +195,7 @@ module _ (K : Memory → Memory → Type 0) (left : IsLeftByWrites K) where
   state_left {A} state outcome wanted is same =
       same_left state.memory outcome.state.memory (ap (λ (o : Outcome A). o.state.memory) is ∙ same)
 
-  wrote_memory : (window : DeviceKind) (offset width value : ℕ) (state : SlotState)
+  wrote_memory : (window : SlotWindow) (offset width value : ℕ) (state : SlotState)
       → (with_write window offset width value state).memory ≡ state.memory
   wrote_memory Block offset width value state = refl
   wrote_memory Console offset width value state = refl
@@ -210,6 +224,55 @@ module _ (K : Memory → Memory → Type 0) (left : IsLeftByWrites K) where
       state.console outcome.state.console _ _ h.notified.notified
   finishes_left (PutOut byte) state before after outcome h = state_left state outcome _ h.alike refl
 
+  -- what is done to a further device
+  serves_left : (model : ModelState) (q : ℕ) (m n : Memory) (v w : WindowState) (model' : ModelState)
+      → Serves model q m n v w model' → K m n
+  serves_left (Entropy pool) zero m n v w model' h =
+      notified_left _ 0 (queue_at 0 v) h.notified.ending m n v w pool h.left h.notified.notified
+  serves_left (Entropy pool) (suc q) m n v w model' h = same_left m n h.memory
+  serves_left (Network card) zero m n v w model' h =
+      notified_left _ 0 (queue_at 0 v) h.serves.ending m n v w _ _ h.serves.notified
+  serves_left (Network card) (suc zero) m n v w model' h =
+      notified_left _ 1 (queue_at 1 v) h.serves.notified.ending m n v w _ _ h.serves.notified.notified
+  serves_left (Network card) (suc (suc q)) m n v w model' h = same_left m n h.serves.memory
+
+  does_left : (action : Action) (m n : Memory) (d d' : DeviceState) → device.Finishes action m n d d' → K m n
+  does_left (Notify q) m n d d' h = serves_left d.model q m n d.window d'.window d'.model h
+  does_left _ m n d d' h = same_left m n h.memory
+
+  alters_left : {A : Type 0} (what : DeviceEvent A) (m n : Memory) (d d' : DeviceState) → Alters what m n d d'
+      → K m n
+  alters_left (event.Read offset width) m n d d' h = same_left m n h.memory
+  alters_left (event.Write offset width value) m n d d' h =
+      does_left (action_of offset width value d.window) m n
+      (record d { window = written offset width value m d.window }) d' h
+  alters_left (event.Supply bytes) m n d d' h =
+      serves_left (supplied_model d.model bytes) 0 m n d.window d'.window d'.model h
+  alters_left _ m n d d' h = absurd h
+
+  does_if_left : (cause : Bool) (Changes : Memory → Memory → DeviceState → DeviceState → Type 0) (i : ℕ)
+      (m n : Memory) (old new : List DeviceState) → ((d d' : DeviceState) → Changes m n d d' → K m n)
+      → DoesIf cause Changes i m n old new → K m n
+  does_if_left true Changes i m n old new left_so h = left_so h.before h.after h.changes
+  does_if_left false Changes i m n old new left_so h = same_left m n h.memory
+
+  at_left : {A : Type 0} (what : DeviceEvent A) (i : ℕ) (m n : Memory) (old new : List DeviceState)
+      → DoesTo what i m n old new → K m n
+  at_left (event.Plug spec) i m n old new h = same_left m n h.memory
+  at_left (event.SetLink up) i m n old new h = same_left m n h.memory
+  at_left (event.Receive frame) i m n old new h =
+      does_if_left (is_none (receive_refusal frame (card_at i old))) (Receives frame) i m n old new
+      (λ d d' x. serves_left (with_card (with_frame frame) d.model) 0 m n d.window d'.window d'.model x) h
+  at_left event.TakeSent i m n old new h =
+      does_if_left (is_some (oldest_at i old)) TakesSent i m n old new
+      (λ d d' x. serves_left (with_card without_oldest d.model) 1 m n d.window d'.window d'.model x) h
+  at_left {A} (event.Read offset width) i m n old new h =
+      alters_left {A = A} (event.Read offset width) m n h.before h.after h.changes
+  at_left {A} (event.Write offset width value) i m n old new h =
+      alters_left {A = A} (event.Write offset width value) m n h.before h.after h.changes
+  at_left {A} (event.Supply bytes) i m n old new h =
+      alters_left {A = A} (event.Supply bytes) m n h.before h.after h.changes
+
   restoring_left : {A : Type 0} (state : SlotState) (bytes : List ℕ) (outcome : Outcome A)
       → IsRestoring state bytes outcome → K state.memory outcome.state.memory
   restoring_left state bytes outcome (inl taken) =
@@ -231,6 +294,10 @@ module _ (K : Memory → Memory → Type 0) (left : IsLeftByWrites K) where
       notified_left _ 0 (queue_at 0 state.console) h.notified.ending state.memory outcome.state.memory
       state.console outcome.state.console _ _ h.notified.notified
   gives_left state (Restore bytes) before after outcome own h = restoring_left state bytes outcome h.alike
+  gives_left {A} state (kind.Device n what) before after outcome own h =
+      of_device n what state (λ (o : Outcome A). K state.memory o.state.memory) before after outcome h
+      (left.none state.memory) (λ reply found step. at_left what n state.memory outcome.state.memory state.devices
+      outcome.state.devices step.at)
   gives_left state _ before after outcome own h = state_left state outcome _ h.alike refl
 
   cut_left : {A : Type 0} (task : Task) (state : SlotState) (before after : Health) (outcome : Outcome A)
@@ -252,6 +319,7 @@ module _ (K : Memory → Memory → Type 0) (left : IsLeftByWrites K) where
       (cut_left (task_at window offset width value state) (with_write window offset width value state)
       before after outcome h)
   refused_left state (MemRead addr len) before after outcome h = state_left state outcome _ h.unchanged refl
+  refused_left state (kind.Device n what) before after outcome h = state_left state outcome _ h.unchanged refl
   refused_left state _ before after outcome h = absurd h
 
   over_image_left : {A : Type 0} (state : SlotState) (what : EventKind A) (before after : Health)

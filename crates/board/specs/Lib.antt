@@ -13,6 +13,7 @@ pub mod Outcome
 pub mod Replies
 pub mod Saved
 pub mod Restoring
+pub mod Devices
 pub mod Task
 pub mod OverImage
 pub mod Machine

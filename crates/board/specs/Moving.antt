@@ -11,11 +11,13 @@ use Rattle.board.specs.Slot.{BoardSlot, SlotState, state_of}
 use Rattle.board.specs.World.{World, Step}
 
 -- The slot of this state has the bytes of the saved slot's memory and of its disk, which lay in an image of these bytes;
--- or the host serves it the disk that it served that one.
+-- or the host serves it the disk that it served that one. Its further devices are as that slot's were: a snapshot has
+-- none of them.
 pub record HasBytesOf (saved : BoardSlot) (bytes : List ℕ) (state : SlotState) : Type 0 where
   pub memory : state.memory ≡ saved.memory
   pub extent : state.extent ≡ (state_of bytes saved).extent
   pub host : state.host ≡ saved.host
+  pub devices : state.devices ≡ saved.devices
 
 -- The guest of a saved slot moves to slot h of another board: what `save` wrote to the front of a buffer is restored there,
 -- behind the bytes of its memory and its disk.

@@ -2,8 +2,8 @@
 use Rattle.std.specs.Prelude.{ℕ, if◌then◌else◌, List, ◌++◌, length, take}
 use Rattle.guest_memory.specs.Memory.{is_inside, part_of, stored}
 use Rattle.mmio_window.specs.declared.action.Action.{Action}
-use Rattle.mmio_window.specs.declared.device_kind.DeviceKind.{DeviceKind}
-use Rattle.mmio_window.specs.declared.device_kind.DeviceKind.TheVariants.{Block, Console}
+use Rattle.board.specs.declared.event.SlotWindow.{SlotWindow}
+use Rattle.board.specs.declared.event.SlotWindow.TheVariants.{Block, Console}
 use Rattle.mmio_window.specs.Reading.{read_value}
 use Rattle.mmio_window.specs.Window.{WindowState, with_config_changed}
 use Rattle.mmio_window.specs.Writing.{action_of, written}
@@ -11,8 +11,9 @@ use Rattle.block_device.specs.Config as block
 use Rattle.console_device.specs.Config as console
 use Rattle.console_device.specs.Input.{fitting}
 use Rattle.board.specs.declared.event.EventKind.{EventKind}
-use Rattle.board.specs.declared.event.EventKind.TheVariants.{Read, Write, MemRead, MemWrite, Input, Resize, Restore, Host}
+use Rattle.board.specs.declared.event.EventKind.TheVariants.{Read, Write, MemRead, MemWrite, Input, Resize, Restore, Host, Device}
 use Rattle.board.specs.declared.reply.Reply.TheVariants.{Value, Bytes, BadRange, Took, Idle}
+use Rattle.board.specs.Devices.{GivesDevice}
 use Rattle.board.specs.Image.{Health}
 use Rattle.board.specs.Outcome.{Outcome, replies, does, IsDetermined}
 use Rattle.board.specs.Restoring.{Restores}
@@ -34,33 +35,33 @@ memory_written state addr bytes =
 -- ---- registers
 
 -- the window of each kind of device
-abbrev pub window_of : DeviceKind → SlotState → WindowState
+abbrev pub window_of : SlotWindow → SlotState → WindowState
 window_of Block state = state.block
 window_of Console state = state.console
 
 -- the configuration of each device
-abbrev pub config_at : DeviceKind → SlotState → List ℕ
+abbrev pub config_at : SlotWindow → SlotState → List ℕ
 config_at Block state = block.config_of (disk_sectors state)
 config_at Console state = console.config_of state.cols state.rows
 
 -- what a read of a window gives
-abbrev pub register : SlotState → DeviceKind → ℕ → ℕ → ℕ
+abbrev pub register : SlotState → SlotWindow → ℕ → ℕ → ℕ
 register state window offset width =
     read_value offset width (config_at window state) (window_of window state)
 
 -- the slot after a write to a window, before a device does its part
-abbrev pub with_write : DeviceKind → ℕ → ℕ → ℕ → SlotState → SlotState
+abbrev pub with_write : SlotWindow → ℕ → ℕ → ℕ → SlotState → SlotState
 with_write Block offset width value state =
     record state { block = written offset width value state.memory state.block }
 with_write Console offset width value state =
     record state { console = written offset width value state.memory state.console }
 
 -- what the write leaves for the device to do
-abbrev pub action_at : DeviceKind → ℕ → ℕ → ℕ → SlotState → Action
+abbrev pub action_at : SlotWindow → ℕ → ℕ → ℕ → SlotState → Action
 action_at window offset width value state = action_of offset width value (window_of window state)
 
 -- what is left for the device to do
-abbrev pub task_at : DeviceKind → ℕ → ℕ → ℕ → SlotState → Task
+abbrev pub task_at : SlotWindow → ℕ → ℕ → ℕ → SlotState → Task
 task_at window offset width value state = task_of window (action_at window offset width value state)
 
 -- ---- the console
@@ -86,7 +87,7 @@ readied what state = state
 -- What comes of an event of a guest whose disk is of the image, where memory is found for it and no call of the
 -- image fails; the image fares so before and after it. A write to a window writes its registers, and then the
 -- device does its part. What is typed is pending, and then the console serves its receive queue. The host
--- has nothing to say.
+-- has nothing to say. A further device does its part.
 abbrev pub GivesOverImage : {A : Type 0} → SlotState → EventKind A → Health → Health → Outcome A → Type 0
 GivesOverImage state (Read window offset width) before after outcome =
     IsDetermined outcome (replies state (Value (register state window offset width))) before after
@@ -103,3 +104,4 @@ GivesOverImage state (Resize cols rows) before after outcome =
     IsDetermined outcome (does (resized cols rows state)) before after
 GivesOverImage state (Restore bytes) before after outcome = Restores state bytes before after outcome
 GivesOverImage state (Host said) before after outcome = IsDetermined outcome (replies state Idle) before after
+GivesOverImage state (Device n what) before after outcome = GivesDevice n what state before after outcome

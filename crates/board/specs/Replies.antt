@@ -1,8 +1,9 @@
 -- Which replies a slot may give to each event.
 use Rattle.std.specs.Prelude.{⊤}
 use Rattle.board.specs.declared.event.EventKind.{EventKind}
-use Rattle.board.specs.declared.event.EventKind.TheVariants.{Read, Write, MemRead, MemWrite, Input, Resize, Restore, Host}
+use Rattle.board.specs.declared.event.EventKind.TheVariants.{Read, Write, MemRead, MemWrite, Input, Resize, Restore, Host, Device}
 use Rattle.board.specs.declared.reply.Reply.{Reply}
+use Rattle.board.specs.Devices.{MayReplyDevice}
 use Rattle.board.specs.declared.reply.Reply.TheVariants.{Value, Done, Bytes, Took, BadRange, BadState, NoMemory, Busy, Idle}
 
 -- where its disk is of the image
@@ -20,6 +21,7 @@ MayReplyOverImage (Resize cols rows) Done = ⊤
 MayReplyOverImage (Restore bytes) Done = ⊤
 MayReplyOverImage (Restore bytes) BadState = ⊤
 MayReplyOverImage (Host said) Idle = ⊤
+MayReplyOverImage (Device n what) answer = MayReplyDevice what answer
 MayReplyOverImage what answer = ⊥
 
 -- and whoever has it: where the host does, writes and restores may wait, and what it says is done

@@ -24,6 +24,7 @@ slot_in state = record {
   pending = state.pending;
   cols = state.cols;
   rows = state.rows;
+  devices = state.devices;
   disturbed = false;
 }
 

@@ -1,5 +1,5 @@
 -- The snapshot of a slot, and what a slot becomes that takes one up.
-use Rattle.std.specs.Prelude.{◌≡◌, ◌≤◌, ◌++◌, ◌==◌, ℕ, true, IsSome, None, Option, Some, List, drop, if◌then◌else◌, length}
+use Rattle.std.specs.Prelude.{◌≡◌, ◌≤◌, ◌++◌, ◌==◌, ℕ, true, IsSome, None, Option, Some, List, [], drop, if◌then◌else◌, length}
 use Rattle.guest_memory.specs.Memory.{Memory, SameRange}
 use Rattle.mmio_window.specs.declared.device_kind.DeviceKind.TheVariants.{Block, Console}
 use Rattle.mmio_window.specs.declared.saved.SavedWindow.{SavedWindow}
@@ -14,7 +14,7 @@ use Rattle.board.specs.Slot.{BoardSlot, block_features, console_features, sector
 
 -- ---- what is saved
 
--- what a slot keeps, as plain numbers
+-- what a slot keeps, as plain numbers: nothing of its further devices
 abbrev pub saved_slot : BoardSlot → SavedSlot
 saved_slot slot = record {
   base = slot.memory.base;
@@ -27,6 +27,7 @@ saved_slot slot = record {
   cols = slot.cols;
   rows = slot.rows;
   on_hold = slot.on_hold;
+  devices = record { items = [] };
 }
 
 -- the bytes of a slot's snapshot
@@ -80,9 +81,11 @@ pub record Suits (saved : SavedSlot) (slot : BoardSlot) : Type 0 where
   pub block : saved.block.negotiation.offered ≡ slot.block.negotiation.offered
   pub console : saved.console.negotiation.offered ≡ slot.console.negotiation.offered
   pub on_hold : saved.on_hold ≡ true → IsSome slot.host
+  pub devices : saved.devices.items ≡ []
 
--- The slot has taken up what was saved: both windows, the pending input, the size, and whether it is on hold. The memory stays, and
--- the disk with its mode and identity, and whether an event of the slot has met a refusal.
+-- The slot has taken up what was saved: both windows, the pending input, the size, and whether it is on hold. The memory
+-- stays, and the disk with its mode and identity, the further devices, and whether an event of the slot has met a
+-- refusal.
 pub record TakesUp (old : BoardSlot) (saved : SavedSlot) (pending : List ℕ) (new : BoardSlot) : Type 0 where
   pub suits : Suits saved old
   pub block : block_restored old.memory saved.block ≡ Some new.block
@@ -139,9 +142,15 @@ pub record IsLike (slot other : BoardSlot) : Type 0 where
   pub identity : other.identity ≡ slot.identity
   pub on_hold : slot.on_hold ≡ true → IsSome other.host
 
--- the slot is as that one was, but for the memory's bytes, who has its disk and where it lies, and whether an
--- event of it has met a refusal: those are its own
+-- the slot is as that one was, but for the memory's bytes, who has its disk and where it lies, its further devices, and
+-- whether an event of it has met a refusal: those are its own
 abbrev pub IsAs : BoardSlot → BoardSlot → BoardSlot → Type 0
 IsAs slot old new =
     new
-    ≡ record slot { memory = old.memory; extent = old.extent; host = old.host; disturbed = old.disturbed }
+    ≡ record slot {
+      memory = old.memory;
+      extent = old.extent;
+      host = old.host;
+      devices = old.devices;
+      disturbed = old.disturbed;
+    }

@@ -2,11 +2,13 @@
 use Rattle.std.specs.Prelude.{◌≡◌, ℕ, ◌+◌, Bool, false, if◌then◌else◌, nat_lt, List, [], length, ◌≤◌, Option, Some, None, replicate}
 use Rattle.guest_memory.specs.Faults.{zeroed_regions}
 use Rattle.guest_memory.specs.Memory.{Memory, SameRange}
-use Rattle.negotiation.specs.Features.{block_seg_max, block_ro, block_blk_size, block_flush, block_write_zeroes, console_size, console_emerg_write, indirect_desc, event_idx, version_1, ring_packed, notification_data}
+use Rattle.negotiation.specs.Features.{block_seg_max, block_ro, block_blk_size, block_flush, block_write_zeroes, console_size, console_emerg_write, device_features}
 use Rattle.mmio_window.specs.declared.device_kind.DeviceKind.TheVariants.{Block, Console}
 use Rattle.mmio_window.specs.Interrupts.{interrupt_bits}
 use Rattle.mmio_window.specs.Soundness.{IsSound}
 use Rattle.mmio_window.specs.Window.{WindowState, fresh_window}
+use Rattle.device_list.specs.Device.{DeviceState}
+use Rattle.device_list.specs.List.{AreSoundDevices}
 use Rattle.sector_cache.specs.Disk.{Disk}
 use Rattle.sector_cache.specs.Sector.{extent_of}
 use Rattle.block_device.specs.declared.extent.Extent.{Extent}
@@ -20,8 +22,8 @@ use Rattle.board.specs.Image.{sectors_of}
 -- All that one guest can see: its memory, the bytes of its extent of the image, the disk that the host
 -- serves it in place of one of the image, whether that disk is on hold, so that no further chain of its queue is
 -- taken, whether its block device refuses writes and what its identity is,
--- the windows of its two devices, and of its console what was typed and is still pending, and the size. Where
--- the host serves its disk the extent is empty: the bytes are the host's.
+-- the windows of its two devices, and of its console what was typed and is still pending, and the size, and its
+-- further devices. Where the host serves its disk the extent is empty: the bytes are the host's.
 pub record SlotState : Type 0 where
   pub memory : Memory
   pub extent : List ℕ
@@ -34,6 +36,7 @@ pub record SlotState : Type 0 where
   pub pending : List ℕ
   pub cols : ℕ
   pub rows : ℕ
+  pub devices : List DeviceState
 
 -- A slot as the board keeps it. The bytes of its extent stand in the image, which all slots share. The
 -- board notes whether an event of the slot has ever met a refusal, which the guest isn't told.
@@ -49,6 +52,7 @@ pub record BoardSlot : Type 0 where
   pub pending : List ℕ
   pub cols : ℕ
   pub rows : ℕ
+  pub devices : List DeviceState
   pub disturbed : Bool
 
 -- what the slot's guest can see where the image has these bytes
@@ -65,6 +69,7 @@ state_of bytes slot = record {
   pending = slot.pending;
   cols = slot.cols;
   rows = slot.rows;
+  devices = slot.devices;
 }
 
 -- how many sectors a guest's disk has, and a slot's
@@ -98,10 +103,6 @@ pub record KeepsBesideTransmit (old new : SlotState) : Type 0 where
   pub rest : new ≡ record old { memory = new.memory; console = new.console }
   pub memory : SameRange old.memory new.memory
 
--- the features that every device offers (6)
-abbrev pub device_features : ℕ
-device_features = indirect_desc + event_idx + version_1 + ring_packed + notification_data
-
 -- the features that a block device offers (5.2.3); one that refuses writes says so
 abbrev pub block_features : Bool → ℕ
 block_features read_only =
@@ -114,9 +115,9 @@ console_features = console_size + console_emerg_write + device_features
 
 -- Each window is that of its device, of its kind and offering what it offers. The block device's has
 -- ConfigGeneration 0, as its configuration never changes (2.5). Both are sound for the memory: their ready
--- queues lie in it. And no more input is pending than may be.
+-- queues lie in it. No more input is pending than may be. And its further devices are sound for the memory.
 pub record IsSoundSlot (memory : Memory) (read_only : Bool) (block console : WindowState)
-    (pending : List ℕ) : Type 0 where
+    (pending : List ℕ) (devices : List DeviceState) : Type 0 where
   pub block_kind : block.kind ≡ Block
   pub block_offers : block.negotiation.offered ≡ block_features read_only
   pub block_generation : block.config_generation ≡ 0
@@ -125,6 +126,7 @@ pub record IsSoundSlot (memory : Memory) (read_only : Bool) (block console : Win
   pub block_sound : IsSound memory block
   pub console_sound : IsSound memory console
   pub pending_fits : length pending ≤ 4096
+  pub devices_sound : AreSoundDevices memory devices
 
 -- The extent of the image that a slot has: none where the host serves its disk.
 abbrev pub extent_by : Backing → Extent → Extent
@@ -137,7 +139,7 @@ host_by Image extent = None
 host_by (Host depth) extent = Some (record { sectors = extent.count; tags = replicate depth None })
 
 -- a slot of a new board: its memory is all zeros, its windows are as after a reset, nothing is pending or met
--- a refusal yet, and the rest is as it was asked for
+-- a refusal yet, it has no further device, and the rest is as it was asked for
 abbrev pub opened : SlotSpec → BoardSlot
 opened spec = record {
   memory = zeroed_regions spec.regions;
@@ -151,6 +153,7 @@ opened spec = record {
   pending = [];
   cols = spec.cols;
   rows = spec.rows;
+  devices = [];
   disturbed = false;
 }
 

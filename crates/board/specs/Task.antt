@@ -3,8 +3,8 @@ use Rattle.std.specs.Prelude.{◌≡◌, ℕ, zero, suc, ◌+◌, ◌%◌, ◌^�
 use Rattle.chain.specs.Service.{Device}
 use Rattle.mmio_window.specs.declared.action.Action.{Action}
 use Rattle.mmio_window.specs.declared.action.Action.TheVariants.{Notify, ConfigWrite}
-use Rattle.mmio_window.specs.declared.device_kind.DeviceKind.{DeviceKind}
-use Rattle.mmio_window.specs.declared.device_kind.DeviceKind.TheVariants.{Block, Console}
+use Rattle.board.specs.declared.event.SlotWindow.{SlotWindow}
+use Rattle.board.specs.declared.event.SlotWindow.TheVariants.{Block, Console}
 use Rattle.mmio_window.specs.Reading.{configuration_offset}
 use Rattle.mmio_window.specs.Serving.{IsNotified}
 use Rattle.mmio_window.specs.Window.{queue_at}
@@ -27,7 +27,7 @@ abbrev pub emergency_write : ℕ
 emergency_write = configuration_offset + 8
 
 -- what a write to a window of this kind leaves to be done
-abbrev pub task_of : DeviceKind → Action → Task
+abbrev pub task_of : SlotWindow → Action → Task
 task_of Block (Notify zero) = Serve service.Block
 task_of Console (Notify zero) = Serve service.Receive
 task_of Console (Notify (suc zero)) = Serve service.Transmit

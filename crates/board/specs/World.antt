@@ -13,12 +13,13 @@ use Rattle.block_device.specs.Device.{block_device}
 use Rattle.console_device.specs.Device.{transmit}
 use Rattle.board.specs.declared.event.Event.{Event}
 use Rattle.board.specs.declared.event.EventKind.{EventKind}
-use Rattle.board.specs.declared.event.EventKind.TheVariants.{Read, Write, MemRead, MemWrite, Input, Resize, Restore, Host}
+use Rattle.board.specs.declared.event.EventKind.TheVariants.{Read, Write, MemRead, MemWrite, Input, Resize, Restore, Host, Device}
 use Rattle.board.specs.declared.reply.Reply.{Reply}
 use Rattle.board.specs.declared.reply.Reply.TheVariants.{BadSlot, NoMemory}
 use Rattle.board.specs.declared.reply.Record.{Record}
 use Rattle.board.specs.declared.pause.Service.TheVariants.{Block, Receive, Transmit}
 use Rattle.board.specs.Backing.{HostDisk}
+use Rattle.board.specs.Devices.{IsUnmet, TakesMemoryFor}
 use Rattle.board.specs.Extent.{outside_of}
 use Rattle.board.specs.Hosting.{GivesOnHost}
 use Rattle.board.specs.Image.{Health, Tells, bytes_of, health_of}
@@ -129,6 +130,7 @@ IsRefused state (Input bytes) old new outcome = ⊥
 IsRefused state (Resize cols rows) old new outcome = ⊥
 IsRefused state (Restore bytes) old new outcome = ⊥
 IsRefused state (Host said) old new outcome = ⊥
+IsRefused state (Device n what) old new outcome = IsUnmet n what state old new outcome
 
 -- what may come of an event of a slot whose disk is of the image, which fared so before and after it
 abbrev pub MayGiveOverImage : {A : Type 0} → SlotState → EventKind A → Health → Health → Outcome A → Type 0
@@ -244,8 +246,9 @@ TakesMemory (Serve Receive) state = ⊥
 TakesMemory (Serve Transmit) state = HasBytesToPutOut state.memory state.console
 TakesMemory (PutOut byte) state = ⊤
 
--- The events that may find no memory: a read of some bytes inside the guest's memory, and of the writes to a
--- window the notification of a transmit queue with some bytes on offer, and an emergency write.
+-- The events that may find no memory: a read of some bytes inside the guest's memory, a device that is plugged
+-- in, the taking of a frame that was sent, and of the writes to a window the notification of a transmit queue
+-- with some bytes on offer, and an emergency write.
 abbrev pub MayLackMemory : {A : Type 0} → SlotState → EventKind A → Type 0
 MayLackMemory state (Read window offset width) = ⊥
 MayLackMemory state (Write window offset width value) =
@@ -256,6 +259,7 @@ MayLackMemory state (Input bytes) = ⊥
 MayLackMemory state (Resize cols rows) = ⊥
 MayLackMemory state (Restore bytes) = ⊥
 MayLackMemory state (Host said) = ⊥
+MayLackMemory state (Device n what) = TakesMemoryFor n what state
 
 -- What can be seen of the board stays, but for what is noted of refusals, and nothing was put out.
 pub record KeepsBoard {A : Type 0} (old : World) (written : Record A) (new : World) : Type 0 where

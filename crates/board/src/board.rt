@@ -10,6 +10,7 @@ ghost use Rattle.board.specs.World.{Handles, HoldsAt, Answers, IsMissed, KeepsOt
 ghost use Rattle.board.specs.Within.{DecidesSlot, TakesWithin};
 
 mod access;
+mod devices;
 mod hosting;
 mod make;
 mod pieces;

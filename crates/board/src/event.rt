@@ -2,7 +2,7 @@
 
 use crate::bytes::Bytes;
 use block_device::Verdict;
-use mmio_window::DeviceKind;
+use device_list::DeviceSpec;
 use std::alloc::{Allocator, Global};
 
 /// What one guest does, or what is done to its console, in one step that nothing interrupts.
@@ -20,14 +20,14 @@ pub struct Event<A: Allocator = Global> {
 pub enum EventKind<A: Allocator = Global> {
     /// The guest's driver reads `width` bytes at an offset of a window (4.2.2).
     Read {
-        window: DeviceKind,
+        window: SlotWindow,
         offset: u16,
         width: u8,
     },
     /// The guest's driver writes `width` bytes at an offset of a window (4.2.2). Bits of the value above
     /// the width are ignored.
     Write {
-        window: DeviceKind,
+        window: SlotWindow,
         offset: u16,
         width: u8,
         value: u32,
@@ -57,6 +57,40 @@ pub enum EventKind<A: Allocator = Global> {
     },
     /// The host says this of the guest's disk, where it serves it. Over an image there is nothing to do.
     Host(HostEvent),
+    /// This is done to one of the guest's further devices, which is named by its number, from 0 on.
+    Device {
+        device: u8,
+        what: DeviceEvent<A>,
+    },
+}
+
+/// One of the two devices that every slot has, by its register window.
+#[derive(Clone, Copy, Debug, PartialEq, Eq)]
+pub enum SlotWindow {
+    /// The block device's (5.2).
+    Block,
+    /// The console's (5.3).
+    Console,
+}
+
+/// What is done to a further device.
+#[derive(Drop)]
+#[derive_where(Debug, PartialEq, Eq)]
+pub enum DeviceEvent<A: Allocator = Global> {
+    /// The host gives the slot this device, as after a reset. Its number is the next one.
+    Plug(DeviceSpec),
+    /// Its driver reads `width` bytes at an offset of its window (4.2.2).
+    Read { offset: u16, width: u8 },
+    /// Its driver writes `width` bytes at an offset of its window (4.2.2). Bits of the value above the width are ignored.
+    Write { offset: u16, width: u8, value: u32 },
+    /// The host supplies these bytes to an entropy device (5.4). Those that find no room aren't taken.
+    Supply { bytes: Bytes<A> },
+    /// The host hands a network card a frame (5.1). It is taken whole, or not at all where there is no room for it.
+    Receive { frame: Bytes<A> },
+    /// The host takes the oldest frame that a network card's driver sent: no bytes where none waits.
+    TakeSent,
+    /// A network card's link goes up or down (5.1.4).
+    SetLink { up: bool },
 }
 
 /// What the host says of a disk that it serves.

@@ -2,7 +2,7 @@
 
 ghost use Rattle.std.specs.Prelude.{◌≡◌};
 ghost use Rattle.negotiation.specs.Features.{feature_bits};
-ghost use Rattle.board.specs.Slot.{block_features, console_features, device_features};
+ghost use Rattle.board.specs.Slot.{block_features, console_features};
 
 use negotiation::{Features, Flags};
 
@@ -10,7 +10,7 @@ use negotiation::{Features, Flags};
 pub(crate) fn of_block(read_only: bool) -> Features
     ensures { feature_bits result ≡ block_features read_only }
 {
-    let features = of_every_device()
+    let features = Features::of_every_device()
         .union(Features::BLOCK_SEG_MAX)
         .union(Features::BLOCK_BLK_SIZE)
         .union(Features::BLOCK_FLUSH)
@@ -26,18 +26,7 @@ pub(crate) fn of_block(read_only: bool) -> Features
 pub(crate) fn of_console() -> Features
     ensures { feature_bits result ≡ console_features }
 {
-    of_every_device()
+    Features::of_every_device()
         .union(Features::CONSOLE_SIZE)
         .union(Features::CONSOLE_EMERG_WRITE)
-}
-
-// What every device offers (6).
-fn of_every_device() -> Features
-    ensures { feature_bits result ≡ device_features }
-{
-    Features::INDIRECT_DESC
-        .union(Features::EVENT_IDX)
-        .union(Features::VERSION_1)
-        .union(Features::RING_PACKED)
-        .union(Features::NOTIFICATION_DATA)
 }

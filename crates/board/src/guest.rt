@@ -25,7 +25,7 @@ ghost use Rattle.board.specs.World.{MayLackMemory};
 mod access;
 mod saved;
 
-use crate::event::{EventKind, HostEvent};
+use crate::event::{EventKind, HostEvent, SlotWindow};
 use crate::pause::{Pause, Service, Turn, Work};
 use crate::reply::Reply;
 use crate::slot::{Answer, Slot};
@@ -34,7 +34,7 @@ use block_device::Verdict;
 use chain::Budget;
 use console_device::Outlet;
 use guest_memory::GuestMemory;
-use mmio_window::{DeviceKind, Stage, may_stop_queues};
+use mmio_window::{Stage, may_stop_queues};
 use sector_cache::{Image, SectorCache};
 use std::alloc::{AllocError, Allocator, Global};
 use std::marker::Model;
@@ -367,7 +367,7 @@ fn waits<A: Allocator>(what: &EventKind<A>) -> bool
 {
     match what {
         EventKind::Write {
-            window: DeviceKind::Block,
+            window: SlotWindow::Block,
             offset,
             ..
         } => may_stop_queues(*offset),

@@ -8,7 +8,7 @@ ghost use Rattle.guest_memory.specs.Marks.{MarksWrites};
 ghost use Rattle.sector_cache.specs.Disk.{Disk};
 ghost use Rattle.sector_cache.specs.Sector.{extent_of};
 ghost use Rattle.sector_cache.specs.Stop.{BeginsAt, Only};
-ghost use Rattle.mmio_window.specs.declared.device_kind.DeviceKind.{DeviceKind};
+ghost use Rattle.board.specs.declared.event.SlotWindow.{SlotWindow};
 ghost use Rattle.mmio_window.specs.declared.queue.Queue.{Queue};
 ghost use Rattle.mmio_window.specs.declared.register.Register.{Register};
 ghost use Rattle.mmio_window.specs.Queue.{queue_kind};
@@ -116,7 +116,7 @@ pub fn want_of_memory_changes_nothing<A: Allocator>()
     ensures emergency_write { (old new : World) (slot width value : ℕ) (written : Record A) →
         Step old (record {
           slot = slot;
-          what = EventKind.Write DeviceKind.Console emergency_write width value;
+          what = EventKind.Write SlotWindow.Console emergency_write width value;
         }) written new →
         written.reply ≡ Reply.NoMemory → KeepsBoard old written new }
 {}
@@ -320,7 +320,7 @@ pub fn what_touches_no_memory_needs_none<A: Allocator>()
         touches_memory event.what found ≡ false → SameRange found.memory memory → Step old event written new →
         (after.memory ≡ found.memory) × Step (world_over event.slot found memory old) event written
         (world_over event.slot after memory new) }
-    ensures notify { (state : SlotState) (window : DeviceKind) (offset width value : ℕ) →
+    ensures notify { (state : SlotState) (window : SlotWindow) (offset width value : ℕ) →
         register_at offset ≢ Some Register.QueueNotify →
         touches_memory {A = A} (EventKind.Write window offset width value) state ≡ false }
     ensures saved { (slot : BoardSlot) (memory : Memory) → SameRange slot.memory memory →

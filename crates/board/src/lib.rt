@@ -39,7 +39,8 @@ pub use chain::{Budget, Fault};
 pub use check::check_slots;
 pub use console_device::Outlet;
 pub use counters::Counters;
-pub use event::{Event, EventKind, HostEvent};
+pub use device_list::{DeviceSpec, MOST_DEVICES, VirtioDevice};
+pub use event::{DeviceEvent, Event, EventKind, HostEvent, SlotWindow};
 pub use fault::{BoardFault, SlotFault};
 pub use guest_memory::{GuestMemory, MemoryFault, RegionSpec, Regions};
 pub use laws::{
@@ -52,7 +53,7 @@ pub use laws::{
     refusals_are_noted, two_runs_are_one, want_of_memory_changes_nothing,
     want_of_memory_keeps_the_rest, what_touches_no_memory_needs_none, what_waits_changes_nothing,
 };
-pub use mmio_window::{DeviceKind, FaultNote, Stage};
+pub use mmio_window::{FaultNote, Stage};
 pub use pause::{Pause, Service, Turn, Work};
 pub use reply::{Handled, Record, Reply, RunStop};
 pub use saved::{RestoreFault, RestoreRefusal, SaveRefusal};

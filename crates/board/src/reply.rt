@@ -25,6 +25,8 @@ pub enum Reply<A: Allocator = Global> {
     BadRange,
     /// The bytes are no snapshot that the slot takes up. Nothing changed.
     BadState,
+    /// The slot has no such device, or it takes no such thing. Nothing changed.
+    BadDevice,
     /// There was no memory for the answer.
     NoMemory,
     /// The event waits for what is in flight: make it again behind the completion. Nothing changed.

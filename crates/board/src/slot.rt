@@ -2,8 +2,8 @@
 //!
 //! Nothing here knows of other slots, nor of what is in flight. What a slot does is stated against the machine whose disk
 //! is of the image, and `guest` lifts that to any disk. `hosting` has what comes of an event beside the disk, `memory` the events of
-//! the guest's memory, `window` those of its devices' windows, `service` serves their queues, and `console` is what is done to the console
-//! from outside.
+//! the guest's memory, `window` those of its devices' windows, `service` serves their queues, `console` is what is done to the console
+//! from outside, and `devices` the further devices.
 
 ghost use Rattle.std.specs.Prelude.{◌≡◌, ◌≢◌, ◌||◌, ℕ, List, IfOk};
 ghost use Rattle.std.specs.Option.{option_map};
@@ -24,6 +24,7 @@ ghost use Rattle.board.specs.declared.reply.Reply.{Reply};
 ghost use Rattle.std.specs.Borrow.{sem};
 
 mod console;
+mod devices;
 mod hosting;
 mod memory;
 mod saved;
@@ -43,6 +44,7 @@ use crate::spec::{Backing, SlotSpec};
 use block_device::BlockDevice;
 use chain::{Budget, Chain};
 use console_device::{ConsoleDevice, Outlet};
+use device_list::DeviceList;
 use guest_memory::GuestMemory;
 use mmio_window::{DeviceKind, Stage, Window};
 use sector_cache::{Image, SectorCache};
@@ -63,7 +65,8 @@ pub(crate) struct Slot<A: Allocator = Global> {
     block: Window,
     console_device: ConsoleDevice<A>,
     console: Window,
-    // The room for each chain of both devices' services, one after another. What it holds between them isn't seen.
+    devices: DeviceList<A>,
+    // The room for each chain of all devices' services, one after another. What it holds between them isn't seen.
     chain: Chain,
     // Whether an event of the slot has met a refusal.
     disturbed: bool,
@@ -89,10 +92,12 @@ impl<A: Allocator> Model for Slot<A> {
       pending = s.console_device.pending;
       cols = s.console_device.cols;
       rows = s.console_device.rows;
+      devices = s.devices;
       disturbed = s.disturbed;
     } };
 
-    ghost invariant = { λ s. IsSoundSlot s.memory s.block_device.read_only s.block s.console s.console_device.pending };
+    ghost invariant = { λ s. IsSoundSlot s.memory s.block_device.read_only s.block s.console s.console_device.pending
+        s.devices };
 }
 
 // What came of an event, or of a piece of its service.
@@ -136,6 +141,7 @@ impl<A: Allocator + Copy> Slot<A> {
             block: Window::new(DeviceKind::Block, features::of_block(spec.read_only)),
             console_device,
             console: Window::new(DeviceKind::Console, features::of_console()),
+            devices: DeviceList::new(alloc),
             chain: Chain::new(),
             disturbed: false,
             counters: Counters::default(),

@@ -19,12 +19,12 @@ ghost use Rattle.board.specs.Slot.{interrupt_words};
 ghost use Rattle.board.specs.World.{Answers, KeepsOthers, disturbed_of, extents_of, world_of};
 
 use crate::board::Board;
+use crate::event::SlotWindow;
 use crate::pause::Turn;
 use crate::reply::Reply;
 use crate::slot::copy_out;
 use chain::Budget;
 use guest_memory::GuestMemory;
-use mmio_window::DeviceKind;
 use sector_cache::Image;
 use std::alloc::Allocator;
 use std_alloc::vec::Lodged;
@@ -134,7 +134,7 @@ impl<I: Image, A: Allocator + Copy> Board<I, A> {
     /// What a guest's read of `width` bytes, 1, 2 or 4, at an offset of a window gets, extended by zeros: the answer to
     /// the event of that read, which changes nothing. There is none for a slot that isn't there.
     #[inline]
-    pub fn read(&self, slot: u8, window: DeviceKind, offset: u16, width: u8) -> Option<u32>
+    pub fn read(&self, slot: u8, window: SlotWindow, offset: u16, width: u8) -> Option<u32>
         ensures there { IsSome result ↔ (slot < length self.now.slots) }
         ensures value { Tells (I.disk self.now.image) → IfSome result (λ value.
             IsSomeAnd (slice_get (world_of I.disk self.now).slots slot) (λ state.

@@ -7,9 +7,10 @@ ghost use Rattle.board.specs.Hosting.{device_at};
 
 use crate::board::Board;
 use crate::counters::Counters;
+use crate::event::SlotWindow;
 use block_device::BlockDevice;
 use console_device::ConsoleDevice;
-use mmio_window::{DeviceKind, FaultNote, Window};
+use mmio_window::{FaultNote, Window};
 use sector_cache::Image;
 use std::alloc::Allocator;
 
@@ -24,12 +25,12 @@ impl<I: Image, A: Allocator> Board<I, A> {
 
     /// The last fault of a window of the slot, and where it was met: none until one came. A reset of the window and a restore
     /// keep it. No clause speaks of what is told.
-    pub fn last_fault(&self, slot: u8, window: DeviceKind) -> Option<FaultNote>
+    pub fn last_fault(&self, slot: u8, window: SlotWindow) -> Option<FaultNote>
         ensures { IsSome result → slot < length self.now.slots }
     {
         let window = match window {
-            DeviceKind::Block => self.block_window(slot)?,
-            DeviceKind::Console => self.console_window(slot)?,
+            SlotWindow::Block => self.block_window(slot)?,
+            SlotWindow::Console => self.console_window(slot)?,
         };
         window.last_fault()
     }

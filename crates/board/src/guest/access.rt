@@ -1,22 +1,27 @@
 //! What an embedder reaches of a guest between its events.
 
-ghost use Rattle.std.specs.Prelude.{◌≡◌, ◌⊎◌, ℕ, List, [], None, IfSome, get_or, length};
+ghost use Rattle.std.specs.Prelude.{◌≡◌, ◌≢◌, ◌⊎◌, ℕ, List, [], None, IfSome, get_or, length};
 ghost use Rattle.std.specs.Bool.{OnTrue, OnFalse};
 ghost use Rattle.std.specs.Borrow.{sem};
 ghost use Rattle.guest_memory.specs.Memory.{Inside, IsRest, SameRange, is_inside, stored};
 ghost use Rattle.guest_memory.specs.Pages.{bits_of};
 ghost use Rattle.block_device.specs.Flights.{operation_in, runs_in, taken_bits};
 ghost use Rattle.block_device.specs.Operation.{LiesInside};
+ghost use Rattle.board.specs.declared.event.DeviceEvent.{DeviceEvent};
 ghost use Rattle.board.specs.declared.event.EventKind.{EventKind};
 ghost use Rattle.board.specs.declared.pause.Turn.{Turn};
+ghost use Rattle.board.specs.declared.reply.Reply.{Reply};
 ghost use Rattle.board.specs.Backing.{tags_in};
 ghost use Rattle.board.specs.Image.{Health};
 ghost use Rattle.board.specs.Lending.{LendsBytes, with_page_bits};
+ghost use Rattle.board.specs.Outcome.{replies};
 ghost use Rattle.board.specs.Pausing.{Begins, PausesByLimit, input_service, reply_of};
 ghost use Rattle.board.specs.Slot.{AreInterruptWords, interrupt_words, sectors_in, state_of};
+ghost use Rattle.board.specs.World.{MayGive};
 
 use crate::guest::Guest;
 use crate::pause::Turn;
+use crate::reply::Reply;
 use crate::slot::Slot;
 use block_device::Operation;
 use chain::{Budget, Segment};
@@ -114,5 +119,29 @@ impl<A: Allocator + Copy> Guest<A> {
             ⊎ result ≡ Turn.Answered (reply_of (input_service self.old.pending bytes.now)) }
     {
         self.slot.input(bytes, budget)
+    }
+
+    /// Supplies a further device with bytes.
+    pub(crate) fn supply(&mut self, device: u8, bytes: &[u8]) -> Reply<A>
+        ensures given { (image : List ℕ) (health : Health) →
+            MayGive (state_of image self.old) (EventKind.Device device (DeviceEvent.Supply bytes.now)) health health
+            (replies (state_of image self.new) result) }
+        ensures extent { self.new.extent ≡ self.old.extent }
+        ensures disturbed { self.new.disturbed ≡ self.old.disturbed }
+        ensures answered { result ≢ Reply.NoMemory }
+    {
+        self.slot.supply_device(device, bytes)
+    }
+
+    /// Hands a network card a frame.
+    pub(crate) fn receive(&mut self, device: u8, frame: &[u8]) -> Reply<A>
+        ensures given { (image : List ℕ) (health : Health) →
+            MayGive (state_of image self.old) (EventKind.Device device (DeviceEvent.Receive frame.now)) health health
+            (replies (state_of image self.new) result) }
+        ensures extent { self.new.extent ≡ self.old.extent }
+        ensures disturbed { self.new.disturbed ≡ self.old.disturbed }
+        ensures answered { result ≢ Reply.NoMemory }
+    {
+        self.slot.receive_frame(device, frame)
     }
 }

@@ -20,7 +20,7 @@ ghost use Rattle.board.specs.Slot.{state_of};
 ghost use Rattle.board.specs.Within.{BeginsWithinOverImage, PieceWithin};
 ghost use Rattle.board.specs.World.{HasBytesToPutOut, MayLackMemory};
 
-use crate::event::EventKind;
+use crate::event::{EventKind, SlotWindow};
 use crate::host_disk::HostedDisk;
 use crate::pause::{Pause, Service, Turn};
 use crate::reply::Reply;
@@ -30,7 +30,7 @@ use crate::task::Task;
 use block_device::{BlockDevice, Extent, Verdict};
 use chain::Budget;
 use console_device::{NoMemory, Outlet};
-use mmio_window::{DeviceKind, Stage};
+use mmio_window::Stage;
 use std::alloc::Allocator;
 
 impl<A: Allocator + Copy> Slot<A> {
@@ -80,6 +80,7 @@ impl<A: Allocator + Copy> Slot<A> {
             EventKind::Resize { cols, rows } => self.resize(*cols, *rows),
             EventKind::Restore { bytes } => self.answer_restore(bytes.as_slice()),
             EventKind::Host(_) => Reply::Idle,
+            EventKind::Device { device, what } => self.device_event(alloc, *device, what),
         };
         Some(Turn::Answered(reply))
     }
@@ -88,7 +89,7 @@ impl<A: Allocator + Copy> Slot<A> {
     #[inline(always)]
     fn write_beside_disk<O: Outlet>(
         &mut self,
-        window: DeviceKind,
+        window: SlotWindow,
         offset: u16,
         width: u8,
         value: u32,

@@ -1,6 +1,7 @@
 //! A slot's snapshot, and a slot that takes one up.
 
-ghost use Rattle.std.specs.Prelude.{◌≡◌, ◌≢◌, ◌↔◌, ◌<◌, ◌≤◌, ℕ, IfErr, IfOk, IfSome, IsErr, IsOk, IsTrue, List, OnErr, OnOk, Some, length};
+ghost use Rattle.std.specs.Prelude.{◌≡◌, ◌≢◌, ◌↔◌, ◌<◌, ◌≤◌, ℕ, IfErr, IfOk, IfSome, IsErr, IsOk, IsTrue, List, OnErr, OnOk, Some, [], length};
+ghost use Rattle.std.specs.Bool.{OnTrue, OnFalse};
 ghost use Rattle.guest_memory.specs.Memory.{Memory};
 ghost use Rattle.mmio_window.specs.declared.device_kind.DeviceKind.{DeviceKind};
 ghost use Rattle.mmio_window.specs.Saved.{saved_window, window_restored};
@@ -16,6 +17,7 @@ ghost use Rattle.board.specs.World.{MayGiveOverImage};
 use crate::reply::Reply;
 use crate::saved::RestoreFault;
 use crate::slot::Slot;
+use arrayvec::ArrayVec;
 use mmio_window::{DeviceKind, SavedWindow, Window};
 use negotiation::Flags;
 use snapshot::{SavedSlot, ShortBuffer};
@@ -68,6 +70,7 @@ impl<A: Allocator> Slot<A> {
             cols,
             rows,
             on_hold: self.on_hold,
+            devices: ArrayVec::new(),
         }
     }
 
@@ -157,7 +160,11 @@ impl<A: Allocator> Slot<A> {
         ensures value { IsTrue result ↔ Suits saved.now self.now }
         ensures offers { OffersFeatures self.now }
     {
-        saved.base == self.memory.base()
+        let base = self.memory.base();
+        if !has_no_devices(saved) {
+            return false;
+        }
+        saved.base == base
             && saved.len == self.memory.len()
             && saved.sectors == self.device().extent.count
             && saved.read_only == self.block_device.read_only
@@ -166,4 +173,12 @@ impl<A: Allocator> Slot<A> {
             && saved.console.negotiation.offered == self.console.negotiation().offered().bits()
             && (!saved.on_hold || self.host.is_some())
     }
+}
+
+// Whether a snapshot has nothing of further devices: a slot takes up none that has.
+fn has_no_devices(saved: &SavedSlot) -> bool
+    ensures none { OnTrue result (saved.now.devices.items ≡ []) }
+    ensures some { OnFalse result (saved.now.devices.items ≢ []) }
+{
+    saved.devices.is_empty()
 }

@@ -1,20 +1,21 @@
 //! The accesses of a guest's drivers to the windows of its devices, and what the devices do then.
 
 ghost use Rattle.std.specs.Prelude.{◌≡◌, ℕ, List, OnOk, OnErr};
-ghost use Rattle.mmio_window.specs.declared.device_kind.DeviceKind.{DeviceKind};
+ghost use Rattle.board.specs.declared.event.SlotWindow.{SlotWindow};
 ghost use Rattle.board.specs.declared.reply.Reply.{Reply};
 ghost use Rattle.board.specs.Image.{sectors_of};
 ghost use Rattle.board.specs.Machine.{register, task_at, window_of, with_write};
 ghost use Rattle.board.specs.Slot.{state_of};
 ghost use Rattle.board.specs.Task.{task_of};
 
+use crate::event::SlotWindow;
 use crate::pause::Service;
 use crate::reply::Reply;
 use crate::slot::Slot;
 use crate::task::Task;
 use block_device::REQUESTQ;
 use console_device::{NoMemory, RECEIVEQ, TRANSMITQ};
-use mmio_window::{Action, CONFIGURATION_OFFSET, DeviceKind, Window};
+use mmio_window::{Action, CONFIGURATION_OFFSET, Window};
 use std::alloc::Allocator;
 
 /// Where a driver writes to the console without a queue: emerg_wr (5.3.4).
@@ -22,7 +23,7 @@ const EMERGENCY_WRITE: u16 = 0x108;
 
 impl<A: Allocator + Copy> Slot<A> {
     /// What a read of a window gives (4.2.2).
-    pub(crate) fn read_window(&self, window: DeviceKind, offset: u16, width: u8) -> u32
+    pub(crate) fn read_window(&self, window: SlotWindow, offset: u16, width: u8) -> u32
         ensures { (bytes : List ℕ) →
             sectors_of (state_of bytes self.now).extent ≡ self.now.extent.count →
             result ≡ register (state_of bytes self.now) window offset width }
@@ -31,8 +32,8 @@ impl<A: Allocator + Copy> Slot<A> {
             return self.window(window).read_control(offset, width);
         }
         match window {
-            DeviceKind::Block => self.block.read(offset, width, &self.device().config()),
-            DeviceKind::Console => self
+            SlotWindow::Block => self.block.read(offset, width, &self.device().config()),
+            SlotWindow::Console => self
                 .console
                 .read(offset, width, &self.console_device.config()),
         }
@@ -40,12 +41,12 @@ impl<A: Allocator + Copy> Slot<A> {
 
     // The window of a kind of device.
     #[inline(always)]
-    fn window(&self, kind: DeviceKind) -> &Window
+    fn window(&self, kind: SlotWindow) -> &Window
         ensures { (bytes : List ℕ) → result.now ≡ window_of kind (state_of bytes self.now) }
     {
         match kind {
-            DeviceKind::Block => &self.block,
-            DeviceKind::Console => &self.console,
+            SlotWindow::Block => &self.block,
+            SlotWindow::Console => &self.console,
         }
     }
 
@@ -53,7 +54,7 @@ impl<A: Allocator + Copy> Slot<A> {
     #[inline(always)]
     pub(super) fn write_registers(
         &mut self,
-        window: DeviceKind,
+        window: SlotWindow,
         offset: u16,
         width: u8,
         value: u32,
@@ -65,12 +66,12 @@ impl<A: Allocator + Copy> Slot<A> {
         ensures disturbed { self.new.disturbed ≡ self.old.disturbed }
     {
         match window {
-            DeviceKind::Block => {
+            SlotWindow::Block => {
                 let action = self.block.write(offset, width, value, &self.memory);
                 self.counters.wrote(action);
                 block_task(action)
             }
-            DeviceKind::Console => {
+            SlotWindow::Console => {
                 let action = self.console.write(offset, width, value, &self.memory);
                 self.counters.wrote(action);
                 console_task(action)
@@ -82,7 +83,7 @@ impl<A: Allocator + Copy> Slot<A> {
 // What a write to the block window leaves to be done (5.2.6).
 #[inline(always)]
 fn block_task(action: Action) -> Task
-    ensures { result ≡ task_of DeviceKind.Block action }
+    ensures { result ≡ task_of SlotWindow.Block action }
 {
     match action {
         Action::Notify(REQUESTQ) => Task::Serve(Service::Block),
@@ -94,7 +95,7 @@ fn block_task(action: Action) -> Task
 // emergency write, of whatever width (5.3.4).
 #[inline(always)]
 fn console_task(action: Action) -> Task
-    ensures { result ≡ task_of DeviceKind.Console action }
+    ensures { result ≡ task_of SlotWindow.Console action }
 {
     match action {
         Action::Notify(RECEIVEQ) => Task::Serve(Service::Receive),

@@ -7,7 +7,7 @@ use Rattle.board.proofs.Beside.{keeps_as, keeps_on, range_of}
 use Rattle.board.proofs.Blocks.{read_given, told_given}
 use Rattle.board.proofs.Turns.{comes_first, silent_answer}
 use Rattle.board.proofs.slot.Slot.answer_beside_disk.Goals as goal
-use Rattle.board.proofs.slot.Slot.answer_beside_disk.Goals.{in-Read, in-MemRead, in-MemWrite, in-Resize, in-Restore, in-Host}
+use Rattle.board.proofs.slot.Slot.answer_beside_disk.Goals.{in-Read, in-MemRead, in-MemWrite, in-Resize, in-Restore, in-Host, in-Device}
 
 -- a restore waits
 waits : {A : Type 0} {what : EventKind A} {bytes : List ℕ} → what ≡ Restore bytes → must_wait what ≡ false → ⊥
@@ -49,6 +49,9 @@ returns-clause-serves g c = λ image health filled.
           (w.answer_restore-reply.ensures.given image health filled))
       | in-Host w ↦ rw (w.self-is, w.reply-is, w.in-Host.is)
           (silent_answer _ c.args.budget _ _ _ _ _ out refl (told_given (state_of image slot) _ health))
+      | in-Device w ↦ rw (w.self-is, w.reply-is, w.in-Device.is)
+          (silent_answer _ c.args.budget _ _ _ _ _ out refl
+          (w.device_event-reply.ensures.given image health))
     ]
 
 pub returns-clause-keeps : goal.returns-clause-keeps
@@ -78,4 +81,10 @@ returns-clause-keeps g c =
             extent = restored.extent;
           })
       | in-Host w ↦ rw (w.self-is, w.in-Host.is) (keeps_as slot slot _ refl refl refl refl refl)
+      | in-Device w ↦
+          let done = w.device_event-reply.ensures in
+          rw (w.self-is, w.in-Device.is)
+          (keeps_on slot slot _ (keeps_as slot slot _ refl refl refl refl refl)
+          (ap (λ (s : BoardSlot). s.block) done.rest) (ap (λ (s : BoardSlot). s.host) done.rest) done.range
+          (ap (λ (s : BoardSlot). s.extent) done.rest))
     ]

@@ -7,7 +7,7 @@ pub returns : goal.returns
 returns g c =
     saved_as (λ v. v.items) c.write.result c.args.self.now c.saved.result c.pending.result.0.now
     c.pending.result.1.now
-    (subst (λ (slot : BoardSlot). IsSoundSlot slot.memory slot.read_only slot.block slot.console slot.pending)
+    (subst (λ (slot : BoardSlot). IsSoundSlot slot.memory slot.read_only slot.block slot.console slot.pending slot.devices)
     c.self.view_is c.self.invariant)
     c.saved.ensures.value (c.pending.ensures ∙ ap (λ (slot : BoardSlot). slot.pending) c.self.view_is)
     c.saved.ensures.block c.saved.ensures.console c.write.ensures

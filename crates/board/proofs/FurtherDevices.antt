@@ -1,0 +1,337 @@
+-- What comes of what is done to a further device.
+use Rattle.std.proofs.Common.{◌≡◌, ◌≢◌, inl, inr, ℕ, Bool, true, false, Option, Some, None, List, [], refl, sym, ◌∙◌, ap, subst, length, ◌++◌, ◌∷◌}
+use Rattle.std.specs.Prelude.{if◌then◌else◌, ◌==◌, ◌&&◌, is_none, is_some, unwrap_or}
+use Rattle.std.specs.List.{slice_get}
+use Rattle.std.specs.Option.{option_and_then, option_map}
+use Rattle.std.proofs.lemmas.Bool.{eq-eqb, ne_eqb}
+use Rattle.std.proofs.lemmas.Option.{same_Some}
+use Rattle.guest_memory.specs.Memory.{Memory}
+use Rattle.device_list.specs.declared.spec.DeviceSpec.{DeviceSpec}
+use Rattle.device_list.specs.Device.{DeviceState, Receives, TakesSent, fresh_device, register_of, supply_taken}
+use Rattle.device_list.specs.declared.spec.AddRefusal.{AddRefusal}
+use Rattle.device_list.specs.List.{At, card_at, refusal_of}
+use Rattle.device_list.specs.Card.{Card, oldest_of, receive_refusal}
+use Rattle.network_device.specs.declared.refusal.FrameRefusal.TheVariants.{Full}
+use Rattle.device_list.specs.declared.refusal.ReceiveRefusal.{ReceiveRefusal}
+use Rattle.device_list.specs.declared.refusal.ReceiveRefusal.TheVariants.{Frame}
+use Rattle.device_list.proofs.One.{reception_once, supply_once, taking_once, write_once}
+use Rattle.board.specs.declared.event.DeviceEvent.{DeviceEvent}
+use Rattle.board.specs.declared.event.DeviceEvent.TheVariants.{Plug, Read, Write, Supply, Receive, TakeSent, SetLink}
+use Rattle.board.specs.declared.event.EventKind.TheVariants.{Device}
+use Rattle.board.specs.declared.reply.Reply.{Reply}
+use Rattle.board.specs.declared.reply.Reply.TheVariants.{Value, Done, Bytes, Took, BadDevice, Busy, Idle, NoMemory}
+use Rattle.board.specs.Devices.{DoesTo, GivesByDevice, GivesDevice, AreSet, DoesIf, IsDeviceStep, IsUnmet, MayReplyDevice, StaysSo, TakesMemoryFor, can_plug, device_reply, oldest_at, received_reply, reply_at}
+use Rattle.board.specs.Image.{Health}
+use Rattle.board.specs.Outcome.{Outcome, replies}
+use Rattle.board.specs.Slot.{SlotState}
+use Rattle.board.specs.World.{MayGiveOverImage}
+use Rattle.board.proofs.Lists.{set_same}
+
+-- the slot with another memory and other devices
+abbrev pub with_devices : SlotState → Memory → List DeviceState → SlotState
+with_devices state memory devices = record state { memory = memory; devices = devices }
+
+module _ {A : Type 0} (n : ℕ) (what : DeviceEvent A) (state : SlotState) where
+  by_answer : (P : Outcome A → Type 0) (found : Option (Reply A)) (before after : Health) (outcome : Outcome A)
+      → GivesByDevice found n what state before after outcome → P (replies state BadDevice)
+      → ((reply : Reply A) → found ≡ Some reply → IsDeviceStep n what state reply before after outcome → P outcome)
+      → P outcome
+  by_answer P None before after outcome h bad step = subst P (sym h.alike) bad
+  by_answer P (Some reply) before after outcome h bad step = step reply refl h
+
+  -- a device takes it, or nothing happens
+  pub of_device : (P : Outcome A → Type 0) (before after : Health) (outcome : Outcome A)
+      → GivesDevice n what state before after outcome → P (replies state BadDevice)
+      → ((reply : Reply A) → reply_at n what state ≡ Some reply → IsDeviceStep n what state reply before after outcome
+      → P outcome) → P outcome
+  of_device P before after outcome h bad step = by_answer P (reply_at n what state) before after outcome h bad step
+
+  -- all else of the slot stays, and nothing is put out
+  pub device_rest : (before after : Health) (outcome : Outcome A) → GivesDevice n what state before after outcome
+      → outcome ≡ replies (with_devices state outcome.state.memory outcome.state.devices) outcome.reply
+  device_rest before after outcome h =
+      of_device (λ (o : Outcome A).
+      o ≡ replies (with_devices state o.state.memory o.state.devices) o.reply) before after outcome h refl
+      (λ reply found step. step.is
+      ∙ ap (λ (r : Reply A). replies (with_devices state outcome.state.memory outcome.state.devices) r)
+      (sym (ap (λ (o : Outcome A). o.reply) step.is)))
+
+  image_by : (found : Option (Reply A)) (before after : Health) (outcome : Outcome A)
+      → GivesByDevice found n what state before after outcome → after ≡ before
+  image_by None before after outcome h = h.image
+  image_by (Some reply) before after outcome h = h.image
+
+  -- the image has no part in it
+  pub device_image : (before after : Health) (outcome : Outcome A)
+      → GivesDevice n what state before after outcome → after ≡ before
+  device_image before after outcome h = image_by (reply_at n what state) before after outcome h
+
+  anyhow_by : (found : Option (Reply A)) (before after one other : Health) (outcome : Outcome A) → other ≡ one
+      → GivesByDevice found n what state before after outcome
+      → GivesByDevice found n what state one other outcome
+  anyhow_by None before after one other outcome still h = record { alike = h.alike; image = still }
+  anyhow_by (Some reply) before after one other outcome still h =
+      record { at = h.at; is = h.is; image = still }
+
+  -- and how it fares is never seen
+  pub device_anyhow : (before after one : Health) (outcome : Outcome A)
+      → GivesDevice n what state before after outcome → GivesDevice n what state one one outcome
+  device_anyhow before after one outcome h =
+      anyhow_by (reply_at n what state) before after one one outcome refl h
+
+-- which reply it is
+took_by : {A : Type 0} (bytes : List ℕ) (found : Option ℕ) (reply : Reply A) → option_map Took found ≡ Some reply
+    → MayReplyDevice (Supply bytes) reply
+took_by bytes None reply is = absurd (cc)
+took_by {A} bytes (Some taken) reply is =
+    subst (λ (r : Reply A). MayReplyDevice (Supply bytes) r) (same_Some (Took taken) reply is) tt
+
+answer_may : {A : Type 0} (what : DeviceEvent A) (d : DeviceState) (reply : Reply A)
+    → device_reply what d ≡ Some reply → MayReplyDevice what reply
+answer_may {A} (Read offset width) d reply is =
+    subst (λ (r : Reply A). MayReplyDevice (Read offset width) r)
+    (same_Some (Value (register_of offset width d)) reply is) tt
+answer_may {A} (Write offset width value) d reply is =
+    subst (λ (r : Reply A). MayReplyDevice (Write offset width value) r) (same_Some Done reply is) tt
+answer_may (Supply bytes) d reply is = took_by bytes (supply_taken bytes d) reply is
+answer_may _ d reply is = absurd (cc)
+
+found_may : {A : Type 0} (what : DeviceEvent A) (found : Option DeviceState) (reply : Reply A)
+    → option_and_then (device_reply what) found ≡ Some reply → MayReplyDevice what reply
+found_may what None reply is = absurd (cc)
+found_may what (Some d) reply is = answer_may what d reply is
+
+plug_may : {A : Type 0} (spec : DeviceSpec) (can : Bool) (reply : Reply A)
+    → (if can then Some Done else None) ≡ Some reply → MayReplyDevice (Plug spec) reply
+plug_may spec false reply is = absurd (cc)
+plug_may {A} spec true reply is =
+    subst (λ (r : Reply A). MayReplyDevice (Plug spec) r) (same_Some Done reply is) tt
+
+received_may : {A : Type 0} (frame : List ℕ) (found : Option ReceiveRefusal) (reply : Reply A)
+    → received_reply frame found ≡ Some reply → MayReplyDevice (Receive frame) reply
+received_may {A} frame None reply is =
+    subst (λ (r : Reply A). MayReplyDevice (Receive frame) r) (same_Some (Took (length frame)) reply is) tt
+received_may {A} frame (Some (Frame Full)) reply is =
+    subst (λ (r : Reply A). MayReplyDevice (Receive frame) r) (same_Some (Took 0) reply is) tt
+received_may frame (Some _) reply is = absurd (cc)
+
+taken_may : {A : Type 0} (found : Option Card) (reply : Reply A)
+    → option_map (λ card. Bytes (unwrap_or (oldest_of card) [])) found ≡ Some reply → MayReplyDevice TakeSent reply
+taken_may None reply is = absurd (cc)
+taken_may {A} (Some card) reply is =
+    subst (λ (r : Reply A). MayReplyDevice TakeSent r) (same_Some (Bytes (unwrap_or (oldest_of card) [])) reply is)
+    tt
+
+linked_may : {A : Type 0} (up : Bool) (found : Option Card) (reply : Reply A)
+    → option_map (λ card. Done) found ≡ Some reply → MayReplyDevice (SetLink up) reply
+linked_may up None reply is = absurd (cc)
+linked_may {A} up (Some card) reply is =
+    subst (λ (r : Reply A). MayReplyDevice (SetLink up) r) (same_Some Done reply is) tt
+
+reply_may : {A : Type 0} (n : ℕ) (what : DeviceEvent A) (state : SlotState) (reply : Reply A)
+    → reply_at n what state ≡ Some reply → MayReplyDevice what reply
+reply_may n (Plug spec) state reply is = plug_may spec (can_plug n spec state) reply is
+reply_may n (Read offset width) state reply is =
+    found_may (Read offset width) (slice_get state.devices n) reply is
+reply_may n (Write offset width value) state reply is =
+    found_may (Write offset width value) (slice_get state.devices n) reply is
+reply_may n (Supply bytes) state reply is = found_may (Supply bytes) (slice_get state.devices n) reply is
+reply_may n (Receive frame) state reply is =
+    received_may frame (receive_refusal frame (card_at n state.devices)) reply is
+reply_may n TakeSent state reply is = taken_may (card_at n state.devices) reply is
+reply_may n (SetLink up) state reply is = linked_may up (card_at n state.devices) reply is
+
+bad_may : {A : Type 0} (what : DeviceEvent A) → MayReplyDevice what BadDevice
+bad_may (Plug spec) = tt
+bad_may (Read offset width) = tt
+bad_may (Write offset width value) = tt
+bad_may (Supply bytes) = tt
+bad_may (Receive frame) = tt
+bad_may TakeSent = tt
+bad_may (SetLink up) = tt
+
+pub device_replies : {A : Type 0} (n : ℕ) (what : DeviceEvent A) (state : SlotState) (before after : Health)
+    (outcome : Outcome A) → GivesDevice n what state before after outcome → MayReplyDevice what outcome.reply
+device_replies {A} n what state before after outcome h =
+    of_device n what state (λ (o : Outcome A). MayReplyDevice what o.reply) before after outcome h (bad_may what)
+    (λ reply found step. subst (λ (r : Reply A). MayReplyDevice what r)
+    (sym (ap (λ (o : Outcome A). o.reply) step.is))
+    (reply_may n what state reply found))
+
+-- where there was no memory for it
+unmet_may : {A : Type 0} (n : ℕ) (what : DeviceEvent A) (state : SlotState) → TakesMemoryFor n what state
+    → MayReplyDevice what NoMemory
+unmet_may n (Plug spec) state takes = tt
+unmet_may n TakeSent state takes = tt
+unmet_may n _ state takes = absurd takes
+
+pub unmet_replies : {A : Type 0} (n : ℕ) (what : DeviceEvent A) (state : SlotState) (before after : Health)
+    (outcome : Outcome A) → IsUnmet n what state before after outcome → MayReplyDevice what outcome.reply
+unmet_replies {A} n what state before after outcome h =
+    subst (λ (o : Outcome A). MayReplyDevice what o.reply) (sym h.unchanged) (unmet_may n what state h.takes)
+
+-- none is ever idle or busy
+
+pub never_idle : {A : Type 0} (what : DeviceEvent A) → MayReplyDevice what Idle → ⊥
+never_idle (Plug spec) may = may
+never_idle (Read offset width) may = may
+never_idle (Write offset width value) may = may
+never_idle (Supply bytes) may = may
+never_idle (Receive frame) may = may
+never_idle TakeSent may = may
+never_idle (SetLink up) may = may
+
+pub never_waiting : {A : Type 0} (what : DeviceEvent A) → MayReplyDevice what Busy → ⊥
+never_waiting (Plug spec) may = may
+never_waiting (Read offset width) may = may
+never_waiting (Write offset width value) may = may
+never_waiting (Supply bytes) may = may
+never_waiting (Receive frame) may = may
+never_waiting TakeSent may = may
+never_waiting (SetLink up) may = may
+
+-- what a slot gives for it may be given over an image
+pub device_given : {A : Type 0} (n : ℕ) (what : DeviceEvent A) (old new : SlotState) (reply : Reply A)
+    (health : Health) → reply ≢ NoMemory → GivesDevice n what old health health (replies new reply)
+    → MayGiveOverImage old (Device n what) health health (replies new reply)
+device_given n what old new reply health answered h =
+    inl (record { alike = h; answered = answered; failures = refl })
+
+-- and where there is no memory for it
+pub unmet_given : (A : Type 0) (n : ℕ) (what : DeviceEvent A) (state : SlotState) (health : Health)
+    → TakesMemoryFor n what state → MayGiveOverImage {A = A} state (Device n what) health health (replies state NoMemory)
+unmet_given A n what state health takes = inr (record { takes = takes; unchanged = refl; image = refl })
+
+-- ---- there is at most one outcome
+
+set_once : (wanted : List DeviceState) (m one other : Memory) (new new' : List DeviceState)
+    → AreSet wanted m one new → AreSet wanted m other new' → (one ≡ other) × (new ≡ new')
+set_once wanted m one other new new' a b = (a.memory ∙ sym b.memory, a.devices ∙ sym b.devices)
+
+still_once : (n : ℕ) (m one other : Memory) (old new new' : List DeviceState)
+    → At StaysSo n m one old new → At StaysSo n m other old new' → (one ≡ other) × (new ≡ new')
+still_once n m one other old new new' a b =
+    let same : new ≡ old = a.is ∙ set_same old n a.before a.after a.there a.changes.device in
+    let same' : new' ≡ old = b.is ∙ set_same old n b.before b.after b.there b.changes.device in
+    (a.changes.memory ∙ sym b.changes.memory, same ∙ sym same')
+
+does_if_once : (cause : Bool) (Changes : Memory → Memory → DeviceState → DeviceState → Type 0) (n : ℕ)
+    (m one other : Memory) (old new new' : List DeviceState)
+    → (At Changes n m one old new → At Changes n m other old new' → (one ≡ other) × (new ≡ new'))
+    → DoesIf cause Changes n m one old new → DoesIf cause Changes n m other old new'
+    → (one ≡ other) × (new ≡ new')
+does_if_once true Changes n m one other old new new' once a b = once a b
+does_if_once false Changes n m one other old new new' once a b = set_once old m one other new new' a b
+
+alters_once : {A : Type 0} (what : DeviceEvent A) (n : ℕ) (m one other : Memory) (old new new' : List DeviceState)
+    → DoesTo what n m one old new → DoesTo what n m other old new' → (one ≡ other) × (new ≡ new')
+alters_once (Plug spec) n m one other old new new' a b = set_once _ m one other new new' a b
+alters_once (SetLink up) n m one other old new new' a b = set_once _ m one other new new' a b
+alters_once (Receive frame) n m one other old new new' a b =
+    does_if_once (is_none (receive_refusal frame (card_at n old))) (Receives frame) n m one other old new new'
+    (reception_once frame n m one other old new new') a b
+alters_once TakeSent n m one other old new new' a b =
+    does_if_once (is_some (oldest_at n old)) TakesSent n m one other old new new'
+    (taking_once n m one other old new new') a b
+alters_once (Read offset width) n m one other old new new' a b =
+    still_once n m one other old new new'
+    (record { before = a.before; after = a.after; there = a.there; changes = a.changes; is = a.is })
+    (record { before = b.before; after = b.after; there = b.there; changes = b.changes; is = b.is })
+alters_once (Write offset width value) n m one other old new new' a b =
+    write_once offset width value n m one other old new new'
+    (record { before = a.before; after = a.after; there = a.there; changes = a.changes; is = a.is })
+    (record { before = b.before; after = b.after; there = b.there; changes = b.changes; is = b.is })
+alters_once (Supply bytes) n m one other old new new' a b =
+    supply_once bytes n m one other old new new'
+    (record { before = a.before; after = a.after; there = a.there; changes = a.changes; is = a.is })
+    (record { before = b.before; after = b.after; there = b.there; changes = b.changes; is = b.is })
+
+same_devices : {A : Type 0} (state : SlotState) (m n : Memory) (x y : List DeviceState) (reply : Reply A) → m ≡ n
+    → x ≡ y → replies (with_devices state m x) reply ≡ replies (with_devices state n y) reply
+same_devices state m n x y reply p q = rw (p, q) refl
+
+once_by : {A : Type 0} (n : ℕ) (what : DeviceEvent A) (state : SlotState) (found : Option (Reply A))
+    (h k l : Health) (one other : Outcome A) → GivesByDevice found n what state h k one
+    → GivesByDevice found n what state h l other → one ≡ other
+once_by n what state None h k l one other a b = a.alike ∙ sym b.alike
+once_by n what state (Some reply) h k l one other a b =
+    let same = alters_once what n state.memory one.state.memory other.state.memory state.devices one.state.devices
+    other.state.devices a.at b.at in
+    a.is ∙ same_devices state one.state.memory other.state.memory one.state.devices other.state.devices reply same.0
+    same.1 ∙ sym b.is
+
+pub device_once : {A : Type 0} (n : ℕ) (what : DeviceEvent A) (state : SlotState) (h k l : Health)
+    (one other : Outcome A) → GivesDevice n what state h k one → GivesDevice n what state h l other → one ≡ other
+device_once n what state h k l one other a b = once_by n what state (reply_at n what state) h k l one other a b
+
+-- ---- what the calls answer is it
+
+plugged_by : (A : Type 0) (n : ℕ) (spec : DeviceSpec) (state new : SlotState) (health : Health) (can : Bool)
+    → can ≡ true → new ≡ with_devices state state.memory (state.devices ++ fresh_device spec ∷ [])
+    → GivesByDevice {A = A} (if can then Some Done else None) n (Plug spec) state health health (replies new Done)
+plugged_by A n spec state new health false can is = absurd (cc)
+plugged_by A n spec state new health true can is = record {
+  at = record { memory = ap (λ (s : SlotState). s.memory) is; devices = ap (λ (s : SlotState). s.devices) is };
+  is = ap (λ (s : SlotState). replies {A = A} s Done)
+      (is ∙ sym (ap (λ (s : SlotState). with_devices state s.memory s.devices) is));
+  image = refl;
+}
+
+pub plugged_given : (A : Type 0) (n : ℕ) (spec : DeviceSpec) (state new : SlotState) (health : Health)
+    → can_plug n spec state ≡ true
+    → new ≡ with_devices state state.memory (state.devices ++ fresh_device spec ∷ [])
+    → GivesDevice {A = A} n (Plug spec) state health health (replies new Done)
+plugged_given A n spec state new health can is =
+    plugged_by A n spec state new health (can_plug n spec state) can is
+
+refused_by : (A : Type 0) (n : ℕ) (spec : DeviceSpec) (state : SlotState) (health : Health) (can : Bool)
+    → can ≡ false
+    → GivesByDevice {A = A} (if can then Some Done else None) n (Plug spec) state health health
+    (replies state BadDevice)
+refused_by A n spec state health false can = record { alike = refl; image = refl }
+refused_by A n spec state health true can = absurd (cc)
+
+pub refused_given : (A : Type 0) (n : ℕ) (spec : DeviceSpec) (state : SlotState) (health : Health)
+    → can_plug n spec state ≡ false
+    → GivesDevice {A = A} n (Plug spec) state health health (replies state BadDevice)
+refused_given A n spec state health can = refused_by A n spec state health (can_plug n spec state) can
+
+-- a device is plugged in that has the next number and isn't refused
+pub can_by : (n : ℕ) (spec : DeviceSpec) (state : SlotState) → n ≡ length state.devices
+    → refusal_of state.devices spec ≡ None → can_plug n spec state ≡ true
+can_by n spec state next free = rw (eq-eqb n (length state.devices) next, free) refl
+
+pub cannot_by_number : (n : ℕ) (spec : DeviceSpec) (state : SlotState) → n ≢ length state.devices
+    → can_plug n spec state ≡ false
+cannot_by_number n spec state other = rw (ne_eqb n (length state.devices) other) refl
+
+both_false : (b : Bool) → (b && false) ≡ false
+both_false true = refl
+both_false false = refl
+
+pub cannot_by_refusal : (n : ℕ) (spec : DeviceSpec) (state : SlotState) (why : AddRefusal)
+    → refusal_of state.devices spec ≡ Some why → can_plug n spec state ≡ false
+cannot_by_refusal n spec state why is = rw (is) (both_false (n == length state.devices))
+
+read_at : (A : Type 0) (n offset width value : ℕ) (state : SlotState) (health : Health) (found : Option DeviceState)
+    → slice_get state.devices n ≡ found → option_map (register_of offset width) found ≡ Some value
+    → GivesByDevice {A = A} (option_and_then (device_reply (Read offset width)) found) n (Read offset width) state
+    health health (replies state (Value value))
+read_at A n offset width value state health None there is = absurd (cc)
+read_at A n offset width value state health (Some d) there is = record {
+  at = record {
+    before = d;
+    after = d;
+    there = there;
+    changes = record { memory = refl; device = refl };
+    is = sym (set_same state.devices n d d there refl);
+  };
+  is = ap (λ (v : ℕ). replies {A = A} state (Value v)) (sym (same_Some (register_of offset width d) value is));
+  image = refl;
+}
+
+pub read_given : (A : Type 0) (n offset width value : ℕ) (state : SlotState) (health : Health)
+    → Some value ≡ option_map (register_of offset width) (slice_get state.devices n)
+    → GivesDevice {A = A} n (Read offset width) state health health (replies state (Value value))
+read_given A n offset width value state health is =
+    read_at A n offset width value state health (slice_get state.devices n) refl (sym is)

@@ -1,0 +1,132 @@
+-- The further devices of a slot: what comes of what is done to one of them.
+use Rattle.std.specs.Prelude.{◌≡◌, ◌==◌, ◌&&◌, ⊤, ℕ, Bool, true, false, if◌then◌else◌, Option, Some, None, IsSome, is_none, is_some, unwrap_or, List, [], ◌∷◌, ◌++◌, length}
+use Rattle.std.specs.List.{slice_get}
+use Rattle.std.specs.Option.{option_and_then, option_map}
+use Rattle.guest_memory.specs.Memory.{Memory}
+use Rattle.network_device.specs.declared.refusal.FrameRefusal.TheVariants.{Full}
+use Rattle.device_list.specs.declared.refusal.ReceiveRefusal.{ReceiveRefusal}
+use Rattle.device_list.specs.declared.refusal.ReceiveRefusal.TheVariants.{Frame}
+use Rattle.device_list.specs.declared.spec.DeviceSpec.{DeviceSpec}
+use Rattle.device_list.specs.Card.{oldest_of, receive_refusal}
+use Rattle.device_list.specs.Device.{DeviceState, Receives, Supplies, TakesSent, Writes, fresh_device, linked, register_of, supply_taken}
+use Rattle.device_list.specs.List.{At, card_at, changed_at, refusal_of}
+use Rattle.board.specs.declared.event.DeviceEvent.{DeviceEvent}
+use Rattle.board.specs.declared.event.DeviceEvent.TheVariants.{Plug, Read, Write, Supply, Receive, TakeSent, SetLink}
+use Rattle.board.specs.declared.reply.Reply.{Reply}
+use Rattle.board.specs.declared.reply.Reply.TheVariants.{Value, Done, Bytes, Took, BadDevice, NoMemory}
+use Rattle.board.specs.Image.{Health}
+use Rattle.board.specs.Outcome.{Outcome, replies, IsDetermined}
+use Rattle.board.specs.Slot.{SlotState}
+
+-- what is answered for a device, if it takes such a thing
+abbrev pub device_reply : {A : Type 0} → DeviceEvent A → DeviceState → Option (Reply A)
+device_reply (Read offset width) d = Some (Value (register_of offset width d))
+device_reply (Write offset width value) d = Some Done
+device_reply (Supply bytes) d = option_map Took (supply_taken bytes d)
+device_reply what d = None
+
+-- what the host is answered of a frame that the card refuses so, if it does: it is taken whole, or there is no
+-- room for it now
+abbrev pub received_reply : {A : Type 0} → List ℕ → Option ReceiveRefusal → Option (Reply A)
+received_reply frame None = Some (Took (length frame))
+received_reply frame (Some (Frame Full)) = Some (Took 0)
+received_reply frame (Some why) = None
+
+-- the oldest frame that device n sent and its host hasn't taken
+abbrev pub oldest_at : ℕ → List DeviceState → Option (List ℕ)
+oldest_at n devices = option_and_then oldest_of (card_at n devices)
+
+-- whether the slot takes this device as the one of this number, which is the next
+abbrev pub can_plug : ℕ → DeviceSpec → SlotState → Bool
+can_plug n spec state = n == length state.devices && is_none (refusal_of state.devices spec)
+
+-- what is answered where device n of the slot is there, or may be plugged in, and takes such a thing
+abbrev pub reply_at : {A : Type 0} → ℕ → DeviceEvent A → SlotState → Option (Reply A)
+reply_at n (Plug spec) state = if can_plug n spec state then Some Done else None
+reply_at n (Receive frame) state = received_reply frame (receive_refusal frame (card_at n state.devices))
+reply_at n TakeSent state = option_map (λ card. Bytes (unwrap_or (oldest_of card) [])) (card_at n state.devices)
+reply_at n (SetLink up) state = option_map (λ card. Done) (card_at n state.devices)
+reply_at n what state = option_and_then (device_reply what) (slice_get state.devices n)
+
+-- nothing changes
+pub record StaysSo (m m' : Memory) (d d' : DeviceState) : Type 0 where
+  pub memory : m' ≡ m
+  pub device : d' ≡ d
+
+-- how a device that takes it and the memory change
+abbrev pub Alters : {A : Type 0} → DeviceEvent A → Memory → Memory → DeviceState → DeviceState → Type 0
+Alters (Read offset width) m m' d d' = StaysSo m m' d d'
+Alters (Write offset width value) m m' d d' = Writes offset width value m m' d d'
+Alters (Supply bytes) m m' d d' = Supplies bytes m m' d d'
+Alters what m m' d d' = ⊥
+
+-- the memory stays, and these are the devices
+pub record AreSet (wanted : List DeviceState) (m m' : Memory) (new : List DeviceState) : Type 0 where
+  pub memory : m' ≡ m
+  pub devices : new ≡ wanted
+
+-- a device does this where there is a cause to, and else all stays
+abbrev pub DoesIf : Bool → (Memory → Memory → DeviceState → DeviceState → Type 0) → ℕ → Memory → Memory
+    → List DeviceState → List DeviceState → Type 0
+DoesIf true Changes n m m' old new = At Changes n m m' old new
+DoesIf false Changes n m m' old new = AreSet old m m' new
+
+-- how the memory and the devices change
+abbrev pub DoesTo : {A : Type 0} → DeviceEvent A → ℕ → Memory → Memory → List DeviceState → List DeviceState
+    → Type 0
+DoesTo (Plug spec) n m m' old new = AreSet (old ++ fresh_device spec ∷ []) m m' new
+DoesTo (SetLink up) n m m' old new = AreSet (changed_at (linked up) n old) m m' new
+DoesTo (Receive frame) n m m' old new =
+    DoesIf (is_none (receive_refusal frame (card_at n old))) (Receives frame) n m m' old new
+DoesTo TakeSent n m m' old new = DoesIf (is_some (oldest_at n old)) TakesSent n m m' old new
+DoesTo what n m m' old new = At (Alters what) n m m' old new
+
+-- A device does its part: the devices and the memory change, and the rest of the slot stays.
+pub record IsDeviceStep {A : Type 0} (n : ℕ) (what : DeviceEvent A) (state : SlotState) (reply : Reply A)
+    (before after : Health) (outcome : Outcome A) : Type 0 where
+  pub at : DoesTo what n state.memory outcome.state.memory state.devices outcome.state.devices
+  pub is :
+      outcome
+      ≡ replies (record state { memory = outcome.state.memory; devices = outcome.state.devices }) reply
+  pub image : after ≡ before
+
+-- what comes of it, by what is answered: nothing where no device takes it
+abbrev pub GivesByDevice : {A : Type 0} → Option (Reply A) → ℕ → DeviceEvent A → SlotState → Health → Health
+    → Outcome A → Type 0
+GivesByDevice None n what state before after outcome =
+    IsDetermined outcome (replies state BadDevice) before after
+GivesByDevice (Some reply) n what state before after outcome =
+    IsDeviceStep n what state reply before after outcome
+
+-- what comes of what is done to device n
+abbrev pub GivesDevice : {A : Type 0} → ℕ → DeviceEvent A → SlotState → Health → Health → Outcome A → Type 0
+GivesDevice n what state before after outcome =
+    GivesByDevice (reply_at n what state) n what state before after outcome
+
+-- whether memory may be wanting for it: a device that is plugged in takes its own, and a frame that is taken is
+-- copied
+abbrev pub TakesMemoryFor : {A : Type 0} → ℕ → DeviceEvent A → SlotState → Type 0
+TakesMemoryFor n (Plug spec) state = can_plug n spec state ≡ true
+TakesMemoryFor n TakeSent state = IsSome (oldest_at n state.devices)
+TakesMemoryFor n what state = ⊥
+
+-- there was none: nothing happens
+pub record IsUnmet {A : Type 0} (n : ℕ) (what : DeviceEvent A) (state : SlotState) (before after : Health)
+    (outcome : Outcome A) : Type 0 where
+  pub takes : TakesMemoryFor n what state
+  pub unchanged : outcome ≡ replies state NoMemory
+  pub image : after ≡ before
+
+-- which replies there may be
+abbrev pub MayReplyDevice : {A : Type 0} → DeviceEvent A → Reply A → Type 0
+MayReplyDevice what BadDevice = ⊤
+MayReplyDevice (Plug spec) Done = ⊤
+MayReplyDevice (Plug spec) NoMemory = ⊤
+MayReplyDevice (Read offset width) (Value value) = ⊤
+MayReplyDevice (Write offset width value) Done = ⊤
+MayReplyDevice (Supply bytes) (Took taken) = ⊤
+MayReplyDevice (Receive frame) (Took taken) = ⊤
+MayReplyDevice TakeSent (Bytes frame) = ⊤
+MayReplyDevice TakeSent NoMemory = ⊤
+MayReplyDevice (SetLink up) Done = ⊤
+MayReplyDevice what answer = ⊥

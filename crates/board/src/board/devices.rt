@@ -1,0 +1,73 @@
+//! The slots' further devices, as somebody sees them who only looks; and what a host hands them in a slice.
+
+ghost use Rattle.std.specs.Prelude.{◌≡◌, []};
+ghost use Rattle.std.specs.List.{slice_get};
+ghost use Rattle.std.specs.Option.{option_and_then, option_map};
+ghost use Rattle.device_list.specs.List.{is_starved_at};
+ghost use Rattle.board.specs.declared.event.DeviceEvent.{DeviceEvent};
+ghost use Rattle.board.specs.declared.event.EventKind.{EventKind};
+ghost use Rattle.board.specs.Image.{Tells};
+ghost use Rattle.board.specs.World.{Answers, KeepsOthers, disturbed_of, extents_of, world_of};
+
+use crate::board::Board;
+use crate::reply::Reply;
+use device_list::VirtioDevice;
+use sector_cache::Image;
+use std::alloc::Allocator;
+
+impl<I: Image, A: Allocator> Board<I, A> {
+    /// A further device of a slot: its window, and what stands behind that. There is no answer where there is no such slot or
+    /// no such device.
+    pub fn device(&self, slot: u8, device: u8) -> Option<&VirtioDevice<A>>
+        ensures { option_map (λ found. found.now) result ≡
+            option_and_then (λ found. slice_get found.devices device) (slice_get self.now.slots slot) }
+    {
+        let slot = self.slot(slot)?;
+        slot.slot().device_at(device)
+    }
+
+    /// Whether a chain is on offer in a further device's queue that waits for what the host supplies.
+    pub fn starved(&self, slot: u8, device: u8) -> Option<bool>
+        ensures { result ≡ option_and_then (λ found.
+            option_map (is_starved_at found.memory) (slice_get found.devices device)) (slice_get self.now.slots slot) }
+    {
+        let slot = self.slot(slot)?;
+        slot.slot().starved(device)
+    }
+}
+
+impl<I: Image, A: Allocator + Copy> Board<I, A> {
+    /// Supplies a further device with bytes, and answers how many were taken: the event of that, for who has the bytes in a
+    /// slice. No memory is taken.
+    pub fn supply(&mut self, slot: u8, device: u8, bytes: &[u8]) -> Reply<A>
+        ensures step { Tells (I.disk self.old.image) → Answers (world_of I.disk self.old)
+            (record { slot = slot; what = EventKind.Device device (DeviceEvent.Supply bytes.now) }) result [] []
+            (world_of I.disk self.new) }
+        ensures others { KeepsOthers slot self.old.slots self.new.slots }
+        ensures extents { extents_of self.new.slots ≡ extents_of self.old.slots }
+        ensures image { self.new.image ≡ self.old.image }
+        ensures disturbed { disturbed_of self.new.slots ≡ disturbed_of self.old.slots }
+    {
+        let Some(found) = self.slots.get_mut(slot as usize) else {
+            return Reply::BadSlot;
+        };
+        found.supply(device, bytes)
+    }
+
+    /// Hands a network card a frame, and answers how many of its bytes were taken: the event of that, for who has the frame in
+    /// a slice. No memory is taken.
+    pub fn receive(&mut self, slot: u8, device: u8, frame: &[u8]) -> Reply<A>
+        ensures step { Tells (I.disk self.old.image) → Answers (world_of I.disk self.old)
+            (record { slot = slot; what = EventKind.Device device (DeviceEvent.Receive frame.now) }) result [] []
+            (world_of I.disk self.new) }
+        ensures others { KeepsOthers slot self.old.slots self.new.slots }
+        ensures extents { extents_of self.new.slots ≡ extents_of self.old.slots }
+        ensures image { self.new.image ≡ self.old.image }
+        ensures disturbed { disturbed_of self.new.slots ≡ disturbed_of self.old.slots }
+    {
+        let Some(found) = self.slots.get_mut(slot as usize) else {
+            return Reply::BadSlot;
+        };
+        found.receive(device, frame)
+    }
+}

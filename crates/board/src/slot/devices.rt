@@ -1,0 +1,226 @@
+//! What is done to the slot's further devices.
+
+ghost use Rattle.std.specs.Prelude.{◌≡◌, ◌≢◌, ◌++◌, ℕ, List, None, true, IfOk, IsSome};
+ghost use Rattle.std.specs.List.{slice_get};
+ghost use Rattle.std.specs.Option.{option_map};
+ghost use Rattle.guest_memory.specs.Memory.{SameRange};
+ghost use Rattle.device_list.specs.List.{is_starved_at};
+ghost use Rattle.board.specs.declared.event.DeviceEvent.{DeviceEvent};
+ghost use Rattle.board.specs.declared.event.EventKind.{EventKind};
+ghost use Rattle.board.specs.declared.reply.Reply.{Reply};
+ghost use Rattle.board.specs.Devices.{GivesDevice, TakesMemoryFor, can_plug, oldest_at};
+ghost use Rattle.board.specs.Image.{Health};
+ghost use Rattle.board.specs.Outcome.{replies};
+ghost use Rattle.board.specs.Quiet.{GivesQuietly};
+ghost use Rattle.board.specs.Slot.{state_of};
+
+use crate::bytes::Bytes;
+use crate::event::DeviceEvent;
+use crate::reply::Reply;
+use crate::slot::Slot;
+use chain::Chain;
+use device_list::{AddRefusal, DeviceSpec, ReceiveRefusal, VirtioDevice};
+use network_device::FrameRefusal;
+use std::alloc::{AllocError, Allocator};
+
+impl<A: Allocator + Copy> Slot<A> {
+    /// Does this to the further device of this number.
+    #[inline(never)]
+    pub(super) fn device_event(&mut self, alloc: A, device: u8, what: &DeviceEvent<A>) -> Reply<A>
+        ensures given { GivesQuietly self.old (EventKind.Device device what.now) self.new result }
+        ensures rest { self.new ≡ record self.old { memory = self.new.memory; devices = self.new.devices } }
+        ensures range { SameRange self.old.memory self.new.memory }
+        ensures there { result ≢ Reply.BadSlot }
+        ensures in_range { result ≢ Reply.BadRange }
+        ensures no_memory { result ≡ Reply.NoMemory → (image : List ℕ) →
+            TakesMemoryFor device what.now (state_of image self.old) }
+    {
+        match what {
+            DeviceEvent::Plug(spec) => self.plug_device(alloc, device, *spec),
+            DeviceEvent::Read { offset, width } => self.read_device(device, *offset, *width),
+            DeviceEvent::Write {
+                offset,
+                width,
+                value,
+            } => self.write_device(device, *offset, *width, *value),
+            DeviceEvent::Supply { bytes } => self.supply_device(device, bytes.as_slice()),
+            DeviceEvent::Receive { frame } => self.receive_frame(device, frame.as_slice()),
+            DeviceEvent::TakeSent => self.take_sent(alloc, device),
+            DeviceEvent::SetLink { up } => self.set_link(device, *up),
+        }
+    }
+
+    // Gives the slot a device that has this number.
+    fn plug_device(&mut self, alloc: A, device: u8, spec: DeviceSpec) -> Reply<A>
+        ensures given { GivesQuietly self.old (EventKind.Device device (DeviceEvent.Plug spec)) self.new result }
+        ensures rest { self.new ≡ record self.old { devices = self.new.devices } }
+        ensures there { result ≢ Reply.BadSlot }
+        ensures in_range { result ≢ Reply.BadRange }
+        ensures no_memory { result ≡ Reply.NoMemory → (image : List ℕ) →
+            can_plug device spec (state_of image self.old) ≡ true }
+    {
+        if usize::from(device) != self.devices.len() {
+            return Reply::BadDevice;
+        }
+        match self.devices.add(alloc, spec) {
+            Ok(_) => Reply::Done,
+            Err(AddRefusal::NoMemory) => Reply::NoMemory,
+            Err(_) => Reply::BadDevice,
+        }
+    }
+
+    // Reads a device's window (4.2.2).
+    fn read_device(&self, device: u8, offset: u16, width: u8) -> Reply<A>
+        ensures given { (image : List ℕ) (health : Health) →
+            GivesDevice device (DeviceEvent.Read offset width) (state_of image self.now) health health
+            (replies (state_of image self.now) result) }
+        ensures there { result ≢ Reply.BadSlot }
+        ensures in_range { result ≢ Reply.BadRange }
+        ensures no_memory { result ≢ Reply.NoMemory }
+    {
+        match self.devices.read(device, offset, width) {
+            Some(value) => Reply::Value(value),
+            None => Reply::BadDevice,
+        }
+    }
+
+    // Writes a device's window, and has the device do its part (4.2.2).
+    fn write_device(&mut self, device: u8, offset: u16, width: u8, value: u32) -> Reply<A>
+        ensures given { (image : List ℕ) (health : Health) →
+            GivesDevice device (DeviceEvent.Write offset width value) (state_of image self.old) health health
+            (replies (state_of image self.new) result) }
+        ensures rest { self.new ≡ record self.old { memory = self.new.memory; devices = self.new.devices } }
+        ensures range { SameRange self.old.memory self.new.memory }
+        ensures there { result ≢ Reply.BadSlot }
+        ensures in_range { result ≢ Reply.BadRange }
+        ensures no_memory { result ≢ Reply.NoMemory }
+    {
+        let (memory, room) = (&mut self.memory, &mut self.chain);
+        if self
+            .devices
+            .write(device, offset, width, value, memory, room)
+        {
+            Reply::Done
+        } else {
+            Reply::BadDevice
+        }
+    }
+
+    /// Supplies a device with bytes.
+    pub(crate) fn supply_device(&mut self, device: u8, bytes: &[u8]) -> Reply<A>
+        ensures given { (image : List ℕ) (health : Health) →
+            GivesDevice device (DeviceEvent.Supply bytes.now) (state_of image self.old) health health
+            (replies (state_of image self.new) result) }
+        ensures rest { self.new ≡ record self.old { memory = self.new.memory; devices = self.new.devices } }
+        ensures range { SameRange self.old.memory self.new.memory }
+        ensures there { result ≢ Reply.BadSlot }
+        ensures in_range { result ≢ Reply.BadRange }
+        ensures no_memory { result ≢ Reply.NoMemory }
+    {
+        let (memory, room) = (&mut self.memory, &mut self.chain);
+        match self.devices.supply(device, bytes, memory, room) {
+            Some(taken) => Reply::Took(taken),
+            None => Reply::BadDevice,
+        }
+    }
+
+    /// Hands a network card a frame.
+    pub(crate) fn receive_frame(&mut self, device: u8, frame: &[u8]) -> Reply<A>
+        ensures given { (image : List ℕ) (health : Health) →
+            GivesDevice device (DeviceEvent.Receive frame.now) (state_of image self.old) health health
+            (replies (state_of image self.new) result) }
+        ensures rest { self.new ≡ record self.old { memory = self.new.memory; devices = self.new.devices } }
+        ensures range { SameRange self.old.memory self.new.memory }
+        ensures there { result ≢ Reply.BadSlot }
+        ensures in_range { result ≢ Reply.BadRange }
+        ensures no_memory { result ≢ Reply.NoMemory }
+    {
+        let (memory, room) = (&mut self.memory, &mut self.chain);
+        match self.devices.receive(device, frame, memory, room) {
+            Ok(()) => Reply::Took(frame.len()),
+            Err(ReceiveRefusal::Frame(FrameRefusal::Full)) => Reply::Took(0),
+            Err(_) => Reply::BadDevice,
+        }
+    }
+
+    // Takes the oldest frame that a network card's driver sent.
+    fn take_sent(&mut self, alloc: A, device: u8) -> Reply<A>
+        ensures given { GivesQuietly self.old (EventKind.Device device DeviceEvent.TakeSent) self.new result }
+        ensures rest { self.new ≡ record self.old { memory = self.new.memory; devices = self.new.devices } }
+        ensures range { SameRange self.old.memory self.new.memory }
+        ensures there { result ≢ Reply.BadSlot }
+        ensures in_range { result ≢ Reply.BadRange }
+        ensures no_memory { result ≡ Reply.NoMemory → IsSome (oldest_at device self.old.devices) }
+    {
+        let Some((front, back)) = self.devices.sent(device) else {
+            return self.no_frame(alloc, device);
+        };
+        let Ok(frame) = joined(alloc, front, back) else {
+            return Reply::NoMemory;
+        };
+        let (memory, room) = (&mut self.memory, &mut self.chain);
+        let _ = self.devices.take_sent(device, memory, room);
+        Reply::Bytes(frame)
+    }
+
+    // What the host is answered that takes a frame where none waits.
+    fn no_frame(&self, alloc: A, device: u8) -> Reply<A>
+        requires { oldest_at device self.now.devices ≡ None }
+        ensures given { (image : List ℕ) (health : Health) →
+            GivesDevice device DeviceEvent.TakeSent (state_of image self.now) health health
+            (replies (state_of image self.now) result) }
+        ensures there { result ≢ Reply.BadSlot }
+        ensures in_range { result ≢ Reply.BadRange }
+        ensures no_memory { result ≢ Reply.NoMemory }
+    {
+        if self.devices.has_card(device) {
+            Reply::Bytes(Bytes::new(alloc))
+        } else {
+            Reply::BadDevice
+        }
+    }
+
+    // Sets whether a network card's link is up.
+    fn set_link(&mut self, device: u8, up: bool) -> Reply<A>
+        ensures given { (image : List ℕ) (health : Health) →
+            GivesDevice device (DeviceEvent.SetLink up) (state_of image self.old) health health
+            (replies (state_of image self.new) result) }
+        ensures rest { self.new ≡ record self.old { devices = self.new.devices } }
+        ensures there { result ≢ Reply.BadSlot }
+        ensures in_range { result ≢ Reply.BadRange }
+        ensures no_memory { result ≢ Reply.NoMemory }
+    {
+        if self.devices.set_link(device, up) {
+            Reply::Done
+        } else {
+            Reply::BadDevice
+        }
+    }
+}
+
+// Two parts of a frame, one behind the other.
+fn joined<A: Allocator>(alloc: A, front: &[u8], back: &[u8]) -> Result<Bytes<A>, AllocError>
+    ensures { IfOk result (λ frame. frame ≡ front.now ++ back.now) }
+{
+    let mut bytes = Vec::with_capacity(alloc, front.len() + back.len())?;
+    bytes.extend_from_slice(front)?;
+    bytes.extend_from_slice(back)?;
+    Ok(Bytes::from(bytes))
+}
+
+impl<A: Allocator> Slot<A> {
+    /// The further device of this number.
+    pub(crate) fn device_at(&self, device: u8) -> Option<&VirtioDevice<A>>
+        ensures { option_map (λ found. found.now) result ≡ slice_get self.now.devices device }
+    {
+        self.devices.get(device)
+    }
+
+    /// Whether a chain is on offer in a further device's queue that waits for what the host supplies.
+    pub(crate) fn starved(&self, device: u8) -> Option<bool>
+        ensures { result ≡ option_map (is_starved_at self.now.memory) (slice_get self.now.devices device) }
+    {
+        self.devices
+            .starved(device, &self.memory, &mut Chain::new())
+    }
+}
