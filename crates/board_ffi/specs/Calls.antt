@@ -1,8 +1,8 @@
 -- What a call does to the board behind its handle.
 use Rattle.std.specs.Prelude.{◌≡◌, ℕ, ◌==◌, if◌then◌else◌, List, Option, Some, None, MatchOption, IsSomeAnd, length}
 use Rattle.std.specs.List.{slice_get}
-use Rattle.mmio_window.specs.declared.device_kind.DeviceKind.{DeviceKind}
-use Rattle.mmio_window.specs.declared.device_kind.DeviceKind.TheVariants.{Block, Console}
+use Rattle.board.specs.declared.event.SlotWindow.{SlotWindow}
+use Rattle.board.specs.declared.event.SlotWindow.TheVariants.{Block, Console}
 use Rattle.board.specs.Slot.{interrupt_words}
 use Rattle.session.specs.Session.{SessionState, output_of}
 use Rattle.session.specs.declared.told.Waits.{Waits}
@@ -22,11 +22,11 @@ Calls before after code step =
     MatchOption before ((code ≡ 1) × (after ≡ None)) (λ old. IsSomeAnd after (step old))
 
 -- the window of each number
-abbrev pub window_of : ℕ → Option DeviceKind
+abbrev pub window_of : ℕ → Option SlotWindow
 window_of number = if number == 0 then Some Block else (if number == 1 then Some Console else None)
 
 -- A call for a window of this number: of a number of none it answers 6, and leaves the handle as it was.
-abbrev pub AtWindow : ℕ → Handle → Handle → ℕ → (DeviceKind → SessionState → SessionState → Type 0) → Type 0
+abbrev pub AtWindow : ℕ → Handle → Handle → ℕ → (SlotWindow → SessionState → SessionState → Type 0) → Type 0
 AtWindow number before after code step =
     MatchOption (window_of number) ((code ≡ 6) × (after ≡ before))
     (λ window. Calls before.session after.session code (step window))

@@ -7,7 +7,7 @@ use crate::answers::registers;
 use crate::codes::BAD_WINDOW;
 use crate::handle::{Handle, session_of};
 use crate::pending::Pending;
-use session::DeviceKind;
+use session::SlotWindow;
 
 /// A guest's read of a register: what it gets.
 #[unsafe(no_mangle)]
@@ -69,12 +69,12 @@ pub extern "C" fn kalyubos_go_on(board: &mut Handle, slot: u8, pending: &mut Pen
 }
 
 /// The window of a number.
-pub(crate) fn window_numbered(number: u8) -> Option<DeviceKind>
+pub(crate) fn window_numbered(number: u8) -> Option<SlotWindow>
     ensures { result ≡ window_of number }
 {
     match number {
-        0 => Some(DeviceKind::Block),
-        1 => Some(DeviceKind::Console),
+        0 => Some(SlotWindow::Block),
+        1 => Some(SlotWindow::Console),
         _ => None,
     }
 }

@@ -4,7 +4,7 @@ use Rattle.std.specs.Prelude.{nat_lt, if◌then◌else◌, IsSomeAnd}
 use Rattle.std.specs.List.{slice_get}
 use Rattle.std.specs.Option.{option_map}
 use Rattle.std.proofs.lemmas.Option.{slice_get_within, slice_get-map, same_Some}
-use Rattle.mmio_window.specs.declared.device_kind.DeviceKind.{DeviceKind}
+use Rattle.board.specs.declared.event.SlotWindow.{SlotWindow}
 use Rattle.guest_memory.specs.Memory.{Inside, is_inside, part_of, stored}
 use Rattle.guest_memory.proofs.Ranges.{is_inside-tells}
 use Rattle.board.specs.declared.event.Event.{Event}
@@ -50,7 +50,7 @@ read_at A s slot addr n new (Some found) here inside is =
       failures = refl;
     }))) (λ limit found after waiting left reply. tt)
 
-register_in : (A : Type 0) (s : SessionState) (slot : ℕ) (window : DeviceKind) (offset width value : ℕ)
+register_in : (A : Type 0) (s : SessionState) (slot : ℕ) (window : SlotWindow) (offset width value : ℕ)
     (o : Option BoardSlot) → slice_get s.slots slot ≡ o
     → IsSomeAnd (option_map (state_of s.image) o) (λ state. value ≡ register state window offset width)
     → IsStep {A = A} s (record { slot = slot; what = Read window offset width }) (Value value) s
@@ -64,7 +64,7 @@ register_in A s slot window offset width value (Some found) here is =
     (λ limit found after waiting left reply. tt)
 
 -- a register that was read is the answer to that read
-pub register_read : (A : Type 0) (s : SessionState) (slot : ℕ) (window : DeviceKind)
+pub register_read : (A : Type 0) (s : SessionState) (slot : ℕ) (window : SlotWindow)
     (offset width value : ℕ) → IsSomeAnd (slice_get (world_of s).slots slot) (λ state.
     value ≡ register state window offset width)
     → IsStep {A = A} s (record { slot = slot; what = Read window offset width }) (Value value) s

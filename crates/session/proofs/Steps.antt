@@ -9,7 +9,7 @@ use Rattle.sector_cache.specs.Disk.{Disk}
 use Rattle.block_device.specs.declared.extent.Extent.{Extent}
 use Rattle.board.specs.declared.event.Event.{Event}
 use Rattle.board.specs.declared.event.EventKind.{EventKind}
-use Rattle.board.specs.declared.event.EventKind.TheVariants.{Write, MemRead}
+use Rattle.board.specs.declared.event.EventKind.TheVariants.{Write, MemRead, Device}
 use Rattle.board.specs.declared.pause.Pause.{Pause}
 use Rattle.board.specs.declared.pause.Turn.{Turn}
 use Rattle.board.specs.declared.pause.Turn.TheVariants as turn
@@ -108,6 +108,7 @@ pub lacks_puts : {A : Type 0} (state : SlotState) (what : EventKind A) → HasNo
 lacks_puts state (Write window offset width value) why h =
     task_puts (task_at window offset width value state) (with_write window offset width value state) h
 lacks_puts state (MemRead addr len) why h = absurd why
+lacks_puts state (Device n what) why h = absurd why
 lacks_puts state what why h = h
 
 lacks_at : {A : Type 0} (o : Option BoardSlot) (image : List ℕ) (slot : BoardSlot) (what : EventKind A)

@@ -10,7 +10,7 @@ use Rattle.guest_memory.proofs.Ranges.{stored_range}
 use Rattle.chain.specs.declared.budget.Budget.{Budget}
 use Rattle.board.specs.declared.event.Event.{Event}
 use Rattle.board.specs.declared.event.EventKind.{EventKind}
-use Rattle.board.specs.declared.event.EventKind.TheVariants.{Write, MemRead, Input}
+use Rattle.board.specs.declared.event.EventKind.TheVariants.{Write, MemRead, Input, Device}
 use Rattle.board.specs.declared.pause.Pause.{Pause}
 use Rattle.board.specs.declared.pause.Turn.{Turn}
 use Rattle.board.specs.declared.pause.Turn.TheVariants as turn
@@ -30,7 +30,7 @@ use Rattle.board.proofs.Seats.{extents_of-set}
 use Rattle.board.proofs.Untouched.{task_over, touches_over, write_over}
 use Rattle.board.proofs.UntouchedSteps as board
 use Rattle.session.specs.declared.response.Response.{Response}
-use Rattle.session.specs.declared.response.Response.TheVariants.{Answered, More}
+use Rattle.session.specs.declared.response.Response.TheVariants.{Answered}
 use Rattle.session.specs.Pacing.{Handle, response_to}
 use Rattle.session.specs.Pausing.{ComesTo, IsBegun, IsEventCall, IsWhole}
 use Rattle.session.specs.Session.{IsStep, SessionState, output_of, with_memory, with_slot_bytes, world_of}
@@ -76,6 +76,7 @@ lacks_over (Write window offset width value) state m none h =
     (task_lacks (task_at window offset width value state) (with_write window offset width value state)
     (with_write window offset width value (over_memory m state)) none h)
 lacks_over (MemRead addr len) state m none h = absurd (cc (none))
+lacks_over (Device n what) state m none h = absurd (cc (none))
 lacks_over what state m none h = h
 
 task_asks : (task : Task) → serves_queue task ≡ false → asked_by task ≡ None

@@ -7,7 +7,7 @@ use Rattle.guest_memory.specs.Memory.{Inside, Memory}
 use Rattle.sector_cache.specs.Disk.{Disk, new_disk}
 use Rattle.board.specs.declared.event.Event.{Event}
 use Rattle.board.specs.declared.event.EventKind.{EventKind}
-use Rattle.board.specs.declared.event.EventKind.TheVariants.{MemRead}
+use Rattle.board.specs.declared.event.EventKind.TheVariants.{MemRead, Device}
 use Rattle.board.specs.declared.pause.Pause.{Pause}
 use Rattle.board.specs.declared.reply.Reply.{Reply}
 use Rattle.board.specs.declared.reply.Reply.TheVariants.{BadSlot, BadRange, NoMemory}
@@ -161,9 +161,10 @@ pub record IsKept (old new : SessionState) : Type 0 where
   pub paused : new.paused ≡ old.paused
   pub budget : new.budget ≡ old.budget
 
--- an event that is no read of memory
+-- an event that is no read of memory, and is not done to a further device: a session has no call for those
 abbrev pub HasNoRead : {A : Type 0} → EventKind A → Type 0
 HasNoRead (MemRead addr len) = ⊥
+HasNoRead (Device n what) = ⊥
 HasNoRead what = ⊤
 
 -- a turn that reads no memory

@@ -27,9 +27,9 @@ mod typed;
 
 pub use block_device::{Operation, OperationKind, Verdict};
 pub use board::{
-    Backing, Board, BoardFault, Budget, CacheFault, Counters, DeviceKind, Event, EventKind, Extent,
-    Fault, FaultNote, GuestMemory, HostEvent, MemoryFault, Outlet, Pause, RegionSpec, Regions,
-    Reply, RestoreFault, RestoreRefusal, SaveRefusal, Service, SlotFault, SlotSpec,
+    Backing, Board, BoardFault, Budget, CacheFault, Counters, Event, EventKind, Extent, Fault,
+    FaultNote, GuestMemory, HostEvent, MemoryFault, Outlet, Pause, RegionSpec, Regions, Reply,
+    RestoreFault, RestoreRefusal, SaveRefusal, Service, SlotFault, SlotSpec, SlotWindow,
 };
 pub use chain::Segment;
 pub use fault::SessionFault;

@@ -9,13 +9,13 @@ ghost use Rattle.board_ffi.specs.Faults.{IsTold};
 use crate::codes::{BAD_SLOT, DONE, of_served, told};
 use crate::fault::Fault;
 use crate::pending::Pending;
-use session::{Counters, DeviceKind, Session, Told};
+use session::{Counters, Session, SlotWindow, Told};
 
 /// A guest's read of a register: what it gets.
 pub(crate) fn read(
     session: &mut Session,
     slot: u8,
-    window: DeviceKind,
+    window: SlotWindow,
     offset: u16,
     width: u8,
     value: &mut u32,
@@ -31,7 +31,7 @@ pub(crate) fn read(
 pub(crate) fn write(
     session: &mut Session,
     slot: u8,
-    window: DeviceKind,
+    window: SlotWindow,
     offset: u16,
     width: u8,
     value: u32,
@@ -84,7 +84,7 @@ pub(crate) fn counters(session: &Session, slot: u8, counters: &mut Counters) -> 
 }
 
 /// Tells the last fault of a guest's window.
-pub(crate) fn last_fault(session: &Session, slot: u8, window: DeviceKind, fault: &mut Fault) -> u32
+pub(crate) fn last_fault(session: &Session, slot: u8, window: SlotWindow, fault: &mut Fault) -> u32
     ensures there { result ≡ 0 → IsThere slot session.now session.now }
     ensures told { result ≡ 0 → IsTold fault.new }
     ensures missing { result ≢ 0 → IsMissing slot result session.now session.now }

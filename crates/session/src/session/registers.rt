@@ -19,7 +19,7 @@ use crate::response::{Response, Turned};
 use crate::session::Session;
 use crate::told::Told;
 use crate::turn_kind::TurnKind;
-use board::{Counters, DeviceKind, EventKind, FaultNote, Reply};
+use board::{Counters, EventKind, FaultNote, Reply, SlotWindow};
 use std::alloc::Allocator;
 
 impl<A: Allocator + Copy> Session<A> {
@@ -28,7 +28,7 @@ impl<A: Allocator + Copy> Session<A> {
     pub fn read(
         &mut self,
         slot: u8,
-        window: DeviceKind,
+        window: SlotWindow,
         offset: u16,
         width: u8,
     ) -> Result<u32, Refusal>
@@ -54,7 +54,7 @@ impl<A: Allocator + Copy> Session<A> {
     pub fn write(
         &mut self,
         slot: u8,
-        window: DeviceKind,
+        window: SlotWindow,
         offset: u16,
         width: u8,
         value: u32,
@@ -142,7 +142,7 @@ impl<A: Allocator> Session<A> {
 
     /// The last fault of a window of the slot, by which the window asked for a reset, and where it was met: none until one
     /// came. It is told in a pause and in flight too. A reset of the window and a restore keep it.
-    pub fn last_fault(&self, slot: u8, window: DeviceKind) -> Option<FaultNote>
+    pub fn last_fault(&self, slot: u8, window: SlotWindow) -> Option<FaultNote>
         ensures { IsSome result → slot < length self.now.slots }
     {
         self.board.last_fault(slot, window)

@@ -1,5 +1,4 @@
 -- When what the host says is refused, and when something began with it.
-use Rattle.board.specs.declared.event.EventKind.TheVariants.{Host}
 use Rattle.session.specs.Operations.{AskedBy, in_flight_at}
 use Rattle.session.proofs.Asking.{asks_where}
 use Rattle.session.proofs.Exact.{HostRefuses, host_refuses}
