@@ -22,6 +22,13 @@ LINES = {
     "drop": [8],
     "hold": [8],
     "release": [8],
+    "plug": [8, 8, "kind"],
+    "dr": [8, 8, "off", "wid"],
+    "dw": [8, 8, "off", "wid", "val"],
+    "supply": [8, 8, "bytes"],
+    "frame": [8, 8, "bytes"],
+    "take": [8, 8],
+    "link": [8, 8, "link"],
 }
 
 # The first line of each kind of trace: the two versions of a plain one, and an extended one.
@@ -33,9 +40,9 @@ IN_EXTENDED = {"slot": ["regions", "disk", 64, 64, "mode", 16, 16]}
 
 # What stands behind them in all but version 1, and the words that an extended trace has alone.
 ADDED = {"slot": ["identity"]}
-EXTENDED_WORDS = ["st", "io", "drop", "hold", "release"]
+EXTENDED_WORDS = ["st", "io", "drop", "hold", "release", "plug", "dr", "dw", "supply", "frame", "take", "link"]
 
-CHOICES = {"win": ["b", "c"], "wid": ["1", "2", "4"], "mode": ["rw", "ro"], "verdict": ["done", "failed"]}
+CHOICES = {"win": ["b", "c"], "wid": ["1", "2", "4"], "mode": ["rw", "ro"], "verdict": ["done", "failed"], "link": ["up", "down"]}
 
 
 def fault_of(text):
@@ -80,6 +87,9 @@ def fault_of_field(text, kind, width):
         who, mark, depth = text.partition(":")
         is_hosted = who + mark == "host:" and not fault_of_field(depth, 8, None)
         return None if text == "image" or is_hosted else "Choice"
+    if kind == "kind":
+        card = re.fullmatch("network:[0-9a-f]{12}:(.*)", text)
+        return None if text == "entropy" or card and not fault_of_field(card[1], 16, None) else "Choice"
     if kind == "bytes":
         return None if text == "-" or re.fullmatch("([0-9a-f]{2})+", text) else "Bytes"
     if kind == "identity":

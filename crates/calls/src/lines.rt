@@ -23,6 +23,13 @@ pub fn example_of(format: Format, word: Word) -> (&'static str, &'static str)
         Word::Drop => ("drop", "0"),
         Word::Hold => ("hold", "0"),
         Word::Release => ("release", "0"),
+        Word::Plug => ("plug", "0 0 entropy"),
+        Word::DeviceRead => ("dr", "0 0 070 4"),
+        Word::DeviceWrite => ("dw", "0 0 070 4 0000000f"),
+        Word::Supply => ("supply", "0 0 5f0b91c4"),
+        Word::Receive => ("frame", "0 0 525400123456525400abcdef88b50102"),
+        Word::TakeSent => ("take", "0 0"),
+        Word::SetLink => ("link", "0 0 up"),
     }
 }
 
@@ -63,6 +70,7 @@ pub fn spelling_of(field: Field) -> Spelling {
         Field::Address => Number("an address", 64),
         Field::Length => Number("a length", 32),
         Field::Tag => Number("an operation's tag", 8),
+        Field::Device => Number("a further device", 8),
         Field::Regions => Other(
             "a memory is one to eight regions by base and length, as 80000000+1000 or 0+1000,80000000+1000",
         ),
@@ -75,6 +83,10 @@ pub fn spelling_of(field: Field) -> Spelling {
         Field::Width => Other("a width is 1, 2 or 4"),
         Field::Mode => Other("a slot is rw or ro"),
         Field::Verdict => Other("what came of an operation is done or failed"),
+        Field::Kind => Other(
+            "a further device is entropy, or network:525400123456:5dc by its address and its MTU",
+        ),
+        Field::Link => Other("a link is up or down"),
         Field::Bytes => {
             Other("bytes are two lower case hexadecimal digits each, as 4142, or - for none")
         }

@@ -8,12 +8,14 @@ use Rattle.std.specs.Option.{option_map}
 use Rattle.std.specs.Prelude.{IsSomeAnd, MatchOption, slice_set}
 use Rattle.guest_memory.specs.Memory.{Inside, Memory, is_inside, stored}
 use Rattle.guest_memory.proofs.Ranges.{is_inside-tells}
-use Rattle.mmio_window.specs.declared.device_kind.DeviceKind.{DeviceKind}
+use Rattle.board.specs.declared.event.SlotWindow.{SlotWindow}
 use Rattle.sector_cache.specs.Disk.{Disk}
 use Rattle.block_device.specs.Flights.{InFlight, is_any, taken_bits}
 use Rattle.board.specs.declared.event.Event.{Event}
 use Rattle.board.specs.declared.event.EventKind.{EventKind}
-use Rattle.board.specs.declared.event.EventKind.TheVariants.{MemRead, MemWrite, Read}
+use Rattle.board.specs.declared.event.EventKind.TheVariants.{Device, MemRead, MemWrite, Read}
+use Rattle.board.specs.declared.event.DeviceEvent.{DeviceEvent}
+use Rattle.board.specs.declared.event.DeviceEvent.TheVariants.{Receive, Supply}
 use Rattle.board.specs.declared.reply.Reply.{Reply}
 use Rattle.board.specs.declared.reply.Reply.TheVariants.{BadRange, BadSlot, Bytes, Done, NoMemory, Value}
 use Rattle.board.specs.declared.reply.Record.{Record}
@@ -33,8 +35,10 @@ use Rattle.trace.specs.Asked.{Begun, asked_field, asked_line, none_mark}
 use Rattle.trace.specs.Records.{entry_of, read_line, record_fields, record_line}
 use Rattle.replay.specs.Running.{AnswersEvent, AnswersParsed, IsPart, RunsParsed, tags_of, words_of}
 use Rattle.replay.specs.Telling.{LineTelling, SendsRun, Told, begun_at, begun_between, begun_from, staying, tags_at, tags_of_state, told_line, told_of, told_text}
+use Rattle.hexadecimal.specs.Fields.{IsBytesField}
 use Rattle.trace.specs.declared.read.parsed_event.ParsedEvent.{ParsedEvent}
-use Rattle.trace.specs.ParsedEvent.{IsFineParsed}
+use Rattle.trace.specs.ParsedEvent.{IsFineParsed, IsFineWhat, IsPlain, what_parsed}
+use Rattle.trace.specs.Text.{what_fields}
 use Rattle.trace.specs.Sends.{Sends}
 use Rattle.trace.specs.Text.{ended, joined, line}
 use Rattle.trace.proofs.Passing.{sends_more, sends_same}
@@ -146,7 +150,7 @@ part_read A disk board slot addr len part it =
     refl refl refl refl (λ no'. absurd cc) (λ tells. record { alike = rw (test, is) refl; image = refl })
 
 register_in : (A : Type 0) {I : Type 0} (disk : I → Disk) (board : BoardState I) (slot : ℕ)
-    (window : DeviceKind) (offset width value : ℕ) (o : Option BoardSlot) → slice_get board.slots slot ≡ o
+    (window : SlotWindow) (offset width value : ℕ) (o : Option BoardSlot) → slice_get board.slots slot ≡ o
     → (Tells (disk board.image) → IsSomeAnd (option_map (state_of (bytes_of (disk board.image))) o)
     (λ state. value ≡ register state window offset width))
     → AnswersEvent {A = A} disk board
@@ -163,7 +167,7 @@ register_in A disk board slot window offset width value (Some found) here is =
 
 -- a register that was read
 pub register_read : (A : Type 0) {I : Type 0} (disk : I → Disk) (board : BoardState I) (slot : ℕ)
-    (window : DeviceKind) (offset width value : ℕ)
+    (window : SlotWindow) (offset width value : ℕ)
     → (Tells (disk board.image) → IsSomeAnd (slice_get (world_of disk board).slots slot)
     (λ state. value ≡ register state window offset width))
     → AnswersEvent {A = A} disk board
@@ -194,6 +198,77 @@ bytes_written A disk old new slot addr bytes image answers is =
     changed disk old new (record { slot = slot; what = MemWrite addr bytes }) Done answers image
     (extents_put old.slots new.slots slot (λ found. stored found.memory addr bytes)
     (slice_get old.slots slot) refl is)
+
+-- ---- bytes for a further device
+
+module _ {A I : Type 0} (disk : I → Disk) (parsed : ParsedEvent A) (old new : BoardState I) (n : ℕ)
+    (none bs : List ℕ) (reply : Reply A) (fine : IsFineParsed parsed) (says : IsBytesField parsed.bytes.now bs) where
+  -- those that the host supplied were the event's
+  pub supplied : parsed.event.what ≡ Device n (Supply none)
+      → AnswersEvent disk old (record { slot = parsed.event.slot; what = Device n (Supply bs) }) reply [] new
+      → AnswersParsed disk parsed old reply [] new
+  supplied is answered' = let what = rw is at fine.what in let spelled = says.spelled in record {
+    event = record { slot = parsed.event.slot; what = Device n (Supply bs) };
+    slot = refl;
+    fields = rw (is, spelled) refl;
+    fine = record {
+      fits = record {
+        slot = fine.slot;
+        what = record { number = what.number; range = record { each = says.fits } };
+      };
+      printable = tt;
+    };
+    tag = rw is refl;
+    answered = answered';
+  }
+
+  -- and so was a frame
+  pub received : parsed.event.what ≡ Device n (Receive none)
+      → AnswersEvent disk old (record { slot = parsed.event.slot; what = Device n (Receive bs) }) reply [] new
+      → AnswersParsed disk parsed old reply [] new
+  received is answered' = let what = rw is at fine.what in let spelled = says.spelled in record {
+    event = record { slot = parsed.event.slot; what = Device n (Receive bs) };
+    slot = refl;
+    fields = rw (is, spelled) refl;
+    fine = record {
+      fits = record {
+        slot = fine.slot;
+        what = record { number = what.number; range = record { each = says.fits } };
+      };
+      printable = tt;
+    };
+    tag = rw is refl;
+    answered = answered';
+  }
+
+-- what else is done to a further device has no bytes
+without_bytes : {A : Type 0} (slot n : ℕ) (what : DeviceEvent A) (field : List ℕ)
+    → ((bs : List ℕ) → what ≡ Supply bs → ⊥) → ((bs : List ℕ) → what ≡ Receive bs → ⊥)
+    → IsFineWhat (Device n what) field
+    → (what_fields slot (Device n what) ≡ what_parsed slot (Device n what) field) × IsPlain (Device n what) field
+without_bytes slot n (Supply bs) field no_supply no_frame fine = absurd (no_supply bs refl)
+without_bytes slot n (Receive bs) field no_supply no_frame fine = absurd (no_frame bs refl)
+without_bytes slot n _ field no_supply no_frame fine = (refl, fine)
+
+-- so that is the event that was said
+pub said_alone : {A I : Type 0} (disk : I → Disk) (parsed : ParsedEvent A) (old new : BoardState I) (n : ℕ)
+    (what : DeviceEvent A) (reply : Reply A) (out : List ℕ) → IsFineParsed parsed
+    → parsed.event.what ≡ Device n what → ((bs : List ℕ) → what ≡ Supply bs → ⊥)
+    → ((bs : List ℕ) → what ≡ Receive bs → ⊥) → AnswersEvent disk old parsed.event reply out new
+    → AnswersParsed disk parsed old reply out new
+said_alone {A} disk parsed old new n what reply out fine is no_supply no_frame answered' =
+    let both = without_bytes parsed.event.slot n what parsed.bytes.now no_supply no_frame (rw is at fine.what) in
+    record {
+      event = parsed.event;
+      slot = refl;
+      fields = rw (is) both.0;
+      fine = record {
+        fits = record { slot = fine.slot; what = rw (is) both.1.range };
+        printable = rw (is) both.1.printable;
+      };
+      tag = refl;
+      answered = answered';
+    }
 
 -- ---- the record
 

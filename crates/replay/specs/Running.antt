@@ -1,10 +1,12 @@
 -- Running the events of lines that were validated, one after another.
-use Rattle.std.specs.Prelude.{◌≡◌, ◌≤◌, ℕ, Bool, List, [], Option, None, Some, Result, Ok, Err}
+use Rattle.std.specs.Prelude.{◌≡◌, ◌≤◌, ⊤, ℕ, Bool, List, [], Option, None, Some, Result, Ok, Err}
 use Rattle.std.specs.Io.KnownBytes.{Keeps}
 use Rattle.std.specs.List.{slice_get}
 use Rattle.guest_memory.specs.Memory.{Inside, part_of}
 use Rattle.sector_cache.specs.Disk.{Disk}
 use Rattle.board.specs.declared.event.Event.{Event}
+use Rattle.board.specs.declared.event.EventKind.{EventKind}
+use Rattle.board.specs.declared.event.EventKind.TheVariants.{Device}
 use Rattle.board.specs.declared.reply.Reply.{Reply}
 use Rattle.block_device.specs.Flights.{InFlight}
 use Rattle.board.specs.Backing.{tags_in}
@@ -49,6 +51,11 @@ pub record AnswersEvent {A I : Type 0} (disk : I → Disk) (old : BoardState I) 
     (reply : Reply A) (out : List ℕ) (new : BoardState I) : Type 0 where
   pub answers : Tells (disk old.image) → Answers (world_of disk old) event reply [] out (world_of disk new)
   pub keeps : KeepsTelling disk old new
+
+-- an event is done to a further device
+abbrev pub IsForDevice : {A : Type 0} → EventKind A → Type 0
+IsForDevice (Device n what) = ⊤
+IsForDevice what = ⊥
 
 -- it answered the event that was said
 pub record AnswersParsed {A I : Type 0} (disk : I → Disk) (parsed : ParsedEvent A) (old : BoardState I)

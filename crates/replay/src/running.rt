@@ -4,6 +4,7 @@
 
 ghost use Rattle.std.specs.Prelude.{◌≡◌, ◌≤◌, ◌∷◌, ◌/◌, [], true, IfSome, length};
 ghost use Rattle.std.specs.List.{slice_get};
+ghost use Rattle.board.specs.declared.event.DeviceEvent.{DeviceEvent};
 ghost use Rattle.board.specs.declared.event.EventKind.{EventKind};
 ghost use Rattle.board.specs.declared.reply.Reply.{Reply};
 ghost use Rattle.board.specs.Image.{Tells};
@@ -11,14 +12,14 @@ ghost use Rattle.board.specs.Slot.{AreInterruptWords};
 ghost use Rattle.trace.specs.Sends.{Sends, waiting};
 ghost use Rattle.trace.specs.Text.{ended};
 ghost use Rattle.trace.specs.Validating.{parsed_len};
-ghost use Rattle.replay.specs.Running.{AnswersEvent, AnswersParsed, IsPart, RunsParsed, words_of};
+ghost use Rattle.replay.specs.Running.{AnswersEvent, AnswersParsed, IsPart, RunsParsed, words_of, IsForDevice};
 ghost use Rattle.replay.specs.Telling.{SendsRun, told_line, told_of};
 ghost use Rattle.trace.specs.ParsedEvent.{IsFineParsed};
 ghost use Rattle.hexadecimal.specs.Fields.{IsBytesField};
 ghost use Rattle.trace.specs.Words.{Says, Bytes as ByBytes};
 
 use crate::asking::{put_asked, staying};
-use board::{Board, DeviceKind, Event, EventKind, Handled, Reply, RestoreRefusal};
+use board::{Board, DeviceEvent, Event, EventKind, Handled, Reply, RestoreRefusal, SlotWindow};
 use sector_cache::Image;
 use std::alloc::Allocator;
 use std::io::Write;
@@ -150,6 +151,40 @@ fn answer<I: Image, A: Allocator + Copy>(
             let reply = restore(board, slot, bytes_in(room, parsed.bytes));
             told(reply, words(board, slot))
         }
+        EventKind::Device { .. } => answer_device(board, parsed, room, output),
+        _ => board.handle(slot, &parsed.event.what, output),
+    }
+}
+
+// Handles what is done to a further device, and tells both interrupt words after it.
+fn answer_device<I: Image, A: Allocator + Copy>(
+    board: &mut Board<I, A>,
+    parsed: &ParsedEvent<'_, A>,
+    room: &mut [u8],
+    output: &mut Vec<u8, A>,
+) -> Handled<A>
+    requires device { IsForDevice parsed.now.event.what }
+    requires fine { IsFineParsed parsed.now }
+    requires room { parsed_len parsed.now ≤ length room.old }
+    requires empty { output.old.items ≡ [] }
+    ensures answers { AnswersParsed I.disk parsed.now board.old result.reply output.new.items board.new }
+    ensures words { Tells (I.disk board.old.image) →
+        (result.block_irq, result.console_irq) ≡ words_of (slice_get board.new.slots parsed.now.event.slot) }
+    ensures few { AreInterruptWords result.block_irq result.console_irq }
+{
+    let slot = parsed.event.slot;
+    let EventKind::Device { device, what } = &parsed.event.what else {
+        unreachable!();
+    };
+    match what {
+        DeviceEvent::Supply { .. } => {
+            let reply = supply(board, slot, *device, bytes_in(room, parsed.bytes));
+            told(reply, words(board, slot))
+        }
+        DeviceEvent::Receive { .. } => {
+            let reply = receive(board, slot, *device, bytes_in(room, parsed.bytes));
+            told(reply, words(board, slot))
+        }
         _ => board.handle(slot, &parsed.event.what, output),
     }
 }
@@ -182,7 +217,7 @@ fn bytes_in<'a>(room: &'a mut [u8], field: &[u8]) -> &'a [u8]
 fn read<I: Image, A: Allocator + Copy>(
     board: &Board<I, A>,
     slot: u8,
-    window: DeviceKind,
+    window: SlotWindow,
     offset: u16,
     width: u8,
 ) -> Reply<A>
@@ -234,4 +269,30 @@ fn restore<I: Image, A: Allocator>(board: &mut Board<I, A>, slot: u8, bytes: &[u
         Err(RestoreRefusal::Busy) => Reply::Busy,
         Err(RestoreRefusal::Fault(_)) => Reply::BadState,
     }
+}
+
+// Supplies a slot's further device with bytes.
+fn supply<I: Image, A: Allocator + Copy>(
+    board: &mut Board<I, A>,
+    slot: u8,
+    device: u8,
+    bytes: &[u8],
+) -> Reply<A>
+    ensures { AnswersEvent I.disk board.old
+        (record { slot = slot; what = EventKind.Device device (DeviceEvent.Supply bytes.now) }) result [] board.new }
+{
+    board.supply(slot, device, bytes)
+}
+
+// Hands a slot's network card a frame.
+fn receive<I: Image, A: Allocator + Copy>(
+    board: &mut Board<I, A>,
+    slot: u8,
+    device: u8,
+    frame: &[u8],
+) -> Reply<A>
+    ensures { AnswersEvent I.disk board.old
+        (record { slot = slot; what = EventKind.Device device (DeviceEvent.Receive frame.now) }) result [] board.new }
+{
+    board.receive(slot, device, frame)
 }

@@ -3,13 +3,17 @@ use Rattle.std.proofs.Common.{◌≡◌, ◌≢◌, ℕ, suc, ◌+◌, ◌*◌, 
 use Rattle.std.specs.Prelude.{⊤, codes}
 use Rattle.block_device.specs.declared.operation.Verdict.{Verdict}
 use Rattle.block_device.specs.declared.operation.Verdict.TheVariants.{Done, Failed}
-use Rattle.mmio_window.specs.declared.device_kind.DeviceKind.{DeviceKind}
-use Rattle.mmio_window.specs.declared.device_kind.DeviceKind.TheVariants.{Block, Console}
+use Rattle.board.specs.declared.event.SlotWindow.{SlotWindow}
+use Rattle.board.specs.declared.event.SlotWindow.TheVariants.{Block, Console}
 use Rattle.board.specs.declared.event.Event.{Event}
 use Rattle.board.specs.declared.event.EventKind.{EventKind}
 use Rattle.board.specs.declared.event.EventKind.TheVariants as what
 use Rattle.board.specs.declared.event.HostEvent.{HostEvent}
 use Rattle.board.specs.declared.event.HostEvent.TheVariants as host
+use Rattle.board.specs.declared.event.DeviceEvent.{DeviceEvent}
+use Rattle.board.specs.declared.event.DeviceEvent.TheVariants as device
+use Rattle.device_list.specs.declared.spec.DeviceSpec.{DeviceSpec}
+use Rattle.device_list.specs.declared.spec.DeviceSpec.TheVariants.{Entropy, Network}
 use Rattle.board.specs.declared.spec.SlotSpec.{SlotSpec}
 use Rattle.board.specs.declared.spec.Backing.{Backing}
 use Rattle.board.specs.declared.spec.Backing.TheVariants.{Image, Host}
@@ -21,17 +25,17 @@ use Rattle.guest_memory.specs.declared.spec.RegionSpec.{RegionSpec}
 use Rattle.trace.specs.declared.table.Field.{Field}
 use Rattle.trace.specs.declared.table.Field.TheVariants.{Identity}
 use Rattle.trace.specs.declared.word.Word.{Word}
-use Rattle.trace.specs.declared.word.Word.TheVariants.{Cache, Slot, Read, Write, MemRead, MemWrite, Input, Resize, Restore, Complete, Drop, Hold, Release}
+use Rattle.trace.specs.declared.word.Word.TheVariants.{Cache, Slot, Read, Write, MemRead, MemWrite, Input, Resize, Restore, Complete, Drop, Hold, Release, Plug, DeviceRead, DeviceWrite, Supply, Receive, TakeSent, SetLink}
 use Rattle.trace.specs.Cuts.{fields_of}
 use Rattle.trace.specs.Faults.{AllSay, AreAsMany, MayStand, order, fault_of}
-use Rattle.trace.specs.Printable.{HostInRange, KindInRange, IsPrintableKind, IsPrintableMemory, SlotInRange}
+use Rattle.trace.specs.Printable.{DoneInRange, HostInRange, KindInRange, IsPrintableDone, IsPrintableKind, IsPrintableMemory, SlotInRange}
 use Rattle.trace.specs.Refusals.{IsFine, IsFineSlot}
 use Rattle.hexadecimal.specs.Spelling.{num, fixed, bytes}
-use Rattle.trace.specs.Spelling.{window, disk, mode, verdict, width_digit, region_text, regions_text}
-use Rattle.trace.specs.Text.{line, cache_fields, cache_line, disk_fields, memory_fields, slot_fields, slot_line, event_fields, event_line, host_fields, host_word, what_fields, word_for}
+use Rattle.trace.specs.Spelling.{window, disk, mode, verdict, width_digit, region_text, regions_text, device_kind, link_state}
+use Rattle.trace.specs.Text.{line, cache_fields, cache_line, disk_fields, memory_fields, slot_fields, slot_line, device_fields, device_word, event_fields, event_line, host_fields, host_word, what_fields, word_for}
 use Rattle.trace.specs.Format.{unless_version_1}
 use Rattle.hexadecimal.specs.Fields.{IsBytesField, IsFixed}
-use Rattle.trace.specs.Words.{RegionInRange, Shape, Num, Disk as ByDisk, Offset, Window, Width, Value, Mode, Verdict as ByVerdict, Bytes, Identity as ByIdentity, DiskInRange, Says, behind_disk, disk_in, memory_in, shape_of, shapes, spelled, width_among, IsWidth, IsWordOf}
+use Rattle.trace.specs.Words.{RegionInRange, Shape, Num, Disk as ByDisk, Offset, Window, Width, Value, Mode, Verdict as ByVerdict, Bytes, Identity as ByIdentity, Kind, Link, DiskInRange, SpecInRange, Says, behind_disk, disk_in, memory_in, shape_of, shapes, spelled, width_among, IsWidth, IsWordOf}
 use Rattle.hexadecimal.proofs.ByteFields.{AreBytes}
 use Rattle.trace.proofs.Signs.{bytes_digits}
 use Rattle.trace.proofs.Signs.{Above, AllAbove, above_append, above_tested, above_num, above_fixed, fields_of-line, above_line}
@@ -40,19 +44,22 @@ use Rattle.trace.proofs.Widths.{digits_bound}
 -- ---- words
 
 abbrev key : List ℕ → ℕ
-key xs = get_or xs 0 0 * 1000 + get_or xs 1 0
+key xs = (get_or xs 0 0 * 1000 + get_or xs 1 0) * 1000 + get_or xs 2 0
 
 abbrev word_at : ℕ → Word
-word_at n = cond (eqb n 99097) Cache
-    (cond (eqb n 115108) Slot
-    (cond (eqb n 114000) Read
-    (cond (eqb n 119000) Write
-    (cond (eqb n 109114) MemRead
-    (cond (eqb n 109119) MemWrite
-    (cond (eqb n 105110) Input
-    (cond (eqb n 115116) Restore
-    (cond (eqb n 105111) Complete
-    (cond (eqb n 100114) Drop (cond (eqb n 104111) Hold (cond (eqb n 114101) Release Resize)))))))))))
+word_at n = cond (eqb n 99097099) Cache
+    (cond (eqb n 115108111) Slot
+    (cond (eqb n 114000000) Read
+    (cond (eqb n 119000000) Write
+    (cond (eqb n 109114000) MemRead
+    (cond (eqb n 109119000) MemWrite
+    (cond (eqb n 105110000) Input
+    (cond (eqb n 115116000) Restore
+    (cond (eqb n 105111000) Complete
+    (cond (eqb n 100114111) Drop (cond (eqb n 104111108) Hold (cond (eqb n 114101108) Release
+    (cond (eqb n 112108117) Plug (cond (eqb n 100114000) DeviceRead (cond (eqb n 100119000) DeviceWrite
+    (cond (eqb n 115117112) Supply (cond (eqb n 102114097) Receive (cond (eqb n 116097107) TakeSent
+    (cond (eqb n 108105110) SetLink Resize))))))))))))))))))
 
 found : (w : Word) → word_at (key (spelled w)) ≡ w
 found Cache = refl
@@ -139,7 +146,7 @@ a_mode true = ((true, refl), above_tested 32 (mode true) refl)
 an_offset : (offset : ℕ) → offset < 0x1000 → Stands Offset (fixed 3 offset)
 an_offset offset lt = ((offset, record { fits = lt; spelled = refl }), above_fixed 3 offset)
 
-a_window : (kind : DeviceKind) → Stands Window (window kind)
+a_window : (kind : SlotWindow) → Stands Window (window kind)
 a_window Block = ((Block, refl), above_tested 32 (window Block) refl)
 a_window Console = ((Console, refl), above_tested 32 (window Console) refl)
 
@@ -170,6 +177,21 @@ some_bytes bs each = ((bs, record { fits = each; spelled = refl }), bytes_digits
 a_verdict : (came : Verdict) → Stands ByVerdict (verdict came)
 a_verdict Done = ((Done, refl), above_tested 32 (verdict Done) refl)
 a_verdict Failed = ((Failed, refl), above_tested 32 (verdict Failed) refl)
+
+a_kind : (spec : DeviceSpec) → SpecInRange spec → Stands Kind (device_kind spec)
+a_kind Entropy fits = (
+  (Entropy, record { fits = tt; spelled = refl }),
+  above_tested 32 (device_kind Entropy) refl,
+)
+a_kind (Network mac mtu) fits = (
+  (Network mac mtu, record { fits = fits; spelled = refl }),
+  above_append 32 (codes "network:") (bytes mac ++ 58 ∷ num mtu) (above_tested 32 (codes "network:") refl)
+      (above_append 32 (bytes mac) (58 ∷ num mtu) (bytes_digits mac fits.each) (omega arith, above_num mtu)),
+)
+
+a_link : (up : Bool) → Stands Link (link_state up)
+a_link true = ((true, refl), above_tested 32 (link_state true) refl)
+a_link false = ((false, refl), above_tested 32 (link_state false) refl)
 
 -- ---- lines
 
@@ -298,16 +320,26 @@ host_late : (said : HostEvent) → MayStand 3 (host_word said)
 host_late (host.Complete tag came) = omega arith
 host_late said = omega arith
 
+device_late : {A : Type 0} (done : DeviceEvent A) → MayStand 3 (device_word done)
+device_late device.TakeSent = omega arith
+device_late done = omega arith
+
 may_be_late : {A : Type 0} (w : EventKind A) → MayStand 3 (word_for w)
 may_be_late (what.Host said) = host_late said
+may_be_late (what.Device n done) = device_late done
 may_be_late w = omega arith
 
 host_no_slot : (said : HostEvent) → host_word said ≢ Slot
 host_no_slot (host.Complete tag came) e = absurd cc
 host_no_slot said e = absurd cc
 
+device_no_slot : {A : Type 0} (done : DeviceEvent A) → device_word done ≢ Slot
+device_no_slot device.TakeSent e = absurd cc
+device_no_slot done e = absurd cc
+
 no_slot : {A : Type 0} (w : EventKind A) → word_for w ≢ Slot
 no_slot (what.Host said) e = host_no_slot said e
+no_slot (what.Device n done) e = device_no_slot done e
 no_slot w e = absurd cc
 
 -- the fields after its word
@@ -319,9 +351,15 @@ host_first : (slot : ℕ) (said : HostEvent)
 host_first slot (host.Complete tag came) = refl
 host_first slot said = refl
 
+device_first : {A : Type 0} (slot n : ℕ) (done : DeviceEvent A)
+    → spelled (device_word done) ∷ drop 1 (device_fields slot n done) ≡ device_fields slot n done
+device_first slot n device.TakeSent = refl
+device_first slot n done = refl
+
 word_first : {A : Type 0} (slot : ℕ) (w : EventKind A)
     → spelled (word_for w) ∷ event_rest slot w ≡ what_fields slot w
 word_first slot (what.Host said) = host_first slot said
+word_first slot (what.Device n done) = device_first slot n done
 word_first slot w = refl
 
 -- what a host says of its disk
@@ -331,6 +369,36 @@ host_stands : (format : Format) (slot : ℕ) (said : HostEvent) → slot < 2 ^ 8
 host_stands format slot (host.Complete tag came) lt range =
     (a_number 8 slot lt, (a_number 8 tag range.small, (a_verdict came, tt)))
 host_stands format slot said lt range = (a_number 8 slot lt, tt)
+
+-- what is done to a further device
+device_stands : {A : Type 0} (format : Format) (slot n : ℕ) (done : DeviceEvent A) → slot < 2 ^ 8 → n < 2 ^ 8
+    → DoneInRange done → IsPrintableDone done
+    → EachStands (shapes format (device_word done) (drop 1 (device_fields slot n done)))
+    (drop 1 (device_fields slot n done))
+device_stands format slot n (device.Plug spec) lt of range fine =
+    (a_number 8 slot lt, (a_number 8 n of, (a_kind spec range, tt)))
+device_stands format slot n (device.Read offset width) lt of range fine = (
+  a_number 8 slot lt,
+  (a_number 8 n of, (an_offset offset fine.three_digits, (a_width width fine.wide, tt))),
+)
+device_stands format slot n (device.Write offset width value) lt of range fine =
+    let access = fine.access in (
+      a_number 8 slot lt,
+      (
+        a_number 8 n of,
+        (
+          an_offset offset access.three_digits,
+          (a_width width access.wide, (a_value width value access.wide fine.within, tt)),
+        ),
+      ),
+    )
+device_stands format slot n (device.Supply bs) lt of range fine =
+    (a_number 8 slot lt, (a_number 8 n of, (some_bytes bs range.each, tt)))
+device_stands format slot n (device.Receive bs) lt of range fine =
+    (a_number 8 slot lt, (a_number 8 n of, (some_bytes bs range.each, tt)))
+device_stands format slot n device.TakeSent lt of range fine = (a_number 8 slot lt, (a_number 8 n of, tt))
+device_stands format slot n (device.SetLink up) lt of range fine =
+    (a_number 8 slot lt, (a_number 8 n of, (a_link up, tt)))
 
 event_stands : {A : Type 0} (format : Format) (slot : ℕ) (w : EventKind A) → slot < 2 ^ 8 → KindInRange w
     → IsPrintableKind w → EachStands (shapes format (word_for w) (event_rest slot w)) (event_rest slot w)
@@ -360,6 +428,8 @@ event_stands format slot (what.Resize cols rows) lt range fine =
 event_stands format slot (what.Restore bs) lt range fine =
     (a_number 8 slot lt, (some_bytes bs range.each, tt))
 event_stands format slot (what.Host said) lt range fine = host_stands format slot said lt range
+event_stands format slot (what.Device n done) lt range fine =
+    device_stands format slot n done lt range.number range.range fine
 
 pub entered_event : {A : Type 0} (format : Format) (e : Event A) → IsFine e
     → IsWordOf format (word_for e.what) → EnteredEvent format (event_line e)

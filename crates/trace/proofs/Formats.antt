@@ -7,7 +7,7 @@ use Rattle.trace.specs.declared.format.Format.TheVariants.{Plain, Extended}
 use Rattle.trace.specs.declared.format.Version.{Version}
 use Rattle.trace.specs.declared.format.Version.TheVariants.{One, Two}
 use Rattle.trace.specs.declared.word.Word.{Word}
-use Rattle.trace.specs.declared.word.Word.TheVariants.{Restore, Complete, Drop, Hold, Release}
+use Rattle.trace.specs.declared.word.Word.TheVariants.{Restore, Complete, Drop, Hold, Release, Plug, DeviceRead, DeviceWrite, Supply, Receive, TakeSent, SetLink}
 use Rattle.trace.specs.Format.{GoesInto, if_extended, unless_version_1}
 use Rattle.trace.specs.Printable.{IsPrintable, IsPrintableDisk, IsPrintableMemory, IsPrintableSlot}
 use Rattle.trace.specs.Text.{Content, as_format, word_for}
@@ -33,6 +33,13 @@ word_of_extended Complete = refl
 word_of_extended Drop = refl
 word_of_extended Hold = refl
 word_of_extended Release = refl
+word_of_extended Plug = refl
+word_of_extended DeviceRead = refl
+word_of_extended DeviceWrite = refl
+word_of_extended Supply = refl
+word_of_extended Receive = refl
+word_of_extended TakeSent = refl
+word_of_extended SetLink = refl
 word_of_extended word = tt
 
 -- ---- from one format into another
@@ -53,6 +60,13 @@ word_goes old new Complete goes h = goes_extended old new goes h
 word_goes old new Drop goes h = goes_extended old new goes h
 word_goes old new Hold goes h = goes_extended old new goes h
 word_goes old new Release goes h = goes_extended old new goes h
+word_goes old new Plug goes h = goes_extended old new goes h
+word_goes old new DeviceRead goes h = goes_extended old new goes h
+word_goes old new DeviceWrite goes h = goes_extended old new goes h
+word_goes old new Supply goes h = goes_extended old new goes h
+word_goes old new Receive goes h = goes_extended old new goes h
+word_goes old new TakeSent goes h = goes_extended old new goes h
+word_goes old new SetLink goes h = goes_extended old new goes h
 word_goes old new word goes h = tt
 
 -- what holds in the extended format and, if in one plain format, in each goes along

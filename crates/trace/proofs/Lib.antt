@@ -6,6 +6,7 @@ pub mod Signs
 pub mod Fronts
 pub mod Widths
 pub mod Identities
+pub mod Cards
 pub mod Entries
 pub mod Saying
 pub mod Taking
@@ -20,6 +21,7 @@ pub mod Unique
 pub mod FirstFault
 pub mod Validations
 pub mod Printed
+pub mod Printables
 pub mod RecordLines
 pub mod Sending
 pub mod Passing

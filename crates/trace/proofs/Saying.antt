@@ -3,6 +3,7 @@ use Rattle.std.proofs.Common.{◌≡◌, ℕ, ◌/◌, List, ◌∷◌, ◌++◌
 use Rattle.board.specs.declared.event.Event.{Event}
 use Rattle.board.specs.declared.event.EventKind.{EventKind}
 use Rattle.board.specs.declared.event.EventKind.TheVariants as event
+use Rattle.board.specs.declared.event.DeviceEvent.TheVariants as device
 use Rattle.trace.specs.declared.format.Format.TheVariants.{Extended}
 use Rattle.trace.specs.declared.read.parsed_event.ParsedEvent.{ParsedEvent}
 use Rattle.trace.specs.Cuts.{fields_of, lines_of}
@@ -74,6 +75,14 @@ by_what slot (event.Input bs) field h =
 by_what slot (event.Restore bs) field h =
     with_bytes slot (event.Restore bs) field event.Restore h.parsed refl refl refl
     (record { each = h.parsed.1.fits }) tt
+by_what slot (event.Device n (device.Supply bs)) field h =
+    with_bytes slot (event.Device n (device.Supply bs)) field (λ xs. event.Device n (device.Supply xs))
+    h.bytes.parsed refl refl refl
+    (record { number = h.number; range = record { each = h.bytes.parsed.1.fits } }) tt
+by_what slot (event.Device n (device.Receive bs)) field h =
+    with_bytes slot (event.Device n (device.Receive bs)) field (λ xs. event.Device n (device.Receive xs))
+    h.bytes.parsed refl refl refl
+    (record { number = h.number; range = record { each = h.bytes.parsed.1.fits } }) tt
 by_what slot w field h = plain slot w field h refl refl
 
 -- what is said is an event's

@@ -5,8 +5,8 @@ use Rattle.std.proofs.Math.Seq.{drop-append_seam, take-append_seam}
 use Rattle.std.proofs.lemmas.Bool.{cases_lt}
 use Rattle.std.proofs.lemmas.List.{append_cancel_left, drop-drop, length-append}
 use Rattle.std.proofs.lemmas.List.Splits.{slice_split_at}
-use Rattle.mmio_window.specs.declared.device_kind.DeviceKind.{DeviceKind}
-use Rattle.mmio_window.specs.declared.device_kind.DeviceKind.TheVariants.{Block, Console}
+use Rattle.board.specs.declared.event.SlotWindow.{SlotWindow}
+use Rattle.board.specs.declared.event.SlotWindow.TheVariants.{Block, Console}
 use Rattle.hexadecimal.specs.Fields.{IsDigit, IsFixed, IsValue, SpellsFixed}
 use Rattle.hexadecimal.specs.Spelling.{bytes, digit, fixed, num}
 use Rattle.hexadecimal.proofs.Digits.{digit_cases, same_digit}
@@ -61,12 +61,12 @@ not_last text field after h last =
 
 -- ---- a register
 
-abbrev window_byte : DeviceKind → ℕ
+abbrev window_byte : SlotWindow → ℕ
 window_byte Block = 98
 window_byte Console = 99
 
 -- where a register stands
-module _ {text : List ℕ} {kind : DeviceKind} {offset width : ℕ} {after : List ℕ}
+module _ {text : List ℕ} {kind : SlotWindow} {offset width : ℕ} {after : List ℕ}
     (h : HasAccess text kind offset width after) where
   access_bytes : text
       ≡ window_byte kind ∷ 32 ∷ digit (offset / 16 / 16 % 16) ∷ digit (offset / 16 % 16)
@@ -74,7 +74,7 @@ module _ {text : List ℕ} {kind : DeviceKind} {offset width : ℕ} {after : Lis
   unfolding fixed
   access_bytes = h.is ∙ ap (λ (xs : List ℕ). xs ++ 32 ∷ (fixed 3 offset ++ 32 ∷ (48 + width) ∷ after)) (named kind)
     where
-      named : (of : DeviceKind) → window of ≡ window_byte of ∷ []
+      named : (of : SlotWindow) → window of ≡ window_byte of ∷ []
       named Block = refl
       named Console = refl
 
@@ -111,15 +111,15 @@ module _ {text : List ℕ} {kind : DeviceKind} {offset width : ℕ} {after : Lis
   width_is = ap (λ (xs : List ℕ). get_or xs 6 0) access_bytes
 
   -- its window is named by its byte
-  pub window_found : (found : DeviceKind) → (get_or text 0 0 ≡ 98 → found ≡ Block)
+  pub window_found : (found : SlotWindow) → (get_or text 0 0 ≡ 98 → found ≡ Block)
       → (get_or text 0 0 ≢ 98 → found ≡ Console) → found ≡ kind
   window_found found block console = of_kind kind (ap (λ (xs : List ℕ). get_or xs 0 0) access_bytes)
     where
-      of_kind : (of : DeviceKind) → get_or text 0 0 ≡ window_byte of → found ≡ of
+      of_kind : (of : SlotWindow) → get_or text 0 0 ≡ window_byte of → found ≡ of
       of_kind Block e = block e
       of_kind Console e = console (λ x. omega (arith, e, x))
 
-pub access_past : {text : List ℕ} {kind : DeviceKind} {offset width c : ℕ} {after : List ℕ}
+pub access_past : {text : List ℕ} {kind : SlotWindow} {offset width c : ℕ} {after : List ℕ}
     → HasAccess text kind offset width (c ∷ after) → drop 8 text ≡ after
 access_past h = ap (drop 8) (access_bytes h)
 

@@ -1,8 +1,9 @@
 -- Lines that were validated, which are read without a test: their parts by their word, and what was taken off.
 use Rattle.std.proofs.Common.{◌≡◌, ℕ, ◌+◌, ◌*◌, ◌^◌, ◌<◌, ◌≤◌, List, [], ◌∷◌, ◌++◌, length, get_or, drop, refl, sym, ap, subst, ◌∙◌, append_assoc, length-drop, arith}
-use Rattle.mmio_window.specs.declared.device_kind.DeviceKind.{DeviceKind}
+use Rattle.board.specs.declared.event.SlotWindow.{SlotWindow}
 use Rattle.board.specs.declared.event.EventKind.{EventKind}
 use Rattle.board.specs.declared.event.EventKind.TheVariants as what
+use Rattle.board.specs.declared.event.DeviceEvent.TheVariants as device
 use Rattle.board.specs.declared.event.HostEvent.TheVariants as host
 use Rattle.hexadecimal.specs.Fields.{IsBytesField}
 use Rattle.hexadecimal.specs.Spelling.{bytes, fixed, num}
@@ -23,12 +24,12 @@ abbrev front : List ℕ → ℕ
 front xs = get_or xs 0 0 * 1000 + get_or xs 1 0
 
 -- a slot and a register, and this behind them
-pub record AccessParts (rest last : List ℕ) (slot : ℕ) (kind : DeviceKind) (offset width : ℕ) : Type 0 where
+pub record AccessParts (rest last : List ℕ) (slot : ℕ) (kind : SlotWindow) (offset width : ℕ) : Type 0 where
   pub behind : List ℕ
   pub has_slot : HasSlot rest slot behind
   pub has_access : HasAccess behind kind offset width last
 
-access_parts : (rest last after : List ℕ) (slot : ℕ) (kind : DeviceKind) (offset width : ℕ) → slot < 2 ^ 8
+access_parts : (rest last after : List ℕ) (slot : ℕ) (kind : SlotWindow) (offset width : ℕ) → slot < 2 ^ 8
     → offset < 16 ^ 3 → IsWidth width
     → rest ≡ (num slot ++ 32 ∷ (window kind ++ 32 ∷ (fixed 3 offset ++ 32 ∷ (48 + width) ∷ last))) ++ 10 ∷ after
     → AccessParts rest (last ++ 10 ∷ after) slot kind offset width
@@ -48,7 +49,7 @@ access_parts rest last after slot kind offset width small three_digits wide is =
     }
 
 -- they stand behind the number that was read
-module _ {rest last : List ℕ} {slot : ℕ} {kind : DeviceKind} {offset width : ℕ}
+module _ {rest last : List ℕ} {slot : ℕ} {kind : SlotWindow} {offset width : ℕ}
     (p : AccessParts rest last slot kind offset width) where
   pub access_behind : (found : ℕ) (xs : List ℕ) → rest ≡ num found ++ 32 ∷ xs
       → (found ≡ slot) × HasAccess xs kind offset width last
@@ -66,7 +67,7 @@ module _ {rest last : List ℕ} {slot : ℕ} {kind : DeviceKind} {offset width :
 
 pub record ReadParts (A : Type 0) (rest : List ℕ) : Type 0 where
   pub slot : ℕ
-  pub kind : DeviceKind
+  pub kind : SlotWindow
   pub offset : ℕ
   pub width : ℕ
   pub after : List ℕ
@@ -89,6 +90,7 @@ by_read A rest slot (what.Read kind offset width) after h = record {
   line = h;
 }
 by_read A rest slot (what.Host host.Release) after h = absurd (omega (arith, ap front h.is))
+by_read A rest slot (what.Device n device.TakeSent) after h = absurd (omega (arith, ap front h.is))
 by_read A rest slot w after h = absurd (omega (arith, ap (λ (xs : List ℕ). get_or xs 0 0) h.is))
 
 pub read_parts : (A : Type 0) (rest : List ℕ) → BeginsWithEvent A (spelled Read ++ 32 ∷ rest)
@@ -97,7 +99,7 @@ read_parts A rest h = by_read A rest h.event.slot h.event.what h.after h.begins
 
 pub record WriteParts (A : Type 0) (rest : List ℕ) : Type 0 where
   pub slot : ℕ
-  pub kind : DeviceKind
+  pub kind : SlotWindow
   pub offset : ℕ
   pub width : ℕ
   pub value : ℕ
@@ -132,6 +134,7 @@ by_write A rest slot (what.Write kind offset width value) after h =
       line = h;
     }
 by_write A rest slot (what.Host host.Release) after h = absurd (omega (arith, ap front h.is))
+by_write A rest slot (what.Device n device.TakeSent) after h = absurd (omega (arith, ap front h.is))
 by_write A rest slot w after h = absurd (omega (arith, ap (λ (xs : List ℕ). get_or xs 0 0) h.is))
 
 pub write_parts : (A : Type 0) (rest : List ℕ) → BeginsWithEvent A (spelled Write ++ 32 ∷ rest)
@@ -173,6 +176,7 @@ by_mem_write A rest slot (what.MemWrite addr bs) after h = record {
   line = h;
 }
 by_mem_write A rest slot (what.Host host.Release) after h = absurd (omega (arith, ap front h.is))
+by_mem_write A rest slot (what.Device n device.TakeSent) after h = absurd (omega (arith, ap front h.is))
 by_mem_write A rest slot w after h = absurd (omega (arith, ap front h.is))
 
 pub mem_write_parts : (A : Type 0) (rest : List ℕ) → BeginsWithEvent A (spelled MemWrite ++ 32 ∷ rest)
@@ -206,6 +210,7 @@ by_input A rest slot (what.Input bs) after h = record {
   line = h;
 }
 by_input A rest slot (what.Host host.Release) after h = absurd (omega (arith, ap front h.is))
+by_input A rest slot (what.Device n device.TakeSent) after h = absurd (omega (arith, ap front h.is))
 by_input A rest slot w after h = absurd (omega (arith, ap front h.is))
 
 pub input_parts : (A : Type 0) (rest : List ℕ) → BeginsWithEvent A (spelled Input ++ 32 ∷ rest)
@@ -293,9 +298,9 @@ input_behind A rest p slot xs e = let at = one_number rest slot p.slot xs p.last
     (at.0, subst (λ (ys : List ℕ). HasBytes ys (bytes p.bs) p.after) (sym at.1) p.has_bytes)
 
 -- the text behind a slot is long enough for an access, a value and a line feed
-pub write_ends : {A : Type 0} (rest : List ℕ) (slot : ℕ) {xs : List ℕ} {found : DeviceKind} {at width : ℕ}
+pub write_ends : {A : Type 0} (rest : List ℕ) (slot : ℕ) {xs : List ℕ} {found : SlotWindow} {at width : ℕ}
     → BeginsWithEvent A (spelled Write ++ 32 ∷ rest) → rest ≡ num slot ++ 32 ∷ xs
-    → ((kind : DeviceKind) (offset wide : ℕ) (after : List ℕ) → HasAccess xs kind offset wide after
+    → ((kind : SlotWindow) (offset wide : ℕ) (after : List ℕ) → HasAccess xs kind offset wide after
     → (found ≡ kind) × (at ≡ offset) × (width ≡ wide))
     → 9 + 2 * width ≤ length xs
 write_ends {A = A} rest slot {xs = xs} {width = width} h e same =

@@ -9,13 +9,17 @@ use Rattle.hex.proofs.HexLemmas.{decode_of-encode_lower, length-encode_with}
 use Rattle.hex.specs.declared.error.FromHexError.{FromHexError}
 use Rattle.block_device.specs.declared.operation.Verdict.{Verdict}
 use Rattle.block_device.specs.declared.operation.Verdict.TheVariants.{Done, Failed}
-use Rattle.mmio_window.specs.declared.device_kind.DeviceKind.{DeviceKind}
-use Rattle.mmio_window.specs.declared.device_kind.DeviceKind.TheVariants.{Block, Console}
+use Rattle.board.specs.declared.event.SlotWindow.{SlotWindow}
+use Rattle.board.specs.declared.event.SlotWindow.TheVariants.{Block, Console}
 use Rattle.board.specs.declared.event.Event.{Event}
 use Rattle.board.specs.declared.event.EventKind.{EventKind}
 use Rattle.board.specs.declared.event.EventKind.TheVariants as what
 use Rattle.board.specs.declared.event.HostEvent.{HostEvent}
 use Rattle.board.specs.declared.event.HostEvent.TheVariants as host
+use Rattle.board.specs.declared.event.DeviceEvent.{DeviceEvent}
+use Rattle.board.specs.declared.event.DeviceEvent.TheVariants as device
+use Rattle.device_list.specs.declared.spec.DeviceSpec.{DeviceSpec}
+use Rattle.device_list.specs.declared.spec.DeviceSpec.TheVariants.{Entropy, Network}
 use Rattle.board.specs.declared.spec.Backing.{Backing}
 use Rattle.board.specs.declared.spec.Backing.TheVariants.{Image, Host}
 use Rattle.board.specs.declared.spec.SlotSpec.{SlotSpec}
@@ -28,15 +32,16 @@ use Rattle.trace.specs.declared.fault.FaultKind.TheVariants as kind
 use Rattle.trace.specs.declared.word.Word.TheVariants.{Slot}
 use Rattle.trace.specs.Cuts.{fields_of, lines_of, parts}
 use Rattle.trace.specs.Faults.{IsCleanBefore, IsEnded, IsFault, Passes, line_at, order}
-use Rattle.trace.specs.Printable.{IsPrintableKind, IsPrintableMemory, IsWriteAccess, KindInRange}
+use Rattle.trace.specs.Printable.{DoneInRange, IsPrintableDone, IsPrintableKind, IsPrintableMemory, IsWriteAccess, KindInRange}
 use Rattle.trace.specs.Refusals.{IsFine, IsFineSlot}
-use Rattle.hexadecimal.specs.Spelling.{bytes, fixed}
-use Rattle.trace.specs.Spelling.{disk, mode, region_text, verdict, window}
-use Rattle.trace.specs.Text.{Content, cache_line, disk_fields, event_fields, event_line, memory_fields, region_fields, slot_fields, slot_line, text, trace_lines, host_fields, what_fields, word_for}
-use Rattle.trace.specs.Words.{spelled}
+use Rattle.hexadecimal.specs.Spelling.{bytes, fixed, num}
+use Rattle.trace.specs.Spelling.{card, device_kind, disk, link_state, mode, region_text, verdict, window}
+use Rattle.trace.specs.Text.{Content, cache_line, device_fields, disk_fields, event_fields, event_line, memory_fields, region_fields, slot_fields, slot_line, text, trace_lines, host_fields, what_fields, word_for}
+use Rattle.trace.specs.Words.{CardInRange, SpecInRange, spelled}
 use Rattle.hexadecimal.proofs.ByteFields.{AreBytes, is_bytes}
 use Rattle.trace.proofs.FaultKinds.{same_kind}
 use Rattle.trace.proofs.Entries.{behind, cut_cache, cut_event, cut_slot, entered_event, entered_slot, fits_digits, same_word}
+use Rattle.trace.proofs.Cards.{address_long}
 use Rattle.trace.proofs.Clean.{same_header}
 use Rattle.hexadecimal.proofs.Numbers.{same_fixed, same_num}
 use Rattle.trace.proofs.RegionFields.{region_parts, regions_parts}
@@ -46,7 +51,7 @@ use Rattle.trace.proofs.Formats.{word_of_extended}
 
 -- ---- fields
 
-same_window : (a b : DeviceKind) → window a ≡ window b → a ≡ b
+same_window : (a b : SlotWindow) → window a ≡ window b → a ≡ b
 same_window Block Block e = refl
 same_window Console Console e = refl
 same_window a b e = absurd (omega (arith, ap (λ (xs : List ℕ). get_or xs 0 0) e))
@@ -202,9 +207,9 @@ same_slot_fields format s t fs ft e =
     s.read_only t.read_only s.cols t.cols s.rows t.rows s.identity t.identity regions start count disks.0
     read_only cols rows identity
 
--- the first two bytes of the first field, which differ for each event's word
+-- the first three bytes of the first field, which differ for each event's word
 sign : List (List ℕ) → ℕ
-sign fs = get_or (get_or fs 0 []) 0 0 * 1000 + get_or (get_or fs 0 []) 1 0
+sign fs = (get_or (get_or fs 0 []) 0 0 * 1000 + get_or (get_or fs 0 []) 1 0) * 1000 + get_or (get_or fs 0 []) 2 0
 
 -- values by equal widths
 same_value : (w x u v o p : ℕ) → w ≡ x → IsWriteAccess o w u → IsWriteAccess p x v
@@ -225,13 +230,87 @@ same_said m n host.Hold host.Hold e = (same_num m n (same_at e 1), refl)
 same_said m n host.Release host.Release e = (same_num m n (same_at e 1), refl)
 same_said m n v w e = absurd (omega (arith, ap sign e))
 
--- what a host says is nothing else
+-- what a host says of its disk is nothing that is done to a further device
+said_not_done : {A : Type 0} (m : ℕ) (v : HostEvent) (n d : ℕ) (x : DeviceEvent A)
+    → host_fields m v ≡ device_fields n d x → ⊥
+unfolding sign
+said_not_done m host.Drop n d device.TakeSent e = omega (arith, ap sign e)
+said_not_done m v n d device.TakeSent e = omega (arith, ap sign e)
+said_not_done m host.Drop n d x e = omega (arith, ap sign e)
+said_not_done m v n d x e = omega (arith, ap sign e)
+
+-- it is nothing else
 other_said : {A : Type 0} (m : ℕ) (v : HostEvent) (n : ℕ) (w : EventKind A)
     → ((x : HostEvent) → w ≡ what.Host x → ⊥) → host_fields m v ≡ what_fields n w → ⊥
 unfolding sign
 other_said m v n (what.Host x) none e = none x refl
+other_said m v n (what.Device d x) none e = said_not_done m v n d x e
 other_said m host.Drop n w none e = omega (arith, ap sign e)
 other_said m v n w none e = omega (arith, ap sign e)
+
+same_card : (xs ys : List ℕ) (m n : ℕ) → CardInRange xs m → CardInRange ys n → card xs m ≡ card ys n
+    → (xs ≡ ys) × (m ≡ n)
+same_card xs ys m n hx hy e =
+    let lx = address_long xs hx.six in
+    let ly = address_long ys hy.six in
+    let front : bytes xs ≡ bytes ys =
+    sym (take_at (bytes xs) (58 ∷ num m) 12 lx) ∙ ap (take 12) e ∙ take_at (bytes ys) (58 ∷ num n) 12 ly in
+    let back : 58 ∷ num m ≡ 58 ∷ num n =
+    sym (drop_at (bytes xs) (58 ∷ num m) 12 lx) ∙ ap (drop 12) e ∙ drop_at (bytes ys) (58 ∷ num n) 12 ly in
+    (same_bytes xs ys hx.each hy.each front, same_num m n (ap (drop 1) back))
+
+same_kind_of : (a b : DeviceSpec) → SpecInRange a → SpecInRange b → device_kind a ≡ device_kind b → a ≡ b
+same_kind_of Entropy Entropy ra rb e = refl
+same_kind_of (Network xs m) (Network ys n) ra rb e =
+    let both = same_card xs ys m n ra rb (ap (drop 8) e) in
+    ap (λ (zs : List ℕ). Network zs m) both.0 ∙ ap (Network ys) both.1
+same_kind_of a b ra rb e = absurd (omega (arith, ap (λ (xs : List ℕ). get_or xs 0 0) e))
+
+same_link : (a b : Bool) → link_state a ≡ link_state b → a ≡ b
+same_link true true e = refl
+same_link false false e = refl
+same_link a b e = absurd (omega (arith, ap length e))
+
+-- what is done to a further device
+same_done : {A : Type 0} (m n d f : ℕ) (v w : DeviceEvent A) → DoneInRange v → DoneInRange w → IsPrintableDone v
+    → IsPrintableDone w → device_fields m d v ≡ device_fields n f w → (m ≡ n) × ((d ≡ f) × (v ≡ w))
+unfolding sign
+same_done m n d f (device.Plug a) (device.Plug b) rv rw' fv fw e = (
+  same_num m n (same_at e 1),
+  (same_num d f (same_at e 2), ap device.Plug (same_kind_of a b rv rw' (same_at e 3))),
+)
+same_done m n d f (device.Read o w) (device.Read p x) rv rw' fv fw e =
+    let offset = same_fixed 3 o p fv.three_digits fw.three_digits (same_at e 3) in
+    let width : w ≡ x = omega (arith, ap (λ (xs : List ℕ). get_or xs 0 0) (same_at e 4)) in
+    (same_num m n (same_at e 1), (same_num d f (same_at e 2), cc))
+same_done m n d f (device.Write o w u) (device.Write p x v) rv rw' fv fw e =
+    let offset = same_fixed 3 o p fv.access.three_digits fw.access.three_digits (same_at e 3) in
+    let width : w ≡ x = omega (arith, ap (λ (xs : List ℕ). get_or xs 0 0) (same_at e 4)) in
+    let value = same_value w x u v o p width fv fw (same_at e 5) in
+    (same_num m n (same_at e 1), (same_num d f (same_at e 2), cc))
+same_done m n d f (device.Supply xs) (device.Supply ys) rv rw' fv fw e = (
+  same_num m n (same_at e 1),
+  (same_num d f (same_at e 2), ap device.Supply (same_bytes xs ys rv.each rw'.each (same_at e 3))),
+)
+same_done m n d f (device.Receive xs) (device.Receive ys) rv rw' fv fw e = (
+  same_num m n (same_at e 1),
+  (same_num d f (same_at e 2), ap device.Receive (same_bytes xs ys rv.each rw'.each (same_at e 3))),
+)
+same_done m n d f device.TakeSent device.TakeSent rv rw' fv fw e =
+    (same_num m n (same_at e 1), (same_num d f (same_at e 2), refl))
+same_done m n d f (device.SetLink a) (device.SetLink b) rv rw' fv fw e = (
+  same_num m n (same_at e 1),
+  (same_num d f (same_at e 2), ap device.SetLink (same_link a b (same_at e 3))),
+)
+same_done m n d f v w rv rw' fv fw e = absurd (omega (arith, ap sign e))
+
+other_done : {A : Type 0} (m d : ℕ) (v : DeviceEvent A) (n : ℕ) (w : EventKind A)
+    → ((f : ℕ) (x : DeviceEvent A) → w ≡ what.Device f x → ⊥) → device_fields m d v ≡ what_fields n w → ⊥
+unfolding sign
+other_done m d v n (what.Device f x) none e = none f x refl
+other_done m d v n (what.Host x) none e = other_said n x m (what.Device d v) (λ y is. absurd cc) (sym e)
+other_done m d device.TakeSent n w none e = omega (arith, ap sign e)
+other_done m d v n w none e = omega (arith, ap sign e)
 
 same_what : {A : Type 0} (m n : ℕ) (v w : EventKind A) → KindInRange v → KindInRange w → IsPrintableKind v
     → IsPrintableKind w → what_fields m v ≡ what_fields n w → (m ≡ n) × (v ≡ w)
@@ -268,6 +347,11 @@ same_what m n (what.Host v) (what.Host w) rv rw' fv fw e =
     (both.0, ap what.Host both.1)
 same_what m n (what.Host v) w rv rw' fv fw e = absurd (other_said m v n w (λ x is. absurd cc) e)
 same_what m n v (what.Host w) rv rw' fv fw e = absurd (other_said n w m v (λ x is. absurd cc) (sym e))
+same_what m n (what.Device d v) (what.Device f w) rv rw' fv fw e =
+    let both = same_done m n d f v w rv.range rw'.range fv fw e in
+    (both.0, ap (λ (k : ℕ). what.Device k v) both.1.0 ∙ ap (what.Device f) both.1.1)
+same_what m n (what.Device d v) w rv rw' fv fw e = absurd (other_done m d v n w (λ f x is. absurd cc) e)
+same_what m n v (what.Device d w) rv rw' fv fw e = absurd (other_done n d w m v (λ f x is. absurd cc) (sym e))
 same_what m n v w rv rw' fv fw e = absurd (omega (arith, ap sign e))
 
 pub same_event_fields : {A : Type 0} (d e : Event A) → IsFine d → IsFine e

@@ -1,7 +1,7 @@
 -- The values of a line's fields, read one after another.
 use Rattle.std.proofs.Common.{◌≡◌, ◌≢◌, ℕ, ◌+◌, ◌^◌, ◌<◌, ◌≤◌, List, [], ◌∷◌, ◌++◌, length, get_or, map, take, drop, slice_index_or, refl, sym, ap, subst, ◌∙◌, arith}
 use Rattle.std.proofs.lemmas.List.{append-nil, append_assoc, drop_all, drop_more, length-map, map-append, map_more, take_all}
-use Rattle.mmio_window.specs.declared.device_kind.DeviceKind.{DeviceKind}
+use Rattle.board.specs.declared.event.SlotWindow.{SlotWindow}
 use Rattle.trace.specs.declared.format.Format.{Format}
 use Rattle.trace.specs.declared.format.Format.TheVariants.{Plain, Extended}
 use Rattle.trace.specs.declared.format.Version.TheVariants.{One, Two}
@@ -10,11 +10,11 @@ use Rattle.trace.specs.declared.table.Field.TheVariants.{Sectors}
 use Rattle.trace.specs.declared.value.FieldValue.{FieldValue}
 use Rattle.trace.specs.declared.value.FieldValue.TheVariants as value
 use Rattle.trace.specs.declared.word.Word.{Word}
-use Rattle.trace.specs.declared.word.Word.TheVariants.{Slot, Write}
+use Rattle.trace.specs.declared.word.Word.TheVariants.{Slot, Write, DeviceWrite}
 use Rattle.trace.specs.Printable.{IsWriteAccess}
 use Rattle.trace.specs.Spelling.{value_text}
 use Rattle.trace.specs.Values.{AreOf, IsOf, SaysValue, SayValues}
-use Rattle.trace.specs.Words.{AllRight, AreRight, Num, Offset, Says, Shape, Value, Width, Window, fields_in, shape_of, shapes, width_among}
+use Rattle.trace.specs.Words.{AllRight, AreRight, HasValueField, Num, Offset, Says, Shape, Value, Width, Window, fields_in, shape_of, shapes, width_among}
 use Rattle.trace.proofs.Widths.{digits_bound, num_width}
 
 -- ---- the values so far
@@ -112,12 +112,14 @@ at_most_eight format word = omega arith
 
 -- only a write's shapes depend on a width
 pub shapes_by : (format : Format) (word : Word) (width : List ℕ) (fields : List (List ℕ))
-    → (word ≡ Write → width ≡ width_among fields) → map (shape_of width) (fields_in format word)
+    → (HasValueField word → width ≡ width_among fields) → map (shape_of width) (fields_in format word)
     ≡ shapes format word fields
 shapes_by format Slot width fields same =
     slot_row_alike format width (width_among fields)
 shapes_by format Write width fields same =
-    ap (λ (by : List ℕ). Num 8 ∷ Window ∷ Offset ∷ Width ∷ Value by ∷ []) (same refl)
+    ap (λ (by : List ℕ). Num 8 ∷ Window ∷ Offset ∷ Width ∷ Value by ∷ []) (same tt)
+shapes_by format DeviceWrite width fields same =
+    ap (λ (by : List ℕ). Num 8 ∷ Num 8 ∷ Offset ∷ Width ∷ Value by ∷ []) (same tt)
 shapes_by format word width fields same = refl
 
 -- the fields of an event are the same in each format
@@ -131,7 +133,7 @@ same_right format other word fields event h = h
 -- its values, of which the last is read by the width before it
 pub record IsWrite (vs : List FieldValue) : Type 0 where
   pub slot : ℕ
-  pub kind : DeviceKind
+  pub kind : SlotWindow
   pub offset : ℕ
   pub width : ℕ
   pub val : ℕ
@@ -170,6 +172,57 @@ written vs h =
       are = up_to_width ∙ ap (λ (xs : List FieldValue). value.Number number.0 ∷ value.Window window.0
           ∷ value.Offset offset.0 ∷ value.Width width.0 ∷ xs) last;
       small = number.1.1;
+      fine = record {
+        access = record { three_digits = offset.1.1; wide = width.1.1 };
+        within = subst (λ (most : ℕ). val.0 < most) (digits_bound width.0 width.1.1) val.1.1;
+      };
+    }
+
+-- the values of a write of a further device's window, of which the last is read by the width before it
+pub record IsDeviceWrite (vs : List FieldValue) : Type 0 where
+  pub slot : ℕ
+  pub number : ℕ
+  pub offset : ℕ
+  pub width : ℕ
+  pub val : ℕ
+  pub are : vs ≡ value.Number slot ∷ value.Number number ∷ value.Offset offset ∷ value.Width width
+      ∷ value.Value width val ∷ []
+  pub small : slot < 2 ^ 8
+  pub few : number < 2 ^ 8
+  pub fine : IsWriteAccess offset width val
+
+pub device_written : (vs : List FieldValue) → AreOf (shapes Extended DeviceWrite (map value_text vs)) vs
+    → IsDeviceWrite vs
+device_written vs h =
+    let t0 = h.2.1.1 in
+    let t1 = t0.2.1.1 in
+    let t2 = t1.2.1.1 in
+    let t3 = t2.2.1.1 in
+    let t4 = t3.2.1.1 in
+    let slot = h.2.1.0 in
+    let number = t0.2.1.0 in
+    let offset = t1.2.1.0 in
+    let width = t2.2.1.0 in
+    let up_to_width : vs ≡ value.Number slot.0 ∷ value.Number number.0 ∷ value.Offset offset.0
+    ∷ value.Width width.0 ∷ t2.1 =
+    h.2.0 ∙ ap (λ (xs : List FieldValue). h.0 ∷ xs) (t0.2.0
+    ∙ ap (λ (xs : List FieldValue). t0.0 ∷ xs) (t1.2.0 ∙ ap (λ (xs : List FieldValue). t1.0 ∷ xs) t2.2.0))
+    ∙ rw (slot.1.0, number.1.0, offset.1.0, width.1.0) refl
+    in
+    let by : slice_index_or (map value_text vs) 3 [] ≡ value_text (value.Width width.0) =
+    ap (λ (xs : List FieldValue). slice_index_or (map value_text xs) 3 []) up_to_width in
+    let val = t3.2.1.0 width.0 (record { fits = width.1.1; spelled = by ∙ num_width width.0 width.1.1 }) in
+    let last : t2.1 ≡ value.Value width.0 val.0 ∷ [] = t3.2.0 ∙ rw (val.1.0, t4) refl in
+    record {
+      slot = slot.0;
+      number = number.0;
+      offset = offset.0;
+      width = width.0;
+      val = val.0;
+      are = up_to_width ∙ ap (λ (xs : List FieldValue). value.Number slot.0 ∷ value.Number number.0
+          ∷ value.Offset offset.0 ∷ value.Width width.0 ∷ xs) last;
+      small = slot.1.1;
+      few = number.1.1;
       fine = record {
         access = record { three_digits = offset.1.1; wide = width.1.1 };
         within = subst (λ (most : ℕ). val.0 < most) (digits_bound width.0 width.1.1) val.1.1;

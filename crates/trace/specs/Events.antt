@@ -1,6 +1,6 @@
 -- The events of lines that were validated, one after another.
 use Rattle.std.specs.Prelude.{◌≡◌, ℕ, ◌+◌, ◌*◌, ◌^◌, ◌<◌, List, ◌∷◌, ◌++◌}
-use Rattle.mmio_window.specs.declared.device_kind.DeviceKind.{DeviceKind}
+use Rattle.board.specs.declared.event.SlotWindow.{SlotWindow}
 use Rattle.board.specs.declared.event.Event.{Event}
 use Rattle.hexadecimal.specs.Fields.{IsBytesField}
 use Rattle.hexadecimal.specs.Spelling.{fixed, num}
@@ -54,13 +54,13 @@ pub record BeginsWithNumber (text : List ℕ) : Type 0 where
   pub has : HasNumber text n after
 
 -- a register, and this behind its width
-pub record HasAccess (text : List ℕ) (kind : DeviceKind) (offset width : ℕ) (after : List ℕ) : Type 0 where
+pub record HasAccess (text : List ℕ) (kind : SlotWindow) (offset width : ℕ) (after : List ℕ) : Type 0 where
   pub three_digits : offset < 16 ^ 3
   pub wide : IsWidth width
   pub is : text ≡ window kind ++ 32 ∷ (fixed 3 offset ++ 32 ∷ (48 + width) ∷ after)
 
 pub record BeginsWithAccess (text : List ℕ) : Type 0 where
-  pub kind : DeviceKind
+  pub kind : SlotWindow
   pub offset : ℕ
   pub width : ℕ
   pub after : List ℕ

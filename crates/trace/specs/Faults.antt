@@ -7,7 +7,7 @@ use Rattle.trace.specs.declared.word.Word.{Word}
 use Rattle.trace.specs.declared.word.Word.TheVariants.{Cache, Slot}
 use Rattle.trace.specs.Cuts.{lines_of, fields_of}
 use Rattle.trace.specs.Text.{header}
-use Rattle.trace.specs.Words.{IsWordOf, Shape, Num, Regions, Disk, Offset, Window, Width, Value, Mode, Verdict, Bytes, Identity, Says, spelled, shapes}
+use Rattle.trace.specs.Words.{IsWordOf, Shape, Num, Regions, Disk, Offset, Window, Width, Value, Mode, Verdict, Bytes, Identity, Kind, Link, Says, spelled, shapes}
 
 -- line k of a text, numbered from 1; a text ends before line k where nothing stands there
 abbrev pub line_at : List ℕ → ℕ → List ℕ
@@ -58,6 +58,8 @@ fault_of Width = kind.Choice
 fault_of Disk = kind.Choice
 fault_of Mode = kind.Choice
 fault_of Verdict = kind.Choice
+fault_of Kind = kind.Choice
+fault_of Link = kind.Choice
 fault_of Bytes = kind.Bytes
 fault_of Identity = kind.Bytes
 

@@ -2,9 +2,11 @@
 use Rattle.std.specs.Prelude.{◌≡◌, ℕ, ◌*◌, ◌^◌, ◌<◌, ◌≤◌, List, All, ⊤, length}
 use Rattle.board.specs.declared.event.Event.{Event}
 use Rattle.board.specs.declared.event.EventKind.{EventKind}
-use Rattle.board.specs.declared.event.EventKind.TheVariants.{Read, Write, MemRead, MemWrite, Input, Resize, Restore, Host}
+use Rattle.board.specs.declared.event.EventKind.TheVariants.{Read, Write, MemRead, MemWrite, Input, Resize, Restore, Host, Device}
 use Rattle.board.specs.declared.event.HostEvent.{HostEvent}
 use Rattle.board.specs.declared.event.HostEvent.TheVariants.{Complete}
+use Rattle.board.specs.declared.event.DeviceEvent.{DeviceEvent}
+use Rattle.board.specs.declared.event.DeviceEvent.TheVariants as device
 use Rattle.board.specs.declared.spec.SlotSpec.{SlotSpec}
 use Rattle.board.specs.declared.spec.Backing.{Backing}
 use Rattle.board.specs.declared.spec.Backing.TheVariants.{Image}
@@ -13,7 +15,7 @@ use Rattle.trace.specs.declared.format.Format.TheVariants.{Plain, Extended}
 use Rattle.trace.specs.declared.format.Version.TheVariants.{One}
 use Rattle.trace.specs.Text.{Content, word_for}
 use Rattle.trace.specs.Format.{identity_in_version_1}
-use Rattle.trace.specs.Words.{DiskInRange, IsWidth, IsWordOf, RegionInRange}
+use Rattle.trace.specs.Words.{DiskInRange, IsWidth, IsWordOf, RegionInRange, SpecInRange}
 
 -- an access to a register that has a spelling: its offset has three digits, and its width is 1, 2 or 4
 pub record IsAccess (offset width : ℕ) : Type 0 where
@@ -25,6 +27,12 @@ pub record IsWriteAccess (offset width value : ℕ) : Type 0 where
   pub access : IsAccess offset width
   pub within : value < 2 ^ (8 * width)
 
+-- what is done to a further device and has a spelling
+abbrev pub IsPrintableDone : {A : Type 0} → DeviceEvent A → Type 0
+IsPrintableDone (device.Read offset width) = IsAccess offset width
+IsPrintableDone (device.Write offset width value) = IsWriteAccess offset width value
+IsPrintableDone done = ⊤
+
 -- what has a spelling
 abbrev pub IsPrintableKind : {A : Type 0} → EventKind A → Type 0
 IsPrintableKind (Read kind offset width) = IsAccess offset width
@@ -35,6 +43,7 @@ IsPrintableKind (Input bs) = ⊤
 IsPrintableKind (Resize cols rows) = ⊤
 IsPrintableKind (Restore bs) = ⊤
 IsPrintableKind (Host said) = ⊤
+IsPrintableKind (Device n done) = IsPrintableDone done
 
 -- a memory of so many regions that has a spelling in a format: in a plain one there is one
 abbrev pub IsPrintableMemory : Format → ℕ → Type 0
@@ -93,6 +102,16 @@ abbrev pub HostInRange : HostEvent → Type 0
 HostInRange (Complete tag verdict) = TagInRange tag
 HostInRange said = ⊤
 
+abbrev pub DoneInRange : {A : Type 0} → DeviceEvent A → Type 0
+DoneInRange (device.Plug spec) = SpecInRange spec
+DoneInRange (device.Supply bs) = EachInRange bs
+DoneInRange (device.Receive bs) = EachInRange bs
+DoneInRange done = ⊤
+
+pub record DeviceInRange {A : Type 0} (n : ℕ) (done : DeviceEvent A) : Type 0 where
+  pub number : n < 2 ^ 8
+  pub range : DoneInRange done
+
 abbrev pub KindInRange : {A : Type 0} → EventKind A → Type 0
 KindInRange (Read kind offset width) = ⊤
 KindInRange (Write kind offset width value) = ⊤
@@ -102,6 +121,7 @@ KindInRange (Input bs) = EachInRange bs
 KindInRange (Resize cols rows) = SizeInRange cols rows
 KindInRange (Restore bs) = EachInRange bs
 KindInRange (Host said) = HostInRange said
+KindInRange (Device n done) = DeviceInRange n done
 
 pub record EventInRange {A : Type 0} (e : Event A) : Type 0 where
   pub slot : e.slot < 2 ^ 8

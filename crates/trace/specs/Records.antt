@@ -15,6 +15,7 @@ reply_field (reply.Took n) = codes "took:" ++ num n
 reply_field reply.BadSlot = codes "badslot"
 reply_field reply.BadRange = codes "badrange"
 reply_field reply.BadState = codes "badstate"
+reply_field reply.BadDevice = codes "baddevice"
 reply_field reply.Busy = codes "busy"
 reply_field reply.Idle = codes "idle"
 reply_field reply.NoMemory = codes "nomem"

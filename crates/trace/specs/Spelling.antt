@@ -7,13 +7,15 @@ use Rattle.board.specs.declared.spec.Backing.TheVariants.{Image, Host}
 use Rattle.hexadecimal.specs.Spelling.{num, fixed, bytes}
 use Rattle.block_device.specs.declared.operation.Verdict as operation
 use Rattle.block_device.specs.declared.operation.Verdict.TheVariants.{Done, Failed}
-use Rattle.mmio_window.specs.declared.device_kind.DeviceKind.{DeviceKind}
-use Rattle.mmio_window.specs.declared.device_kind.DeviceKind.TheVariants.{Block, Console}
+use Rattle.board.specs.declared.event.SlotWindow.{SlotWindow}
+use Rattle.board.specs.declared.event.SlotWindow.TheVariants.{Block, Console}
+use Rattle.device_list.specs.declared.spec.DeviceSpec.{DeviceSpec}
+use Rattle.device_list.specs.declared.spec.DeviceSpec.TheVariants.{Entropy, Network}
 use Rattle.trace.specs.declared.print.line.LineFields.{LineFields}
 use Rattle.trace.specs.declared.table.Field.{Field}
 use Rattle.trace.specs.declared.table.Field.TheVariants as field
 use Rattle.trace.specs.declared.value.FieldValue.{FieldValue}
-use Rattle.trace.specs.declared.value.FieldValue.TheVariants.{Number, Disk, Mode, Window, Offset, Width, Value, Identity, Verdict, Spelled}
+use Rattle.trace.specs.declared.value.FieldValue.TheVariants.{Number, Disk, Mode, Window, Offset, Width, Value, Identity, Verdict, Kind, Link, Spelled}
 
 -- a region of a guest's memory: its base and its length, with `+` (43) between them
 abbrev pub region_text : RegionSpec → List ℕ
@@ -24,7 +26,7 @@ abbrev pub regions_text : List RegionSpec → List ℕ
 regions_text regions = join_with_byte 44 (map region_text regions)
 
 -- the window of a kind of device
-abbrev pub window : DeviceKind → List ℕ
+abbrev pub window : SlotWindow → List ℕ
 window Block = codes "b"
 window Console = codes "c"
 
@@ -43,6 +45,20 @@ abbrev pub verdict : operation.Verdict → List ℕ
 verdict Done = codes "done"
 verdict Failed = codes "failed"
 
+-- a network card: its address by two digits for each byte and its MTU, with `:` (58) between them
+abbrev pub card : List ℕ → ℕ → List ℕ
+card mac mtu = bytes mac ++ 58 ∷ num mtu
+
+-- what a further device is to be
+abbrev pub device_kind : DeviceSpec → List ℕ
+device_kind Entropy = codes "entropy"
+device_kind (Network mac mtu) = codes "network:" ++ card mac mtu
+
+-- whether the link of a network card is up
+abbrev pub link_state : Bool → List ℕ
+link_state true = codes "up"
+link_state false = codes "down"
+
 -- the width of a register access, which is one digit (48 is `0`)
 abbrev pub width_digit : ℕ → List ℕ
 width_digit width = (48 + width) ∷ []
@@ -58,6 +74,8 @@ value_text (Width width) = num width
 value_text (Value width value) = fixed (2 * width) value
 value_text (Identity bs) = bytes bs
 value_text (Verdict came) = verdict came
+value_text (Kind spec) = device_kind spec
+value_text (Link up) = link_state up
 value_text (Spelled field) = field.now
 
 -- a field of a line, by what its fields say
@@ -83,3 +101,6 @@ field_text says field.Length = num says.length
 field_text says field.Bytes = bytes says.bytes.now
 field_text says field.Tag = num says.tag
 field_text says field.Verdict = verdict says.verdict
+field_text says field.Device = num says.device
+field_text says field.Kind = device_kind says.kind
+field_text says field.Link = link_state says.up

@@ -1,12 +1,14 @@
 -- The one text of a trace: its lines in order, each ended by a line feed.
 use Rattle.std.specs.Prelude.{ℕ, ◌*◌, List, [], ◌∷◌, ◌++◌, map, codes}
 use Rattle.std.specs.List.{flat_map, join_with_byte}
-use Rattle.mmio_window.specs.declared.device_kind.DeviceKind.{DeviceKind}
+use Rattle.board.specs.declared.event.SlotWindow.{SlotWindow}
 use Rattle.board.specs.declared.event.Event.{Event}
 use Rattle.board.specs.declared.event.EventKind.{EventKind}
 use Rattle.board.specs.declared.event.EventKind.TheVariants as what
 use Rattle.board.specs.declared.event.HostEvent.{HostEvent}
 use Rattle.board.specs.declared.event.HostEvent.TheVariants as host
+use Rattle.board.specs.declared.event.DeviceEvent.{DeviceEvent}
+use Rattle.board.specs.declared.event.DeviceEvent.TheVariants as device
 use Rattle.board.specs.declared.spec.SlotSpec.{SlotSpec}
 use Rattle.board.specs.declared.spec.Backing.{Backing}
 use Rattle.guest_memory.specs.declared.spec.RegionSpec.{RegionSpec}
@@ -15,9 +17,9 @@ use Rattle.trace.specs.declared.format.Format.TheVariants.{Plain, Extended}
 use Rattle.trace.specs.declared.format.Version.TheVariants.{One, Two}
 use Rattle.trace.specs.declared.trace.Trace.{Trace}
 use Rattle.trace.specs.declared.word.Word.{Word}
-use Rattle.trace.specs.declared.word.Word.TheVariants.{Cache, Slot, Read, Write, MemRead, MemWrite, Input, Resize, Restore, Complete, Drop, Hold, Release}
+use Rattle.trace.specs.declared.word.Word.TheVariants.{Cache, Slot, Read, Write, MemRead, MemWrite, Input, Resize, Restore, Complete, Drop, Hold, Release, Plug, DeviceRead, DeviceWrite, Supply, Receive, TakeSent, SetLink}
 use Rattle.hexadecimal.specs.Spelling.{num, fixed, bytes}
-use Rattle.trace.specs.Spelling.{window, width_digit, disk, mode, verdict, regions_text}
+use Rattle.trace.specs.Spelling.{window, width_digit, disk, mode, verdict, regions_text, device_kind, link_state}
 use Rattle.trace.specs.Format.{if_extended, unless_version_1}
 use Rattle.trace.specs.Words.{spelled}
 
@@ -65,11 +67,11 @@ slot_fields format s =
     ∷ unless_version_1 format (bytes s.identity ∷ []))))
 
 -- a read and a write of a register, a read and a write of memory
-abbrev pub read_fields : ℕ → DeviceKind → ℕ → ℕ → List (List ℕ)
+abbrev pub read_fields : ℕ → SlotWindow → ℕ → ℕ → List (List ℕ)
 read_fields slot kind offset width = spelled Read ∷ num slot ∷ window kind ∷ fixed 3 offset
     ∷ width_digit width ∷ []
 
-abbrev pub write_fields : ℕ → DeviceKind → ℕ → ℕ → ℕ → List (List ℕ)
+abbrev pub write_fields : ℕ → SlotWindow → ℕ → ℕ → ℕ → List (List ℕ)
 write_fields slot kind offset width value =
     spelled Write ∷ num slot ∷ window kind ∷ fixed 3 offset ∷ width_digit width ∷ fixed (2 * width) value ∷ []
 
@@ -104,6 +106,28 @@ host_fields slot host.Drop = spelled Drop ∷ num slot ∷ []
 host_fields slot host.Hold = spelled Hold ∷ num slot ∷ []
 host_fields slot host.Release = spelled Release ∷ num slot ∷ []
 
+-- what is done to a further device: it is given to the slot; its driver reads or writes its window; the host supplies
+-- it with bytes, hands it a frame or takes one, and sets its link
+abbrev pub device_word : {A : Type 0} → DeviceEvent A → Word
+device_word (device.Plug spec) = Plug
+device_word (device.Read offset width) = DeviceRead
+device_word (device.Write offset width value) = DeviceWrite
+device_word (device.Supply bs) = Supply
+device_word (device.Receive bs) = Receive
+device_word device.TakeSent = TakeSent
+device_word (device.SetLink up) = SetLink
+
+abbrev pub device_fields : {A : Type 0} → ℕ → ℕ → DeviceEvent A → List (List ℕ)
+device_fields slot n (device.Plug spec) = spelled Plug ∷ num slot ∷ num n ∷ device_kind spec ∷ []
+device_fields slot n (device.Read offset width) =
+    spelled DeviceRead ∷ num slot ∷ num n ∷ fixed 3 offset ∷ width_digit width ∷ []
+device_fields slot n (device.Write offset width value) =
+    spelled DeviceWrite ∷ num slot ∷ num n ∷ fixed 3 offset ∷ width_digit width ∷ fixed (2 * width) value ∷ []
+device_fields slot n (device.Supply bs) = spelled Supply ∷ num slot ∷ num n ∷ bytes bs ∷ []
+device_fields slot n (device.Receive bs) = spelled Receive ∷ num slot ∷ num n ∷ bytes bs ∷ []
+device_fields slot n device.TakeSent = spelled TakeSent ∷ num slot ∷ num n ∷ []
+device_fields slot n (device.SetLink up) = spelled SetLink ∷ num slot ∷ num n ∷ link_state up ∷ []
+
 -- the word of what a slot does
 abbrev pub word_for : {A : Type 0} → EventKind A → Word
 word_for (what.Read kind offset width) = Read
@@ -114,6 +138,7 @@ word_for (what.Input bs) = Input
 word_for (what.Resize cols rows) = Resize
 word_for (what.Restore bs) = Restore
 word_for (what.Host said) = host_word said
+word_for (what.Device n done) = device_word done
 
 -- the fields of what a slot does
 abbrev pub what_fields : {A : Type 0} → ℕ → EventKind A → List (List ℕ)
@@ -125,6 +150,7 @@ what_fields slot (what.Input bs) = input_fields slot bs
 what_fields slot (what.Resize cols rows) = resize_fields slot cols rows
 what_fields slot (what.Restore bs) = restore_fields slot bs
 what_fields slot (what.Host said) = host_fields slot said
+what_fields slot (what.Device n done) = device_fields slot n done
 
 abbrev pub event_fields : {A : Type 0} → Event A → List (List ℕ)
 event_fields e = what_fields e.slot e.what

@@ -3,6 +3,8 @@ use Rattle.std.specs.Prelude.{◌≡◌, ◌==◌, ◌⊎◌, ℕ, ◌/◌, ◌�
 use Rattle.board.specs.declared.event.Event.{Event}
 use Rattle.board.specs.declared.event.EventKind.{EventKind}
 use Rattle.board.specs.declared.event.EventKind.TheVariants as event
+use Rattle.board.specs.declared.event.DeviceEvent.{DeviceEvent}
+use Rattle.board.specs.declared.event.DeviceEvent.TheVariants as device
 use Rattle.board.specs.declared.spec.SlotSpec.{SlotSpec}
 use Rattle.trace.specs.declared.format.Format.{Format}
 use Rattle.trace.specs.declared.fault.FaultKind.{FaultKind}
@@ -14,11 +16,18 @@ use Rattle.trace.specs.Refusals.{IsFine, RefusesLine, SaysEvent, SaysSlot}
 use Rattle.trace.specs.Reading.{IsTraceOf}
 use Rattle.trace.specs.Text.{Content, event_line, joined}
 
+-- how many bytes go to a further device
+abbrev pub device_bytes_len : {A : Type 0} → DeviceEvent A → ℕ
+device_bytes_len (device.Supply bs) = length bs
+device_bytes_len (device.Receive bs) = length bs
+device_bytes_len _ = 0
+
 -- how many bytes an event has, and how many are still spelled
 abbrev pub bytes_len : {A : Type 0} → EventKind A → ℕ
 bytes_len (event.MemWrite addr bs) = length bs
 bytes_len (event.Input bs) = length bs
 bytes_len (event.Restore bs) = length bs
+bytes_len (event.Device n done) = device_bytes_len done
 bytes_len _ = 0
 
 abbrev pub parsed_len : {A : Type 0} → ParsedEvent A → ℕ

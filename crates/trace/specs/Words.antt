@@ -3,16 +3,18 @@ use Rattle.std.specs.Prelude.{◌≡◌, ℕ, ◌*◌, ◌^◌, ◌<◌, ◌≤�
 use Rattle.guest_memory.specs.declared.spec.RegionSpec.{RegionSpec}
 use Rattle.board.specs.declared.spec.Backing.{Backing}
 use Rattle.board.specs.declared.spec.Backing.TheVariants.{Image, Host}
-use Rattle.mmio_window.specs.declared.device_kind.DeviceKind.{DeviceKind}
+use Rattle.board.specs.declared.event.SlotWindow.{SlotWindow}
+use Rattle.device_list.specs.declared.spec.DeviceSpec.{DeviceSpec}
+use Rattle.device_list.specs.declared.spec.DeviceSpec.TheVariants.{Entropy, Network}
 use Rattle.block_device.specs.declared.operation.Verdict as operation
 use Rattle.trace.specs.declared.format.Format.{Format}
 use Rattle.trace.specs.declared.format.Format.TheVariants.{Plain, Extended}
 use Rattle.trace.specs.declared.table.Field.{Field}
 use Rattle.trace.specs.declared.table.Field.TheVariants as field
 use Rattle.trace.specs.declared.word.Word.{Word}
-use Rattle.trace.specs.declared.word.Word.TheVariants.{Cache, Slot, Read, Write, MemRead, MemWrite, Input, Resize, Restore, Complete, Drop, Hold, Release}
+use Rattle.trace.specs.declared.word.Word.TheVariants.{Cache, Slot, Read, Write, MemRead, MemWrite, Input, Resize, Restore, Complete, Drop, Hold, Release, Plug, DeviceRead, DeviceWrite, Supply, Receive, TakeSent, SetLink}
 use Rattle.hexadecimal.specs.Fields.{IsBytesField, IsFixed, SpellsBytes, SpellsNumber}
-use Rattle.trace.specs.Spelling.{window, width_digit, disk, mode, verdict, region_text, regions_text}
+use Rattle.trace.specs.Spelling.{window, width_digit, disk, mode, verdict, region_text, regions_text, card, device_kind, link_state}
 use Rattle.trace.specs.Format.{IsExtended, if_extended, unless_version_1}
 
 -- how many bytes a register access may have
@@ -56,6 +58,31 @@ pub record IsDiskField (field : List ℕ) (backing : Backing) : Type 0 where
   pub fits : DiskInRange backing
   pub spelled : field ≡ disk backing
 
+-- the address of a network card, six bytes, and its MTU of 16 bits (5.1.4)
+pub record CardInRange (mac : List ℕ) (mtu : ℕ) : Type 0 where
+  pub each : All (λ b. b < 2 ^ 8) mac
+  pub six : length mac ≡ 6
+  pub wide : mtu < 2 ^ 16
+
+abbrev pub SpecInRange : DeviceSpec → Type 0
+SpecInRange Entropy = ⊤
+SpecInRange (Network mac mtu) = CardInRange mac mtu
+
+-- the field is the address of a network card (5.1.4): exactly six bytes
+pub record IsAddressField (field mac : List ℕ) : Type 0 where
+  pub bytes_are : IsBytesField field mac
+  pub six : length mac ≡ 6
+
+-- the field is a network card
+pub record IsCardField (field mac : List ℕ) (mtu : ℕ) : Type 0 where
+  pub fits : CardInRange mac mtu
+  pub spelled : field ≡ card mac mtu
+
+-- the field is the kind of a further device
+pub record IsKindField (field : List ℕ) (spec : DeviceSpec) : Type 0 where
+  pub fits : SpecInRange spec
+  pub spelled : field ≡ device_kind spec
+
 -- The shapes of fields. A value is read by the width that another field of its line says.
 pub data Shape : Type 0 where
   Num : (bits : ℕ) → Shape
@@ -69,6 +96,8 @@ pub data Shape : Type 0 where
   Verdict : Shape
   Bytes : Shape
   Identity : Shape
+  Kind : Shape
+  Link : Shape
 
 -- The field has a shape where some value of it is spelled so. A value has two digits for each byte of its
 -- width; where there is no such width, any field may be one.
@@ -77,7 +106,7 @@ Says (Num bits) field = SpellsNumber bits field
 Says Regions field = (regions : List RegionSpec) × IsRegionsField field regions
 Says Disk field = (backing : Backing) × IsDiskField field backing
 Says Offset field = (n : ℕ) × IsFixed 3 field n
-Says Window field = (kind : DeviceKind) × (field ≡ window kind)
+Says Window field = (kind : SlotWindow) × (field ≡ window kind)
 Says Width field = (width : ℕ) × IsWidthField field width
 Says (Value width_field) field = (width : ℕ) → IsWidthField width_field width → (n : ℕ)
     × IsFixed (2 * width) field n
@@ -85,6 +114,8 @@ Says Mode field = (read_only : Bool) × (field ≡ mode read_only)
 Says Verdict field = (came : operation.Verdict) × (field ≡ verdict came)
 Says Bytes field = SpellsBytes field
 Says Identity field = (bs : List ℕ) × IsIdentityField field bs
+Says Kind field = (spec : DeviceSpec) × IsKindField field spec
+Says Link field = (up : Bool) × (field ≡ link_state up)
 
 -- how each word is spelled
 abbrev pub spelled : Word → List ℕ
@@ -101,19 +132,50 @@ spelled Complete = codes "io"
 spelled Drop = codes "drop"
 spelled Hold = codes "hold"
 spelled Release = codes "release"
+spelled Plug = codes "plug"
+spelled DeviceRead = codes "dr"
+spelled DeviceWrite = codes "dw"
+spelled Supply = codes "supply"
+spelled Receive = codes "frame"
+spelled TakeSent = codes "take"
+spelled SetLink = codes "link"
 
--- the words of a format: the extended one alone has those of restores and of what a host says of its disk, and
--- the others are in each
+-- the words of a format: the extended one alone has those of restores, of what a host says of its disk and of
+-- further devices, and the others are in each
 abbrev pub IsWordOf : Format → Word → Type 0
 IsWordOf format Restore = IsExtended format
 IsWordOf format Complete = IsExtended format
 IsWordOf format Drop = IsExtended format
 IsWordOf format Hold = IsExtended format
 IsWordOf format Release = IsExtended format
+IsWordOf format Plug = IsExtended format
+IsWordOf format DeviceRead = IsExtended format
+IsWordOf format DeviceWrite = IsExtended format
+IsWordOf format Supply = IsExtended format
+IsWordOf format Receive = IsExtended format
+IsWordOf format TakeSent = IsExtended format
+IsWordOf format SetLink = IsExtended format
 IsWordOf format _ = ⊤
 
 abbrev pub IsInEach : Word → Type 0
 IsInEach word = (format : Format) → IsWordOf format word
+
+-- the words of what is done to a further device
+abbrev pub IsDeviceWord : Word → Type 0
+IsDeviceWord Plug = ⊤
+IsDeviceWord DeviceRead = ⊤
+IsDeviceWord DeviceWrite = ⊤
+IsDeviceWord Supply = ⊤
+IsDeviceWord Receive = ⊤
+IsDeviceWord TakeSent = ⊤
+IsDeviceWord SetLink = ⊤
+IsDeviceWord word = ⊥
+
+-- the words whose last field is a value that is written by a width
+abbrev pub HasValueField : Word → Type 0
+HasValueField Write = ⊤
+HasValueField DeviceWrite = ⊤
+HasValueField word = ⊥
 
 -- a slot's memory, in a format: base and size of its one region, or all its regions
 abbrev pub memory_in : Format → List Field
@@ -145,6 +207,13 @@ fields_in format Complete = field.Slot ∷ field.Tag ∷ field.Verdict ∷ []
 fields_in format Drop = field.Slot ∷ []
 fields_in format Hold = field.Slot ∷ []
 fields_in format Release = field.Slot ∷ []
+fields_in format Plug = field.Slot ∷ field.Device ∷ field.Kind ∷ []
+fields_in format DeviceRead = field.Slot ∷ field.Device ∷ field.Offset ∷ field.Width ∷ []
+fields_in format DeviceWrite = field.Slot ∷ field.Device ∷ field.Offset ∷ field.Width ∷ field.Value ∷ []
+fields_in format Supply = field.Slot ∷ field.Device ∷ field.Bytes ∷ []
+fields_in format Receive = field.Slot ∷ field.Device ∷ field.Bytes ∷ []
+fields_in format TakeSent = field.Slot ∷ field.Device ∷ []
+fields_in format SetLink = field.Slot ∷ field.Device ∷ field.Link ∷ []
 
 -- of the fields of a line, the one by which a value is read
 abbrev pub width_among : List (List ℕ) → List ℕ
@@ -173,6 +242,9 @@ shape_of width field.Length = Num 32
 shape_of width field.Bytes = Bytes
 shape_of width field.Tag = Num 8
 shape_of width field.Verdict = Verdict
+shape_of width field.Device = Num 8
+shape_of width field.Kind = Kind
+shape_of width field.Link = Link
 
 -- the shapes of the fields after a word, in a format, where these are the fields
 abbrev pub shapes : Format → Word → List (List ℕ) → List Shape

@@ -32,8 +32,8 @@ pub enum FaultKind {
     /// A number, an offset or a value that isn't in its spelling, or a number past its bits.
     #[error("a number that is not in its spelling")]
     Number,
-    /// A disk, a window, a width, a mode or a verdict that isn't in its spelling.
-    #[error("a disk, a window, a width, a mode or a verdict that is not in its spelling")]
+    /// A disk, a window, a width, a mode, a verdict, a kind of device or a link that isn't in its spelling.
+    #[error("a disk, a window, a width, a mode, a verdict, a kind of device or a link that is not in its spelling")]
     Choice,
     /// Bytes that aren't in their spelling.
     #[error("bytes that are not in their spelling")]

@@ -4,9 +4,9 @@
 //! `buffer` before a writer, `asked` what a host is asked to do, and `write` writes whole texts.
 
 ghost use Rattle.std.specs.Prelude.{◌≡◌, ◌*◌, ◌^◌, ◌<◌, ◌↔◌, ◌++◌, ◌∷◌, All, IsTrue, IfOk, OnOk, length, map};
-ghost use Rattle.trace.specs.Printable.{InRange, IsAccess, IsPrintable, IsPrintableDisk, IsPrintableKind, IsPrintableMemory, IsPrintableSlot};
+ghost use Rattle.trace.specs.Printable.{InRange, IsAccess, IsPrintable, IsPrintableDisk, IsPrintableDone, IsPrintableKind, IsPrintableMemory, IsPrintableSlot};
 ghost use Rattle.trace.specs.Spelling.{field_text};
-ghost use Rattle.trace.specs.Text.{content, text as text_of, ended, event_fields, event_line, front_text, joined, slot_line, word_for};
+ghost use Rattle.trace.specs.Text.{content, text as text_of, device_fields, ended, event_fields, event_line, front_text, joined, slot_line, word_for};
 ghost use Rattle.trace.specs.Words.{IsWidth, IsWordOf, fields_in, spelled};
 
 mod asked;
@@ -27,7 +27,7 @@ pub use crate::print::records::{print_records, put_fields, put_line, put_read};
 pub use crate::print::write::write_whole;
 use crate::trace::Trace;
 use crate::word::{Word, is_word_of, word_for};
-use board::{Backing, Event, EventKind, HostEvent, SlotSpec};
+use board::{Backing, DeviceEvent, Event, EventKind, HostEvent, SlotSpec};
 use guest_memory::RegionSpec;
 use std::alloc::{AllocError, Allocator};
 
@@ -118,6 +118,22 @@ fn has_line<A: Allocator>(what: &EventKind<A>) -> bool
         | EventKind::Resize { .. }
         | EventKind::Restore { .. }
         | EventKind::Host(_) => true,
+        EventKind::Device { what, .. } => done_has_line(what),
+    }
+}
+
+// Whether what is done to a further device has a line.
+fn done_has_line<A: Allocator>(done: &DeviceEvent<A>) -> bool
+    ensures { IsTrue result ↔ IsPrintableDone done.now }
+{
+    match done {
+        DeviceEvent::Read { offset, width } => is_access(*offset, *width),
+        DeviceEvent::Write {
+            offset,
+            width,
+            value,
+        } => is_access(*offset, *width) && is_within(*value, *width),
+        _ => true,
     }
 }
 
@@ -293,5 +309,52 @@ fn event_says<A: Allocator>(event: &Event<A>) -> (Word, LineFields<'_>)
         EventKind::Host(HostEvent::Drop) => (Word::Drop, fields),
         EventKind::Host(HostEvent::Hold) => (Word::Hold, fields),
         EventKind::Host(HostEvent::Release) => (Word::Release, fields),
+        EventKind::Device { device, what } => {
+            fields.device = *device;
+            device_says(what, fields)
+        }
+    }
+}
+
+// The same of what is done to a further device, whose number and slot the fields say.
+#[tactic(auto, using(crate::proofs::Widths::num_width))]
+fn device_says<'a, A: Allocator>(
+    done: &'a DeviceEvent<A>,
+    mut fields: LineFields<'a>,
+) -> (Word, LineFields<'a>)
+    requires { IsPrintableDone done.now }
+    ensures { spelled result.0 ∷ map (field_text result.1) (fields_in Format.Extended result.0) ≡
+        device_fields fields.entry.slot fields.entry.device done.now }
+{
+    match done {
+        DeviceEvent::Plug(spec) => {
+            fields.kind = *spec;
+            (Word::Plug, fields)
+        }
+        DeviceEvent::Read { offset, width } => {
+            (fields.offset, fields.width) = (*offset, *width);
+            (Word::DeviceRead, fields)
+        }
+        DeviceEvent::Write {
+            offset,
+            width,
+            value,
+        } => {
+            (fields.offset, fields.width, fields.value) = (*offset, *width, *value);
+            (Word::DeviceWrite, fields)
+        }
+        DeviceEvent::Supply { bytes } => {
+            fields.bytes = bytes.as_slice();
+            (Word::Supply, fields)
+        }
+        DeviceEvent::Receive { frame } => {
+            fields.bytes = frame.as_slice();
+            (Word::Receive, fields)
+        }
+        DeviceEvent::TakeSent => (Word::TakeSent, fields),
+        DeviceEvent::SetLink { up } => {
+            fields.up = *up;
+            (Word::SetLink, fields)
+        }
     }
 }

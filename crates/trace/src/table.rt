@@ -40,6 +40,12 @@ pub enum Field {
     Tag,
     /// How it came out.
     Verdict,
+    /// The number of a slot's further device.
+    Device,
+    /// Which kind of device that is to be.
+    Kind,
+    /// Whether the link of a network card is up.
+    Link,
 }
 
 /// The fields after a word in a format, in their order.
@@ -65,5 +71,11 @@ pub fn fields_after(format: Format, word: Word) -> &'static [Field]
         Word::Restore => &[Slot, Bytes],
         Word::Complete => &[Slot, Tag, Verdict],
         Word::Drop | Word::Hold | Word::Release => &[Slot],
+        Word::Plug => &[Slot, Device, Kind],
+        Word::DeviceRead => &[Slot, Device, Offset, Width],
+        Word::DeviceWrite => &[Slot, Device, Offset, Width, Value],
+        Word::Supply | Word::Receive => &[Slot, Device, Bytes],
+        Word::TakeSent => &[Slot, Device],
+        Word::SetLink => &[Slot, Device, Link],
     }
 }

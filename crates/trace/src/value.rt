@@ -1,6 +1,6 @@
 //! The value of a field, as a line is read.
 
-use board::{Backing, DeviceKind, Verdict};
+use board::{Backing, DeviceSpec, SlotWindow, Verdict};
 
 /// The most fields that a word has after it.
 pub(crate) const MOST_FIELDS: usize = 8;
@@ -11,13 +11,16 @@ pub(crate) enum FieldValue<'a> {
     Number(u64),
     Disk(Backing),
     Mode(bool),
-    Window(DeviceKind),
+    Window(SlotWindow),
     Offset(u16),
     Width(u8),
     /// A value of so many bytes.
     Value(u8, u32),
     Identity([u8; 20]),
     Verdict(Verdict),
+    Kind(DeviceSpec),
+    /// Whether a link is up.
+    Link(bool),
     /// A field as it stands in its line.
     Spelled(&'a [u8]),
 }

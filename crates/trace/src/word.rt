@@ -1,12 +1,12 @@
 //! The words that lines begin with.
 
 ghost use Rattle.std.specs.Prelude.{◌≡◌, ◌≢◌, ◌↔◌, IsTrue, IfSome, IfNone};
-ghost use Rattle.trace.specs.Text.{host_word, word_for};
+ghost use Rattle.trace.specs.Text.{device_word, host_word, word_for};
 ghost use Rattle.trace.specs.Words.{IsWordOf, spelled};
 ghost use Rattle.trace.specs.declared.word.Word.{Word};
 
 use crate::format::Format;
-use board::{EventKind, HostEvent};
+use board::{DeviceEvent, EventKind, HostEvent};
 use std::alloc::Allocator;
 
 /// The first word of a line after the header. The second line has `Cache`, the later ones the others.
@@ -25,6 +25,13 @@ pub enum Word {
     Drop,
     Hold,
     Release,
+    Plug,
+    DeviceRead,
+    DeviceWrite,
+    Supply,
+    Receive,
+    TakeSent,
+    SetLink,
 }
 
 /// The word that a field is in some format.
@@ -44,6 +51,13 @@ pub(crate) fn word_of(field: &[u8]) -> Option<Word>
         b"drop" => Some(Word::Drop),
         b"hold" => Some(Word::Hold),
         b"release" => Some(Word::Release),
+        b"plug" => Some(Word::Plug),
+        b"dr" => Some(Word::DeviceRead),
+        b"dw" => Some(Word::DeviceWrite),
+        b"supply" => Some(Word::Supply),
+        b"frame" => Some(Word::Receive),
+        b"take" => Some(Word::TakeSent),
+        b"link" => Some(Word::SetLink),
         b"slot" => Some(Word::Slot),
         b"cache" => Some(Word::Cache),
         _ => None,
@@ -68,9 +82,18 @@ pub(crate) fn is_word_of(format: Format, word: Word) -> bool
     ensures { IsTrue result ↔ IsWordOf format word }
 {
     match word {
-        Word::Restore | Word::Complete | Word::Drop | Word::Hold | Word::Release => {
-            format == Format::Extended
-        }
+        Word::Restore
+        | Word::Complete
+        | Word::Drop
+        | Word::Hold
+        | Word::Release
+        | Word::Plug
+        | Word::DeviceRead
+        | Word::DeviceWrite
+        | Word::Supply
+        | Word::Receive
+        | Word::TakeSent
+        | Word::SetLink => format == Format::Extended,
         _ => true,
     }
 }
@@ -88,6 +111,7 @@ pub(crate) fn word_for<A: Allocator>(what: &EventKind<A>) -> Word
         EventKind::Resize { .. } => Word::Resize,
         EventKind::Restore { .. } => Word::Restore,
         EventKind::Host(said) => host_word(said),
+        EventKind::Device { what, .. } => device_word(what),
     }
 }
 
@@ -100,6 +124,21 @@ fn host_word(said: &HostEvent) -> Word
         HostEvent::Drop => Word::Drop,
         HostEvent::Hold => Word::Hold,
         HostEvent::Release => Word::Release,
+    }
+}
+
+// The word of what is done to a further device.
+fn device_word<A: Allocator>(done: &DeviceEvent<A>) -> Word
+    ensures { result ≡ device_word done.now }
+{
+    match done {
+        DeviceEvent::Plug(_) => Word::Plug,
+        DeviceEvent::Read { .. } => Word::DeviceRead,
+        DeviceEvent::Write { .. } => Word::DeviceWrite,
+        DeviceEvent::Supply { .. } => Word::Supply,
+        DeviceEvent::Receive { .. } => Word::Receive,
+        DeviceEvent::TakeSent => Word::TakeSent,
+        DeviceEvent::SetLink { .. } => Word::SetLink,
     }
 }
 
@@ -119,6 +158,13 @@ pub(crate) fn spelling_of(word: Word) -> &'static [u8]
         Word::Drop => b"drop",
         Word::Hold => b"hold",
         Word::Release => b"release",
+        Word::Plug => b"plug",
+        Word::DeviceRead => b"dr",
+        Word::DeviceWrite => b"dw",
+        Word::Supply => b"supply",
+        Word::Receive => b"frame",
+        Word::TakeSent => b"take",
+        Word::SetLink => b"link",
         Word::Slot => b"slot",
         Word::Cache => b"cache",
     }

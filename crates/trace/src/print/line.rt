@@ -1,7 +1,7 @@
 //! The line of a trace: a word, and the fields after it in the table's order.
 
 ghost use Rattle.std.specs.Prelude.{◌≡◌, ◌++◌, ◌∷◌, OnOk, map};
-ghost use Rattle.trace.specs.Spelling.{disk, field_text};
+ghost use Rattle.trace.specs.Spelling.{device_kind, disk, field_text};
 ghost use Rattle.trace.specs.Text.{ended, line};
 ghost use Rattle.trace.specs.Words.{fields_in, spelled};
 
@@ -9,7 +9,7 @@ use crate::format::Format;
 use crate::print::regions::push_regions;
 use crate::table::{Field, fields_after};
 use crate::word::{Word, spelling_of};
-use board::{Backing, DeviceKind, Verdict};
+use board::{Backing, DeviceSpec, SlotWindow, Verdict};
 use guest_memory::RegionSpec;
 use hexadecimal::{push_bytes, push_fixed, push_num};
 use std::alloc::{AllocError, Allocator};
@@ -29,7 +29,7 @@ pub(crate) struct LineFields<'a> {
     pub rows: u16,
     pub identity: [u8; 20],
     pub slot: u8,
-    pub window: DeviceKind,
+    pub window: SlotWindow,
     pub offset: u16,
     pub width: u8,
     /// It is spelled by the width.
@@ -39,6 +39,9 @@ pub(crate) struct LineFields<'a> {
     pub bytes: &'a [u8],
     pub tag: u8,
     pub verdict: Verdict,
+    pub device: u8,
+    pub kind: DeviceSpec,
+    pub up: bool,
 }
 
 impl Default for LineFields<'_> {
@@ -56,7 +59,7 @@ impl Default for LineFields<'_> {
             rows: 0,
             identity: [0; 20],
             slot: 0,
-            window: DeviceKind::Block,
+            window: SlotWindow::Block,
             offset: 0,
             width: 0,
             value: 0,
@@ -65,6 +68,9 @@ impl Default for LineFields<'_> {
             bytes: &[],
             tag: 0,
             verdict: Verdict::Done,
+            device: 0,
+            kind: DeviceSpec::Entropy,
+            up: false,
         }
     }
 }
@@ -111,8 +117,8 @@ fn push_field<A: Allocator>(
         Field::Identity => push_bytes(out, &fields.identity),
         Field::Slot => push_num(out, u64::from(fields.slot)),
         Field::Window => match fields.window {
-            DeviceKind::Block => out.extend_from_slice(b"b"),
-            DeviceKind::Console => out.extend_from_slice(b"c"),
+            SlotWindow::Block => out.extend_from_slice(b"b"),
+            SlotWindow::Console => out.extend_from_slice(b"c"),
         },
         Field::Offset => push_fixed(out, 3, u32::from(fields.offset)),
         Field::Width => push_num(out, u64::from(fields.width)),
@@ -125,6 +131,10 @@ fn push_field<A: Allocator>(
             Verdict::Done => out.extend_from_slice(b"done"),
             Verdict::Failed => out.extend_from_slice(b"failed"),
         },
+        Field::Device => push_num(out, u64::from(fields.device)),
+        Field::Kind => push_kind(out, fields.kind),
+        Field::Link if fields.up => out.extend_from_slice(b"up"),
+        Field::Link => out.extend_from_slice(b"down"),
     }
 }
 
@@ -137,6 +147,21 @@ fn push_disk<A: Allocator>(out: &mut Vec<u8, A>, backing: Backing) -> Result<(),
         Backing::Host { depth } => {
             out.extend_from_slice(b"host:")?;
             push_num(out, u64::from(depth))
+        }
+    }
+}
+
+// Appends what a further device is to be.
+fn push_kind<A: Allocator>(out: &mut Vec<u8, A>, kind: DeviceSpec) -> Result<(), AllocError>
+    ensures { OnOk result (out.new.items ≡ out.old.items ++ device_kind kind) }
+{
+    match kind {
+        DeviceSpec::Entropy => out.extend_from_slice(b"entropy"),
+        DeviceSpec::Network { mac, mtu } => {
+            out.extend_from_slice(b"network:")?;
+            push_bytes(out, &mac)?;
+            out.push(b':')?;
+            push_num(out, u64::from(mtu))
         }
     }
 }

@@ -4,12 +4,12 @@
 //! nothing when they run.
 
 ghost use Rattle.std.specs.Prelude.{All, ◌^◌, ◌<◌};
-ghost use Rattle.trace.specs.Printable.{EventInRange, InRange, KindInRange, SlotInRange};
+ghost use Rattle.trace.specs.Printable.{DoneInRange, EventInRange, InRange, KindInRange, SlotInRange};
 ghost use Rattle.trace.specs.Text.{content};
-ghost use Rattle.trace.specs.Words.{DiskInRange, RegionInRange};
+ghost use Rattle.trace.specs.Words.{DiskInRange, RegionInRange, SpecInRange};
 
 use crate::trace::Trace;
-use board::{Backing, Event, EventKind, HostEvent, SlotSpec};
+use board::{Backing, DeviceEvent, DeviceSpec, Event, EventKind, HostEvent, SlotSpec};
 use guest_memory::RegionSpec;
 use std::alloc::Allocator;
 
@@ -83,7 +83,31 @@ fn kind_in_range<A: Allocator>(what: &EventKind<A>)
         EventKind::Host(HostEvent::Complete { tag, .. }) => {
             let _tag = *tag;
         }
+        EventKind::Device { device, what } => {
+            let _device = *device;
+            done_in_range(what);
+        }
         _ => {}
+    }
+}
+
+fn done_in_range<A: Allocator>(done: &DeviceEvent<A>)
+    ensures { DoneInRange done.now }
+{
+    match done {
+        DeviceEvent::Plug(spec) => spec_in_range(*spec),
+        DeviceEvent::Supply { bytes } => bytes_in_range(bytes.as_slice()),
+        DeviceEvent::Receive { frame } => bytes_in_range(frame.as_slice()),
+        _ => {}
+    }
+}
+
+fn spec_in_range(spec: DeviceSpec)
+    ensures { SpecInRange spec }
+{
+    if let DeviceSpec::Network { mac, mtu } = spec {
+        bytes_in_range(&mac);
+        let _mtu = mtu;
     }
 }
 

@@ -272,6 +272,7 @@ fn put_reply<W: Write, A: Allocator, B: Allocator>(
         Reply::BadSlot => buffer.put(out, b"badslot"),
         Reply::BadRange => buffer.put(out, b"badrange"),
         Reply::BadState => buffer.put(out, b"badstate"),
+        Reply::BadDevice => buffer.put(out, b"baddevice"),
         Reply::Busy => buffer.put(out, b"busy"),
         Reply::Idle => buffer.put(out, b"idle"),
         Reply::NoMemory => buffer.put(out, b"nomem"),

@@ -100,9 +100,13 @@ fn fault_for(field: Field) -> FaultKind
     ensures { (width : List ℕ) → result ≡ fault_of (shape_of width field) }
 {
     match field {
-        Field::Disk | Field::Window | Field::Width | Field::Mode | Field::Verdict => {
-            FaultKind::Choice
-        }
+        Field::Disk
+        | Field::Window
+        | Field::Width
+        | Field::Mode
+        | Field::Verdict
+        | Field::Kind
+        | Field::Link => FaultKind::Choice,
         Field::Bytes | Field::Identity => FaultKind::Bytes,
         _ => FaultKind::Number,
     }

@@ -2,21 +2,22 @@
 
 ghost use Rattle.std.specs.Prelude.{◌≡◌, ℕ, IfSome, IfNone, OnSome};
 ghost use Rattle.board.specs.declared.spec.Backing.{Backing};
-ghost use Rattle.trace.specs.Spelling.{window, mode, verdict};
-ghost use Rattle.trace.specs.Words.{IsDiskField, IsWidthField, Says, Disk, Window, Width, Mode, Verdict as ByVerdict};
+ghost use Rattle.trace.specs.Spelling.{link_state, window, mode, verdict};
+ghost use Rattle.trace.specs.Words.{IsDiskField, IsKindField, IsWidthField, Says, Disk, Kind, Link, Window, Width, Mode, Verdict as ByVerdict};
 
-use board::{Backing, DeviceKind, Verdict};
+use crate::read::card::card_of;
+use board::{Backing, DeviceSpec, SlotWindow, Verdict};
 use hexadecimal::number_u8;
 
 /// The kind of device whose window a field names.
-pub(crate) fn window_of(field: &[u8]) -> Option<DeviceKind>
+pub(crate) fn window_of(field: &[u8]) -> Option<SlotWindow>
     ensures some { IfSome result (λ kind. field.now ≡ window kind) }
     ensures parsed { OnSome result (Says Window field.now) }
     ensures none { IfNone result (¬ Says Window field.now) }
 {
     match field {
-        b"b" => Some(DeviceKind::Block),
-        b"c" => Some(DeviceKind::Console),
+        b"b" => Some(SlotWindow::Block),
+        b"c" => Some(SlotWindow::Console),
         _ => None,
     }
 }
@@ -82,6 +83,31 @@ pub(crate) fn verdict_of(field: &[u8]) -> Option<Verdict>
     match field {
         b"done" => Some(Verdict::Done),
         b"failed" => Some(Verdict::Failed),
+        _ => None,
+    }
+}
+
+/// What a further device is to be.
+pub(crate) fn kind_of(field: &[u8]) -> Option<DeviceSpec>
+    ensures some { IfSome result (λ spec. IsKindField field.now spec) }
+    ensures parsed { OnSome result (Says Kind field.now) }
+    ensures none { IfNone result (¬ Says Kind field.now) }
+{
+    match field {
+        b"entropy" => Some(DeviceSpec::Entropy),
+        _ => card_of(field),
+    }
+}
+
+/// Whether the link of a network card is up.
+pub(crate) fn link_of(field: &[u8]) -> Option<bool>
+    ensures some { IfSome result (λ up. field.now ≡ link_state up) }
+    ensures parsed { OnSome result (Says Link field.now) }
+    ensures none { IfNone result (¬ Says Link field.now) }
+{
+    match field {
+        b"up" => Some(true),
+        b"down" => Some(false),
         _ => None,
     }
 }

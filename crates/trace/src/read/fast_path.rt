@@ -16,7 +16,7 @@ use crate::read::number::take_number;
 use crate::read::offset::offset_of;
 use crate::read::parsed_event::ParsedEvent;
 use crate::word::Word;
-use board::{Bytes, DeviceKind, EventKind};
+use board::{Bytes, EventKind, SlotWindow};
 use hexadecimal::{digits_len, fixed_number, number_u32, value_of};
 use std::alloc::Allocator;
 
@@ -119,7 +119,7 @@ fn input_in<A: Allocator>(alloc: A, rest: &[u8]) -> Taken<'_, A>
 /// The slot, the window, the offset and the width of a register access, of which the last three stand in fixed
 /// columns, and what follows this byte behind the width.
 #[inline(always)]
-fn access(line: &[u8], end: u8) -> Option<(u8, DeviceKind, u16, u8, &[u8])>
+fn access(line: &[u8], end: u8) -> Option<(u8, SlotWindow, u16, u8, &[u8])>
     ensures line { IfSome result (λ x. line.now ≡ num x.0 ++ 32 ∷ window x.1 ++ 32 ∷ fixed 3 x.2 ++ 32 ∷ width_digit x.3 ++ end ∷ x.4.now) }
     ensures offset { IfSome result (λ x. x.2 < 16 ^ 3) }
     ensures width { IfSome result (λ x. IsWidth x.3) }

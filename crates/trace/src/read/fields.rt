@@ -18,6 +18,7 @@ ghost use Rattle.trace.specs.Format.{identity_in_version_1, if_extended, unless_
 ghost use Rattle.trace.specs.Words.{AreRight, Disk as ByDisk, DiskInRange, Identity as ByIdentity, Mode as ByMode, Num, RegionInRange, shapes, spelled};
 
 use crate::format::{Format, Version, identity_in_version_1};
+use crate::read::device_fields::device_of;
 use crate::read::parsed_event::ParsedEvent;
 use crate::read::regions::regions_of;
 use crate::read::values::values_of;
@@ -118,6 +119,13 @@ fn parsed_of<'a, A: Allocator>(
         Word::Drop => ParsedEvent::said(slot_alone(values), HostEvent::Drop),
         Word::Hold => ParsedEvent::said(slot_alone(values), HostEvent::Hold),
         Word::Release => ParsedEvent::said(slot_alone(values), HostEvent::Release),
+        Word::Plug
+        | Word::DeviceRead
+        | Word::DeviceWrite
+        | Word::Supply
+        | Word::Receive
+        | Word::TakeSent
+        | Word::SetLink => device_of(none, word, values),
         Word::Cache | Word::Slot => unreachable!(),
     }
 }

@@ -4,14 +4,14 @@
 
 ghost use Rattle.std.specs.Prelude.{◌≡◌, ◌≢◌, ◌≤◌, ◌*◌, ◌++◌, ◌∷◌, ℕ, List, length};
 ghost use Rattle.hexadecimal.specs.Spelling.{num};
-ghost use Rattle.mmio_window.specs.declared.device_kind.DeviceKind.{DeviceKind};
+ghost use Rattle.board.specs.declared.event.SlotWindow.{SlotWindow};
 ghost use Rattle.trace.specs.Events.{BeginsWithAccess, BeginsWithBytes, BeginsWithEvent, BeginsWithNumber, BeginsWithSlot, BeginsWithValue, HasAccess, HasBytes, HasValue, TakesEvent};
 ghost use Rattle.trace.specs.Words.{spelled};
 ghost use Rattle.trace.specs.declared.word.Word.{Word};
 
 use crate::read::cut::take_line;
 use crate::read::parsed_event::ParsedEvent;
-use board::{Bytes, DeviceKind, EventKind};
+use board::{Bytes, EventKind, SlotWindow};
 use hexadecimal::{fixed_value, value_at};
 use std::alloc::Allocator;
 
@@ -94,9 +94,9 @@ fn slot_in(text: &[u8]) -> (u8, &[u8])
 
 // The window, the offset and the width at the front of a text.
 #[inline(always)]
-fn access_in(text: &[u8]) -> (DeviceKind, u16, u8)
+fn access_in(text: &[u8]) -> (SlotWindow, u16, u8)
     requires { BeginsWithAccess text.now }
-    ensures { (kind : DeviceKind) (offset width : ℕ) (after : List ℕ) → HasAccess text.now kind offset width after →
+    ensures { (kind : SlotWindow) (offset width : ℕ) (after : List ℕ) → HasAccess text.now kind offset width after →
         (result.0 ≡ kind) × (result.1 ≡ offset) × (result.2 ≡ width) }
 {
     let window = window_named(text[0]);
@@ -108,14 +108,14 @@ fn access_in(text: &[u8]) -> (DeviceKind, u16, u8)
 
 // The kind of device whose window a byte names.
 #[inline(always)]
-fn window_named(byte: u8) -> DeviceKind
-    ensures block { byte ≡ 98 → result ≡ DeviceKind.Block }
-    ensures console { byte ≢ 98 → result ≡ DeviceKind.Console }
+fn window_named(byte: u8) -> SlotWindow
+    ensures block { byte ≡ 98 → result ≡ SlotWindow.Block }
+    ensures console { byte ≢ 98 → result ≡ SlotWindow.Console }
 {
     if byte == b'b' {
-        DeviceKind::Block
+        SlotWindow::Block
     } else {
-        DeviceKind::Console
+        SlotWindow::Console
     }
 }
 

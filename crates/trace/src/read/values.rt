@@ -4,18 +4,17 @@ ghost use Rattle.std.specs.Prelude.{◌≡◌, ◌↔◌, ◌≤◌, IfNone, IfS
 ghost use Rattle.std.specs.Option.{option_copied};
 ghost use Rattle.trace.specs.Cuts.{fields_left};
 ghost use Rattle.trace.specs.Values.{SayValues, SaysValue};
-ghost use Rattle.trace.specs.Words.{AllRight, AreRight, Says, Value as ByWidth, shape_of, shapes, width_among};
-ghost use Rattle.trace.specs.declared.word.Word.{Word};
+ghost use Rattle.trace.specs.Words.{AllRight, AreRight, HasValueField, Says, Value as ByWidth, shape_of, shapes, width_among};
 
 use crate::format::Format;
-use crate::read::choice::{backing_of, mode_of, verdict_of, width_of, window_of};
+use crate::read::choice::{backing_of, kind_of, link_of, mode_of, verdict_of, width_of, window_of};
 use crate::read::cut::{at_end, next_field, nth_field};
 use crate::read::identity::identity_of;
 use crate::read::offset::offset_of;
 use crate::read::regions::are_regions;
 use crate::table::{Field, fields_after};
 use crate::value::FieldValue::{
-    self, Disk, Identity, Mode, Number, Offset, Spelled, Value, Verdict, Width, Window,
+    self, Disk, Identity, Kind, Link, Mode, Number, Offset, Spelled, Value, Verdict, Width, Window,
 };
 use crate::value::MOST_FIELDS;
 use crate::word::Word;
@@ -36,10 +35,10 @@ pub(crate) fn values_of(format: Format, word: Word, rest: Option<&[u8]>) -> Opti
 
 // The field by which a value of the word's line is read, where it has one.
 fn width_for(word: Word, rest: Option<&[u8]>) -> &[u8]
-    ensures { word ≡ Word.Write → result.now ≡ width_among (fields_left (option_copied rest.entry)) }
+    ensures { HasValueField word → result.now ≡ width_among (fields_left (option_copied rest.entry)) }
 {
     match word {
-        Word::Write => nth_field(rest, 3),
+        Word::Write | Word::DeviceWrite => nth_field(rest, 3),
         _ => &[],
     }
 }
@@ -78,7 +77,7 @@ fn value_of<'a>(field: Field, width: &[u8], bytes: &'a [u8]) -> Option<FieldValu
         }
         Field::Sectors | Field::Length => Some(Number(u64::from(number_u32(bytes)?))),
         Field::Columns | Field::Rows => Some(Number(u64::from(number_u16(bytes)?))),
-        Field::Slot | Field::Tag => Some(Number(u64::from(number_u8(bytes)?))),
+        Field::Slot | Field::Tag | Field::Device => Some(Number(u64::from(number_u8(bytes)?))),
         Field::Offset => Some(Offset(offset_of(bytes)?)),
         Field::Value => written_value(width, bytes),
         Field::Window => Some(Window(window_of(bytes)?)),
@@ -86,6 +85,8 @@ fn value_of<'a>(field: Field, width: &[u8], bytes: &'a [u8]) -> Option<FieldValu
         Field::Disk => Some(Disk(backing_of(bytes)?)),
         Field::Mode => Some(Mode(mode_of(bytes)?)),
         Field::Verdict => Some(Verdict(verdict_of(bytes)?)),
+        Field::Kind => Some(Kind(kind_of(bytes)?)),
+        Field::Link => Some(Link(link_of(bytes)?)),
         Field::Bytes if are_bytes(bytes) => Some(Spelled(bytes)),
         Field::Regions if are_regions(bytes) => Some(Spelled(bytes)),
         Field::Bytes | Field::Regions => None,
