@@ -1,7 +1,7 @@
 //! Reaching a slot's windows and queues by the kind of the device.
 
 use crate::watched::Watched;
-use board::DeviceKind;
+use board::SlotWindow;
 use guest_memory::GuestMemory;
 use mmio_window::{Queue, QueueRegisters, Window};
 
@@ -9,13 +9,13 @@ use mmio_window::{Queue, QueueRegisters, Window};
 #[derive(Clone, Copy)]
 pub struct SlotQueue {
     pub slot: u8,
-    pub kind: DeviceKind,
+    pub kind: SlotWindow,
     pub queue: u32,
 }
 
 impl SlotQueue {
     /// A queue of one of a slot's devices.
-    pub fn new(slot: u8, kind: DeviceKind, queue: u32) -> SlotQueue {
+    pub fn new(slot: u8, kind: SlotWindow, queue: u32) -> SlotQueue {
         SlotQueue { slot, kind, queue }
     }
 }

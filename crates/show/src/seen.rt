@@ -6,7 +6,7 @@ use crate::weave::Text;
 use crate::wording::{
     Change, NEW_WINDOW, Table, WindowSeen, say_changes, say_hold_change, say_on_offer, window_seen,
 };
-use board::DeviceKind;
+use board::SlotWindow;
 use std::alloc::Global;
 
 /// What was said last of a guest's windows, and of its queues' descriptors.
@@ -24,8 +24,8 @@ impl Guest {
     /// A slot's guest, of which nothing was said. This takes no memory.
     pub fn new(alloc: Global, board: &Watched, slot: u8) -> Guest {
         Guest {
-            block: seen(board, slot, DeviceKind::Block),
-            console: seen(board, slot, DeviceKind::Console),
+            block: seen(board, slot, SlotWindow::Block),
+            console: seen(board, slot, SlotWindow::Console),
             is_on_hold: false,
             requests: Table::new(alloc),
             receive: Table::new(alloc),
@@ -37,18 +37,18 @@ impl Guest {
     /// in a packed ring.
     pub fn say_changes(&mut self, board: &Watched, slot: u8, text: &mut Text) -> bool {
         let (block, console) = (self.block, self.console);
-        self.block = seen(board, slot, DeviceKind::Block);
-        self.console = seen(board, slot, DeviceKind::Console);
-        say_changes(text, DeviceKind::Block, &block, &self.block);
-        say_changes(text, DeviceKind::Console, &console, &self.console);
-        let at = SlotQueue::new(slot, DeviceKind::Block, 0);
+        self.block = seen(board, slot, SlotWindow::Block);
+        self.console = seen(board, slot, SlotWindow::Console);
+        say_changes(text, SlotWindow::Block, &block, &self.block);
+        say_changes(text, SlotWindow::Console, &console, &self.console);
+        let at = SlotQueue::new(slot, SlotWindow::Block, 0);
         let was_on_hold = self.is_on_hold;
         self.is_on_hold = board.is_on_hold(at);
         say_hold_change(text, was_on_hold, self.is_on_hold);
         let requests = say_queue(text, board, at, &mut self.requests, &block, &self.block);
-        let at = SlotQueue::new(slot, DeviceKind::Console, 0);
+        let at = SlotQueue::new(slot, SlotWindow::Console, 0);
         let receive = say_queue(text, board, at, &mut self.receive, &console, &self.console);
-        let at = SlotQueue::new(slot, DeviceKind::Console, 1);
+        let at = SlotQueue::new(slot, SlotWindow::Console, 1);
         let transmit = say_queue(text, board, at, &mut self.transmit, &console, &self.console);
         requests || receive || transmit
     }
@@ -79,7 +79,7 @@ fn say_queue(
 }
 
 // What is seen of a slot's window.
-fn seen(board: &Watched, slot: u8, kind: DeviceKind) -> WindowSeen {
+fn seen(board: &Watched, slot: u8, kind: SlotWindow) -> WindowSeen {
     match (board.memory(slot), board.window(slot, kind)) {
         (Some(mem), Some(window)) => window_seen(mem, window),
         _ => NEW_WINDOW,

@@ -7,7 +7,7 @@ use crate::wording::{
     Mistake, fault_name, next_place, say_notification, say_queue_head, say_site, say_used, size_of,
     used_entry, used_place,
 };
-use board::{DeviceKind, Reply, Turn};
+use board::{Reply, SlotWindow, Turn};
 use chain::Fault;
 use mmio_window::Queue;
 use negotiation::{Flags, Status};
@@ -133,7 +133,7 @@ fn plain_end(board: &Watched, served: SlotQueue) -> &'static str {
         return "no tag is free";
     }
     match (served.kind, served.queue, board.pending(served.slot)) {
-        (DeviceKind::Console, 0, 0) => "no input is left",
+        (SlotWindow::Console, 0, 0) => "no input is left",
         _ => "nothing more is on offer",
     }
 }

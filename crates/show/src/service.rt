@@ -7,7 +7,7 @@ use crate::served::{
 use crate::watched::Watched;
 use crate::weave::Text;
 use crate::wording::{Ahead, ChainSeen, Lookout, SHOWN, say_received, say_request, used_entry};
-use board::{DeviceKind, EventKind, Turn};
+use board::{EventKind, SlotWindow, Turn};
 use chain::{Budget, Chain, Fault};
 use std::alloc::Global;
 
@@ -94,7 +94,7 @@ fn ahead_of(
         }
     }
     match (served.kind, board.block_device(served.slot)) {
-        (DeviceKind::Block, Some(device)) => lookout.next(mem, Some(&device), chain, text),
+        (SlotWindow::Block, Some(device)) => lookout.next(mem, Some(&device), chain, text),
         _ => lookout.next(mem, None, chain, text),
     }
 }
@@ -139,8 +139,8 @@ fn say_outcome(
         return;
     };
     match (served.kind, served.queue, &seen.request) {
-        (DeviceKind::Block, _, Some(request)) => say_request(text, mem, request),
-        (DeviceKind::Console, 0, _) => say_received(text, mem, chain, used.len),
+        (SlotWindow::Block, _, Some(request)) => say_request(text, mem, request),
+        (SlotWindow::Console, 0, _) => say_received(text, mem, chain, used.len),
         _ => {
             text.say("    transmits ");
             let bytes = put_out.unwrap_or(&[]);

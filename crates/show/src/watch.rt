@@ -10,7 +10,7 @@ use crate::weave::Text;
 use crate::wording::{
     Mistake, SHOWN, read_mistake, say_event, say_interrupts, say_place, say_value, write_mistake,
 };
-use board::{Backing, DeviceKind, Event, EventKind, HostEvent, Reply, SlotSpec};
+use board::{Backing, Event, EventKind, HostEvent, Reply, SlotSpec, SlotWindow};
 use chain::{Chain, Fault};
 use guest_memory::RegionSpec;
 use mmio_window::Queue;
@@ -174,6 +174,7 @@ impl Watcher {
             }
             Reply::BadRange => head.say(" -> outside memory"),
             Reply::BadState => head.say(" -> no such snapshot"),
+            Reply::BadDevice => head.say(" -> no such device, or not for it"),
             Reply::Busy => head.say(" -> busy, until nothing is in flight"),
             Reply::NoMemory => head.say(" -> no memory"),
             Reply::BadSlot => head.say(" -> no such guest"),
@@ -208,8 +209,8 @@ impl Watcher {
         } = &event.what
         {
             let mistake = match window {
-                DeviceKind::Block => { write_mistake(*offset, *width, *value, &old.0, &new.0) }
-                DeviceKind::Console => { write_mistake(*offset, *width, *value, &old.1, &new.1) }
+                SlotWindow::Block => { write_mistake(*offset, *width, *value, &old.0, &new.0) }
+                SlotWindow::Console => { write_mistake(*offset, *width, *value, &old.1, &new.1) }
             };
             self.note(line, slot, mistake, tail);
         }
@@ -338,8 +339,8 @@ fn named_by(board: &Watched, event: &Event) -> Option<SlotQueue> {
             width: 4,
             value,
         } => (*window, queue_named(board, slot, *window, *value)?),
-        EventKind::Input { .. } => (DeviceKind::Console, 0),
-        EventKind::Host(HostEvent::Complete { .. } | HostEvent::Release) => (DeviceKind::Block, 0),
+        EventKind::Input { .. } => (SlotWindow::Console, 0),
+        EventKind::Host(HostEvent::Complete { .. } | HostEvent::Release) => (SlotWindow::Block, 0),
         _ => return None,
     };
     Some(SlotQueue { slot, kind, queue })
@@ -376,7 +377,7 @@ fn say_lost(board: &mut Watched, slot: u8, tag: u8, text: &mut Text) {
 
 // Why there was nothing to do of what the host says.
 fn idle_words(board: &Watched, event: &Event) -> &'static str {
-    let at = SlotQueue::new(event.slot, DeviceKind::Block, 0);
+    let at = SlotQueue::new(event.slot, SlotWindow::Block, 0);
     match &event.what {
         EventKind::Host(HostEvent::Drop) => " -> idle, nothing is in flight",
         EventKind::Host(HostEvent::Hold) if board.is_on_hold(at) => " -> idle, it is on hold",
@@ -387,7 +388,7 @@ fn idle_words(board: &Watched, event: &Event) -> &'static str {
 }
 
 // The queue that a value of QueueNotify names (4.2.3.3).
-fn queue_named(board: &Watched, slot: u8, kind: DeviceKind, value: u32) -> Option<u32> {
+fn queue_named(board: &Watched, slot: u8, kind: SlotWindow, value: u32) -> Option<u32> {
     let window = board.window(slot, kind)?;
     let features = window.negotiation().negotiated();
     if features.contains(Features::NOTIFICATION_DATA) {

@@ -4,7 +4,7 @@ use crate::guest::SlotQueue;
 use crate::wording::ChainSeen;
 use block_device::{BlockDevice, Operation};
 use board::{
-    Backing, Board, Budget, DeviceKind, Event, EventKind, GuestMemory, Pause, Reply, SlotSpec,
+    Backing, Board, Budget, Event, EventKind, GuestMemory, Pause, Reply, SlotSpec, SlotWindow,
     Turn, Work,
 };
 use mmio_window::Window;
@@ -50,10 +50,10 @@ impl Watched {
     }
 
     /// A window of a slot.
-    pub fn window(&self, slot: u8, kind: DeviceKind) -> Option<&Window> {
+    pub fn window(&self, slot: u8, kind: SlotWindow) -> Option<&Window> {
         match kind {
-            DeviceKind::Block => self.board.block_window(slot),
-            DeviceKind::Console => self.board.console_window(slot),
+            SlotWindow::Block => self.board.block_window(slot),
+            SlotWindow::Console => self.board.console_window(slot),
         }
     }
 
@@ -118,7 +118,7 @@ impl Watched {
 
     /// Whether the host serves the disk of a queue's device.
     pub fn is_hosted(&self, at: SlotQueue) -> bool {
-        matches!(at.kind, DeviceKind::Block) && !self.tags(at.slot).is_empty()
+        matches!(at.kind, SlotWindow::Block) && !self.tags(at.slot).is_empty()
     }
 
     /// Whether the host serves the disk of a queue's device, and all its tags are taken.

@@ -2,7 +2,7 @@
 
 use crate::weave::Text;
 use crate::wording::names::{field_name, register_name, say_interrupts, say_status};
-use board::{DeviceKind, EventKind, HostEvent, Verdict};
+use board::{DeviceEvent, DeviceSpec, EventKind, HostEvent, SlotWindow, Verdict};
 use mmio_window::{CONFIGURATION_OFFSET, Register};
 
 /// How many bytes of a text are shown.
@@ -12,13 +12,14 @@ pub const SHOWN: usize = 64;
 pub fn say_place(text: &mut Text, what: &EventKind) {
     text.say(match what {
         EventKind::Read { window, .. } | EventKind::Write { window, .. } => match window {
-            DeviceKind::Block => " block: ",
-            DeviceKind::Console => " console: ",
+            SlotWindow::Block => " block: ",
+            SlotWindow::Console => " console: ",
         },
         EventKind::MemRead { .. } | EventKind::MemWrite { .. } => " memory: ",
         EventKind::Input { .. } | EventKind::Resize { .. } => " console: ",
         EventKind::Restore { .. } => " devices: ",
         EventKind::Host(_) => " disk: ",
+        EventKind::Device { .. } => " device ",
     });
 }
 
@@ -66,7 +67,68 @@ pub fn say_event(text: &mut Text, what: &EventKind) {
             text.counted(bytes.as_slice().len() as u64, "byte");
         }
         EventKind::Host(told) => say_told(text, *told),
+        EventKind::Device { device, what } => {
+            text.count(u64::from(*device));
+            text.say(": ");
+            say_device_event(text, what);
+        }
     }
+}
+
+// Says what is done to a further device.
+fn say_device_event(text: &mut Text, what: &DeviceEvent) {
+    match what {
+        DeviceEvent::Plug(DeviceSpec::Entropy) => text.say("an entropy device is plugged in"),
+        DeviceEvent::Plug(DeviceSpec::Network { mtu, .. }) => {
+            text.say("a network card is plugged in, MTU ");
+            text.count(u64::from(*mtu));
+        }
+        DeviceEvent::Read { offset, width } => {
+            text.say("reads ");
+            say_device_register(text, *offset, *width);
+        }
+        DeviceEvent::Write {
+            offset,
+            width,
+            value,
+        } => {
+            say_device_register(text, *offset, *width);
+            text.say(" ");
+            say_value(text, *offset, *width, *value);
+        }
+        DeviceEvent::Supply { bytes } => {
+            text.say("is supplied with ");
+            text.counted(bytes.as_slice().len() as u64, "byte");
+        }
+        DeviceEvent::Receive { frame } => {
+            text.say("gets a frame of ");
+            text.counted(frame.as_slice().len() as u64, "byte");
+        }
+        DeviceEvent::TakeSent => text.say("the host takes a frame"),
+        DeviceEvent::SetLink { up: true } => text.say("the link goes up"),
+        DeviceEvent::SetLink { up: false } => text.say("the link goes down"),
+    }
+}
+
+// Says which register or byte of a further device an access is to.
+fn say_device_register(text: &mut Text, offset: u16, width: u8) {
+    match register_of(offset, width) {
+        Some(register) => text.say(register_name(register)),
+        None => say_place_in_window(text, offset, width),
+    }
+}
+
+// Says an offset that no register has.
+fn say_place_in_window(text: &mut Text, offset: u16, width: u8) {
+    if offset >= CONFIGURATION_OFFSET {
+        text.say("configuration byte ");
+        text.count(u64::from(offset - CONFIGURATION_OFFSET));
+    } else {
+        text.say("offset ");
+        text.hex(u64::from(offset));
+    }
+    text.say(", width ");
+    text.count(u64::from(width));
 }
 
 // Says what the host says of its disk.
@@ -96,7 +158,7 @@ pub fn register_of(offset: u16, width: u8) -> Option<Register> {
 }
 
 // Says which register or field an access is to.
-fn say_register(text: &mut Text, window: DeviceKind, offset: u16, width: u8) {
+fn say_register(text: &mut Text, window: SlotWindow, offset: u16, width: u8) {
     if let Some(register) = register_of(offset, width) {
         text.say(register_name(register));
         return;
@@ -106,18 +168,12 @@ fn say_register(text: &mut Text, window: DeviceKind, offset: u16, width: u8) {
             text.say(name);
             return;
         }
-        text.say("configuration byte ");
-        text.count(u64::from(offset - CONFIGURATION_OFFSET));
-    } else {
-        text.say("offset ");
-        text.hex(u64::from(offset));
     }
-    text.say(", width ");
-    text.count(u64::from(width));
+    say_place_in_window(text, offset, width);
 }
 
 // Says a write to a register or a field.
-fn say_write(text: &mut Text, window: DeviceKind, offset: u16, width: u8, value: u32) {
+fn say_write(text: &mut Text, window: SlotWindow, offset: u16, width: u8, value: u32) {
     say_register(text, window, offset, width);
     text.say(" ");
     match register_of(offset, width) {

@@ -1,7 +1,7 @@
 //! The standard's names: registers, bits of the device status, features, reasons of interrupts, request types.
 
 use crate::weave::Text;
-use board::DeviceKind;
+use board::SlotWindow;
 use chain::Fault;
 use mmio_window::Register;
 
@@ -40,19 +40,19 @@ pub fn register_name(register: Register) -> &'static str {
 }
 
 /// The name of the configuration field that begins at an offset of a window, if one does.
-pub fn field_name(kind: DeviceKind, offset: u16) -> Option<&'static str> {
+pub fn field_name(kind: SlotWindow, offset: u16) -> Option<&'static str> {
     match (kind, offset) {
-        (DeviceKind::Block, 0x100) => Some("capacity"),
-        (DeviceKind::Block, 0x104) => Some("capacity, high half"),
-        (DeviceKind::Block, 0x10c) => Some("seg_max"),
-        (DeviceKind::Block, 0x114) => Some("blk_size"),
-        (DeviceKind::Block, 0x130) => Some("max_write_zeroes_sectors"),
-        (DeviceKind::Block, 0x134) => Some("max_write_zeroes_seg"),
-        (DeviceKind::Block, 0x138) => Some("write_zeroes_may_unmap"),
-        (DeviceKind::Console, 0x100) => Some("cols"),
-        (DeviceKind::Console, 0x102) => Some("rows"),
-        (DeviceKind::Console, 0x104) => Some("max_nr_ports"),
-        (DeviceKind::Console, 0x108) => Some("emerg_wr"),
+        (SlotWindow::Block, 0x100) => Some("capacity"),
+        (SlotWindow::Block, 0x104) => Some("capacity, high half"),
+        (SlotWindow::Block, 0x10c) => Some("seg_max"),
+        (SlotWindow::Block, 0x114) => Some("blk_size"),
+        (SlotWindow::Block, 0x130) => Some("max_write_zeroes_sectors"),
+        (SlotWindow::Block, 0x134) => Some("max_write_zeroes_seg"),
+        (SlotWindow::Block, 0x138) => Some("write_zeroes_may_unmap"),
+        (SlotWindow::Console, 0x100) => Some("cols"),
+        (SlotWindow::Console, 0x102) => Some("rows"),
+        (SlotWindow::Console, 0x104) => Some("max_nr_ports"),
+        (SlotWindow::Console, 0x108) => Some("emerg_wr"),
         _ => None,
     }
 }
@@ -74,10 +74,10 @@ pub fn fault_name(fault: Fault) -> &'static str {
 }
 
 /// The name of a device.
-pub fn device_name(kind: DeviceKind) -> &'static str {
+pub fn device_name(kind: SlotWindow) -> &'static str {
     match kind {
-        DeviceKind::Block => "block",
-        DeviceKind::Console => "console",
+        SlotWindow::Block => "block",
+        SlotWindow::Console => "console",
     }
 }
 
@@ -124,15 +124,15 @@ static BLOCK_FEATURES: [(u32, &str); 5] = [
 static CONSOLE_FEATURES: [(u32, &str); 2] = [(0, "SIZE"), (2, "EMERG_WRITE")];
 
 /// Says features by name, and those without one by their bits.
-pub fn say_features(text: &mut Text, kind: DeviceKind, features: u64) {
+pub fn say_features(text: &mut Text, kind: SlotWindow, features: u64) {
     if features == 0 {
         text.say("none");
         return;
     }
     let left = say_named(text, features, features, &COMMON_FEATURES);
     let left = match kind {
-        DeviceKind::Block => say_named(text, features, left, &BLOCK_FEATURES),
-        DeviceKind::Console => say_named(text, features, left, &CONSOLE_FEATURES),
+        SlotWindow::Block => say_named(text, features, left, &BLOCK_FEATURES),
+        SlotWindow::Console => say_named(text, features, left, &CONSOLE_FEATURES),
     };
     say_rest(text, features, left);
 }

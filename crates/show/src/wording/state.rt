@@ -5,7 +5,7 @@ ghost use Rattle.packed_ring.specs.Ring.{LiesIn};
 use crate::weave::Text;
 use crate::wording::names::{device_name, say_features, say_status};
 use crate::wording::places::{is_available, next_place, size_of};
-use board::DeviceKind;
+use board::SlotWindow;
 use guest_memory::GuestMemory;
 use mmio_window::{Queue, QueueRegisters, Window};
 use negotiation::Flags;
@@ -164,7 +164,7 @@ fn available_place(mem: &GuestMemory, ring: &PackedRing, size: u16) -> u16
 }
 
 /// Says what of a window isn't as it was, a line each.
-pub fn say_changes(text: &mut Text, kind: DeviceKind, old: &WindowSeen, new: &WindowSeen) {
+pub fn say_changes(text: &mut Text, kind: SlotWindow, old: &WindowSeen, new: &WindowSeen) {
     if old.status != new.status {
         say_head(text, kind);
         text.say(" status ");
@@ -194,7 +194,7 @@ pub fn say_hold_change(text: &mut Text, old: bool, new: bool) {
     if old == new {
         return;
     }
-    say_head(text, DeviceKind::Block);
+    say_head(text, SlotWindow::Block);
     text.say(if new {
         " hold: no further chain is taken\n"
     } else {
@@ -203,13 +203,13 @@ pub fn say_hold_change(text: &mut Text, old: bool, new: bool) {
 }
 
 // Begins a line on the state of a device.
-fn say_head(text: &mut Text, kind: DeviceKind) {
+fn say_head(text: &mut Text, kind: SlotWindow) {
     text.say("  state ");
     text.say(device_name(kind));
 }
 
 /// Begins a line on the state of a queue.
-pub fn say_queue_head(text: &mut Text, kind: DeviceKind, index: u32, what: &str) {
+pub fn say_queue_head(text: &mut Text, kind: SlotWindow, index: u32, what: &str) {
     say_head(text, kind);
     text.say(" queue ");
     text.count(u64::from(index));
@@ -219,7 +219,7 @@ pub fn say_queue_head(text: &mut Text, kind: DeviceKind, index: u32, what: &str)
 // Says what a queue holds, where it isn't as it was.
 fn say_queue_change(
     text: &mut Text,
-    kind: DeviceKind,
+    kind: SlotWindow,
     index: u32,
     old: &QueueSeen,
     new: &QueueSeen,

@@ -7,7 +7,7 @@ use crate::weave::Text;
 use crate::wording::chains::say_buffer;
 use crate::wording::places::{AVAIL, USED, is_available, next_place, size_of};
 use crate::wording::state::say_queue_head;
-use board::DeviceKind;
+use board::SlotWindow;
 use guest_memory::GuestMemory;
 use indirect::{INDIRECT, NEXT};
 use mmio_window::{Queue, QueueRegisters};
@@ -50,7 +50,7 @@ impl Table {
         &mut self,
         text: &mut Text,
         mem: &GuestMemory,
-        kind: DeviceKind,
+        kind: SlotWindow,
         index: u32,
         registers: &QueueRegisters,
     ) -> Change {
@@ -181,7 +181,7 @@ static PACKED_FLAGS: [(u16, &str); 4] = [
 pub fn say_on_offer(
     text: &mut Text,
     mem: &GuestMemory,
-    kind: DeviceKind,
+    kind: SlotWindow,
     index: u32,
     registers: &QueueRegisters,
     has_changed: bool,
