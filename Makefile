@@ -163,7 +163,7 @@ doors: $(if $(UNPROVED),unproved)
 
 # Runs the test suite on QEMU's devices, and compares the differences with a table; it wants qemu-system-arm.
 peer:
-	@crates/conformance/run-on --quiet --jobs 3 --adapter --in-place - --table crates/conformance/peers/QEMU.md crates/conformance/peers/qemu
+	@crates/conformance/run-on --quiet --jobs 3 --without devices --adapter --in-place - --table crates/conformance/peers/QEMU.md crates/conformance/peers/qemu
 
 # Makes wrong devices out of a small model, and checks that each fails the scenario that is meant for it.
 mutants:

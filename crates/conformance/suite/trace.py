@@ -48,8 +48,8 @@ def bit_name(window, bit):
 EXTENDED = "kalyubos 1\n"
 
 # Every name that a scenario's features may have.
-BESIDE_BITS = {"guests", "extended", "hosted", "depth", "held", "ro", "input", "resize", "size", "restore", "vendor", "offer",
-               "fails", "calls"}
+BESIDE_BITS = {"guests", "extended", "hosted", "depth", "held", "devices", "ro", "input", "resize", "size", "restore", "vendor",
+               "offer", "fails", "calls"}
 NAMED = BESIDE_BITS | {feature for fields in FIELDS.values() for _, _, feature in fields} \
     | {bit_name(window, bit) for window in WINDOWS for bit in range(64)}
 
@@ -110,6 +110,27 @@ class Event:
     def say_release(self):
         return "is released"
 
+    def say_plug(self, device, kind):
+        return f"gets device {device}, {kind}"
+
+    def say_dr(self, device, offset, width):
+        return f"reads {width} bytes of offset {offset} of its device {device}"
+
+    def say_dw(self, device, offset, width, value):
+        return f"writes {value} to offset {offset} of its device {device}" + ("" if width == "4" else f", with width {width}")
+
+    def say_supply(self, device, data):
+        return f"has its device {device} supplied with {counted(bytes_in(data))}"
+
+    def say_frame(self, device, data):
+        return f"has a frame of {counted(bytes_in(data))} handed to its device {device}"
+
+    def say_take(self, device):
+        return f"has a frame taken from its device {device}"
+
+    def say_link(self, device, link):
+        return f"has the link of its device {device} {link}"
+
 
 def bytes_in(field):
     return 0 if field == "-" else len(field) // 2
@@ -127,7 +148,8 @@ def place(window, offset):
     return f"{REGISTERS.get(offset, f'offset {offset:03x}')} of its {WINDOWS[window]} window"
 
 
-COUNTS = {"r": 5, "w": 6, "mr": 4, "mw": 4, "in": 3, "sz": 4, "st": 3, "io": 4, "drop": 2, "hold": 2, "release": 2}
+COUNTS = {"r": 5, "w": 6, "mr": 4, "mw": 4, "in": 3, "sz": 4, "st": 3, "io": 4, "drop": 2, "hold": 2, "release": 2,
+          "plug": 4, "dr": 5, "dw": 6, "supply": 4, "frame": 4, "take": 3, "link": 4}
 
 
 def events_of(text):
@@ -160,8 +182,8 @@ def features_of(text, replies):
     They are the features that a driver takes or asks for (DriverFeatures), those that a device shows (the expected
     answers of DeviceFeatures), and those whose configuration fields are touched. Others are no bits: `offer`, all
     offered features are read; `vendor`, VendorID is; `resize`, `input` and `restore`, the host does that; `hosted`, it
-    serves a disk; `depth`, several operations of one may be in flight; `held`, what is in flight is dropped, or a slot is held or released; `guests`,
-    there are more than one; `ro`, a slot is read-only; `extended`, the trace is of no version that a plain one has.
+    serves a disk; `depth`, several operations of one may be in flight; `held`, what is in flight is dropped, or a slot is held or released; `devices`,
+    a slot has further devices; `guests`, there are more than one; `ro`, a slot is read-only; `extended`, the trace is of no version that a plain one has.
     """
     found = {"extended"} if text.startswith(EXTENDED) else set()
     slots = slots_of(text)
@@ -195,6 +217,8 @@ def features_in(event, reply, windows):
         return {"hosted"}
     if event.word in ("drop", "hold", "release"):
         return {"hosted", "held"}
+    if event.word in ("plug", "dr", "dw", "supply", "frame", "take", "link"):
+        return {"devices"}
     if event.word not in ("r", "w") or event.fields[2] not in WINDOWS:
         return set()
     name, offset, width = event.fields[2], int(event.fields[3], 16), event.fields[4]

@@ -243,6 +243,8 @@ fn answer_event<A: Allocator + Copy>(
         ),
         EventKind::Restore { bytes } => put_result(answer, session.restore(slot, bytes.as_slice())),
         EventKind::Host(told) => put_progress(answer, tell(session, slot, *told)),
+        // a session has no call for those
+        EventKind::Device { .. } => Err(Stuck::Conditions),
     }
 }
 
