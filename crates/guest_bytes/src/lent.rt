@@ -1,10 +1,12 @@
-//! Bytes that their owner hands over by a pointer. No other function here sees one.
+//! Bytes and words that their owner hands over by a pointer. No other function here sees one.
 
-ghost use Rattle.std.specs.Prelude.{◌≡◌, ℕ, ◌^◌, ◌<◌, List};
+ghost use Rattle.std.specs.Prelude.{◌≡◌, ℕ, ◌*◌, ◌^◌, ◌<◌, List, length};
 ghost use Rattle.std.specs.Borrow.{full_share, sem, u8};
 ghost use Rattle.std.specs.Ptr.{lies_at};
+ghost use Rattle.std.specs.contracts.sync.atomic.AtomicU64.{the_row as AtomicWord};
 ghost use denote.Array.{Array};
 
+use std::sync::atomic::AtomicU64;
 use std_alloc::vec::{Lodged, lodge};
 
 /// The `len` bytes from `ptr` on, which the caller owns and gives up. None is touched here, and a drop frees none.
@@ -14,4 +16,14 @@ pub unsafe fn lend(ptr: *mut u8, len: usize) -> Vec<u8, Lodged>
     ensures { result.items ≡ items }
 {
     lodge(ptr, len, len)
+}
+
+/// The `count` words from `ptr` on, which the caller gives up but for single atomic steps of whoever else has them. None is
+/// touched here, and a drop frees none.
+pub unsafe fn lend_words(ptr: *mut AtomicU64, count: usize) -> Vec<AtomicU64, Lodged>
+    ghost words: { List (Unit {0}) }
+    requires* { sem 𝓛 (lies_at (Array AtomicWord count) full_share ptr words) ∗ ⌜ 8 * count < 2 ^ 63 ⌝ }
+    ensures { length result.items ≡ count }
+{
+    lodge(ptr, count, count)
 }

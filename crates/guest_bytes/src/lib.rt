@@ -1,4 +1,4 @@
-//! The bytes that a host lends of its own memory.
+//! The bytes or words that a host lends of its own memory.
 //!
 //! A guest's memory may be larger than a library should copy or clear, and a host often has it already, as a
 //! mapping that a guest runs on. `loan` has what C hands over, `lent` makes a `Vec` of it, which can't grow and frees nothing.
@@ -7,5 +7,5 @@
 mod lent;
 mod loan;
 
-pub use lent::lend;
+pub use lent::{lend, lend_words};
 pub use loan::Loan;

@@ -1,1 +1,2 @@
 pub mod Seeing
+pub mod Places

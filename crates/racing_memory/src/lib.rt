@@ -1,11 +1,18 @@
 //! Guest memory that the guest's own CPUs write at any moment.
 //!
-//! It is a row of words, each of which changes in single atomic steps, so nothing is known of what a step finds. What
-//! a copy found is noted as what the memory was seen as: `past` has the one call that says so.
+//! It is rows of words, each of which changes in single atomic steps, so nothing is known of what a step finds. `region` has
+//! the steps, `memory` finds the region of an access. What an access found is noted as what the memory was seen as: `past`
+//! has the one call that says so.
 #![tactic(auto)]
 
+mod laws;
 mod memory;
 mod past;
+mod region;
+#[cfg(test)]
+mod tests;
 
+pub use laws::good_regions_make_a_memory;
 pub use memory::RacingMemory;
 pub use past::Past;
+pub use region::RacingRegion;

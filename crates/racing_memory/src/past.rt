@@ -1,17 +1,16 @@
 //! What a memory was seen as. Only clauses read it.
 
-ghost use Rattle.std.specs.Prelude.{◌≡◌, List, []};
+ghost use Rattle.std.specs.Prelude.{◌≡◌, List, [], ◌∷◌};
 ghost use Rattle.std.specs.Borrow.{ftrue};
-ghost use Rattle.guest_memory.specs.Memory.{Memory};
-ghost use Rattle.racing_memory.specs.Past.{noted};
+ghost use Rattle.racing_memory.specs.Past.{Access};
 
 use std::marker::{Model, PhantomData};
 
-/// The memory at each access, the last one first.
+/// The accesses to a memory, the last one first.
 #[derive(Drop)]
 pub struct Past {
     marker: PhantomData<u8>,
-    pub ghost seen: { List Memory },
+    pub ghost accesses: { List Access },
 }
 
 impl Model for Past {
@@ -21,16 +20,15 @@ impl Model for Past {
 impl Past {
     /// The one of a memory that nobody looked at yet.
     pub(crate) fn new() -> Past
-        ensures { result.seen ≡ [] }
+        ensures { result.accesses ≡ [] }
     {
         Past {
             marker: PhantomData,
         }
     }
 
-    /// These bytes stand from an address on, as an access found or left them. The numbers are the memory's base and length,
-    /// and the address.
-    pub(crate) fn note(&mut self, _numbers: &[u64], _bytes: &[u8])
-        ensures { self.new.seen ≡ noted _numbers.now _bytes.now self.old.seen }
+    /// These bytes stand from an address on, as an access found or left them.
+    pub(crate) fn note(&mut self, _addr: u64, _bytes: &[u8])
+        ensures { self.new.accesses ≡ record { addr = _addr; bytes = _bytes.now } ∷ self.old.accesses }
     {}
 }

@@ -1,5 +1,5 @@
 -- `lend` hands the bytes to `lodge`. Assumes `Logic`.
-use Rattle.std.proofs.Common.{◌≡◌, ℕ, ◌^◌, ◌<◌, List, [], ◌∷◌, ◌++◌, length, refl, sym, ap, ◌∙◌, subst, Vec}
+use Rattle.std.proofs.Common.{◌≡◌, ℕ, ◌^◌, ◌<◌, List, [], ◌∷◌, ◌++◌, length, refl, sym, ap, ◌∙◌, subst, arith, Vec}
 use seplogic.Ra.Ura.{Ura}
 use base.Fraction.{full_share}
 use mir.Syntax.{Callee, a_type, w64}
@@ -8,6 +8,7 @@ use base.Logic.{SProp, ent, id⊢, never}
 use prog.Memory.{Memory}
 use prog.Routine.{Routine}
 use prog.Wp.{Calls, Loops, WpFn, Tables}
+use contract.BorrowLft.{⊑_refl}
 use contract.Monad.{Fun, fact}
 use contract.Running.{tables_of}
 use sound.WpLaws.{fm_of, FmC}
@@ -53,7 +54,7 @@ module _ {M : Type 1} {𝓤 : Ura M} (𝓛 : Logic 𝓤) (at_mem : Memory → SP
   held = F.clauses 𝓛 at_mem run
 
   module _ (C : Calls 𝓤 H) (Λ : Loops 𝓤 H) (framed : FmC 𝓤 H 𝓛.laws C)
-      (called : Triple 𝓤 (C key) (Lodges 𝓛 at_mem run)) (z : (walk_of 𝓛 F.ended stayed held).Ghost) where
+      (called : Triple 𝓤 (C key) (Lodges u8 𝓛 at_mem run)) (z : (walk_of 𝓛 F.ended stayed held).Ghost) where
     abbrev Post : Val → SProp 𝓤
     Post = (walk_of 𝓛 F.ended stayed held).post z
 
@@ -72,7 +73,7 @@ module _ {M : Type 1} {𝓤 : Ura M} (𝓛 : Logic 𝓤) (at_mem : Memory → SP
         -- [the tokens; the bytes]
         move ! (1 ∷ []) $ split ! $ move ! (1 ∷ []) $ heard ! (n < 2 ^ 63) (λ small.
         in_a_block ! p (λ r. lies_at (Array u8 n) full_share r xs) (id⊢ 𝓤 (never 𝓤)) (λ b o at.
-        let y = at_lodge 𝓛 at_mem run b o n xs in
+        let y = at_lodge u8 𝓛 at_mem run b o n xs in
         regoal ! (λ (us : List Val). prop (WpFn 𝓤 H C Λ code.function (us ++ (vss.1.0 ++ [])) Post))
         (is₀ ∙ ap (λ r. ptr_val r ∷ []) at) refl $
         regoal ! (λ (us : List Val). prop (WpFn 𝓤 H C Λ code.function ((vptr b o ∷ []) ++ (us ++ [])) Post))
@@ -80,16 +81,16 @@ module _ {M : Type 1} {𝓤 : Ura M} (𝓛 : Logic 𝓤) (at_mem : Memory → SP
         enter ! C Λ code.function (vptr b o ∷ vint w64 n ∷ []) Post $
         alloc_all ! (λ l. pass_all ! refl ((tt, tt), ((tt, record { fits = fits }), tt)) $
         use1 𝓛 (given (length xs ≡ n) (‵ (lies_at (Array u8 n) full_share (block_ptr b o) xs)))
-        (counted 𝓛 b o n xs) $ learn ! (λ long.
-        use1 𝓛 (‵ (lodged u8 (block_ptr b o) n n xs)) (lodges 𝓛 b o n xs small) $
-        use1 𝓛 (raw ((Lodges 𝓛 at_mem run).pre y)) (lodge_goes 𝓛 at_mem run b o n xs long small) $
-        calls_at ! framed (Lodges 𝓛 at_mem run) called y
+        (counted u8 byte_laws 𝓛 b o n xs) $ learn ! (λ long.
+        use1 𝓛 (‵ (lodged u8 (block_ptr b o) n n xs)) (lodges u8 byte_laws 𝓛 b o n xs (omega (arith, small))) $
+        use1 𝓛 (raw ((Lodges u8 𝓛 at_mem run).pre y)) (lodge_goes u8 𝓛 at_mem run b o n xs long small (⊑_refl [])) $
+        calls_at ! framed (Lodges u8 𝓛 at_mem run) called y
         (and_then ! (get ! refl) (and_then ! (get ! refl) (and_then ! (get ! refl) (no_more !)))) (λ v.
-        use1 𝓛 (later (some (λ (r : Vec ℕ Lodged). given (IsLodged 𝓛 at_mem run b o n xs r)
-        (‵ (Lent.own_val r (v ∷ [])))))) (lodge_gives 𝓛 at_mem run b o n xs v) $
-        await ! tt $ pick ! (λ r. learn ! (λ is. tells ! r v (λ u same good.
-        let fine = subst Good (sym (ap only same)) good in
-        rewrite ! 0 (λ w. ‵ (Lent.own_val r (w ∷ []))) (sym (ap only same)) refl $ lands_as ! refl refl fine $
+        use1 𝓛 (later (some (λ (r : Vec ℕ Lodged). given (IsLodged u8 𝓛 at_mem run b o n xs r)
+        (‵ ((Lent u8).own_val r (v ∷ [])))))) (lodge_gives u8 𝓛 at_mem run b o n xs v) $
+        await ! tt $ pick ! (λ r. learn ! (λ is. tells u8 byte_laws ! r v (λ u same good.
+        let fine = subst (Good u8) (sym (ap only same)) good in
+        rewrite ! 0 (λ w. ‵ ((Lent u8).own_val r (w ∷ []))) (sym (ap only same)) refl $ lands_as ! refl refl fine $
         returns ! (look_at ! 0 refl) $ free_all ! refl $
         suffices ! _ (ends_at 𝓛 F.ended stayed held z v r (tt, (tt, tt)) (tt, (tt, tt))) $ says ! is.0 $
         nothing ! $ nothing ! $ fjoin ! $ nothing ! $ fjoin ! $ move ! (2 ∷ 0 ∷ 1 ∷ []) $ done !)))))))))))

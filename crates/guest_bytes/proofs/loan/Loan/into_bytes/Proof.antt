@@ -32,7 +32,7 @@ use denote.Triple.Walked.{Stays, stay_dropped, walk_of, ends_at, Goes-dropped}
 use Rattle.std_alloc.specs.declared.vec.lodged.Lodged.{Lodged}
 use Rattle.std_alloc.proofs.ResultValues.{and_tt}
 use Rattle.guest_bytes.specs.Loaned.{loaned}
-use Rattle.guest_bytes.proofs.Lodging.{Lent, Good, tells}
+use Rattle.guest_bytes.proofs.Lodging.{byte_laws, Lent, Good, tells}
 use Rattle.guest_bytes.proofs.Walking.{called, hands_over, walked_through}
 use Rattle.guest_bytes.specs.contracts.lent.lend as G
 use Rattle.guest_bytes.specs.contracts.lent.lend.Key.{name as callee_name}
@@ -117,13 +117,13 @@ module _ {M : Type 1} {𝓤 : Ura M} (𝓛 : Logic 𝓤) (at_mem : Memory → SP
       (λ t. use0 𝓛 (raw ((Nones 𝓛 at_mem run).pre (at_none 𝓛 at_mem run))) (none_goes 𝓛 at_mem run) $
       calls_at ! (fm_of 𝓤 H 𝓛.laws 𝓣) (Nones 𝓛 at_mem run) none_called
       (at_none 𝓛 at_mem run) (no_more !) (λ v.
-      use1 𝓛 (later (some (λ (r : Vec ℕ Lodged). (‵ ftrue ⊛ ‵ (Lent.own_val r (v ∷ [])))
+      use1 𝓛 (later (some (λ (r : Vec ℕ Lodged). (‵ ftrue ⊛ ‵ ((Lent u8).own_val r (v ∷ [])))
       ⊛ some (λ (ws : Unit {0}). ‵ (lasts N.ended tt tt ws) ⊛ raw (fact 𝓤 (r.items ≡ [])))))) (id⊢ 𝓤 _) $
       await ! tt $ pick ! (λ r. split ! $ split ! $ drop ! $ move ! (1 ∷ []) $ pick !
       (λ ws. split ! $ drop ! $ heard ! (r.items ≡ []) (λ same.
-      tells ! r v (λ u one good.
-      let fine = subst Good (sym (ap only one)) good in
-      rewrite ! 0 (λ w. ‵ (Lent.own_val r (w ∷ []))) (sym (ap only one)) refl $ lands_as ! refl refl fine $
+      tells u8 byte_laws ! r v (λ u one good.
+      let fine = subst (Good u8) (sym (ap only one)) good in
+      rewrite ! 0 (λ w. ‵ ((Lent u8).own_val r (w ∷ []))) (sym (ap only one)) refl $ lands_as ! refl refl fine $
       returns_within ! Post refl (look_at ! 0 refl) $ free_all ! refl $
       suffices ! _ (ends_at 𝓛 F.ended stayed (F.clauses 𝓛 at_mem run) z v r (tt, tt) (tt, tt)) $ hands_over !
       (same ∙ sym is)))))))
@@ -150,14 +150,14 @@ module _ {M : Type 1} {𝓤 : Ura M} (𝓛 : Logic 𝓤) (at_mem : Memory → SP
       (lend_goes 𝓛 at_mem run b o n xs fits small) $
       calls_at_last ! (fm_of 𝓤 H 𝓛.laws 𝓣) (Lends 𝓛 at_mem run) called y
       (and_then ! (get ! refl) (and_then ! (get ! refl) (no_more !))) (λ v.
-      use1 𝓛 (later (some (λ (r : Vec ℕ Lodged). (‵ ftrue ⊛ ‵ (Lent.own_val r (v ∷ [])))
+      use1 𝓛 (later (some (λ (r : Vec ℕ Lodged). (‵ ftrue ⊛ ‵ ((Lent u8).own_val r (v ∷ [])))
       ⊛ some (λ (ws : Unit {0} × (Unit {0} × Unit {0})). ‵ (lasts G.ended tt (block_ptr b o, (n, tt)) ws) ⊛
       raw (fact 𝓤 (r.items ≡ xs)))))) (id⊢ 𝓤 _) $
       await ! tt $ pick ! (λ r. split ! $ split ! $ drop ! $ move ! (1 ∷ []) $ pick !
       (λ ws. split ! $ drop ! $ heard ! (r.items ≡ xs) (λ same.
-      tells ! r v (λ u one good.
-      let fine = subst Good (sym (ap only one)) good in
-      rewrite ! 0 (λ w. ‵ (Lent.own_val r (w ∷ []))) (sym (ap only one)) refl $ lands_last ! refl fine $
+      tells u8 byte_laws ! r v (λ u one good.
+      let fine = subst (Good u8) (sym (ap only one)) good in
+      rewrite ! 0 (λ w. ‵ ((Lent u8).own_val r (w ∷ []))) (sym (ap only one)) refl $ lands_last ! refl fine $
       exec ! 𝓣.C 𝓣.Λ (env code.function.locals l) code.Mir.t-6 (at_ret (env code.function.locals l) Post) $
       sets ! (of_opd ! (get ! refl)) refl fine $ returns ! (look_at ! 0 refl) $ free_all ! refl $
       suffices ! _ (ends_at 𝓛 F.ended stayed (F.clauses 𝓛 at_mem run) z v r (tt, tt) (tt, tt)) $

@@ -32,7 +32,7 @@ abbrev v : Val
 v = vstruct (vcons (vstruct vnil) vnil)
 
 abbrev r : Past
-r = record { marker = record {}; seen = [] }
+r = record { marker = record {}; accesses = [] }
 
 meets : {M : Type 1} {𝓤 : Ura M} (𝓛 : Logic 𝓤) → (at_mem : Memory → SProp 𝓤) (run : Routine → Fun 𝓤) (𝓣 : Tables 𝓤 𝓛.H)
     → Meets 𝓛 it.signature (WpFn 𝓤 𝓛.H 𝓣.C 𝓣.Λ code.function) (it.spec 𝓛 at_mem run)

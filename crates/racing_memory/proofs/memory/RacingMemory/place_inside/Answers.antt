@@ -1,0 +1,8 @@
+use Rattle.racing_memory.proofs.Places.{place_found}
+use Rattle.racing_memory.proofs.memory.RacingMemory.place_inside.Goals as goal
+
+pub returns : goal.returns
+returns c =
+    let at = place_found c.self.inside.regions.now c.self.inside.past.accesses c.args.addr c.args.n c.unwrap_or.result
+    c.place_of.result c.args.self.now c.self.invariant c.self.view_is c.requires c.place_of.ensures c.unwrap_or.ensures in
+    record { place = at.within; above = at.above; below = at.below }
