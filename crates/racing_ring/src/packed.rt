@@ -138,6 +138,7 @@ impl RacingPackedRing {
         ensures same { OnOk result (self.new ≡ self.old) }
 
         // A fault is that of the list on offer, and ends the service.
+        ensures met { OnErr result (0 < self.old.pending) }
         ensures fault { IfErr result (IsFaulty (M.sightings mem.old) (M.sightings mem.new) self.old) }
         ensures stopped { OnErr result (self.new ≡ stopped self.old) }
 

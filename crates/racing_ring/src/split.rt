@@ -143,6 +143,7 @@ impl RacingSplitRing {
         ensures same { OnOk result (self.new ≡ self.old) }
 
         // A fault is that of the chain on offer, and ends the service.
+        ensures met { OnErr result (0 < self.old.pending) }
         ensures fault { IfErr result (IsFaulty (M.sightings mem.old) (M.sightings mem.new) self.old) }
         ensures stopped { OnErr result (self.new ≡ stopped self.old) }
 

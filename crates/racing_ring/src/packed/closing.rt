@@ -60,6 +60,13 @@ impl RacingPackedRing {
         wanted
     }
 
+    /// Ends a service in which no list was taken, without closing writes: those of the service before stand.
+    pub fn shut(&mut self)
+        ensures { self.new ≡ shut self.old }
+    {
+        self.state.shut();
+    }
+
     /// Stores a device event suppression structure of 0: the driver is to notify of every list (2.8.10).
     fn put_closing<M: Shared>(&self, mem: &mut M)
         requires { LiesIn (memory (M.sightings mem.old)) self.now.setup }

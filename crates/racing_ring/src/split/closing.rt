@@ -35,6 +35,13 @@ impl RacingSplitRing {
         wanted
     }
 
+    /// Ends a service in which no chain was taken, without closing writes: those of the service before stand.
+    pub fn shut(&mut self)
+        ensures { self.new ≡ shut self.old }
+    {
+        self.state.shut();
+    }
+
     /// Stores used flags of 0 and, where VIRTIO_F_EVENT_IDX was negotiated, avail_event (2.7.10).
     fn put_closing<M: Shared>(&self, mem: &mut M)
         requires { LiesIn (memory (M.sightings mem.old)) self.now.setup }

@@ -1,0 +1,441 @@
+-- A service in its course: the chains of a round, and the rounds.
+use Rattle.std.proofs.Common.{◌≡◌, ◌∙◌, ℕ, ◌+◌, ◌<◌, ◌≤◌, Bool, true, false, Option, Some, None, inl, inr, List, [], ◌∷◌, ◌++◌, length, refl, sym, ap, subst, arith}
+use Rattle.std.specs.Prelude.{◌||◌, if◌then◌else◌, IfErr, IfOk, Result, Ok, Err}
+use Rattle.std.proofs.lemmas.List.{length_push}
+use Rattle.chain.specs.declared.budget.Budget.{Budget}
+use Rattle.chain.specs.declared.segment.Buffer.{Buffer}
+use Rattle.chain.specs.declared.fault.Fault.{Fault}
+use Rattle.chain.specs.Budget.{IsSpent, less_chain}
+use Rattle.chain.specs.Service.{Device, Entry}
+use Rattle.shared_memory.specs.Sightings.{Sightings, Loads, memory}
+use Rattle.shared_memory.proofs.Sightings.{loads_none}
+use Rattle.racing_service.specs.declared.service.Stop.{Stop}
+use Rattle.racing_service.specs.declared.service.Stop.TheVariants.{Idle, Dry, Paused, Broken}
+use Rattle.racing_service.specs.Queue.{RacingKind}
+use Rattle.racing_service.specs.Device.{DoesRaced, RefusesRaced}
+use Rattle.racing_service.specs.Service.{Standing, Halt, Drained, Met, Limited, Round, any_wanted, standing_at, ServesOne, ServesSome, OnlyLoads, FindsNone, Serves, IsOpened, Works, IsRun, IsClosing, IsRound, ServesAny, IsBusyRun, IsBusyRound, AreBusyRounds, AreRounds, IsLook, EndsWith, EndsBy, IsRacingService, IsRefusedService, RunsAs, RunsUpTo, ServesAs, ServesUpTo, ending_of}
+use Rattle.racing_service.specs.declared.service.Held.{Held}
+use Rattle.racing_service.specs.declared.service.Ending.{Ending}
+use Rattle.racing_service.specs.declared.service.Ending.TheVariants.{Settled, Faulted, More}
+
+module _ {Ring State : Type 0} (kind : RacingKind Ring) (device : Device State) (races : Bool) where
+  -- one more chain behind some
+  some_push : (a b c : Standing Ring State) (between : List (Standing Ring State))
+      → ServesSome kind device races a between b → ServesOne kind device races b c
+      → ServesSome kind device races a (between ++ c ∷ []) c
+  some_push a b c [] p q = let one : ServesOne kind device races a c = rw p at q in (one, refl)
+  some_push a b c (x ∷ between) p q = (p.0, some_push x b c between p.1 q)
+
+  -- Chains were served since a round was opened at a; some says whether there was one.
+  pub record IsInRound (a b : Standing Ring State) (some : Bool) : Type 0 where
+    pub between : List (Standing Ring State)
+    pub serves : ServesSome kind device races a between b
+    pub idle : some ≡ false → b ≡ a
+    pub busy : some ≡ true → 0 < length between
+
+  pub in_round_begins : (a : Standing Ring State) → IsInRound a a false
+  in_round_begins a = record { between = []; serves = refl; idle = λ e. refl; busy = λ e. cc }
+
+  pub in_round_goes_on : (a b c : Standing Ring State) (some : Bool) → IsInRound a b some
+      → ServesOne kind device races b c → IsInRound a c true
+  in_round_goes_on a b c some p q = record {
+    between = p.between ++ c ∷ [];
+    serves = some_push a b c p.between p.serves q;
+    idle = λ e. cc;
+    busy = λ e. omega (arith, length_push p.between c);
+  }
+
+  -- where some were served, there is a first one
+  any_served : (between : List (Standing Ring State)) (a b c : Standing Ring State) → 0 < length between
+      → ServesSome kind device races a between b → FindsNone kind device races b c → ServesAny kind device races a c
+  any_served [] a b c some serves none = absurd (omega (arith, some))
+  any_served (x ∷ between) a b c some serves none = record {
+    first = x;
+    one = serves.0;
+    more = record { between = between; at = b; serves = serves.1; halts = none };
+  }
+
+  -- none is on offer or wanted
+  pub runs_out : (a b c : Standing Ring State) (some : Bool) (stop : Stop) → stop ≡ (if some then Dry else Idle)
+      → IsInRound a b some → FindsNone kind device races b c → ServesAs kind device races stop a c
+  runs_out a b c true stop is p q = rw is (any_served p.between a b c (p.busy refl) p.serves q)
+  runs_out a b c false stop is p q = rw is (rw (p.idle refl) at q)
+
+  -- only the memory was read from here on
+  only : (old new : Sightings) (ring last : Ring) (s : State) (left : Budget) → Loads races old new
+      → OnlyLoads kind device races (standing_at old ring s left) (standing_at new last s left)
+  only old new ring last s left loads = record { loads = loads; state = refl; left = refl }
+
+  -- One more chain is taken, served and given back. The memory's races stay at each step.
+  pub one_more : (first : Standing Ring State) (some : Bool) (r r' r'' : Bool) (old taken served new : Sightings)
+      (ring same past : Ring) (s t : State) (left left' : Budget) (buffers : List Buffer) (entry : Entry)
+      (len : ℕ) (any : Bool) → IsInRound first (standing_at old ring s left) some
+      → r ≡ races → r' ≡ r → r'' ≡ r' → device.takes s ≡ true → ¬ IsSpent left → left' ≡ less_chain left buffers
+      → Loads r old taken → kind.IsTold old taken ring true → kind.IsOffered old taken ring buffers entry → same ≡ ring
+      → DoesRaced device r' taken served buffers s t len any → kind.IsGiven r'' served new same entry len any
+      → past ≡ kind.still.past same entry → IsInRound first (standing_at new past t left') true
+  one_more first some r r' r'' old taken served new ring same past s t left left' buffers entry len any p is is' is''
+      takes within spends loads told offered unchanged does given passes =
+      let one : ServesOne kind device races (standing_at old ring s left) (standing_at new past t left') = record {
+        taken = taken;
+        served = served;
+        buffers = buffers;
+        entry = entry;
+        len = len;
+        any = any;
+        takes = takes;
+        within = within;
+        loads = rw is at loads;
+        told = told;
+        offered = offered;
+        does = rw (is', is) at does;
+        given = rw (is'', is', is, unchanged) at given;
+        past = rw unchanged at passes;
+        left = spends;
+      } in
+      in_round_goes_on first (standing_at old ring s left) (standing_at new past t left') some p one
+
+  -- no chain was taken, or none was on offer
+  pub unwanted : (first : Standing Ring State) (some : Bool) (old : Sightings) (ring : Ring) (s : State) (left : Budget)
+      (stop : Stop) → stop ≡ (if some then Dry else Idle) → IsInRound first (standing_at old ring s left) some
+      → device.takes s ≡ false → ServesAs kind device races stop first (standing_at old ring s left)
+  unwanted first some old ring s left stop is p none =
+      let here = standing_at old ring s left in
+      runs_out first here here some stop is p (record {
+        only = only old old ring ring s left (loads_none races old);
+        none = λ takes. cc;
+        ring = refl;
+      })
+
+  pub not_offered : (first : Standing Ring State) (some : Bool) (r : Bool) (old new : Sightings) (ring same : Ring) (s : State)
+      (left : Budget) (stop : Stop) → stop ≡ (if some then Dry else Idle)
+      → IsInRound first (standing_at old ring s left) some → r ≡ races → Loads r old new
+      → kind.IsTold old new ring false → same ≡ ring
+      → ServesAs kind device races stop first (standing_at new same s left)
+  not_offered first some r old new ring same s left stop stops p is loads told unchanged =
+      runs_out first (standing_at old ring s left) (standing_at new same s left) some stop stops p (record {
+        only = only old new ring same s left (rw is at loads);
+        none = λ takes. told;
+        ring = unchanged;
+      })
+
+  -- the chain on offer has a fault
+  pub broken : (first : Standing Ring State) (some : Bool) (r : Bool) (old new : Sightings) (ring stopped : Ring) (s : State)
+      (left : Budget) (fault : Fault) → IsInRound first (standing_at old ring s left) some → r ≡ races
+      → device.takes s ≡ true → Loads r old new → kind.IsFaulty old new ring fault → stopped ≡ kind.still.stopped ring
+      → ServesAs kind device races (Broken fault) first (standing_at new stopped s left)
+  broken first some r old new ring stopped s left fault p is takes loads faulty stops = record {
+    between = p.between;
+    at = standing_at old ring s left;
+    serves = p.serves;
+    halts = record {
+      only = only old new ring stopped s left (rw is at loads);
+      takes = takes;
+      faulty = faulty;
+      ring = stops;
+    };
+  }
+
+  -- nothing is left of the budget
+  pub paused : (first : Standing Ring State) (some : Bool) (r : Bool) (old new : Sightings) (ring same : Ring) (s : State)
+      (left : Budget) (buffers : List Buffer) (entry : Entry) → IsInRound first (standing_at old ring s left) some
+      → r ≡ races → device.takes s ≡ true → IsSpent left → Loads r old new → kind.IsTold old new ring true
+      → kind.IsOffered old new ring buffers entry → same ≡ ring
+      → ServesAs kind device races Paused first (standing_at new same s left)
+  paused first some r old new ring same s left buffers entry p is takes spent loads told offered unchanged = record {
+    between = p.between;
+    at = standing_at old ring s left;
+    serves = p.serves;
+    halts = record {
+      only = only old new ring same s left (rw is at loads);
+      takes = takes;
+      spent = spent;
+      told = told;
+      buffers = buffers;
+      entry = entry;
+      offered = offered;
+      ring = unchanged;
+    };
+  }
+
+  -- the device leaves the chain on offer
+  pub left_there : {E : Type 0} (first : Standing Ring State) (some : Bool) (r r' : Bool) (old taken new : Sightings)
+      (ring same : Ring) (s t : State) (left left' : Budget) (buffers : List Buffer) (entry : Entry)
+      (Refuses : State → List ℕ → List Buffer → E → Type 0) (why : E) → IsInRound first (standing_at old ring s left) some
+      → r ≡ races → r' ≡ r → device.takes s ≡ true → ¬ IsSpent left → left' ≡ less_chain left buffers → Loads r old taken
+      → kind.IsTold old taken ring true → kind.IsOffered old taken ring buffers entry → same ≡ ring
+      → RefusesRaced Refuses r' taken new buffers s why → t ≡ s
+      → ServesUpTo kind device races Refuses buffers entry why first (standing_at new same t left')
+  left_there first some r r' old taken new ring same s t left left' buffers entry Refuses why p is is' takes within spends
+      loads told offered unchanged refuses kept = record {
+        between = p.between;
+        at = standing_at old ring s left;
+        serves = p.serves;
+        leaves = record {
+          taken = taken;
+          takes = takes;
+          within = within;
+          loads = rw is at loads;
+          told = told;
+          offered = offered;
+          refuses = rw (is', is) at refuses;
+          ring = unchanged;
+          state = kept;
+          left = spends;
+        };
+      }
+
+  -- ---- a round
+
+  -- what was served behind an opening without a fault
+  ran_to : (halt : Halt) (a start b : Standing Ring State) → IsOpened kind device races a start
+      → None ≡ kind.still.opening_fault (memory start.sightings) a.ring → Serves kind device races start halt b
+      → IsRun kind device races a halt b
+  ran_to halt a start b opens none serves = record {
+    opened = start;
+    opens = opens;
+    works = subst (λ (f : Option Fault). Works kind device races f start halt b) none serves;
+  }
+
+  ran_as : (stop : Stop) (a start b : Standing Ring State) → IsOpened kind device races a start
+      → None ≡ kind.still.opening_fault (memory start.sightings) a.ring → ServesAs kind device races stop start b
+      → RunsAs kind device races stop a b
+  ran_as Idle a start b opens none serves =
+      record { opened = start; opens = opens; no_fault = sym none; finds = serves }
+  ran_as Dry a start b opens none serves =
+      record { opened = start; opens = opens; no_fault = sym none; serves = serves }
+  ran_as Paused a start b opens none serves = ran_to Limited a start b opens none serves
+  ran_as (Broken fault) a start b opens none serves = ran_to (Met fault) a start b opens none serves
+
+  opening : (r : Bool) (old new : Sightings) (ring opened : Ring) (s : State) (left : Budget) → r ≡ races
+      → Loads r old new → opened ≡ kind.still.opened (memory new) ring
+      → IsOpened kind device races (standing_at old ring s left) (standing_at new opened s left)
+  opening r old new ring opened s left is loads opens = record {
+    only = only old new ring opened s left (rw is at loads);
+    ring = opens;
+  }
+
+  pub ran : (stop : Stop) (old new : Sightings) (ring opened : Ring) (s : State) (left : Budget) (b : Standing Ring State)
+      → Loads races old new → None ≡ kind.still.opening_fault (memory new) ring
+      → opened ≡ kind.still.opened (memory new) ring → ServesAs kind device races stop (standing_at new opened s left) b
+      → RunsAs kind device races stop (standing_at old ring s left) b
+  ran stop old new ring opened s left b loads none opens serves =
+      ran_as stop (standing_at old ring s left) (standing_at new opened s left) b
+      (opening races old new ring opened s left refl loads opens) none serves
+
+  -- what serving behind it comes to, or a chain that is left
+  pub ran_ok : {E : Type 0} (result : Result Stop E) (old new : Sightings) (ring opened : Ring) (s : State) (left : Budget)
+      (b : Standing Ring State) → Loads races old new → None ≡ kind.still.opening_fault (memory new) ring
+      → opened ≡ kind.still.opened (memory new) ring
+      → IfOk result (λ stop. ServesAs kind device races stop (standing_at new opened s left) b)
+      → IfOk result (λ stop. RunsAs kind device races stop (standing_at old ring s left) b)
+  ran_ok (Ok stop) old new ring opened s left b loads none opens serves =
+      ran stop old new ring opened s left b loads none opens serves
+  ran_ok (Err held) old new ring opened s left b loads none opens serves = tt
+
+  pub ran_up_to : {T E : Type 0} (entry_of : T → Entry) (Refuses : State → List ℕ → List Buffer → E → Type 0)
+      (buffers : List Buffer) (result : Result Stop (Held T E)) (old new : Sightings) (ring opened : Ring) (s : State) (left : Budget)
+      (b : Standing Ring State) → Loads races old new → None ≡ kind.still.opening_fault (memory new) ring
+      → opened ≡ kind.still.opened (memory new) ring
+      → IfErr result (λ held. ServesUpTo kind device races Refuses buffers (entry_of held.token) held.why
+      (standing_at new opened s left) b)
+      → IfErr result (λ held. RunsUpTo kind device races Refuses buffers (entry_of held.token) held.why
+      (standing_at old ring s left) b)
+  ran_up_to entry_of Refuses buffers (Ok stop) old new ring opened s left b loads none opens serves = tt
+  ran_up_to entry_of Refuses buffers (Err held) old new ring opened s left b loads none opens serves = record {
+    opened = standing_at new opened s left;
+    opens = opening races old new ring opened s left refl loads opens;
+    no_fault = sym none;
+    serves = serves;
+  }
+
+  -- an opening with a fault
+  pub ran_into : (old new : Sightings) (ring opened : Ring) (s : State) (left : Budget) (fault : Fault)
+      → Loads races old new → Some fault ≡ kind.still.opening_fault (memory new) ring
+      → opened ≡ kind.still.opened (memory new) ring
+      → RunsAs kind device races (Broken fault) (standing_at old ring s left) (standing_at new opened s left)
+  ran_into old new ring opened s left fault loads some opens =
+      let start = standing_at new opened s left in record {
+        opened = start;
+        opens = opening races old new ring opened s left refl loads opens;
+        works = subst (λ (f : Option Fault). Works kind device races f start (Met fault) start) some (refl, refl);
+      }
+
+  -- a look is a round up to its closing
+  look_is_run : (a b : Standing Ring State) → IsLook kind device races a b → IsRun kind device races a Drained b
+  look_is_run a b look =
+      ran_to Drained a look.opened b look.opens (sym look.no_fault)
+      (record { between = []; at = look.opened; serves = refl; halts = look.finds })
+
+  -- a round of some chains is a round
+  busy_is_run : (a b : Standing Ring State) → IsBusyRun kind device races a b → IsRun kind device races a Drained b
+  busy_is_run a b busy =
+      let serves = busy.serves in
+      ran_to Drained a busy.opened b busy.opens (sym busy.no_fault) (record {
+        between = serves.first ∷ serves.more.between;
+        at = serves.more.at;
+        serves = (serves.one, serves.more.serves);
+        halts = serves.more.halts;
+      })
+
+  pub busy_is_round : (a b : Standing Ring State) (wanted : Bool) → IsBusyRound kind device races a b wanted
+      → IsRound kind device races a Drained b wanted
+  busy_is_round a b wanted busy =
+      record { last = busy.last; run = busy_is_run a busy.last busy.run; closes = busy.closes }
+
+  dry_run : (stop : Stop) (a b : Standing Ring State) → ending_of stop ≡ None → RunsAs kind device races stop a b
+      → IsRun kind device races a Drained b
+  dry_run Idle a b e run = look_is_run a b run
+  dry_run Dry a b e run = busy_is_run a b run
+  dry_run Paused a b e run = cc
+  dry_run (Broken fault) a b e run = cc
+
+  -- ---- rounds
+
+  busy_push : (a b : Standing Ring State) (rounds : List (Round Ring State)) (r : Round Ring State)
+      → AreBusyRounds kind device races a rounds b → IsBusyRound kind device races b r.after r.wanted
+      → AreBusyRounds kind device races a (rounds ++ r ∷ []) r.after
+  busy_push a b [] r p q =
+      let one : IsBusyRound kind device races a r.after r.wanted = rw p at q in (one, refl)
+  busy_push a b (x ∷ rounds) r p q = (p.0, busy_push x.after b rounds r p.1 q)
+
+  -- one more round, which served a chain unless it is the first
+  rounds_push : (a b last : Standing Ring State) (rounds : List (Round Ring State)) (r : Round Ring State) (stop : Stop)
+      → ending_of stop ≡ None → (0 < length rounds → ¬ (stop ≡ Idle)) → AreRounds kind device races a rounds b
+      → RunsAs kind device races stop b last → IsClosing kind device races last r.after r.wanted
+      → AreRounds kind device races a (rounds ++ r ∷ []) r.after
+  rounds_push a b last [] r stop e fresh p run closes =
+      let one : IsRound kind device races b Drained r.after r.wanted =
+      record { last = last; run = dry_run stop b last e run; closes = closes } in
+      let first : IsRound kind device races a Drained r.after r.wanted = rw p at one in (first, refl)
+  rounds_push a b last (x ∷ rounds) r Idle e fresh p run closes = absurd (fresh (omega arith) refl)
+  rounds_push a b last (x ∷ rounds) r Dry e fresh p run closes =
+      (p.0, busy_push x.after b rounds r p.1 (record { last = last; run = run; closes = closes }))
+  rounds_push a b last (x ∷ rounds) r Paused e fresh p run closes = cc
+  rounds_push a b last (x ∷ rounds) r (Broken fault) e fresh p run closes = cc
+
+  wanted_push : (rounds : List (Round Ring State)) (r : Round Ring State)
+      → any_wanted (rounds ++ r ∷ []) ≡ (any_wanted rounds || r.wanted)
+  wanted_push [] r = or_false r.wanted
+    where
+      or_false : (b : Bool) → (b || false) ≡ b
+      or_false true = refl
+      or_false false = refl
+  wanted_push (x ∷ rounds) r = rw (wanted_push rounds r) (sym (or_assoc x.wanted (any_wanted rounds) r.wanted))
+    where
+      or_assoc : (a b c : Bool) → ((a || b) || c) ≡ (a || (b || c))
+      or_assoc true b c = refl
+      or_assoc false b c = refl
+
+  -- So many rounds were served, each to where none was on offer, and this is what they wanted.
+  pub record IsInService (a b : Standing Ring State) (n : ℕ) (wanted : Bool) : Type 0 where
+    pub rounds : List (Round Ring State)
+    pub serves : AreRounds kind device races a rounds b
+    pub count : length rounds ≡ n
+    pub wanted_is : wanted ≡ any_wanted rounds
+
+  pub service_begins : (a : Standing Ring State) → IsInService a a 0 false
+  service_begins a = record { rounds = []; serves = refl; count = refl; wanted_is = refl }
+
+  -- a queue was closed
+  closing : (r : Bool) (old new : Sightings) (ring shut : Ring) (s : State) (left : Budget) (asked : Bool) → r ≡ races
+      → kind.IsClosed r old new ring asked → shut ≡ kind.still.shut ring
+      → IsClosing kind device races (standing_at old ring s left) (standing_at new shut s left) asked
+  closing r old new ring shut s left asked is closed shuts =
+      record { closed = rw is at closed; ring = shuts; state = refl; left = refl }
+
+  module _ (a b : Standing Ring State) (n : ℕ) (wanted : Bool) (stop : Stop) (r : Bool) (old new : Sightings)
+      (ring shut : Ring) (s : State) (left : Budget) (asked wanted' : Bool) (p : IsInService a b n wanted) (is : r ≡ races)
+      (run : RunsAs kind device races stop b (standing_at old ring s left)) (closed : kind.IsClosed r old new ring asked)
+      (shuts : shut ≡ kind.still.shut ring) (wants : wanted' ≡ (wanted || asked)) where
+    -- one more round, behind which none was on offer
+    pub service_goes_on : ending_of stop ≡ None → (0 < n → ¬ (stop ≡ Idle))
+        → IsInService a (standing_at new shut s left) (n + 1) wanted'
+    service_goes_on e fresh =
+        let round : Round Ring State = record { wanted = asked; after = standing_at new shut s left } in record {
+          rounds = p.rounds ++ round ∷ [];
+          serves = rounds_push a b (standing_at old ring s left) p.rounds round stop e
+              (λ some. fresh (omega (arith, p.count, some))) p.serves run
+              (closing r old new ring shut s left asked is closed shuts);
+          count = length_push p.rounds round ∙ ap (λ (k : ℕ). k + 1) p.count;
+          wanted_is = wants ∙ ap (λ (w : Bool). w || asked) p.wanted_is ∙ sym (wanted_push p.rounds round);
+        }
+
+    -- one more, which ends the service
+    pub service_ends : (most : ℕ) (ending : Ending) → n ≤ most → ending_of stop ≡ Some ending
+        → IsRacingService kind device races most a (standing_at new shut s left) ending wanted'
+    service_ends most ending few e = record {
+      rounds = p.rounds;
+      few = omega (arith, p.count, few);
+      at = b;
+      serves = p.serves;
+      ends = by stop run e;
+    }
+      where
+        ended : (halt : Halt) → IsRun kind device races b halt (standing_at old ring s left)
+            → EndsWith kind device races halt p.rounds b (standing_at new shut s left) wanted'
+        ended halt run = record {
+          asked = asked;
+          round = record {
+            last = standing_at old ring s left;
+            run = run;
+            closes = closing r old new ring shut s left asked is closed shuts;
+          };
+          wanted_is = wants ∙ ap (λ (w : Bool). w || asked) p.wanted_is;
+        }
+
+        by : (stop : Stop) → RunsAs kind device races stop b (standing_at old ring s left) → ending_of stop ≡ Some ending
+            → EndsBy kind device races ending most p.rounds b (standing_at new shut s left) wanted'
+        by Idle run e = cc
+        by Dry run e = cc
+        by Paused run e =
+            subst (λ (o : Ending). EndsBy kind device races o most p.rounds b (standing_at new shut s left) wanted')
+            (let same : More ≡ ending = cc in same) (inl (ended Limited run))
+        by (Broken fault) run e =
+            subst (λ (o : Ending). EndsBy kind device races o most p.rounds b (standing_at new shut s left) wanted')
+            (let same : Faulted fault ≡ ending = cc in same) (ended (Met fault) run)
+
+  -- a look behind at least one round finds nothing new
+  pub service_settles : (most : ℕ) (a b : Standing Ring State) (n : ℕ) (wanted : Bool) (stop : Stop) (new : Sightings)
+      (ring shut : Ring) (s : State) (left : Budget) → IsInService a b n wanted → n ≤ most → 0 < n
+      → RunsAs kind device races stop b (standing_at new ring s left) → stop ≡ Idle → shut ≡ kind.still.shut ring
+      → IsRacingService kind device races most a (standing_at new shut s left) Settled wanted
+  service_settles most a b n wanted stop new ring shut s left p few some run idle shuts = record {
+    rounds = p.rounds;
+    few = omega (arith, p.count, few);
+    at = b;
+    serves = p.serves;
+    ends = record {
+      some = omega (arith, p.count, some);
+      looked = standing_at new ring s left;
+      look = rw idle at run;
+      shut = rw shuts refl;
+      wanted_is = p.wanted_is;
+    };
+  }
+
+  -- no more rounds are left
+  pub service_stops : (most n : ℕ) (a b : Standing Ring State) (wanted : Bool) → IsInService a b n wanted → n ≤ most
+      → most ≤ n → IsRacingService kind device races most a b More wanted
+  service_stops most n a b wanted p few all = record {
+    rounds = p.rounds;
+    few = omega (arith, p.count, few);
+    at = b;
+    serves = p.serves;
+    ends = inr (record { all = omega (arith, p.count, few, all); stands = refl; wanted_is = p.wanted_is });
+  }
+
+  -- a chain is left on offer
+  pub service_left : (most : ℕ) (a b : Standing Ring State) (n : ℕ) (wanted : Bool) {E : Type 0} (c : Standing Ring State)
+      (Refuses : State → List ℕ → List Buffer → E → Type 0) (buffers : List Buffer) (entry : Entry) (why : E)
+      → IsInService a b n wanted → n < most
+      → RunsUpTo kind device races Refuses buffers entry why b c
+      → IsRefusedService kind device races Refuses most a c buffers entry why wanted
+  service_left most a b n wanted c Refuses buffers entry why p few run = record {
+    rounds = p.rounds;
+    few = omega (arith, p.count, few);
+    at = b;
+    serves = p.serves;
+    leaves = run;
+    wanted_is = p.wanted_is;
+  }

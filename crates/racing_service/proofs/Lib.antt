@@ -1,0 +1,6 @@
+pub mod Coming
+pub mod Standing
+pub mod Rounds
+pub mod Rings
+pub mod Looking
+pub mod Seeing

@@ -1,0 +1,23 @@
+use Rattle.std.proofs.Common.{refl}
+use Rattle.chain.specs.Service.{Faulted}
+use Rattle.racing_service.specs.Service.{Met}
+use Rattle.racing_service.proofs.Rings.{split_stands_still}
+use Rattle.racing_service.proofs.Rounds.{all_services, one_service, one_settled, settled_there}
+use Rattle.racing_service.proofs.laws.a_split_ring_that_stands_still_is_served_by_services.Goals as goal
+
+pub returns-clause-rounds : goal.returns-clause-rounds
+returns-clause-rounds g c = λ setup rounds a b lies some r.
+    (all_services split_stands_still (g.D.RacingDevice.device setup) rounds a b (record { lies = lies; some = some }) r).services
+
+pub returns-clause-broken : goal.returns-clause-broken
+returns-clause-broken g c = λ setup fault wanted a b lies some r.
+    (one_service split_stands_still (g.D.RacingDevice.device setup) (Met fault) (Faulted fault) a b wanted refl
+    (record { lies = lies; some = some }) r).service
+
+pub returns-clause-look : goal.returns-clause-look
+returns-clause-look g c = λ setup rounds wanted a at b r s.
+    settled_there split_stands_still (g.D.RacingDevice.device setup) rounds a at b wanted r s
+
+pub returns-clause-one : goal.returns-clause-one
+returns-clause-one g c = λ setup most wanted a b r service lies some only.
+    one_settled split_stands_still (g.D.RacingDevice.device setup) most a b wanted r service (record { lies = lies; some = some }) only

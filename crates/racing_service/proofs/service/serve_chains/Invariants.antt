@@ -1,0 +1,20 @@
+use Rattle.std.specs.Prelude.{◌≡◌}
+use Rattle.shared_memory.specs.Sightings.{memory}
+use Rattle.racing_service.specs.Service.{standing_at}
+use Rattle.racing_service.proofs.Coming.{IsInRound}
+use Rattle.racing_service.proofs.service.serve_chains.Given as goal
+
+abbrev pub invariant-loop-queue : goal.invariant-loop-queue
+invariant-loop-queue g l = record {
+  round : IsInRound g.Q.RacingQueue.kind (g.D.RacingDevice.device (g.D.RacingDevice.setup l.fn.device l.fn.backend))
+      (g.M.Shared.races l.fn.mem)
+      (standing_at (g.M.Shared.sightings l.fn.mem) l.fn.queue (g.D.RacingDevice.state l.fn.device l.fn.backend) l.fn.left)
+      (standing_at (g.M.Shared.sightings l.mem) l.queue (g.D.RacingDevice.state l.device l.backend) l.left) l.some;
+  races : g.M.Shared.races l.mem ≡ g.M.Shared.races l.fn.mem;
+  setup : g.D.RacingDevice.setup l.device l.backend ≡ g.D.RacingDevice.setup l.fn.device l.fn.backend;
+  ready : g.D.RacingDevice.IsReady l.device l.backend;
+  lies : g.Q.RacingQueue.LiesIn (memory (g.M.Shared.sightings l.mem)) l.queue;
+}
+
+abbrev pub decreases-loop-queue : goal.decreases-loop-queue
+decreases-loop-queue g l = g.Q.RacingQueue.left_of l.queue

@@ -1,0 +1,66 @@
+//! Laws of the definitions. The bodies are empty: each contract is a theorem.
+
+ghost use Rattle.std.specs.Prelude.{◌≡◌, ◌<◌, ℕ, Bool, List, [], ◌∷◌, false, true};
+ghost use Rattle.chain.specs.declared.fault.Fault.{Fault};
+ghost use Rattle.chain.specs.declared.state.RingState.{RingState};
+ghost use Rattle.chain.specs.Service.{Faulted, IsService, Spent};
+ghost use Rattle.split_ring.specs.Ring.{LiesIn};
+ghost use Rattle.split_ring.specs.Kind.{split_kind};
+ghost use Rattle.packed_ring.specs.Kind.{packed_kind};
+ghost use Rattle.shared_memory.specs.Sightings.{memory};
+ghost use Rattle.racing_service.specs.declared.service.Ending.TheVariants.{Settled};
+ghost use Rattle.racing_service.specs.Queue.{racing_packed, racing_split};
+ghost use Rattle.racing_service.specs.Service.{AreRounds, IsRacingService, IsRound, IsSettled, Met, Round, Standing};
+ghost use Rattle.racing_service.specs.Laws.{AreServices, SeesNoHead, SeesNoList, site_of};
+
+use crate::device::RacingDevice;
+
+/// A guest that stands still, and its split ring: each round is one service of `split_kind`, whether it ends with no chain
+/// on offer or by a fault, and the look that settles the service changes nothing. So a settled service of one round is one
+/// service.
+pub fn a_split_ring_that_stands_still_is_served_by_services<B, D: RacingDevice<B>>()
+    ensures rounds { (setup : D.Setup) (rounds : List (Round RingState D.State)) (a b : Standing RingState D.State)
+        → LiesIn (memory a.sightings) a.ring.setup → 0 < a.ring.setup.size
+        → AreRounds racing_split (D.device setup) false a rounds b
+        → AreServices split_kind (D.device setup) (site_of a) rounds (site_of b) }
+    ensures broken { (setup : D.Setup) (fault : Fault) (wanted : Bool) (a b : Standing RingState D.State)
+        → LiesIn (memory a.sightings) a.ring.setup → 0 < a.ring.setup.size
+        → IsRound racing_split (D.device setup) false a (Met fault) b wanted
+        → IsService split_kind (D.device setup) (site_of a) (site_of b) (Faulted fault) wanted }
+    ensures look { (setup : D.Setup) (rounds : List (Round RingState D.State)) (wanted : Bool)
+        (a at b : Standing RingState D.State) → AreRounds racing_split (D.device setup) false a rounds at
+        → IsSettled racing_split (D.device setup) false rounds at b wanted → site_of b ≡ site_of at }
+    ensures one { (setup : D.Setup) (most : ℕ) (wanted : Bool) (a b : Standing RingState D.State) (r : Round RingState D.State)
+        (service : IsRacingService racing_split (D.device setup) false most a b Settled wanted)
+        → LiesIn (memory a.sightings) a.ring.setup → 0 < a.ring.setup.size → service.rounds ≡ r ∷ []
+        → IsService split_kind (D.device setup) (site_of a) (site_of b) Spent wanted }
+{}
+
+/// The same of a packed ring.
+pub fn a_packed_ring_that_stands_still_is_served_by_services<B, D: RacingDevice<B>>()
+    ensures rounds { (setup : D.Setup) (rounds : List (Round RingState D.State)) (a b : Standing RingState D.State)
+        → 0 < a.ring.setup.size → AreRounds racing_packed (D.device setup) false a rounds b
+        → AreServices packed_kind (D.device setup) (site_of a) rounds (site_of b) }
+    ensures broken { (setup : D.Setup) (fault : Fault) (wanted : Bool) (a b : Standing RingState D.State)
+        → 0 < a.ring.setup.size → IsRound racing_packed (D.device setup) false a (Met fault) b wanted
+        → IsService packed_kind (D.device setup) (site_of a) (site_of b) (Faulted fault) wanted }
+    ensures look { (setup : D.Setup) (rounds : List (Round RingState D.State)) (wanted : Bool)
+        (a at b : Standing RingState D.State) → AreRounds racing_packed (D.device setup) false a rounds at
+        → IsSettled racing_packed (D.device setup) false rounds at b wanted → site_of b ≡ site_of at }
+    ensures one { (setup : D.Setup) (most : ℕ) (wanted : Bool) (a b : Standing RingState D.State) (r : Round RingState D.State)
+        (service : IsRacingService racing_packed (D.device setup) false most a b Settled wanted)
+        → 0 < a.ring.setup.size → service.rounds ≡ r ∷ []
+        → IsService packed_kind (D.device setup) (site_of a) (site_of b) Spent wanted }
+{}
+
+/// A settled service saw behind its closing writes that nothing more was on offer, where its device takes a chain. Of a split
+/// ring: the available idx was the place of the next chain. Of a packed ring, unless all its places are in flight: the next
+/// descriptor wasn't available.
+pub fn a_settled_service_saw_nothing_more_on_offer<B, D: RacingDevice<B>>()
+    ensures split { (setup : D.Setup) (races wanted : Bool) (rounds : List (Round RingState D.State))
+        (at b : Standing RingState D.State) → IsSettled racing_split (D.device setup) races rounds at b wanted
+        → (D.device setup).takes at.state ≡ true → SeesNoHead at.sightings b.sightings at.ring }
+    ensures packed { (setup : D.Setup) (races wanted : Bool) (rounds : List (Round RingState D.State))
+        (at b : Standing RingState D.State) → IsSettled racing_packed (D.device setup) races rounds at b wanted
+        → (D.device setup).takes at.state ≡ true → at.ring.ahead < at.ring.setup.size → SeesNoList at.sightings b.sightings at.ring }
+{}

@@ -1,0 +1,23 @@
+//! One service of a virtqueue whose guest may write its memory meanwhile, for any device and both kinds of ring.
+//!
+//! A driver that offers a chain while its device closes the queue may not notify. So the service looks again behind its
+//! closing writes, and goes on until it finds nothing new.
+#![tactic(auto)]
+
+mod device;
+mod laws;
+mod queue;
+mod service;
+mod sink;
+#[cfg(test)]
+mod tests;
+
+pub use device::RacingDevice;
+pub use laws::{
+    a_packed_ring_that_stands_still_is_served_by_services,
+    a_settled_service_saw_nothing_more_on_offer,
+    a_split_ring_that_stands_still_is_served_by_services,
+};
+pub use queue::RacingQueue;
+pub use service::{Ending, Limits, Outcome, Refused, serve};
+pub use sink::Sink;
