@@ -1,0 +1,235 @@
+-- A request that was judged by one copy of its readable list.
+use Rattle.std.proofs.Common.{◌≡◌, ◌∙◌, ◌⊎◌, inl, inr, ℕ, zero, suc, ◌+◌, ◌-◌, ◌≤◌, ◌<◌, false, Bool, List, [], ◌∷◌, ◌++◌, length, take, drop, refl, sym, ap, subst, arith, nat_lt, length-drop}
+use Rattle.std.specs.Prelude.{All, true}
+use Rattle.std.specs.List.{flat_map}
+use Rattle.std.proofs.lemmas.Bool.Decides.{nat_tests}
+use Rattle.std.proofs.lemmas.List.{drop_at, length-take-le, take-append-drop, take_all, take_at}
+use Rattle.std.proofs.lemmas.List.Elements.{All-head, All-tail}
+use Rattle.byteorder.specs.Endian.{little_number}
+use Rattle.guest_memory.specs.Memory.{Inside, part_of}
+use Rattle.chain.specs.declared.segment.Buffer.{Buffer}
+use Rattle.chain.specs.declared.segment.Segment.{Segment}
+use Rattle.chain.specs.Buffers.{Good}
+use Rattle.chain.specs.Bytes.{addresses, addresses_of, len_of, readable_of, segments_of}
+use Rattle.chain.proofs.Directions.{All-segments_of, length-addresses_of, length-readable_of}
+use Rattle.shared_memory.specs.Sightings.{Sightings, Loads, memory}
+use Rattle.shared_memory.proofs.Sightings.{loads_none, loads_range}
+use Rattle.block_device.specs.declared.device.BlockDevice.{BlockDevice}
+use Rattle.block_device.specs.declared.request.Request.{Request}
+use Rattle.block_device.specs.declared.request.Request.TheVariants.{Rejected}
+use Rattle.block_device.specs.declared.request.RequestStatus.TheVariants.{IoError}
+use Rattle.block_device.specs.Asking.{IsKnown, IsZeroes, has_segments}
+use Rattle.block_device.specs.Operation.{zeroes_in}
+use Rattle.block_device.specs.Progress.{IsServable}
+use Rattle.block_device.specs.Request.{AreRead, out_request_of, payload_of, write_zeroes_request_of}
+use Rattle.block_device.specs.Zeroes.{are_segments}
+use Rattle.block_device.proofs.Judging.{payload_size, request_by_type}
+use Rattle.racing_service.specs.Device.{AreBytesSeen}
+use Rattle.racing_service.proofs.Seeing.{part_seen, seen_append}
+use Rattle.racing_service.proofs.Standing.{good_same}
+use Rattle.racing_disk.specs.Copying.{HasPayload, IsCopy, IsHeader}
+use Rattle.racing_disk.specs.Segments.{HasSegments, SegmentOfZeroes}
+use Rattle.racing_disk.specs.Judging.{BeginsWith, IsJudged, IsZeroing}
+use Rattle.racing_disk.proofs.Copying.{bytes_count, bytes_later, bytes_sooner}
+
+-- ---- the readable list as it stands at one access
+
+segments_seen : (s : Sightings) (segments : List Segment) → All (λ (r : Segment). Inside (memory s) r.addr r.len) segments
+    → AreBytesSeen s s (flat_map addresses segments) (flat_map (λ (r : Segment). part_of (memory s) r.addr r.len) segments)
+segments_seen s [] inside = tt
+segments_seen s (r ∷ segments) inside =
+    seen_append s s (addresses r) (flat_map addresses segments) (part_of (memory s) r.addr r.len)
+    (flat_map (λ (r : Segment). part_of (memory s) r.addr r.len) segments)
+    (part_seen s s (memory s) r.addr r.len (record { place = s.now; from = omega arith; to = omega arith; is = refl })
+    (All-head (λ (r : Segment). Inside (memory s) r.addr r.len) r segments inside))
+    (segments_seen s segments (All-tail (λ (r : Segment). Inside (memory s) r.addr r.len) r segments inside))
+
+pub readable_seen : (s : Sightings) (buffers : List Buffer) → Good (memory s) buffers
+    → IsCopy s s buffers (readable_of (memory s) buffers)
+readable_seen s buffers good = segments_seen s (segments_of false buffers) (All-segments_of (memory s) false buffers good.inside)
+
+bytes_drop : (a b : Sightings) (n : ℕ) (addrs bytes : List ℕ) → AreBytesSeen a b addrs bytes
+    → AreBytesSeen a b (drop n addrs) (drop n bytes)
+bytes_drop a b zero addrs bytes seen = seen
+bytes_drop a b (suc n) [] [] seen = tt
+bytes_drop a b (suc n) [] (x ∷ bytes) seen = absurd seen
+bytes_drop a b (suc n) (at ∷ addrs) [] seen = absurd seen
+bytes_drop a b (suc n) (at ∷ addrs) (x ∷ bytes) seen = bytes_drop a b n addrs bytes seen.1
+
+-- what is behind the header, as it stands at one access
+pub payload_seen : (s : Sightings) (buffers : List Buffer) → Good (memory s) buffers
+    → AreBytesSeen s s (drop 16 (addresses_of false buffers)) (drop 16 (readable_of (memory s) buffers))
+payload_seen s buffers good =
+    bytes_drop s s 16 (addresses_of false buffers) (readable_of (memory s) buffers) (readable_seen s buffers good)
+
+-- ---- a header, and what is behind it
+
+module _ (races : Bool) (a b c : Sightings) (buffers : List Buffer) (len kind sector : ℕ) (first : Loads races a b)
+    (later : Loads races b c) (all : len_of false buffers ≡ len) (enough : 16 ≤ len) (h : IsHeader a b buffers kind sector)
+    (payload : List ℕ) (behind : AreBytesSeen b c (drop 16 (addresses_of false buffers)) payload) where
+  abbrev pub readable : List ℕ
+  readable = h.bytes ++ payload
+
+  header_long : length h.bytes ≡ 16
+  header_long =
+      bytes_count a b (take 16 (addresses_of false buffers)) h.bytes h.copy
+      ∙ length-take-le 16 (addresses_of false buffers) (omega (arith, length-addresses_of false buffers, all, enough))
+
+  pub one_copy : IsCopy a c buffers readable
+  one_copy =
+      let addrs = addresses_of false buffers in
+      subst (λ (l : List ℕ). AreBytesSeen a c l readable) (take-append-drop 16 addrs)
+      (seen_append a c (take 16 addrs) (drop 16 addrs) h.bytes payload
+      (bytes_later races a b c (take 16 addrs) h.bytes later h.copy)
+      (bytes_sooner races a b c (drop 16 addrs) payload first behind))
+
+  pub begins : BeginsWith kind sector len readable
+  begins =
+      let front : h.bytes ≡ take 16 readable = sym (take_at h.bytes payload 16 header_long) in
+      record {
+        kind_is = h.kind_is ∙ ap (little_number 4) front;
+        sector_is = h.sector_is ∙ ap (λ l. little_number 8 (drop 8 l)) front;
+        long = bytes_count a c (addresses_of false buffers) readable one_copy ∙ length-addresses_of false buffers ∙ all;
+      }
+
+  pub payload_is : payload_of readable ≡ payload
+  payload_is = drop_at h.bytes payload 16 header_long
+
+-- its request is known by that
+pub known_judged : (device : BlockDevice) (races : Bool) (a b : Sightings) (buffers : List Buffer) (room len kind sector : ℕ)
+    (request : Request) (runs : List Segment) → Good (memory a) buffers → Loads races a b → len_of false buffers ≡ len
+    → 16 ≤ len → IsHeader a b buffers kind sector
+    → ((bytes : List ℕ) → BeginsWith kind sector len bytes → IsKnown device bytes room request)
+    → IsJudged device a b buffers room request runs
+known_judged device races a b buffers room len kind sector request runs good loads all enough h known =
+    let good_then : Good (memory b) buffers = good_same (memory a) (memory b) buffers (loads_range races a b loads) good in
+    let payload = drop 16 (readable_of (memory b) buffers) in
+    let behind = payload_seen b buffers good_then in
+    let later = none in
+    let readable = h.bytes ++ payload in
+    let is : IsKnown device readable room request =
+    known readable (begins races a b b buffers len kind sector loads later all enough h payload behind) in
+    record {
+      readable = readable;
+      copy = one_copy races a b b buffers len kind sector loads later all enough h payload behind;
+      judged = record {
+        is = is.is;
+        servable = is.servable;
+        zeroes = λ some. absurd (cc (some, is.plain));
+      };
+    }
+  where
+    none : Loads races b b
+    none = loads_none races b
+
+-- it is a WRITE_ZEROES
+pub zeroes_judged : (device : BlockDevice) (races : Bool) (a b c : Sightings) (buffers : List Buffer) (room len kind sector : ℕ)
+    (request : Request) (runs : List Segment) → Loads races a b → Loads races b c → len_of false buffers ≡ len
+    → 16 ≤ len → IsHeader a b buffers kind sector
+    → ((bytes : List ℕ) → BeginsWith kind sector len bytes → IsZeroes device bytes room (len - 16))
+    → HasPayload b c buffers (λ payload. IsZeroing device payload request runs)
+    → IsJudged device a c buffers room request runs
+zeroes_judged device races a b c buffers room len kind sector request runs first later all enough h known p =
+    let readable = h.bytes ++ p.payload in
+    let begun = begins races a b c buffers len kind sector first later all enough h p.payload p.copy in
+    let behind : payload_of readable ≡ p.payload =
+    payload_is races a b c buffers len kind sector first later all enough h p.payload p.copy in
+    record {
+      readable = readable;
+      copy = one_copy races a b c buffers len kind sector first later all enough h p.payload p.copy;
+      judged = record {
+        is = p.is.is ∙ sym ((known readable begun).is ∙ ap (write_zeroes_request_of device) behind);
+        servable = rw behind (p.is.servable room);
+        zeroes = λ some. p.is.zeroes some ∙ ap zeroes_in (sym behind);
+      };
+    }
+
+-- there is no whole header
+pub short_judged : (device : BlockDevice) (a : Sightings) (buffers : List Buffer) (room len : ℕ) (runs : List Segment)
+    → Good (memory a) buffers → len_of false buffers ≡ len → len < 16
+    → IsJudged device a a buffers room (Rejected IoError) runs
+short_judged device a buffers room len runs good all few =
+    let readable = readable_of (memory a) buffers in
+    let short : nat_lt (length readable) 16 ≡ true =
+    grind (arith, nat_tests, length-readable_of (memory a) buffers good.inside, all, few) in
+    record {
+      readable = readable;
+      copy = readable_seen a buffers good;
+      judged = record { is = rw short refl; servable = tt; zeroes = λ some. cc };
+    }
+
+-- ---- an OUT
+
+pub out_known : (device : BlockDevice) (bytes : List ℕ) (room kind sector len : ℕ) (request : Request) → 16 ≤ len
+    → BeginsWith kind sector len bytes → kind ≡ 1 → request ≡ out_request_of device sector (len - 16)
+    → has_segments request ≡ false
+    → ((payload : List ℕ) (room : ℕ) → length payload ≡ len - 16 → IsServable device.extent.count request payload room)
+    → IsKnown device bytes room request
+out_known device bytes room kind sector len request enough h one value plain servable =
+    let behind = payload_size bytes len h.long in
+    record {
+      is = request_by_type device bytes room 1 sector request (omega (arith, enough, h.long)) (sym one ∙ h.kind_is)
+          h.sector_is (value ∙ ap (out_request_of device sector) (sym behind));
+      servable = servable (payload_of bytes) room behind;
+      plain = plain;
+    }
+
+-- ---- what is behind the header
+
+module _ (old new : Sightings) (buffers : List Buffer) (len : ℕ) where
+  behind_count : len_of false buffers ≡ 16 + len → length (drop 16 (addresses_of false buffers)) ≡ len
+  behind_count all =
+      omega (arith, length-drop 16 (addresses_of false buffers), length-addresses_of false buffers, all)
+
+  -- so many places are all of them
+  pub behind_all : (n : ℕ) (payload : List ℕ) → len_of false buffers ≡ 16 + len → n ≡ len
+      → AreBytesSeen old new (take n (drop 16 (addresses_of false buffers))) payload
+      → AreBytesSeen old new (drop 16 (addresses_of false buffers)) payload
+  behind_all n payload all same seen =
+      let addrs = drop 16 (addresses_of false buffers) in
+      subst (λ (l : List ℕ). AreBytesSeen old new l payload)
+      (take_all n addrs (omega (arith, behind_count all, same))) seen
+
+  pub behind_long : (payload : List ℕ) → len_of false buffers ≡ 16 + len
+      → AreBytesSeen old new (drop 16 (addresses_of false buffers)) payload → length payload ≡ len
+  behind_long payload all seen =
+      bytes_count old new (drop 16 (addresses_of false buffers)) payload seen ∙ behind_count all
+
+-- ---- a WRITE_ZEROES that is rejected by its length, or since nothing may be written
+
+refused : (device : BlockDevice) (payload : List ℕ) (read_only fit : Bool) → device.read_only ≡ read_only
+    → are_segments (length payload) ≡ fit → (read_only ≡ true) ⊎ (fit ≡ false)
+    → write_zeroes_request_of device payload ≡ Rejected IoError
+refused device payload true fit e f which = rw e refl
+refused device payload false false e f which = rw (e, f) refl
+refused device payload false true e f (inl ro) = cc
+refused device payload false true e f (inr none) = cc
+
+pub no_segments : (device : BlockDevice) (s : Sightings) (buffers : List Buffer) (len : ℕ) → Good (memory s) buffers
+    → len_of false buffers ≡ 16 + len → (device.read_only ≡ true) ⊎ (are_segments len ≡ false)
+    → HasPayload s s buffers (λ payload. write_zeroes_request_of device payload ≡ Rejected IoError)
+no_segments device s buffers len good all which =
+    let payload = drop 16 (readable_of (memory s) buffers) in
+    let seen = payload_seen s buffers good in
+    let long : length payload ≡ len = behind_long s s buffers len payload all seen in
+    record {
+      payload = payload;
+      copy = seen;
+      is = refused device payload device.read_only (are_segments len) refl (ap are_segments long) which;
+    }
+
+-- ---- one whose segments were copied
+
+pub judged_payload : (old new : Sightings) (buffers : List Buffer) (device : BlockDevice) (len : ℕ)
+    (segments : List SegmentOfZeroes) (fit : Bool) (Is : List ℕ → Type 0) → device.read_only ≡ false → fit ≡ are_segments len
+    → fit ≡ true → HasPayload old new buffers (λ payload. HasSegments len payload segments)
+    → ((payload : List ℕ) → AreRead device payload segments → Is payload) → HasPayload old new buffers Is
+judged_payload old new buffers device len segments fit Is writable tested passed h judged = record {
+  payload = h.payload;
+  copy = h.copy;
+  is = judged h.payload (record {
+    are = h.is.are;
+    writable = writable;
+    fit = ap are_segments h.is.long ∙ sym tested ∙ passed;
+  });
+}

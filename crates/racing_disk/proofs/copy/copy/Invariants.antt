@@ -1,0 +1,12 @@
+use Rattle.std.proofs.Common.{◌≡◌, length}
+use Rattle.racing_disk.proofs.Copying.{Copied}
+use Rattle.racing_disk.proofs.copy.copy.Given as goal
+
+-- the first runs were copied into the first bytes
+abbrev pub invariant-loop-run : goal.invariant-loop-run
+invariant-loop-run g l = record {
+  copied : Copied (g.M.Shared.races l.fn.mem) (g.M.Shared.sightings l.fn.mem) (g.M.Shared.sightings l.mem) l.runs
+      l.run-index l.done l.into;
+  long : length l.into ≡ length l.fn.into;
+  races : g.M.Shared.races l.mem ≡ g.M.Shared.races l.fn.mem;
+}

@@ -1,0 +1,36 @@
+use Rattle.std.proofs.Common.{◌∙◌, true, ap, arith}
+use Rattle.guest_memory.proofs.Ranges.{same_trans}
+use Rattle.chain.proofs.Directions.{len_of-le, length-addresses_of}
+use Rattle.shared_memory.specs.Sightings.{memory}
+use Rattle.block_device.specs.Asking.{used_by}
+use Rattle.racing_disk.proofs.Answering.{answered, once_range}
+use Rattle.racing_disk.proofs.disk.RacingDisk.answer.Goals as goal
+
+pub overflow_cast-writable_len : goal.overflow_cast-writable_len
+overflow_cast-writable_len g c =
+    omega (
+      arith,
+      c.writable_len.ensures,
+      c.buffers.ensures.fits,
+      len_of-le true c.args.chain.now,
+      length-addresses_of true c.args.chain.now,
+    )
+
+pub give-requires-clause-lies : goal.give-requires-clause-lies
+give-requires-clause-lies g c =
+    g.met.Q.RacingQueue.lies_in_range (memory (g.M.Shared.sightings c.args.mem.now))
+    (memory (g.M.Shared.sightings c.store_u8.new.self)) c.args.queue.now
+    (same_trans _ _ _ c.store_found-found.ensures.range (once_range _ _ _ _ _ c.store_u8.ensures.stores)) c.requires.lies
+
+pub returns-clause-answered : goal.returns-clause-answered
+returns-clause-answered g c = λ readable left. record {
+  done = g.M.Shared.sightings c.store_u8.new.self;
+  answered = answered c.args.self.now.device (g.M.Shared.races c.args.mem.now) (g.M.Shared.sightings c.args.mem.now)
+      (g.M.Shared.sightings c.store_found-found.new.mem) (g.M.Shared.sightings c.store_u8.new.self) readable c.args.chain.now
+      c.args.request c.args.room.now c.store_found-found.result.len c.last_writable.result c.used_len-len.result
+      c.store_found-found.result.status left c.store_found-found.ensures.found c.last_writable.ensures.value
+      (rw (c.code.ensures, c.store_found-found.ensures.races) at c.store_u8.ensures.stores)
+      (c.used_len-len.ensures ∙ ap (used_by c.store_found-found.result.len) c.writable_len.ensures);
+  given = rw (c.store_u8.ensures.races ∙ c.store_found-found.ensures.races) at c.give.ensures.given;
+  past = c.give.ensures.past;
+}

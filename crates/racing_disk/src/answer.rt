@@ -1,0 +1,113 @@
+//! A chain that is answered at once: what it is given is stored byte by byte, the status last.
+
+ghost use Rattle.std.specs.Prelude.{◌≡◌, ◌<◌, ◌≤◌, ℕ, List, ◌∷◌, [], false, length, take, drop};
+ghost use Rattle.guest_memory.specs.Memory.{Inside, Memory, SameRange};
+ghost use Rattle.chain.specs.Buffers.{Good};
+ghost use Rattle.chain.specs.Bytes.{writable_of};
+ghost use Rattle.shared_memory.specs.Sightings.{memory};
+ghost use Rattle.block_device.specs.Asking.{asks_image};
+ghost use Rattle.racing_disk.specs.Answering.{HasFound, IsAnsweredIn, StoresEach};
+ghost use Rattle.racing_disk.specs.Telling.{IsLeft, WasLeft};
+
+use crate::bytes::StoresBytes;
+use crate::disk::RacingDisk;
+use crate::status::{code, used_len};
+use block_device::{Request, RequestStatus};
+use chain::{Chain, Runs, Used};
+use racing_service::RacingQueue;
+
+/// What is stored of an answer before its status.
+#[derive(Clone, Copy)]
+struct Answer {
+    // How many of the first writable bytes are.
+    len: u32,
+    status: RequestStatus,
+}
+
+impl RacingDisk {
+    /// Answers the chain that was taken last, whose request asks nothing of the disk, and gives it back. Answers its used
+    /// length.
+    pub fn answer<Q: RacingQueue, M: StoresBytes>(
+        &self,
+        mem: &mut M,
+        queue: &mut Q,
+        token: Q::Token,
+        request: Request,
+        chain: &Chain,
+        room: &mut Runs,
+    ) -> u32
+        requires lies { Q.LiesIn (memory (M.sightings mem.old)) queue.old }
+        requires taken { Q.IsTaken queue.old token }
+        requires good { Good (memory (M.sightings mem.old)) chain.now }
+        requires left { WasLeft self.now.device chain.now request room.old }
+        requires asks { asks_image request ≡ false }
+        ensures answered { (readable : List ℕ) → IsLeft self.now.device readable chain.now request room.old →
+            IsAnsweredIn Q.kind self.now.device (M.races mem.old) (M.sightings mem.old) (M.sightings mem.new) readable chain.now
+            (Q.entry_of token) result queue.old queue.new }
+        ensures races { M.races mem.new ≡ M.races mem.old }
+        ensures lies { Q.LiesIn (memory (M.sightings mem.new)) queue.new }
+    {
+        // What it ensures: there are fewer than 2^32 bytes.
+        let _ = chain.buffers();
+        let found = self.store_found(mem, request, chain, room);
+        mem.store_u8(chain.last_writable(), code(found.status));
+        let len = used_len(found.len, chain.writable_len() as u32);
+        queue.give(mem, token, Used { len, wrote: true });
+        len
+    }
+
+    /// Stores what a request finds that asks nothing of the disk.
+    fn store_found<M: StoresBytes>(
+        &self,
+        mem: &mut M,
+        request: Request,
+        chain: &Chain,
+        room: &mut Runs,
+    ) -> Answer
+        requires good { Good (memory (M.sightings mem.old)) chain.now }
+        requires left { WasLeft self.now.device chain.now request room.old }
+        requires asks { asks_image request ≡ false }
+        ensures found { HasFound self.now.device (M.races mem.old) (M.sightings mem.old) (M.sightings mem.new) chain.now request
+            result.len result.status }
+        ensures races { M.races mem.new ≡ M.races mem.old }
+        ensures range { SameRange (memory (M.sightings mem.old)) (memory (M.sightings mem.new)) }
+    {
+        match request {
+            Request::GetId => {
+                store_first(mem, chain, &self.device.identity, room);
+                Answer {
+                    len: 20,
+                    status: RequestStatus::Success,
+                }
+            }
+            Request::Rejected(status) => Answer { len: 0, status },
+            _ => unreachable!(),
+        }
+    }
+}
+
+/// Stores bytes in the first writable places, one after another.
+fn store_first<M: StoresBytes>(mem: &mut M, chain: &Chain, bytes: &[u8], room: &mut Runs)
+    requires good { Good (memory (M.sightings mem.old)) chain.now }
+    requires range { length bytes.now ≤ length (writable_of chain.now) }
+    ensures stored { StoresEach (M.races mem.old) (M.sightings mem.old) (M.sightings mem.new)
+        (take (length bytes.now) (writable_of chain.now)) bytes.now }
+    ensures races { M.races mem.new ≡ M.races mem.old }
+    ensures range { SameRange (memory (M.sightings mem.old)) (memory (M.sightings mem.new)) }
+{
+    for (index, byte) in bytes.iter().enumerate() {
+        mem.store_u8(place_at(chain, index as u64, room), *byte);
+    }
+}
+
+/// The address of a writable place. `room` is for its run.
+fn place_at(chain: &Chain, place: u64, room: &mut Runs) -> u64
+    requires { place < length (writable_of chain.now) }
+    ensures value { take 1 (drop place (writable_of chain.now)) ≡ result ∷ [] }
+    ensures inside { (m : Memory) → Good m chain.now → Inside m result 1 }
+{
+    // What it ensures: no place passes 2^32.
+    let _ = chain.buffers();
+    chain.runs(true, place, place + 1, room);
+    room.as_slice()[0].addr
+}

@@ -1,0 +1,44 @@
+//! A chain in flight that is completed: its status is stored, and behind it its used entry.
+
+ghost use Rattle.std.specs.Prelude.{◌≡◌, ◌<◌};
+ghost use Rattle.guest_memory.specs.Memory.{Inside};
+ghost use Rattle.shared_memory.specs.Sightings.{memory};
+ghost use Rattle.racing_disk.specs.Completing.{IsGivenBack};
+
+use crate::bytes::StoresBytes;
+use crate::operation::Flight;
+use crate::status::{code, used_len};
+use block_device::{OperationKind, RequestStatus, Verdict};
+use chain::Used;
+use racing_service::RacingQueue;
+
+/// Completes a chain in flight by how its operation came out, and gives it back. Answers its used length. The round takes no
+/// more chains, and the caller closes the queue.
+pub fn complete<Q: RacingQueue, M: StoresBytes>(
+    flight: Flight<Q::Token>,
+    mem: &mut M,
+    queue: &mut Q,
+    verdict: Verdict,
+) -> u32
+    requires lies { Q.LiesIn (memory (M.sightings mem.old)) queue.old }
+    requires ahead { Q.IsAhead queue.old flight.token }
+    requires status { Inside (memory (M.sightings mem.old)) flight.status 1 }
+    requires some { 0 < flight.writable }
+    ensures back { IsGivenBack Q.kind (M.races mem.old) (M.sightings mem.old) (M.sightings mem.new) flight.status
+        flight.writable flight.operation.kind verdict (Q.entry_of flight.token) result queue.old queue.new }
+    ensures races { M.races mem.new ≡ M.races mem.old }
+    ensures lies { Q.LiesIn (memory (M.sightings mem.new)) queue.new }
+{
+    let status = match verdict {
+        Verdict::Done => RequestStatus::Success,
+        Verdict::Failed => RequestStatus::IoError,
+    };
+    mem.store_u8(flight.status, code(status));
+    let found = match (verdict, flight.operation.kind) {
+        (Verdict::Done, OperationKind::In) => flight.writable - 1,
+        _ => 0,
+    };
+    let len = used_len(found, flight.writable);
+    queue.land(mem, flight.token, Used { len, wrote: true });
+    len
+}

@@ -1,0 +1,38 @@
+//! A copy of places of a chain's readable list, in a buffer of the device's own.
+
+ghost use Rattle.std.specs.Prelude.{◌≡◌, ◌+◌, ◌≤◌, false, length, take, drop};
+ghost use Rattle.chain.specs.Buffers.{Good};
+ghost use Rattle.chain.specs.Bytes.{addresses_of, len_of};
+ghost use Rattle.shared_memory.specs.Sightings.{Loads, memory};
+ghost use Rattle.racing_service.specs.Device.{AreBytesSeen};
+
+use chain::{Chain, Runs};
+use shared_memory::Shared;
+
+/// Copies the bytes from place `from` of the readable list on into all of `into`: each place is read once. `room` is for the
+/// runs of these places.
+pub(crate) fn copy<M: Shared>(
+    mem: &mut M,
+    chain: &Chain,
+    from: u64,
+    into: &mut [u8],
+    room: &mut Runs,
+)
+    requires good { Good (memory (M.sightings mem.old)) chain.now }
+    requires range { from + length into.old ≤ len_of false chain.now }
+    ensures copied { AreBytesSeen (M.sightings mem.old) (M.sightings mem.new)
+        (take (length into.old) (drop from (addresses_of false chain.now))) into.new }
+    ensures loads { Loads (M.races mem.old) (M.sightings mem.old) (M.sightings mem.new) }
+    ensures races { M.races mem.new ≡ M.races mem.old }
+{
+    // What it ensures: no place passes 2^32.
+    let _ = chain.buffers();
+    chain.runs(false, from, from + into.len() as u64, room);
+    let runs = room.as_slice();
+    let mut done = 0;
+    for run in runs {
+        let len = run.len as usize;
+        mem.load(run.addr, &mut into[done..done + len]);
+        done += len;
+    }
+}
