@@ -20,7 +20,7 @@ use Rattle.board.specs.declared.event.DeviceEvent.TheVariants.{Plug, Read, Write
 use Rattle.board.specs.declared.event.EventKind.TheVariants.{Device}
 use Rattle.board.specs.declared.reply.Reply.{Reply}
 use Rattle.board.specs.declared.reply.Reply.TheVariants.{Value, Done, Bytes, Took, BadDevice, Busy, Idle, NoMemory}
-use Rattle.board.specs.Devices.{DoesTo, GivesByDevice, GivesDevice, AreSet, DoesIf, IsDeviceStep, IsUnmet, MayReplyDevice, StaysSo, TakesMemoryFor, can_plug, device_reply, oldest_at, received_reply, reply_at}
+use Rattle.board.specs.Devices.{DoesTo, GivesByDevice, GivesDevice, AreSet, DoesIf, IsDeviceStep, IsUnmet, MayReplyDevice, StaysSo, TakesMemoryFor, can_plug, device_reply, oldest_at, received_reply, reply_at, taken_reply}
 use Rattle.board.specs.Image.{Health}
 use Rattle.board.specs.Outcome.{Outcome, replies}
 use Rattle.board.specs.Slot.{SlotState}
@@ -335,3 +335,16 @@ pub read_given : (A : Type 0) (n offset width value : ℕ) (state : SlotState) (
     → GivesDevice {A = A} n (Read offset width) state health health (replies state (Value value))
 read_given A n offset width value state health is =
     read_at A n offset width value state health (slice_get state.devices n) refl (sym is)
+
+-- ---- a frame is taken away by who has copied it
+
+abbrev answer_by : (A : Type 0) → Option Card → Reply A
+answer_by A found = unwrap_or (option_map (λ card. Bytes (unwrap_or (oldest_of card) [])) found) BadDevice
+
+taken_by : (A : Type 0) (found : Option Card) → answer_by A found ≢ NoMemory
+taken_by A None = λ same. absurd (cc (same))
+taken_by A (Some card) = λ same. absurd (cc (same))
+
+-- there is memory for that
+pub taken_answered : (A : Type 0) (n : ℕ) (devices : List DeviceState) → taken_reply {A = A} n devices ≢ NoMemory
+taken_answered A n devices = taken_by A (card_at n devices)

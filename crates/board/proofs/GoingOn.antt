@@ -3,6 +3,7 @@ use Rattle.std.proofs.Common.{◌≡◌, ◌∙◌, inl, inr, ℕ, Bool, true, f
 use Rattle.std.specs.Prelude.{drop, take, false, true}
 use Rattle.std.specs.List.{slice_get}
 use Rattle.std.proofs.Math.Seq.{take-append_seam}
+use Rattle.device_list.specs.Saved.{AreOfModels}
 use Rattle.snapshot.specs.declared.saved.SavedSlot.{SavedSlot}
 use Rattle.snapshot.proofs.OfSlot.{snapshot_once}
 use Rattle.board.specs.declared.event.Event.{Event}
@@ -18,10 +19,11 @@ use Rattle.board.specs.Machine.{IsToldAlone, RunsOnItsOwn}
 use Rattle.board.specs.Moving.{HasBytesOf, MovesTo, RanOnBoth, as_of}
 use Rattle.board.specs.Outcome.{Outcome}
 use Rattle.board.specs.Restoring.{IsRestoring, IsTakenUp, slot_in}
-use Rattle.board.specs.Saved.{IsAs, IsLike, IsSavedTo, IsSnapshotOf, Suits, saved_slot, snapshot_of}
+use Rattle.board.specs.Saved.{IsAs, IsLike, IsSavedTo, IsSnapshotOf, Suits, SuitsBesideDevices, saved_slot, snapshot_of}
 use Rattle.board.specs.Slot.{BoardSlot, SlotState, state_of}
 use Rattle.board.specs.World.{MayGiveBy, MayGiveOverImage, SlotStep, Step, World}
 use Rattle.board.proofs.Alone.{alone, get_set, slot_step}
+use Rattle.board.proofs.SavedDevices.{like_models, windows_back}
 use Rattle.board.proofs.Saving.{as_saved}
 use Rattle.board.proofs.Steps.{answers_join}
 
@@ -60,13 +62,14 @@ done_by {A} (Some disk) state bytes before after outcome given done =
 -- ---- and it brings the slot into the state in which it was saved
 
 -- a slot of this description
-like_saved : (saved other : BoardSlot) → Suits (saved_slot saved) other → other.memory ≡ saved.memory
-    → IsLike saved other
-like_saved saved other suits memory = record {
+like_saved : (saved other : BoardSlot) → SuitsBesideDevices (saved_slot saved) other → other.memory ≡ saved.memory
+    → AreOfModels saved.devices other.devices → IsLike saved other
+like_saved saved other suits memory devices = record {
   memory = rw memory (record { base = refl; size = refl; gaps = refl });
   sectors = sym suits.sectors;
   read_only = sym suits.read_only;
   identity = sym suits.identity;
+  devices = like_models saved.devices other.devices devices;
   on_hold = suits.on_hold;
 }
 
@@ -85,9 +88,9 @@ as_left saved bytes state new has text taken =
     subst (λ (x : SavedSlot × List ℕ). Suits x.0 (slot_in state)) same read.takes_up.suits in
     let is : IsAs saved (slot_in state) (slot_in new) =
     as_saved saved (slot_in state) (slot_in new) (snapshot_of saved) (read.saved, read.pending) text
-    (like_saved saved (slot_in state) suits has.memory) same read.takes_up in
+    (like_saved saved (slot_in state) suits.beside has.memory has.devices) same read.takes_up in
     ap (λ (slot : BoardSlot). seen_in new.extent slot) is
-    ∙ rw (taken.extent, has.memory, has.extent, has.host, has.devices) refl
+    ∙ rw (taken.extent, has.memory, has.extent, has.host, windows_back saved.devices state.devices has.devices) refl
 
 -- the front of the buffer is the snapshot
 front_is : (saved : BoardSlot) (buffer text : List ℕ) (len : ℕ) → IsSavedTo saved buffer text len

@@ -46,5 +46,6 @@ pub mod Honest
 pub mod Lasting
 pub mod Reading
 pub mod SameRange
+pub mod SavedDevices
 pub mod Untouched
 pub mod UntouchedSteps

@@ -1,7 +1,6 @@
 -- A restore as an event: it has one outcome, and a slot that takes up a snapshot gives it.
 use Rattle.std.proofs.Common.{◌≡◌, ◌∙◌, inl, inr, ℕ, List, [], Option, Some, None, Result, Ok, Err, refl, sym, ap, subst}
 use Rattle.std.specs.Prelude.{IfErr, IsSome, OnErr, OnOk}
-use Rattle.mmio_window.specs.Window.{WindowState}
 use Rattle.sector_cache.specs.Sector.{extent_of}
 use Rattle.snapshot.specs.declared.saved.SavedSlot.{SavedSlot}
 use Rattle.snapshot.specs.Spelling.{IsSnapshot}
@@ -10,24 +9,25 @@ use Rattle.snapshot.proofs.OfSlot.{snapshot_once}
 use Rattle.board.specs.declared.event.EventKind.TheVariants.{Restore}
 use Rattle.board.specs.declared.reply.Reply.TheVariants.{BadState}
 use Rattle.board.specs.declared.saved.RestoreFault.{RestoreFault}
-use Rattle.board.specs.declared.saved.RestoreFault.TheVariants.{Snapshot, OtherSlot, BadBlock, BadConsole}
+use Rattle.board.specs.declared.saved.RestoreFault.TheVariants.{Snapshot, OtherSlot, BadDevice, BadBlock, BadConsole, BadDeviceWindow}
 use Rattle.board.specs.Image.{Health, sectors_of}
 use Rattle.board.specs.Outcome.{Outcome, does, replies}
 use Rattle.board.specs.Backing.{sectors_by}
 use Rattle.board.specs.Restoring.{IsRestoring, IsTakenUp, slot_in, taken_up_reply}
-use Rattle.board.specs.Saved.{IsCauseOf, IsPrevented, IsRestored, Prevents, Suits, TakesUp}
+use Rattle.board.specs.Saved.{IsCauseOf, IsPrevented, IsRestored, Prevents, Suits, SuitsBesideDevices, TakesUp}
 use Rattle.board.specs.Slot.{BoardSlot, SlotState, state_of}
 use Rattle.board.specs.World.{MayGiveOverImage}
-use Rattle.board.proofs.Saving.{none_some, same_window}
+use Rattle.board.proofs.Saving.{none_some, same_value}
 
 -- ---- there is at most one outcome
 
 takes_once : (old : BoardSlot) (saved : SavedSlot) (pending : List ℕ) (one other : BoardSlot)
     → TakesUp old saved pending one → TakesUp old saved pending other → one ≡ other
 takes_once old saved pending one other a b =
-    let block : one.block ≡ other.block = same_window _ _ _ a.block b.block in
-    let console : one.console ≡ other.console = same_window _ _ _ a.console b.console in
-    a.is ∙ (rw (block, console) refl ∙ sym b.is)
+    let block : one.block ≡ other.block = same_value _ _ _ a.block b.block in
+    let console : one.console ≡ other.console = same_value _ _ _ a.console b.console in
+    let devices : one.devices ≡ other.devices = same_value _ _ _ a.devices b.devices in
+    a.is ∙ (rw (block, console, devices) refl ∙ sym b.is)
 
 slot_once : (old : BoardSlot) (bytes : List ℕ) (one other : BoardSlot) → IsRestored old bytes one
     → IsRestored old bytes other → one ≡ other
@@ -40,9 +40,11 @@ slot_once old bytes one other a b =
 not_both : (old : BoardSlot) (saved : SavedSlot) (pending : List ℕ) (new : BoardSlot) (why : RestoreFault)
     → TakesUp old saved pending new → Prevents old saved why → ⊥
 not_both old saved pending new (Snapshot fault) takes prevents = prevents
-not_both old saved pending new OtherSlot takes prevents = prevents takes.suits
+not_both old saved pending new OtherSlot takes prevents = prevents takes.suits.beside
+not_both old saved pending new BadDevice takes prevents = prevents.1 takes.suits.devices
 not_both old saved pending new BadBlock takes prevents = none_some _ _ prevents.1 takes.block
 not_both old saved pending new BadConsole takes prevents = none_some _ _ prevents.1.1 takes.console
+not_both old saved pending new BadDeviceWindow takes prevents = none_some _ _ prevents.1.1.1 takes.devices
 
 not_prevented_too : (old : BoardSlot) (bytes : List ℕ) (new : BoardSlot) (why : RestoreFault)
     → IsRestored old bytes new → IsPrevented old bytes why → ⊥
@@ -59,21 +61,29 @@ no_cause old bytes new why is cause = not_prevented_too old bytes new why is cau
 
 -- ---- and one cause of a refusal
 
-some_none : (r : Option WindowState) → r ≡ None → IsSome r → ⊥
+some_none : {A : Type 0} (r : Option A) → r ≡ None → IsSome r → ⊥
 some_none None e h = absurd cc
-some_none (Some w) e h = absurd cc
+some_none (Some x) e h = absurd cc
 
 prevents_once : (slot : BoardSlot) (saved : SavedSlot) (one other : RestoreFault)
     → Prevents slot saved one → Prevents slot saved other → one ≡ other
 prevents_once slot saved (Snapshot fault) other a b = absurd a
 prevents_once slot saved one (Snapshot fault) a b = absurd b
 prevents_once slot saved OtherSlot OtherSlot a b = refl
+prevents_once slot saved BadDevice BadDevice a b = refl
 prevents_once slot saved BadBlock BadBlock a b = refl
-prevents_once slot saved BadBlock BadConsole a b = absurd (some_none _ a.1 b.1.0)
-prevents_once slot saved BadConsole BadBlock a b = absurd (some_none _ b.1 a.1.0)
 prevents_once slot saved BadConsole BadConsole a b = refl
-prevents_once slot saved OtherSlot _ a b = absurd (a b.0)
-prevents_once slot saved _ OtherSlot a b = absurd (b a.0)
+prevents_once slot saved BadDeviceWindow BadDeviceWindow a b = refl
+prevents_once slot saved OtherSlot BadDevice a b = absurd (a b.0)
+prevents_once slot saved BadDevice OtherSlot a b = absurd (b a.0)
+prevents_once slot saved OtherSlot _ a b = absurd (a b.0.beside)
+prevents_once slot saved BadDevice _ a b = absurd (a.1 b.0.devices)
+prevents_once slot saved _ OtherSlot a b = absurd (b a.0.beside)
+prevents_once slot saved _ BadDevice a b = absurd (b.1 a.0.devices)
+prevents_once slot saved BadBlock _ a b = absurd (some_none _ a.1 b.1.0)
+prevents_once slot saved _ BadBlock a b = absurd (some_none _ b.1 a.1.0)
+prevents_once slot saved BadConsole BadDeviceWindow a b = absurd (some_none _ a.1.1 b.1.1.0)
+prevents_once slot saved BadDeviceWindow BadConsole a b = absurd (some_none _ b.1.1 a.1.1.0)
 
 prevented_once : (slot : BoardSlot) (bytes : List ℕ) (one other : RestoreFault)
     → IsPrevented slot bytes one → IsPrevented slot bytes other → one ≡ other
@@ -141,9 +151,9 @@ restored_host state bytes outcome (inr a) = ap (λ o. o.state.host) a.1
 abbrev IsCounted : List ℕ → BoardSlot → Type 0
 IsCounted image slot = sectors_of (state_of image slot).extent ≡ slot.extent.count
 
-suits_in : (image : List ℕ) (slot : BoardSlot) (saved : SavedSlot) → IsCounted image slot → Suits saved slot
-    → Suits saved (slot_in (state_of image slot))
-suits_in image slot saved counted suits = record {
+beside_in : (image : List ℕ) (slot : BoardSlot) (saved : SavedSlot) → IsCounted image slot
+    → SuitsBesideDevices saved slot → SuitsBesideDevices saved (slot_in (state_of image slot))
+beside_in image slot saved counted suits = record {
   base = suits.base;
   len = suits.len;
   sectors = suits.sectors ∙ ap (λ n. sectors_by slot.host n) (sym counted);
@@ -152,12 +162,18 @@ suits_in image slot saved counted suits = record {
   block = suits.block;
   console = suits.console;
   on_hold = suits.on_hold;
+}
+
+suits_in : (image : List ℕ) (slot : BoardSlot) (saved : SavedSlot) → IsCounted image slot → Suits saved slot
+    → Suits saved (slot_in (state_of image slot))
+suits_in image slot saved counted suits = record {
+  beside = beside_in image slot saved counted suits.beside;
   devices = suits.devices;
 }
 
-suits_out : (image : List ℕ) (slot : BoardSlot) (saved : SavedSlot) → IsCounted image slot
-    → Suits saved (slot_in (state_of image slot)) → Suits saved slot
-suits_out image slot saved counted suits = record {
+beside_out : (image : List ℕ) (slot : BoardSlot) (saved : SavedSlot) → IsCounted image slot
+    → SuitsBesideDevices saved (slot_in (state_of image slot)) → SuitsBesideDevices saved slot
+beside_out image slot saved counted suits = record {
   base = suits.base;
   len = suits.len;
   sectors = suits.sectors ∙ ap (λ n. sectors_by slot.host n) counted;
@@ -166,7 +182,6 @@ suits_out image slot saved counted suits = record {
   block = suits.block;
   console = suits.console;
   on_hold = suits.on_hold;
-  devices = suits.devices;
 }
 
 taken_in : (image : List ℕ) (slot new : BoardSlot) (bytes : List ℕ) → IsCounted image slot
@@ -180,6 +195,7 @@ taken_in image slot new bytes counted h = record {
       suits = suits_in image slot h.saved counted h.takes_up.suits;
       block = h.takes_up.block;
       console = h.takes_up.console;
+      devices = h.takes_up.devices;
       is = ap (λ (s : BoardSlot). slot_in (state_of image s)) h.takes_up.is;
     };
   };
@@ -189,9 +205,11 @@ taken_in image slot new bytes counted h = record {
 prevents_in : (image : List ℕ) (slot : BoardSlot) (saved : SavedSlot) (why : RestoreFault)
     → IsCounted image slot → Prevents slot saved why → Prevents (slot_in (state_of image slot)) saved why
 prevents_in image slot saved (Snapshot fault) counted h = h
-prevents_in image slot saved OtherSlot counted h = λ suits. h (suits_out image slot saved counted suits)
+prevents_in image slot saved OtherSlot counted h = λ suits. h (beside_out image slot saved counted suits)
+prevents_in image slot saved BadDevice counted h = (beside_in image slot saved counted h.0, h.1)
 prevents_in image slot saved BadBlock counted h = (suits_in image slot saved counted h.0, h.1)
 prevents_in image slot saved BadConsole counted h = (suits_in image slot saved counted h.0, h.1)
+prevents_in image slot saved BadDeviceWindow counted h = (suits_in image slot saved counted h.0, h.1)
 
 prevented_in : (image : List ℕ) (slot : BoardSlot) (bytes : List ℕ) (why : RestoreFault) → IsCounted image slot
     → IsPrevented slot bytes why → IsPrevented (slot_in (state_of image slot)) bytes why

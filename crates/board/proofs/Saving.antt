@@ -14,10 +14,15 @@ use Rattle.snapshot.specs.declared.saved.SavedSlot.{SavedSlot}
 use Rattle.snapshot.specs.Faults.{IsFirstFault}
 use Rattle.snapshot.specs.Spelling.{IsSnapshot, snapshot}
 use Rattle.snapshot.proofs.OfSlot.{snapshot_once}
+use Rattle.device_list.proofs.Sound.{still_sound}
+use Rattle.device_list.specs.List.{AreSoundDevices}
+use Rattle.device_list.specs.Saved.{RestoresEach, devices_restored, saved_devices}
+use Rattle.snapshot.specs.declared.saved.SavedDevice.{SavedDevice}
 use Rattle.board.specs.declared.saved.RestoreFault.{RestoreFault}
-use Rattle.board.specs.declared.saved.RestoreFault.TheVariants.{Snapshot, OtherSlot, BadBlock, BadConsole}
-use Rattle.board.specs.Saved.{IsAs, IsCauseOf, IsLike, IsRestored, IsSavedTo, IsSnapshotOf, OffersFeatures, Prevents, RestoresIt, Suits, TakesUp, block_restored, console_restored, saved_slot, snapshot_of}
+use Rattle.board.specs.declared.saved.RestoreFault.TheVariants.{Snapshot, OtherSlot, BadDevice, BadBlock, BadConsole, BadDeviceWindow}
+use Rattle.board.specs.Saved.{IsAs, IsCauseOf, IsLike, IsRestored, IsSavedTo, IsSnapshotOf, OffersFeatures, Prevents, RestoresIt, SuitsBesideDevices, TakesUp, block_restored, console_restored, saved_slot, snapshot_of, with_windows_of}
 use Rattle.board.specs.Slot.{BoardSlot, IsSoundSlot, block_features}
+use Rattle.board.proofs.SavedDevices.{offering, suit_each, windows_are}
 
 -- ---- what is saved
 
@@ -38,6 +43,14 @@ block_it : (m : Memory) (w : WindowState) → w.config_generation ≡ 0 → Rest
     → RestoresIt block_restored m w
 block_it m w never restores other same = never_counted w.config_generation _ never ∙ restores other same
 
+pub offers_them : (slot : BoardSlot)
+    → IsSoundSlot slot.memory slot.read_only slot.block slot.console slot.pending slot.devices → OffersFeatures slot
+offers_them slot sound = record {
+  block = sound.block_offers;
+  console = sound.console_offers;
+  devices = offering slot.memory slot.devices sound.devices_sound;
+}
+
 -- the snapshot of a slot that is sound
 is_snapshot : (slot : BoardSlot) (bytes : List ℕ)
     → IsSoundSlot slot.memory slot.read_only slot.block slot.console slot.pending slot.devices
@@ -45,13 +58,15 @@ is_snapshot : (slot : BoardSlot) (bytes : List ℕ)
     → window_restored slot.block.kind m (saved_window slot.block) ≡ Some slot.block)
     → ((m : Memory) → IsSound m slot.console → window_restored slot.console.kind m (saved_window slot.console)
     ≡ Some slot.console)
+    → ((m : Memory) → AreSoundDevices m slot.devices → RestoresEach m slot.devices)
     → IsSnapshot bytes (saved_slot slot) slot.pending → IsSnapshotOf bytes slot
-is_snapshot slot bytes sound block console spelled = record {
+is_snapshot slot bytes sound block console devices spelled = record {
   spelled = spelled;
-  offers = record { block = sound.block_offers; console = sound.console_offers };
+  offers = offers_them slot sound;
   block = block_it slot.memory slot.block sound.block_generation
       (restores_it Block slot.memory slot.block sound.block_sound sound.block_kind block);
   console = restores_it Console slot.memory slot.console sound.console_sound sound.console_kind console;
+  devices = λ m same. devices m (still_sound slot.memory m slot.devices same sound.devices_sound);
 }
 
 -- what was written of it
@@ -62,11 +77,12 @@ pub saved_as : {V E : Type 0} (items : V → List ℕ) (result : Result V E) (sl
     → ((m : Memory) → IsSound m slot.block → window_restored slot.block.kind m saved.block ≡ Some slot.block)
     → ((m : Memory) → IsSound m slot.console → window_restored slot.console.kind m saved.console
     ≡ Some slot.console)
+    → ((m : Memory) → AreSoundDevices m slot.devices → RestoresEach m slot.devices)
     → IfOk result (λ v. IsSnapshot (items v) saved (front ++ back))
     → IfOk result (λ v. IsSnapshotOf (items v) slot)
-saved_as items (Ok v) slot saved front back sound is pending block console text =
-    is_snapshot slot (items v) sound (rw is at block) (rw is at console) (rw (is, pending) at text)
-saved_as items (Err why) slot saved front back sound is pending block console text = tt
+saved_as items (Ok v) slot saved front back sound is pending block console devices text =
+    is_snapshot slot (items v) sound (rw is at block) (rw is at console) devices (rw (is, pending) at text)
+saved_as items (Err why) slot saved front back sound is pending block console devices text = tt
 
 -- the same in a buffer
 pub saved_to_as : {E : Type 0} (result : Result ℕ E) (slot : BoardSlot) (saved : SavedSlot)
@@ -76,14 +92,15 @@ pub saved_to_as : {E : Type 0} (result : Result ℕ E) (slot : BoardSlot) (saved
     → ((m : Memory) → IsSound m slot.block → window_restored slot.block.kind m saved.block ≡ Some slot.block)
     → ((m : Memory) → IsSound m slot.console → window_restored slot.console.kind m saved.console
     ≡ Some slot.console)
+    → ((m : Memory) → AreSoundDevices m slot.devices → RestoresEach m slot.devices)
     → IfOk result (λ len. len ≡ length (snapshot saved (front ++ back)))
     → IfOk result (λ len. new ≡ snapshot saved (front ++ back) ++ drop len old)
     → (IsErr result ↔ (length old < length (snapshot saved (front ++ back))))
     → IsSnapshot (snapshot saved (front ++ back)) saved (front ++ back)
     → IfOk result (IsSavedTo slot old new)
-saved_to_as (Ok len) slot saved front back old new sound is pending block console counted text short whole =
+saved_to_as (Ok len) slot saved front back old new sound is pending block console devices counted text short whole =
     record {
-      snapshot = is_snapshot slot (snapshot_of slot) sound (rw is at block) (rw is at console)
+      snapshot = is_snapshot slot (snapshot_of slot) sound (rw is at block) (rw is at console) devices
           (rw (is, pending) at whole);
       len_is = rw (is, pending) at counted;
       room = elim (cases_lt (length old) (length (snapshot saved (front ++ back)))) [
@@ -92,16 +109,16 @@ saved_to_as (Ok len) slot saved front back old new sound is pending block consol
       ];
       text = rw (is, pending) at text;
     }
-saved_to_as (Err why) slot saved front back old new sound is pending block console counted text short whole =
+saved_to_as (Err why) slot saved front back old new sound is pending block console devices counted text short whole =
     tt
 
 -- ---- what takes it up
 
-pub same_window : (r : Option WindowState) (w v : WindowState) → r ≡ Some w → r ≡ Some v → w ≡ v
-same_window r w v a b = cc
+pub same_value : {A : Type 0} (r : Option A) (x y : A) → r ≡ Some x → r ≡ Some y → x ≡ y
+same_value r x y a b = cc
 
 suits_it : (slot other : BoardSlot) (bytes : List ℕ) → IsSnapshotOf bytes slot → IsLike slot other
-    → OffersFeatures other → Suits (saved_slot slot) other
+    → OffersFeatures other → SuitsBesideDevices (saved_slot slot) other
 suits_it slot other bytes is like offers = record {
   base = sym like.memory.base;
   len = sym like.memory.size;
@@ -111,7 +128,6 @@ suits_it slot other bytes is like offers = record {
   block = is.offers.block ∙ ap block_features (sym like.read_only) ∙ sym offers.block;
   console = is.offers.console ∙ sym offers.console;
   on_hold = like.on_hold;
-  devices = refl;
 }
 
 -- a slot that has taken it up is as the one that was saved
@@ -128,15 +144,31 @@ as_saved slot old new bytes saved is like e takes =
     let rows_saved : saved.0.rows ≡ slot.rows = ap (λ (x : SavedSlot × List ℕ). x.0.rows) e in
     let hold_saved : saved.0.on_hold ≡ slot.on_hold = ap (λ (x : SavedSlot × List ℕ). x.0.on_hold) e in
     let block : new.block ≡ slot.block
-    = same_window _ _ _ (ap (block_restored old.memory) (sym block_saved)
+    = same_value _ _ _ (ap (block_restored old.memory) (sym block_saved)
     ∙ takes.block) (is.block old.memory like.memory) in
     let console : new.console ≡ slot.console
-    = same_window _ _ _ (ap (console_restored old.memory) (sym console_saved)
+    = same_value _ _ _ (ap (console_restored old.memory) (sym console_saved)
     ∙ takes.console) (is.console old.memory like.memory) in
-    takes.is ∙ rw (block, console, pending_saved, cols_saved, rows_saved, hold_saved, like.read_only, like.identity) refl
+    let devices_saved : saved.0.devices.items ≡ saved_devices slot.devices =
+    ap (λ (x : SavedSlot × List ℕ). x.0.devices.items) e in
+    let devices : new.devices ≡ with_windows_of slot.devices old.devices
+    = same_value _ _ _ (ap (λ (s : List SavedDevice). devices_restored old.memory s old.devices) (sym devices_saved)
+    ∙ takes.devices) (windows_are old.memory slot.devices old.devices (is.devices old.memory like.memory) like.devices) in
+    takes.is
+    ∙ rw (
+      block,
+      console,
+      devices,
+      pending_saved,
+      cols_saved,
+      rows_saved,
+      hold_saved,
+      like.read_only,
+      like.identity,
+    ) refl
 
-pub none_some : (r : Option WindowState) (w : WindowState) → r ≡ None → r ≡ Some w → ⊥
-none_some r w a b = cc
+pub none_some : {A : Type 0} (r : Option A) (x : A) → r ≡ None → r ≡ Some x → ⊥
+none_some r x a b = cc
 
 not_prevented : (slot old : BoardSlot) (bytes : List ℕ) (why : RestoreFault)
     → IsSnapshotOf bytes slot → IsLike slot old
@@ -144,10 +176,15 @@ not_prevented : (slot old : BoardSlot) (bytes : List ℕ) (why : RestoreFault)
 not_prevented slot old bytes (Snapshot fault) is like offers prevents = prevents
 not_prevented slot old bytes OtherSlot is like offers prevents =
     prevents (suits_it slot old bytes is like offers)
+not_prevented slot old bytes BadDevice is like offers prevents =
+    prevents.1 (suit_each slot.devices old.devices like.devices is.offers.devices offers.devices)
 not_prevented slot old bytes BadBlock is like offers prevents =
     none_some _ _ prevents.1 (is.block old.memory like.memory)
 not_prevented slot old bytes BadConsole is like offers prevents =
     none_some _ _ prevents.1.1 (is.console old.memory like.memory)
+not_prevented slot old bytes BadDeviceWindow is like offers prevents =
+    none_some _ _ prevents.1.1.1
+    (windows_are old.memory slot.devices old.devices (is.devices old.memory like.memory) like.devices)
 
 -- The outcome of taking up what was read, for the slot whose snapshot it is.
 pub taken_up : (slot old new : BoardSlot) (bytes : List ℕ) (saved : SavedSlot) (pending : List ℕ)

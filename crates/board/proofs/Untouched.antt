@@ -16,20 +16,21 @@ use Rattle.block_device.specs.Flights.{is_any}
 use Rattle.board.specs.declared.reply.Reply.{Reply}
 use Rattle.board.specs.declared.reply.Reply.TheVariants.{Value, NoMemory, Idle}
 use Rattle.board.specs.declared.saved.RestoreFault.{RestoreFault}
-use Rattle.board.specs.declared.saved.RestoreFault.TheVariants.{Snapshot, OtherSlot, BadBlock, BadConsole}
+use Rattle.board.specs.declared.saved.RestoreFault.TheVariants.{Snapshot, OtherSlot, BadDevice, BadBlock, BadConsole, BadDeviceWindow}
 use Rattle.board.specs.Backing.{HostDisk, tags_in}
 use Rattle.board.specs.Hosting.{DropGives, GivesOnHost, HoldGives, HostOrGives, OwnGives, dropped, held, is_block_task, notifies_block, told_in, waits_now}
 use Rattle.board.specs.Image.{Health}
 use Rattle.board.specs.Machine.{Gives, GivesBy, GivesOverImage, register, resized, task_at, with_write}
 use Rattle.board.specs.Outcome.{IsDetermined, Outcome, does, replies}
 use Rattle.board.specs.Restoring.{IsRestoring, IsTakenUp, slot_in}
-use Rattle.board.specs.Saved.{IsCauseOf, IsPrevented, Prevents, Suits, snapshot_of}
+use Rattle.board.specs.Saved.{IsCauseOf, IsPrevented, Prevents, Suits, SuitsBesideDevices, block_restored, console_restored, snapshot_of}
 use Rattle.board.specs.Slot.{BoardSlot, SlotState}
 use Rattle.board.specs.Task.{Finishes, Nothing, PutOut, Serve, Task, puts_out}
 use Rattle.board.specs.Untouched.{NeedsNoMemory, outcome_over, over_memory, serves_queue, touches_memory}
 use Rattle.board.specs.World.{IsCutShort, IsRefused, MayGive, MayGiveBy, MayGiveOverImage}
 use Rattle.board.proofs.Beside.{same_range}
 use Rattle.board.proofs.SameRange.{block_over, window_over, written_over}
+use Rattle.board.proofs.SavedDevices.{devices_over}
 
 -- memory's bytes are left as they were, and over these others the outcome is There's
 abbrev Stays : {A : Type 0} → (Outcome A → Type 0) → Memory → Memory → Outcome A → Type 0
@@ -48,9 +49,9 @@ determined_over {A} m outcome wanted before after h = (
 range_back : (m n : Memory) → SameRange m n → SameRange n m
 range_back m n same = record { base = sym same.base; size = sym same.size; gaps = sym same.gaps }
 
-suits_over : (old : SlotState) (m : Memory) → SameRange old.memory m → (saved : SavedSlot)
-    → Suits saved (slot_in old) → Suits saved (slot_in (over_memory m old))
-suits_over old m same saved h = record {
+beside_over : (old : SlotState) (m : Memory) → SameRange old.memory m → (saved : SavedSlot)
+    → SuitsBesideDevices saved (slot_in old) → SuitsBesideDevices saved (slot_in (over_memory m old))
+beside_over old m same saved h = record {
   base = h.base ∙ sym same.base;
   len = h.len ∙ sym same.size;
   sectors = h.sectors;
@@ -59,6 +60,12 @@ suits_over old m same saved h = record {
   block = h.block;
   console = h.console;
   on_hold = h.on_hold;
+}
+
+suits_over : (old : SlotState) (m : Memory) → SameRange old.memory m → (saved : SavedSlot)
+    → Suits saved (slot_in old) → Suits saved (slot_in (over_memory m old))
+suits_over old m same saved h = record {
+  beside = beside_over old m same saved h.beside;
   devices = h.devices;
 }
 
@@ -76,25 +83,38 @@ module _ (old : SlotState) (m : Memory) (same : SameRange old.memory m) where
             suits = suits_over old m same saved took.suits;
             block = block_over old.memory m saved.block same ∙ took.block;
             console = window_over kind.Console old.memory m saved.console same ∙ took.console;
+            devices = devices_over old.memory m saved.devices.items old.devices same ∙ took.devices;
             is = ap (λ (slot : BoardSlot). record slot { memory = m }) took.is;
           };
         };
         extent = h.extent;
       }
 
+  has_block : (saved : SavedSlot) → IsSome (block_restored old.memory saved.block)
+      → IsSome (block_restored m saved.block)
+  has_block saved h =
+      subst (λ (w : Option WindowState). IsSome w) (sym (block_over old.memory m saved.block same)) h
+
+  has_console : (saved : SavedSlot) → IsSome (console_restored old.memory saved.console)
+      → IsSome (console_restored m saved.console)
+  has_console saved h =
+      subst (λ (w : Option WindowState). IsSome w) (sym (window_over kind.Console old.memory m saved.console same)) h
+
   prevents_over : (why : RestoreFault) (saved : SavedSlot) → Prevents (slot_in old) saved why
       → Prevents (slot_in (over_memory m old)) saved why
   prevents_over (Snapshot fault) saved h = h
   prevents_over OtherSlot saved h =
-      λ suits. h (suits_over (over_memory m old) old.memory (range_back old.memory m same) saved suits)
+      λ suits. h (beside_over (over_memory m old) old.memory (range_back old.memory m same) saved suits)
+  prevents_over BadDevice saved h = (beside_over old m same saved h.0, h.1)
   prevents_over BadBlock saved h =
       (suits_over old m same saved h.0, block_over old.memory m saved.block same ∙ h.1)
-  prevents_over BadConsole saved h = (
+  prevents_over BadConsole saved h =
+      (suits_over old m same saved h.0, (has_block saved h.1.0, window_over kind.Console old.memory m saved.console same ∙ h.1.1))
+  prevents_over BadDeviceWindow saved h = (
     suits_over old m same saved h.0,
     (
-      subst (λ (w : Option WindowState). IsSome w)
-          (sym (block_over old.memory m saved.block same)) h.1.0,
-      window_over kind.Console old.memory m saved.console same ∙ h.1.1,
+      has_block saved h.1.0,
+      (has_console saved h.1.1.0, devices_over old.memory m saved.devices.items old.devices same ∙ h.1.1.1),
     ),
   )
 

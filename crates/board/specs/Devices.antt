@@ -1,5 +1,5 @@
 -- The further devices of a slot: what comes of what is done to one of them.
-use Rattle.std.specs.Prelude.{◌≡◌, ◌==◌, ◌&&◌, ⊤, ℕ, Bool, true, false, if◌then◌else◌, Option, Some, None, IsSome, is_none, is_some, unwrap_or, List, [], ◌∷◌, ◌++◌, length}
+use Rattle.std.specs.Prelude.{◌≡◌, ◌==◌, ◌&&◌, ⊤, ℕ, Bool, true, false, if◌then◌else◌, Option, Some, None, IsSome, is_none, is_some, unwrap_or, List, [], ◌∷◌, ◌++◌, length, slice_set}
 use Rattle.std.specs.List.{slice_get}
 use Rattle.std.specs.Option.{option_and_then, option_map}
 use Rattle.guest_memory.specs.Memory.{Memory}
@@ -9,14 +9,16 @@ use Rattle.device_list.specs.declared.refusal.ReceiveRefusal.TheVariants.{Frame}
 use Rattle.device_list.specs.declared.spec.DeviceSpec.{DeviceSpec}
 use Rattle.device_list.specs.Card.{oldest_of, receive_refusal}
 use Rattle.device_list.specs.Device.{DeviceState, Receives, Supplies, TakesSent, Writes, fresh_device, linked, register_of, supply_taken}
-use Rattle.device_list.specs.List.{At, card_at, changed_at, refusal_of}
+use Rattle.device_list.specs.List.{At, IsRefusedFor, card_at, changed_at, refusal_of}
 use Rattle.board.specs.declared.event.DeviceEvent.{DeviceEvent}
 use Rattle.board.specs.declared.event.DeviceEvent.TheVariants.{Plug, Read, Write, Supply, Receive, TakeSent, SetLink}
 use Rattle.board.specs.declared.reply.Reply.{Reply}
 use Rattle.board.specs.declared.reply.Reply.TheVariants.{Value, Done, Bytes, Took, BadDevice, NoMemory}
 use Rattle.board.specs.Image.{Health}
 use Rattle.board.specs.Outcome.{Outcome, replies, IsDetermined}
-use Rattle.board.specs.Slot.{SlotState}
+use Rattle.board.specs.Slot.{BoardSlot, SlotState}
+use Rattle.board.specs.declared.refusal.PlugRefusal.{PlugRefusal}
+use Rattle.board.specs.declared.refusal.PlugRefusal.TheVariants as refusal
 
 -- what is answered for a device, if it takes such a thing
 abbrev pub device_reply : {A : Type 0} → DeviceEvent A → DeviceState → Option (Reply A)
@@ -36,6 +38,17 @@ received_reply frame (Some why) = None
 abbrev pub oldest_at : ℕ → List DeviceState → Option (List ℕ)
 oldest_at n devices = option_and_then oldest_of (card_at n devices)
 
+-- whether there is one, of a network card
+abbrev pub has_sent : ℕ → List DeviceState → Option Bool
+has_sent n devices = option_map (λ card. is_some (oldest_of card)) (card_at n devices)
+
+-- what the host is answered that takes it: no bytes where none waits
+abbrev pub sent_reply : {A : Type 0} → ℕ → List DeviceState → Option (Reply A)
+sent_reply n devices = option_map (λ card. Bytes (unwrap_or (oldest_of card) [])) (card_at n devices)
+
+abbrev pub taken_reply : {A : Type 0} → ℕ → List DeviceState → Reply A
+taken_reply n devices = unwrap_or (sent_reply n devices) BadDevice
+
 -- whether the slot takes this device as the one of this number, which is the next
 abbrev pub can_plug : ℕ → DeviceSpec → SlotState → Bool
 can_plug n spec state = n == length state.devices && is_none (refusal_of state.devices spec)
@@ -44,7 +57,7 @@ can_plug n spec state = n == length state.devices && is_none (refusal_of state.d
 abbrev pub reply_at : {A : Type 0} → ℕ → DeviceEvent A → SlotState → Option (Reply A)
 reply_at n (Plug spec) state = if can_plug n spec state then Some Done else None
 reply_at n (Receive frame) state = received_reply frame (receive_refusal frame (card_at n state.devices))
-reply_at n TakeSent state = option_map (λ card. Bytes (unwrap_or (oldest_of card) [])) (card_at n state.devices)
+reply_at n TakeSent state = sent_reply n state.devices
 reply_at n (SetLink up) state = option_map (λ card. Done) (card_at n state.devices)
 reply_at n what state = option_and_then (device_reply what) (slice_get state.devices n)
 
@@ -130,3 +143,19 @@ MayReplyDevice TakeSent (Bytes frame) = ⊤
 MayReplyDevice TakeSent NoMemory = ⊤
 MayReplyDevice (SetLink up) Done = ⊤
 MayReplyDevice what answer = ⊥
+
+-- ---- a call that plugs a device in
+
+-- The slot has one device more, as after a reset, behind those that it had, and this is its number.
+pub record IsPlugged (slot : ℕ) (spec : DeviceSpec) (number : ℕ) (old new : List BoardSlot) : Type 0 where
+  pub before : BoardSlot
+  pub there : slice_get old slot ≡ Some before
+  pub next : number ≡ length before.devices
+  pub taken : refusal_of before.devices spec ≡ None
+  pub is : new ≡ slice_set old slot (record before { devices = before.devices ++ fresh_device spec ∷ [] })
+
+-- Why it isn't plugged in: there is no such slot, or the slot doesn't take it.
+abbrev pub IsPlugRefusal : DeviceSpec → Option BoardSlot → PlugRefusal → Type 0
+IsPlugRefusal spec None why = why ≡ refusal.BadSlot
+IsPlugRefusal spec (Some found) (refusal.Device why) = IsRefusedFor found.devices spec why
+IsPlugRefusal spec (Some found) refusal.BadSlot = ⊥

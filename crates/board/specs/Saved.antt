@@ -1,20 +1,24 @@
 -- The snapshot of a slot, and what a slot becomes that takes one up.
-use Rattle.std.specs.Prelude.{◌≡◌, ◌≤◌, ◌++◌, ◌==◌, ℕ, true, IsSome, None, Option, Some, List, [], drop, if◌then◌else◌, length}
+use Rattle.std.specs.Prelude.{◌≡◌, ◌≤◌, ◌++◌, ◌==◌, ℕ, true, All, IsSome, None, Option, Some, List, [], ◌∷◌, drop, if◌then◌else◌, length}
+use Rattle.std.specs.List.{AllZip}
 use Rattle.guest_memory.specs.Memory.{Memory, SameRange}
 use Rattle.mmio_window.specs.declared.device_kind.DeviceKind.TheVariants.{Block, Console}
 use Rattle.mmio_window.specs.declared.saved.SavedWindow.{SavedWindow}
 use Rattle.mmio_window.specs.Saved.{saved_window, window_restored}
 use Rattle.mmio_window.specs.Window.{WindowState}
+use Rattle.device_list.specs.Device.{DeviceState}
+use Rattle.device_list.specs.Model.{features_of, kind_of}
+use Rattle.device_list.specs.Saved.{RestoresEach, SuitDevices, devices_restored, mac_of, mtu_of, saved_devices}
 use Rattle.snapshot.specs.declared.saved.SavedSlot.{SavedSlot}
 use Rattle.snapshot.specs.Faults.{IsFirstFault}
 use Rattle.snapshot.specs.Spelling.{IsSnapshot, snapshot}
 use Rattle.board.specs.declared.saved.RestoreFault.{RestoreFault}
-use Rattle.board.specs.declared.saved.RestoreFault.TheVariants.{Snapshot, OtherSlot, BadBlock, BadConsole}
+use Rattle.board.specs.declared.saved.RestoreFault.TheVariants.{Snapshot, OtherSlot, BadDevice, BadBlock, BadConsole, BadDeviceWindow}
 use Rattle.board.specs.Slot.{BoardSlot, block_features, console_features, sectors_in}
 
 -- ---- what is saved
 
--- what a slot keeps, as plain numbers: nothing of its further devices
+-- what a slot keeps, as plain numbers
 abbrev pub saved_slot : BoardSlot → SavedSlot
 saved_slot slot = record {
   base = slot.memory.base;
@@ -27,7 +31,7 @@ saved_slot slot = record {
   cols = slot.cols;
   rows = slot.rows;
   on_hold = slot.on_hold;
-  devices = record { items = [] };
+  devices = record { items = saved_devices slot.devices };
 }
 
 -- the bytes of a slot's snapshot
@@ -47,18 +51,24 @@ console_restored m saved = window_restored Console m saved
 abbrev pub RestoresIt : (Memory → SavedWindow → Option WindowState) → Memory → WindowState → Type 0
 RestoresIt restored old w = (m : Memory) → SameRange old m → restored m (saved_window w) ≡ Some w
 
+-- a further device offers what devices of its type do
+abbrev pub IsOffering : DeviceState → Type 0
+IsOffering d = d.window.negotiation.offered ≡ features_of d.model
+
 -- the slot's devices offer what devices of their kind do
 pub record OffersFeatures (slot : BoardSlot) : Type 0 where
   pub block : slot.block.negotiation.offered ≡ block_features slot.read_only
   pub console : slot.console.negotiation.offered ≡ console_features
+  pub devices : All IsOffering slot.devices
 
 -- The bytes are the snapshot of a slot that stands so on a board: they are spelled so, its windows are those
--- of its two devices, and they are restored over each memory of its memory's range.
+-- of its devices, and they are restored over each memory of its memory's range.
 pub record IsSnapshotOf (bytes : List ℕ) (slot : BoardSlot) : Type 0 where
   pub spelled : IsSnapshot bytes (saved_slot slot) slot.pending
   pub offers : OffersFeatures slot
   pub block : RestoresIt block_restored slot.memory slot.block
   pub console : RestoresIt console_restored slot.memory slot.console
+  pub devices : (m : Memory) → SameRange slot.memory m → RestoresEach m slot.devices
 
 -- A buffer that held these bytes holds the slot's snapshot at its front, which has so many. The others stay.
 pub record IsSavedTo (slot : BoardSlot) (old new : List ℕ) (len : ℕ) : Type 0 where
@@ -69,10 +79,10 @@ pub record IsSavedTo (slot : BoardSlot) (old new : List ℕ) (len : ℕ) : Type 
 
 -- ---- what takes it up
 
--- The slot is of the description that was saved: its memory begins and ends at the same addresses, its disk
--- has as many sectors, the same mode and the same identity, and its devices offer the same features. One that was
--- on hold has its disk from the host again, since no other is ever released.
-pub record Suits (saved : SavedSlot) (slot : BoardSlot) : Type 0 where
+-- The slot is of the description that was saved, but for its further devices: its memory begins and ends at the same
+-- addresses, its disk has as many sectors, the same mode and the same identity, and its block device and its console
+-- offer the same features. One that was on hold has its disk from the host again, since no other is ever released.
+pub record SuitsBesideDevices (saved : SavedSlot) (slot : BoardSlot) : Type 0 where
   pub base : saved.base ≡ slot.memory.base
   pub len : saved.len ≡ length slot.memory.bytes
   pub sectors : saved.sectors ≡ sectors_in slot
@@ -81,15 +91,21 @@ pub record Suits (saved : SavedSlot) (slot : BoardSlot) : Type 0 where
   pub block : saved.block.negotiation.offered ≡ slot.block.negotiation.offered
   pub console : saved.console.negotiation.offered ≡ slot.console.negotiation.offered
   pub on_hold : saved.on_hold ≡ true → IsSome slot.host
-  pub devices : saved.devices.items ≡ []
 
--- The slot has taken up what was saved: both windows, the pending input, the size, and whether it is on hold. The memory
--- stays, and the disk with its mode and identity, the further devices, and whether an event of the slot has met a
--- refusal.
+-- The slot is of the description that was saved: it also has as many further devices, each of the same type, address,
+-- MTU and features.
+pub record Suits (saved : SavedSlot) (slot : BoardSlot) : Type 0 where
+  pub beside : SuitsBesideDevices saved slot
+  pub devices : SuitDevices saved.devices.items slot.devices
+
+-- The slot has taken up what was saved: all windows, the pending input, the size, and whether it is on hold. The memory
+-- stays, and the disk with its mode and identity, what waits in the further devices, and whether an event of the slot
+-- has met a refusal.
 pub record TakesUp (old : BoardSlot) (saved : SavedSlot) (pending : List ℕ) (new : BoardSlot) : Type 0 where
   pub suits : Suits saved old
   pub block : block_restored old.memory saved.block ≡ Some new.block
   pub console : console_restored old.memory saved.console ≡ Some new.console
+  pub devices : devices_restored old.memory saved.devices.items old.devices ≡ Some new.devices
   pub is :
       new
       ≡ record old {
@@ -99,6 +115,7 @@ pub record TakesUp (old : BoardSlot) (saved : SavedSlot) (pending : List ℕ) (n
         cols = saved.cols;
         rows = saved.rows;
         on_hold = saved.on_hold;
+        devices = new.devices;
       }
 
 -- The slot has taken up the snapshot that these bytes are.
@@ -108,15 +125,20 @@ pub record IsRestored (old : BoardSlot) (bytes : List ℕ) (new : BoardSlot) : T
   pub read : IsSnapshot bytes saved pending
   pub takes_up : TakesUp old saved pending new
 
--- The one cause for which a slot doesn't take up what was saved: it is of another description; else its block
--- window can't stand so; else its console window can't.
+-- The one cause for which a slot doesn't take up what was saved: it is of another description; else its further devices
+-- are others; else its block window can't stand so; else its console window can't; else a further device's can't.
 abbrev pub Prevents : BoardSlot → SavedSlot → RestoreFault → Type 0
 Prevents slot saved (Snapshot fault) = ⊥
-Prevents slot saved OtherSlot = ¬ Suits saved slot
+Prevents slot saved OtherSlot = ¬ SuitsBesideDevices saved slot
+Prevents slot saved BadDevice = SuitsBesideDevices saved slot × (¬ SuitDevices saved.devices.items slot.devices)
 Prevents slot saved BadBlock = Suits saved slot × (block_restored slot.memory saved.block ≡ None)
 Prevents slot saved BadConsole =
     Suits saved slot × (IsSome (block_restored slot.memory saved.block)
     × (console_restored slot.memory saved.console ≡ None))
+Prevents slot saved BadDeviceWindow =
+    Suits saved slot × (IsSome (block_restored slot.memory saved.block)
+    × (IsSome (console_restored slot.memory saved.console)
+    × (devices_restored slot.memory saved.devices.items slot.devices ≡ None)))
 
 -- The bytes are a snapshot, and this is why the slot doesn't take up what was saved.
 pub record IsPrevented (slot : BoardSlot) (bytes : List ℕ) (why : RestoreFault) : Type 0 where
@@ -133,17 +155,30 @@ IsCauseOf slot bytes why = IsPrevented slot bytes why
 
 -- ---- the round trip
 
--- Both slots have one description: memories of one range, disks of one size, mode and identity. Of one on hold the
--- other has its disk from the host.
+-- Both devices have one description: one type, one address and one MTU.
+pub record IsLikeDevice (d other : DeviceState) : Type 0 where
+  pub kind : kind_of other.model ≡ kind_of d.model
+  pub mac : mac_of other.model ≡ mac_of d.model
+  pub mtu : mtu_of other.model ≡ mtu_of d.model
+
+-- Both slots have one description: memories of one range, disks of one size, mode and identity, and as many further
+-- devices, each like the other. Of one on hold the other has its disk from the host.
 pub record IsLike (slot other : BoardSlot) : Type 0 where
   pub memory : SameRange slot.memory other.memory
   pub sectors : sectors_in other ≡ sectors_in slot
   pub read_only : other.read_only ≡ slot.read_only
   pub identity : other.identity ≡ slot.identity
+  pub devices : AllZip IsLikeDevice slot.devices other.devices
   pub on_hold : slot.on_hold ≡ true → IsSome other.host
 
--- the slot is as that one was, but for the memory's bytes, who has its disk and where it lies, its further devices, and
--- whether an event of it has met a refusal: those are its own
+-- the second devices, each with the window of the first one in its place
+abbrev pub with_windows_of : List DeviceState → List DeviceState → List DeviceState
+with_windows_of [] es = es
+with_windows_of (d ∷ ds) [] = []
+with_windows_of (d ∷ ds) (e ∷ es) = record e { window = d.window } ∷ with_windows_of ds es
+
+-- the slot is as that one was, but for the memory's bytes, who has its disk and where it lies, what waits in its further
+-- devices, and whether an event of it has met a refusal: those are its own
 abbrev pub IsAs : BoardSlot → BoardSlot → BoardSlot → Type 0
 IsAs slot old new =
     new
@@ -151,6 +186,6 @@ IsAs slot old new =
       memory = old.memory;
       extent = old.extent;
       host = old.host;
-      devices = old.devices;
+      devices = with_windows_of slot.devices old.devices;
       disturbed = old.disturbed;
     }

@@ -9,9 +9,13 @@ pub enum RestoreFault {
     /// The bytes are no snapshot.
     #[error("{0}")]
     Snapshot(SnapshotFault),
-    /// The slot has another memory range, another disk, or devices that offer other features.
-    #[error("the slot has another memory, another disk or other devices")]
+    /// The slot has another memory range or another disk, or its block device or its console offers other features.
+    #[error("the slot has another memory, another disk or other features")]
     OtherSlot,
+    /// The slot has more or fewer further devices than the snapshot, or one of another type, address, MTU or of other
+    /// features.
+    #[error("the snapshot has other devices")]
+    BadDevice,
     /// The block device's window can't be so: its status or its features can't stand so, its queue can't be ready, or
     /// ConfigGeneration isn't 0.
     #[error("the block device's window can't be so")]
@@ -19,6 +23,9 @@ pub enum RestoreFault {
     /// The console's window can't be so.
     #[error("the console's window can't be so")]
     BadConsole,
+    /// A further device's window can't be so.
+    #[error("a further device's window can't be so")]
+    BadDeviceWindow,
 }
 
 /// Why a slot takes up no snapshot. Nothing has changed.

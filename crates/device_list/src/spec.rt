@@ -27,7 +27,7 @@ pub enum DeviceSpec {
 
 impl DeviceSpec {
     /// Whether it has an MTU that is below the least.
-    pub(crate) fn has_bad_mtu(&self) -> bool
+    pub fn has_bad_mtu(&self) -> bool
         ensures { result ≡ has_bad_mtu self.now }
     {
         match self {

@@ -1,17 +1,20 @@
 //! The slots' further devices, as somebody sees them who only looks; and what a host hands them in a slice.
 
-ghost use Rattle.std.specs.Prelude.{◌≡◌, []};
+ghost use Rattle.std.specs.Prelude.{◌≡◌, ◌++◌, [], None, Some, IfErr, IfOk, OnErr};
 ghost use Rattle.std.specs.List.{slice_get};
 ghost use Rattle.std.specs.Option.{option_and_then, option_map};
 ghost use Rattle.device_list.specs.List.{is_starved_at};
 ghost use Rattle.board.specs.declared.event.DeviceEvent.{DeviceEvent};
 ghost use Rattle.board.specs.declared.event.EventKind.{EventKind};
+ghost use Rattle.board.specs.Devices.{IsPlugRefusal, IsPlugged, has_sent, oldest_at, taken_reply};
 ghost use Rattle.board.specs.Image.{Tells};
+ghost use Rattle.board.specs.Slot.{BoardSlot};
 ghost use Rattle.board.specs.World.{Answers, KeepsOthers, disturbed_of, extents_of, world_of};
 
 use crate::board::Board;
+use crate::refusal::PlugRefusal;
 use crate::reply::Reply;
-use device_list::VirtioDevice;
+use device_list::{DeviceSpec, VirtioDevice};
 use sector_cache::Image;
 use std::alloc::Allocator;
 
@@ -33,6 +36,16 @@ impl<I: Image, A: Allocator> Board<I, A> {
     {
         let slot = self.slot(slot)?;
         slot.slot().starved(device)
+    }
+
+    /// The oldest frame that a network card's driver sent and its host hasn't taken, in two parts. There is none where no
+    /// frame waits, of a device that is no network card, and where there is no such slot or device.
+    pub fn sent(&self, slot: u8, device: u8) -> Option<(&[u8], &[u8])>
+        ensures { option_map (λ parts. parts.0.now ++ parts.1.now) result ≡
+            option_and_then (λ found. oldest_at device found.devices) (slice_get self.now.slots slot) }
+    {
+        let slot = self.slot(slot)?;
+        slot.slot().sent(device)
     }
 }
 
@@ -69,5 +82,44 @@ impl<I: Image, A: Allocator + Copy> Board<I, A> {
             return Reply::BadSlot;
         };
         found.receive(device, frame)
+    }
+
+    /// Takes away the frame that `sent` tells: the event of that, for who has copied the frame. Answers whether there was
+    /// one. There is no answer of a device that is no network card, and where there is no such slot or device: nothing has
+    /// changed then. No memory is taken.
+    pub fn take_sent(&mut self, slot: u8, device: u8) -> Option<bool>
+        ensures value { result ≡
+            option_and_then (λ found. has_sent device found.devices) (slice_get self.old.slots slot) }
+        ensures step { Tells (I.disk self.old.image) → (found : BoardSlot) →
+            slice_get self.old.slots slot ≡ Some found → Answers (world_of I.disk self.old)
+            (record { slot = slot; what = EventKind.Device device DeviceEvent.TakeSent })
+            (taken_reply {A = A} device found.devices) [] [] (world_of I.disk self.new) }
+        ensures kept { result ≡ None → self.new ≡ self.old }
+        ensures others { KeepsOthers slot self.old.slots self.new.slots }
+        ensures extents { extents_of self.new.slots ≡ extents_of self.old.slots }
+        ensures image { self.new.image ≡ self.old.image }
+        ensures disturbed { disturbed_of self.new.slots ≡ disturbed_of self.old.slots }
+    {
+        let Some(found) = self.slots.get_mut(slot as usize) else {
+            return None;
+        };
+        found.take_sent(device)
+    }
+
+    /// Plugs a further device into a slot: it is as after a reset, and has the next number, which is answered. All the memory
+    /// that it will ever need is taken here.
+    pub fn plug(&mut self, slot: u8, spec: DeviceSpec) -> Result<u8, PlugRefusal>
+        ensures plugged { IfOk result (λ number. IsPlugged slot spec number self.old.slots self.new.slots) }
+        ensures refused { IfErr result (IsPlugRefusal spec (slice_get self.old.slots slot)) }
+        ensures kept { OnErr result (self.new ≡ self.old) }
+        ensures image { self.new.image ≡ self.old.image }
+    {
+        let Some(found) = self.slots.get_mut(slot as usize) else {
+            return Err(PlugRefusal::BadSlot);
+        };
+        match found.plug(self.alloc, spec) {
+            Ok(number) => Ok(number),
+            Err(why) => Err(PlugRefusal::Device(why)),
+        }
     }
 }

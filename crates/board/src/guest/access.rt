@@ -1,12 +1,15 @@
 //! What an embedder reaches of a guest between its events.
 
-ghost use Rattle.std.specs.Prelude.{◌≡◌, ◌≢◌, ◌⊎◌, ℕ, List, [], None, IfSome, get_or, length};
+ghost use Rattle.std.specs.Prelude.{◌≡◌, ◌≢◌, ◌⊎◌, ◌++◌, ◌∷◌, ℕ, List, [], None, IfErr, IfOk, IfSome, OnErr, OnOk, get_or, length};
 ghost use Rattle.std.specs.Bool.{OnTrue, OnFalse};
 ghost use Rattle.std.specs.Borrow.{sem};
 ghost use Rattle.guest_memory.specs.Memory.{Inside, IsRest, SameRange, is_inside, stored};
 ghost use Rattle.guest_memory.specs.Pages.{bits_of};
 ghost use Rattle.block_device.specs.Flights.{operation_in, runs_in, taken_bits};
 ghost use Rattle.block_device.specs.Operation.{LiesInside};
+ghost use Rattle.device_list.specs.Device.{fresh_device};
+ghost use Rattle.device_list.specs.List.{IsRefusedFor, refusal_of};
+ghost use Rattle.board.specs.Devices.{has_sent, taken_reply};
 ghost use Rattle.board.specs.declared.event.DeviceEvent.{DeviceEvent};
 ghost use Rattle.board.specs.declared.event.EventKind.{EventKind};
 ghost use Rattle.board.specs.declared.pause.Turn.{Turn};
@@ -25,6 +28,7 @@ use crate::reply::Reply;
 use crate::slot::Slot;
 use block_device::Operation;
 use chain::{Budget, Segment};
+use device_list::{AddRefusal, DeviceSpec};
 use std::alloc::Allocator;
 use std_alloc::vec::Lodged;
 
@@ -143,5 +147,30 @@ impl<A: Allocator + Copy> Guest<A> {
         ensures answered { result ≢ Reply.NoMemory }
     {
         self.slot.receive_frame(device, frame)
+    }
+
+    /// Takes away the oldest frame that a network card's driver sent.
+    pub(crate) fn take_sent(&mut self, device: u8) -> Option<bool>
+        ensures value { result ≡ has_sent device self.old.devices }
+        ensures given { (image : List ℕ) (health : Health) →
+            MayGive (state_of image self.old) (EventKind.Device device DeviceEvent.TakeSent) health health
+            (replies (state_of image self.new) (taken_reply {A = A} device self.old.devices)) }
+        ensures kept { result ≡ None → self.new ≡ self.old }
+        ensures extent { self.new.extent ≡ self.old.extent }
+        ensures disturbed { self.new.disturbed ≡ self.old.disturbed }
+    {
+        self.slot.drop_sent(device)
+    }
+
+    /// Plugs a further device in, and answers its number.
+    pub(crate) fn plug(&mut self, alloc: A, spec: DeviceSpec) -> Result<u8, AddRefusal>
+        ensures plugged { IfOk result (λ number. (number ≡ length self.old.devices) × (self.new ≡
+            record self.old { devices = self.old.devices ++ fresh_device spec ∷ [] })) }
+        ensures taken { OnOk result (refusal_of self.old.devices spec ≡ None) }
+        ensures refused { IfErr result (IsRefusedFor self.old.devices spec) }
+        ensures kept { OnErr result (self.new ≡ self.old) }
+        ensures extent { self.new.extent ≡ self.old.extent }
+    {
+        self.slot.plug(alloc, spec)
     }
 }

@@ -1,14 +1,15 @@
 //! What is done to the slot's further devices.
 
-ghost use Rattle.std.specs.Prelude.{◌≡◌, ◌≢◌, ◌++◌, ℕ, List, None, true, IfOk, IsSome};
+ghost use Rattle.std.specs.Prelude.{◌≡◌, ◌≢◌, ◌++◌, ◌∷◌, ℕ, List, [], None, true, IfErr, IfOk, IsSome, OnErr, OnOk, length};
 ghost use Rattle.std.specs.List.{slice_get};
 ghost use Rattle.std.specs.Option.{option_map};
 ghost use Rattle.guest_memory.specs.Memory.{SameRange};
-ghost use Rattle.device_list.specs.List.{is_starved_at};
+ghost use Rattle.device_list.specs.Device.{fresh_device};
+ghost use Rattle.device_list.specs.List.{IsRefusedFor, is_starved_at, refusal_of};
 ghost use Rattle.board.specs.declared.event.DeviceEvent.{DeviceEvent};
 ghost use Rattle.board.specs.declared.event.EventKind.{EventKind};
 ghost use Rattle.board.specs.declared.reply.Reply.{Reply};
-ghost use Rattle.board.specs.Devices.{GivesDevice, TakesMemoryFor, can_plug, oldest_at};
+ghost use Rattle.board.specs.Devices.{GivesDevice, TakesMemoryFor, can_plug, has_sent, oldest_at, taken_reply};
 ghost use Rattle.board.specs.Image.{Health};
 ghost use Rattle.board.specs.Outcome.{replies};
 ghost use Rattle.board.specs.Quiet.{GivesQuietly};
@@ -163,6 +164,35 @@ impl<A: Allocator + Copy> Slot<A> {
         Reply::Bytes(frame)
     }
 
+    /// Takes away the oldest frame that a network card's driver sent. Answers whether there was one, of a network card.
+    pub(crate) fn drop_sent(&mut self, device: u8) -> Option<bool>
+        ensures value { result ≡ has_sent device self.old.devices }
+        ensures given { (image : List ℕ) (health : Health) →
+            GivesDevice device DeviceEvent.TakeSent (state_of image self.old) health health
+            (replies (state_of image self.new) (taken_reply {A = A} device self.old.devices)) }
+        ensures kept { result ≡ None → self.new ≡ self.old }
+        ensures rest { self.new ≡ record self.old { memory = self.new.memory; devices = self.new.devices } }
+        ensures range { SameRange self.old.memory self.new.memory }
+    {
+        if !self.devices.has_card(device) {
+            return None;
+        }
+        let (memory, room) = (&mut self.memory, &mut self.chain);
+        Some(self.devices.take_sent(device, memory, room))
+    }
+
+    /// Plugs a further device in, and answers its number.
+    pub(crate) fn plug(&mut self, alloc: A, spec: DeviceSpec) -> Result<u8, AddRefusal>
+        ensures plugged { IfOk result (λ number. (number ≡ length self.old.devices) × (self.new ≡
+            record self.old { devices = self.old.devices ++ fresh_device spec ∷ [] })) }
+        ensures taken { OnOk result (refusal_of self.old.devices spec ≡ None) }
+        ensures refused { IfErr result (IsRefusedFor self.old.devices spec) }
+        ensures kept { OnErr result (self.new ≡ self.old) }
+        ensures rest { self.new ≡ record self.old { devices = self.new.devices } }
+    {
+        self.devices.add(alloc, spec)
+    }
+
     // What the host is answered that takes a frame where none waits.
     fn no_frame(&self, alloc: A, device: u8) -> Reply<A>
         requires { oldest_at device self.now.devices ≡ None }
@@ -214,6 +244,13 @@ impl<A: Allocator> Slot<A> {
         ensures { option_map (λ found. found.now) result ≡ slice_get self.now.devices device }
     {
         self.devices.get(device)
+    }
+
+    /// The oldest frame that a network card's driver sent, in two parts.
+    pub(crate) fn sent(&self, device: u8) -> Option<(&[u8], &[u8])>
+        ensures { option_map (λ parts. parts.0.now ++ parts.1.now) result ≡ oldest_at device self.now.devices }
+    {
+        self.devices.sent(device)
     }
 
     /// Whether a chain is on offer in a further device's queue that waits for what the host supplies.

@@ -1,12 +1,13 @@
 //! A slot's snapshot, and a slot that takes one up.
 
-ghost use Rattle.std.specs.Prelude.{◌≡◌, ◌≢◌, ◌↔◌, ◌<◌, ◌≤◌, ℕ, IfErr, IfOk, IfSome, IsErr, IsOk, IsTrue, List, OnErr, OnOk, Some, [], length};
-ghost use Rattle.std.specs.Bool.{OnTrue, OnFalse};
+ghost use Rattle.std.specs.Prelude.{◌≡◌, ◌≢◌, ◌↔◌, ◌<◌, ◌≤◌, ℕ, IfErr, IfOk, IfSome, IsErr, IsOk, IsTrue, List, OnErr, OnOk, Some, length};
 ghost use Rattle.guest_memory.specs.Memory.{Memory};
 ghost use Rattle.mmio_window.specs.declared.device_kind.DeviceKind.{DeviceKind};
 ghost use Rattle.mmio_window.specs.Saved.{saved_window, window_restored};
 ghost use Rattle.mmio_window.specs.Soundness.{IsSound};
-ghost use Rattle.board.specs.Saved.{IsAs, IsCauseOf, IsLike, IsRestored, IsSavedTo, IsSnapshotOf, OffersFeatures, Prevents, Suits, TakesUp, block_restored, saved_slot, snapshot_of};
+ghost use Rattle.device_list.specs.List.{AreSoundDevices};
+ghost use Rattle.device_list.specs.Saved.{RestoresEach};
+ghost use Rattle.board.specs.Saved.{IsAs, IsCauseOf, IsLike, IsRestored, IsSavedTo, IsSnapshotOf, OffersFeatures, Prevents, SuitsBesideDevices, TakesUp, block_restored, saved_slot, snapshot_of};
 ghost use Rattle.board.specs.declared.event.EventKind.{EventKind};
 ghost use Rattle.board.specs.declared.reply.Reply.{Reply};
 ghost use Rattle.board.specs.Image.{Health, sectors_of};
@@ -17,7 +18,6 @@ ghost use Rattle.board.specs.World.{MayGiveOverImage};
 use crate::reply::Reply;
 use crate::saved::RestoreFault;
 use crate::slot::Slot;
-use arrayvec::ArrayVec;
 use mmio_window::{DeviceKind, SavedWindow, Window};
 use negotiation::Flags;
 use snapshot::{SavedSlot, ShortBuffer};
@@ -57,6 +57,7 @@ impl<A: Allocator> Slot<A> {
             window_restored self.now.block.kind m result.block ≡ Some self.now.block }
         ensures console { (m : Memory) → IsSound m self.now.console →
             window_restored self.now.console.kind m result.console ≡ Some self.now.console }
+        ensures devices { (m : Memory) → AreSoundDevices m self.now.devices → RestoresEach m self.now.devices }
     {
         let (cols, rows) = self.console_device.size();
         SavedSlot {
@@ -70,7 +71,7 @@ impl<A: Allocator> Slot<A> {
             cols,
             rows,
             on_hold: self.on_hold,
-            devices: ArrayVec::new(),
+            devices: self.devices.saved(),
         }
     }
 
@@ -127,6 +128,9 @@ impl<A: Allocator> Slot<A> {
         if !self.suits(saved) {
             return Err(RestoreFault::OtherSlot);
         }
+        if !self.devices.suits(saved.devices.as_slice()) {
+            return Err(RestoreFault::BadDevice);
+        }
         let Some(block) = self.block_restored(&saved.block) else {
             return Err(RestoreFault::BadBlock);
         };
@@ -134,6 +138,9 @@ impl<A: Allocator> Slot<A> {
         else {
             return Err(RestoreFault::BadConsole);
         };
+        if !self.devices.restore(saved.devices.as_slice(), &self.memory) {
+            return Err(RestoreFault::BadDeviceWindow);
+        }
         self.block = block.in_place_of(&self.block);
         self.console = console.in_place_of(&self.console);
         self.console_device.restore(pending, saved.cols, saved.rows);
@@ -155,16 +162,12 @@ impl<A: Allocator> Slot<A> {
         Window::restored(DeviceKind::Block, saved, &self.memory)
     }
 
-    // Whether the slot is of the description that was saved.
+    // Whether the slot is of the description that was saved, but for its further devices.
     fn suits(&self, saved: &SavedSlot) -> bool
-        ensures value { IsTrue result ↔ Suits saved.now self.now }
+        ensures value { IsTrue result ↔ SuitsBesideDevices saved.now self.now }
         ensures offers { OffersFeatures self.now }
     {
-        let base = self.memory.base();
-        if !has_no_devices(saved) {
-            return false;
-        }
-        saved.base == base
+        saved.base == self.memory.base()
             && saved.len == self.memory.len()
             && saved.sectors == self.device().extent.count
             && saved.read_only == self.block_device.read_only
@@ -173,12 +176,4 @@ impl<A: Allocator> Slot<A> {
             && saved.console.negotiation.offered == self.console.negotiation().offered().bits()
             && (!saved.on_hold || self.host.is_some())
     }
-}
-
-// Whether a snapshot has nothing of further devices: a slot takes up none that has.
-fn has_no_devices(saved: &SavedSlot) -> bool
-    ensures none { OnTrue result (saved.now.devices.items ≡ []) }
-    ensures some { OnFalse result (saved.now.devices.items ≢ []) }
-{
-    saved.devices.is_empty()
 }

@@ -10,4 +10,4 @@ returns g c =
     (subst (λ (slot : BoardSlot). IsSoundSlot slot.memory slot.read_only slot.block slot.console slot.pending slot.devices)
     c.self.view_is c.self.invariant)
     c.saved.ensures.value (c.pending.ensures ∙ ap (λ (slot : BoardSlot). slot.pending) c.self.view_is)
-    c.saved.ensures.block c.saved.ensures.console c.write.ensures
+    c.saved.ensures.block c.saved.ensures.console c.saved.ensures.devices c.write.ensures
