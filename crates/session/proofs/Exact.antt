@@ -1,15 +1,17 @@
 -- When each refusal of a call comes.
-use Rattle.std.proofs.Common.{◌≡◌, ◌⊎◌, ◌↔◌, inl, inr, ℕ, ◌<◌, ◌≤◌, Bool, true, false, List, length, get_or, Option, Some, None, refl, sym, ◌∙◌, ap, subst, arith}
-use Rattle.std.specs.Prelude.{◌&&◌, ◌||◌, is_some, nat_lt, if◌then◌else◌, IsErrOf, IsSomeAnd, Result, Ok, Err}
+use Rattle.std.proofs.Common.{◌≡◌, ◌⊎◌, ◌↔◌, inl, inr, ℕ, ◌<◌, ◌≤◌, Bool, true, false, List, [], length, get_or, Option, Some, None, refl, sym, ◌∙◌, ap, subst, arith}
+use Rattle.std.specs.Prelude.{◌&&◌, ◌||◌, is_some, nat_lt, if◌then◌else◌, unwrap_or, IsErrOf, IsSome, IsSomeAnd, IsTrue, Result, Ok, Err}
 use Rattle.std.specs.List.{slice_get}
 use Rattle.std.specs.Option.{option_and_then}
 use Rattle.std.proofs.lemmas.Bool.Decides.{nat_tests}
 use Rattle.std.proofs.lemmas.Option.{slice_get_cases, slice_get_within, same_Some}
 use Rattle.guest_memory.specs.Memory.{Inside}
 use Rattle.block_device.specs.declared.operation.Verdict.{Verdict}
+use Rattle.board.specs.declared.event.DeviceEvent.{DeviceEvent}
+use Rattle.board.specs.declared.event.DeviceEvent.TheVariants.{TakeSent}
 use Rattle.board.specs.declared.event.Event.{Event}
 use Rattle.board.specs.declared.event.EventKind.{EventKind}
-use Rattle.board.specs.declared.event.EventKind.TheVariants.{Host}
+use Rattle.board.specs.declared.event.EventKind.TheVariants.{Device, Host}
 use Rattle.board.specs.declared.event.HostEvent.{HostEvent}
 use Rattle.board.specs.declared.event.HostEvent.TheVariants.{Complete, Drop, Hold, Release}
 use Rattle.board.specs.declared.pause.Pause.{Pause}
@@ -20,13 +22,14 @@ use Rattle.board.specs.declared.reply.Reply.TheVariants as reply
 use Rattle.board.specs.declared.reply.Record.{Record}
 use Rattle.block_device.specs.Flights.{InFlight, is_any}
 use Rattle.board.specs.Backing.{HostDisk, tags_in}
+use Rattle.board.specs.Devices.{has_sent, oldest_at, reply_at, taken_reply}
 use Rattle.board.specs.Hosting.{CompletionGives, DropGives, HoldGives, HostGives, HostOrGives, OwnGives, ReleaseGives, has_part, must_wait, told_in, waits_now}
 use Rattle.board.specs.Image.{Health}
 use Rattle.board.specs.Outcome.{Outcome, replies}
 use Rattle.board.specs.Pausing.{Begins, asked}
 use Rattle.board.specs.Slot.{BoardSlot, SlotState, state_of}
 use Rattle.board.specs.Within.{MayPutOut}
-use Rattle.board.specs.World.{MayGive, MayGiveBy, MayGiveOverImage, MayLackMemory}
+use Rattle.board.specs.World.{Answers, KeepsOthers, MayGive, MayGiveBy, MayGiveOverImage, MayLackMemory, extents_of}
 use Rattle.board.proofs.Alone.{slot_step}
 use Rattle.board.proofs.Waiting.{waited}
 use Rattle.session.specs.declared.progress.Progress.{Progress}
@@ -36,12 +39,16 @@ use Rattle.session.specs.declared.refusal.Refusal.TheVariants as refusal
 use Rattle.session.specs.declared.response.Response.{Response}
 use Rattle.session.specs.declared.response.Response.TheVariants.{Answered, More, Busy, Idle}
 use Rattle.session.specs.declared.typed.Typed.{Typed}
-use Rattle.session.specs.Answering.{Means, RefusalMeans, served_response, typed_by, typed_response}
+use Rattle.session.specs.Answering.{Means, RefusalMeans, frame_response, served_response, taken_response, typed_by, typed_response}
+use Rattle.session.specs.Devices.{TakesNothing, sent_at}
 use Rattle.session.specs.Operations.{HasNothing, HoldsUp, IsSpare}
 use Rattle.session.specs.Pacing.{Handle, response_to}
-use Rattle.session.specs.Pausing.{ComesTo, IsBegun, IsEventCall, IsWhole}
-use Rattle.session.specs.Session.{HasNoRead, IsIdle, IsOutside, IsStep, SessionState, world_of}
+use Rattle.session.specs.Pausing.{ComesTo, IsBegun, IsEventCall, IsToldCall, IsWhole}
+use Rattle.session.specs.Session.{AnswersInPlace, IsIdle, IsOutside, IsStep, SessionState, world_of}
 use Rattle.session.proofs.Access.{found_at}
+use Rattle.session.proofs.Calls.{call_of_step, called_busy}
+use Rattle.session.proofs.Devices.{bad_exact, step, taken_away}
+use Rattle.session.proofs.Parts.{asks_nothing}
 use Rattle.session.proofs.Steps.{lacks_puts}
 use Rattle.session.proofs.Suiting.{asks_none, never_busy, never_idle, never_paused}
 use Rattle.session.proofs.Unchanged.{shown_at}
@@ -164,6 +171,7 @@ module _ {A : Type 0} (state : SlotState) (outcome : Outcome A) where
 abbrev pub refusal_of : {A : Type 0} → Response A → Option Refusal
 refusal_of (Answered reply.BadSlot) = Some refusal.BadSlot
 refusal_of (Answered reply.BadRange) = Some refusal.BadRange
+refusal_of (Answered reply.BadDevice) = Some refusal.BadDevice
 refusal_of (Answered reply.NoMemory) = Some refusal.NoRoom
 refusal_of (Answered reply.Busy) = Some refusal.Busy
 refusal_of (Answered reply.Idle) = Some refusal.Idle
@@ -207,7 +215,7 @@ pub record IsExact {A : Type 0} (old : SessionState) (slot : ℕ) (what : EventK
   pub bad_slot : (refusal_of response ≡ Some refusal.BadSlot) ↔ (length old.slots ≤ slot)
   pub busy : (refusal_of response ≡ Some refusal.Busy) ↔ ((¬ IsIdle slot old) ⊎ HoldsUp slot what old.slots)
   pub no_room :
-      refusal_of response ≡ Some refusal.NoRoom → HasNoRead what →
+      refusal_of response ≡ Some refusal.NoRoom → AnswersInPlace what →
       IsSomeAnd (slice_get old.slots slot) (λ found. MayPutOut (state_of old.image found) what)
 
 -- what a reply says
@@ -217,6 +225,8 @@ telling {A} reply.BadSlot why is =
     subst (λ w. RefusalMeans {A = A} w (Answered reply.BadSlot)) (same_Some refusal.BadSlot why is) refl
 telling {A} reply.BadRange why is =
     subst (λ w. RefusalMeans {A = A} w (Answered reply.BadRange)) (same_Some refusal.BadRange why is) refl
+telling {A} reply.BadDevice why is =
+    subst (λ w. RefusalMeans {A = A} w (Answered reply.BadDevice)) (same_Some refusal.BadDevice why is) refl
 telling {A} reply.NoMemory why is =
     subst (λ w. RefusalMeans {A = A} w (Answered reply.NoMemory)) (same_Some refusal.NoRoom why is) refl
 telling {A} reply.Busy why is =
@@ -254,6 +264,13 @@ says_idle {A} answer = (
   λ is. rw is refl,
 )
 
+says_bad_device : {A : Type 0} (answer : Reply A)
+    → (refusal_of (Answered answer) ≡ Some refusal.BadDevice) ↔ (answer ≡ reply.BadDevice)
+says_bad_device {A} answer = (
+  λ is. let told : Answered answer ≡ Answered reply.BadDevice = telling answer refusal.BadDevice is in cc (told),
+  λ is. rw is refl,
+)
+
 -- where nothing of the slot is paused it is idle, and else not
 idle_at : (s : SessionState) (slot : ℕ) (o : Option (Option Pause)) → slice_get s.paused slot ≡ o
     → option_and_then (λ (here : Option Pause). here) o ≡ None → IsIdle slot s
@@ -286,7 +303,7 @@ gave {A} old new event answer found here h =
     }
 
 -- a slot that puts something out is there
-puts_at : {A : Type 0} (o : Option BoardSlot) (image : List ℕ) (what : EventKind A) → HasNoRead what
+puts_at : {A : Type 0} (o : Option BoardSlot) (image : List ℕ) (what : EventKind A) → AnswersInPlace what
     → IsSomeAnd o (λ slot. MayLackMemory (state_of image slot) what)
     → IsSomeAnd o (λ found. MayPutOut (state_of image found) what)
 puts_at None image what any h = absurd h
@@ -420,7 +437,7 @@ pub record Refuses {A T : Type 0} (old : SessionState) (slot : ℕ) (what : Even
   pub bad_slot : IsErrOf r refusal.BadSlot ↔ (length old.slots ≤ slot)
   pub busy : IsErrOf r refusal.Busy ↔ ((¬ IsIdle slot old) ⊎ HoldsUp slot what old.slots)
   pub no_room :
-      IsErrOf r refusal.NoRoom → HasNoRead what →
+      IsErrOf r refusal.NoRoom → AnswersInPlace what →
       IsSomeAnd (slice_get old.slots slot) (λ found. MayPutOut (state_of old.image found) what)
 
 pub refuses : {A T : Type 0} (old new : SessionState) (slot : ℕ) (what : EventKind A) (told : Response A)
@@ -448,6 +465,10 @@ typed_pure_by A taken progress.Asks = refl
 
 pub typed_pure : (A : Type 0) (typed : Typed) → refusal_of {A = A} (typed_response typed) ≡ None
 typed_pure A typed = typed_pure_by A typed.taken typed.progress
+
+pub taken_pure : (A : Type 0) (frame : List ℕ) (taken : Bool) → refusal_of {A = A} (taken_response frame taken) ≡ None
+taken_pure A frame true = refl
+taken_pure A frame false = refl
 
 -- an event that waits for nothing is busy where a service is paused
 pub only_paused : {A : Type 0} (old : SessionState) (slot : ℕ) (what : EventKind A) {P : Type 0}
@@ -537,6 +558,147 @@ host_refuses {A} old new slot said response r means many call =
       idle = refused_when served_response response r refusal.Idle (served_pure A) means
           (idle_exact_at old new slot said many response (slice_get old.paused slot) refl call.turn call.whole);
     }
+
+-- ---- what is done to a further device
+
+module _ {A : Type 0} (old new : SessionState) (slot n : ℕ) (what : DeviceEvent A)
+    (many : length old.paused ≡ length old.slots) where
+  abbrev done_to : Event A
+  done_to = record { slot = slot; what = Device n what }
+
+  abbrev IsBadSaid : Response A → Type 0
+  IsBadSaid response =
+      (refusal_of response ≡ Some refusal.BadDevice) ↔ (IsIdle slot old × TakesNothing slot n what old)
+
+  said_bad : (here : slice_get old.paused slot ≡ Some None) (answer : Reply A) → IsStep old done_to answer new
+      → IsBadSaid (Answered answer)
+  said_bad here answer h =
+      let slot_there = there old new done_to many here in
+      let one = found old new done_to many here in
+      let came = gave old new done_to answer one slot_there h in
+      let says = says_bad_device answer in
+      let exact = bad_exact n what (state_of old.image one) _ came.after came.outcome came.given in (
+        λ is. (idle old new done_to many here, rw slot_there (exact.0 (came.said ∙ says.0 is))),
+        λ bad. says.1 (sym came.said ∙ exact.1 (rw slot_there at (bad.1))),
+      )
+
+  bad_exact_at : (response : Response A) (o : Option (Option Pause)) → slice_get old.paused slot ≡ o
+      → ComesTo (Handle done_to) o old response new → IsWhole old done_to response new → IsBadSaid response
+  bad_exact_at response None is comes whole =
+      let past : length old.slots ≤ slot = grind (arith, many, slice_get_cases old.paused slot) in
+      rw (comes.0) (
+        λ is. absurd (cc (is)),
+        λ bad. absurd (past_takes (slice_get old.slots slot) refl past (bad.1)),
+      )
+    where
+      past_takes : (o : Option BoardSlot) → slice_get old.slots slot ≡ o → length old.slots ≤ slot
+          → IsSomeAnd o (λ s. reply_at n what (state_of old.image s) ≡ None) → ⊥
+      past_takes None is far takes = takes
+      past_takes (Some s) is far takes =
+          let fits = slice_get_within old.slots slot s is in omega (arith, fits, far)
+  bad_exact_at response (Some (Some pause)) is comes whole =
+      rw (comes.0) (λ told. absurd (cc (told)), λ bad. absurd (paused_not old slot pause is (bad.0)))
+  bad_exact_at (Answered answer) (Some None) is comes whole = said_bad is answer whole
+  bad_exact_at More (Some None) is comes whole = absurd (pauses_never comes.turn.taken.state _ _
+      comes.turn.taken.after comes.turn.output comes.turn.turn comes.turn.told comes.turn.taken.comes)
+    where
+      pauses_never : (state : SlotState) (before after : Health) (last : SlotState) (output : List ℕ)
+          (t : Turn A) → More ≡ response_to t
+          → Begins (Device n what) old.budget state before after last output t → ⊥
+      pauses_never state before after last output (turn.Answered reply) more h = cc (more)
+      pauses_never state before after last output (turn.More pause) more h =
+          asks_none (Device n what) old.budget state before after last output pause refl h
+  bad_exact_at Busy (Some None) is comes whole = absurd (never_busy comes.turn.turn (sym comes.turn.told))
+  bad_exact_at Idle (Some None) is comes whole = absurd (never_idle comes.turn.turn (sym comes.turn.told))
+
+-- what each refusal says that is answered to what is done to a further device
+pub record DeviceRefuses {A T : Type 0} (old : SessionState) (slot n : ℕ) (what : DeviceEvent A)
+    (r : Result T Refusal) : Type 0 where
+  pub bad_slot : IsErrOf r refusal.BadSlot ↔ (length old.slots ≤ slot)
+  pub busy : IsErrOf r refusal.Busy ↔ (¬ IsIdle slot old)
+  pub bad_device : IsErrOf r refusal.BadDevice ↔ (IsIdle slot old × TakesNothing slot n what old)
+
+pub device_refuses : {A T : Type 0} (old new : SessionState) (slot n : ℕ) (what : DeviceEvent A)
+    (response : Response A) (wanted : T → Response A) (r : Result T Refusal)
+    → ((value : T) → refusal_of (wanted value) ≡ None) → Means wanted r response
+    → length old.paused ≡ length old.slots → IsEventCall old slot (Device n what) response new
+    → DeviceRefuses old slot n what r
+device_refuses {A} {T} old new slot n what response wanted r pure means many call =
+    let says = refuses old new slot (Device n what) response wanted r pure means many call in
+    record {
+      bad_slot = says.bad_slot;
+      busy = only_paused {A = A} old slot (Device n what) refl says.busy;
+      bad_device = refused_when wanted response r refusal.BadDevice pure means
+          (bad_exact_at old new slot n what many response (slice_get old.paused slot) refl call.turn call.whole);
+    }
+
+-- a service of the slot is paused: the call is busy
+pub device_busy : {A T : Type 0} (old : SessionState) (slot n : ℕ) (what : DeviceEvent A)
+    (wanted : T → Response A) → ((value : T) → refusal_of (wanted value) ≡ None)
+    → length old.paused ≡ length old.slots → ¬ IsIdle slot old
+    → IsToldCall old slot (Device n what) (Means wanted (Err refusal.Busy)) old
+    × DeviceRefuses {A = A} {T = T} old slot n what (Err refusal.Busy)
+device_busy {A} {T} old slot n what wanted pure many busy =
+    let call : IsEventCall {A = A} old slot (Device n what) Busy old = record {
+      turn = called_busy old (record { slot = slot; what = Device n what }) busy;
+      whole = tt;
+    } in (
+      record { response = Busy; call = call; told = inl refl },
+      device_refuses old old slot n what Busy wanted (Err refusal.Busy) pure (inl refl) many call,
+    )
+
+-- it is as the board answers by a slice
+module _ {A T : Type 0} (old new : SessionState) (slot n : ℕ) (what : DeviceEvent A) (wanted : T → Response A)
+    (pure : (value : T) → refusal_of (wanted value) ≡ None) (many : length old.paused ≡ length old.slots)
+    (idle : IsIdle slot old) where
+  pub stepped_call : (answer : Reply A) (r : Result T Refusal) → Means wanted r (Answered answer)
+      → IsStep old (record { slot = slot; what = Device n what }) answer new
+      → IsToldCall old slot (Device n what) (Means wanted r) new × DeviceRefuses old slot n what r
+  stepped_call answer r means step =
+      let call : IsEventCall {A = A} old slot (Device n what) (Answered answer) new = record {
+        turn = call_of_step old new (record { slot = slot; what = Device n what }) answer idle many
+            (λ state. asks_nothing {A = A} (Device n what) state refl) step;
+        whole = step;
+      } in (
+        record { response = Answered answer; call = call; told = means },
+        device_refuses old new slot n what (Answered answer) wanted r pure means many call,
+      )
+
+-- a frame is taken away
+pub record SentCall (A : Type 0) (old new : SessionState) (slot n : ℕ) (taken : Bool) : Type 0 where
+  pub told :
+      IsToldCall {A = A} old slot (Device n TakeSent)
+      (Means (frame_response (sent_at slot n old.slots)) (Ok taken)) new
+  pub refuses : DeviceRefuses {A = A} old slot n TakeSent (Ok taken)
+  pub waited : IsTrue taken ↔ IsSome (sent_at slot n old.slots)
+
+pub sent_call : (A : Type 0) (old new : SessionState) (slot n : ℕ) (taken : Bool)
+    → length old.paused ≡ length old.slots → IsIdle slot old
+    → option_and_then (λ found. has_sent n found.devices) (slice_get old.slots slot) ≡ Some taken
+    → ((found : BoardSlot) → slice_get old.slots slot ≡ Some found
+    → Answers {A = A} (world_of old) (record { slot = slot; what = Device n TakeSent })
+    (taken_reply n found.devices) [] [] (world_of new))
+    → KeepsOthers slot old.slots new.slots → extents_of new.slots ≡ extents_of old.slots
+    → new.image ≡ old.image → new.dirty ≡ old.dirty → new.outputs ≡ old.outputs → new.paused ≡ old.paused
+    → new.budget ≡ old.budget → SentCall A old new slot n taken
+sent_call A old new slot n taken many idle value answers others extents image dirty outputs paused budget =
+    by_slot (slice_get old.slots slot) refl value
+  where
+    by_slot : (o : Option BoardSlot) → slice_get old.slots slot ≡ o
+        → option_and_then (λ found. has_sent n found.devices) o ≡ Some taken → SentCall A old new slot n taken
+    by_slot None here is = absurd (cc (is))
+    by_slot (Some found) here is =
+        let away = taken_away A n found.devices taken is in
+        let same : sent_at slot n old.slots ≡ oldest_at n found.devices =
+        ap (option_and_then (λ (f : BoardSlot). oldest_at n f.devices)) here in
+        let stepped = step A old new slot n TakeSent (taken_reply n found.devices) (answers found here) others
+        extents image dirty outputs paused budget (λ lacks. absurd (cc (away.reply, lacks))) in
+        let means : Means {A = A} (frame_response (sent_at slot n old.slots)) (Ok taken)
+        (Answered (taken_reply n found.devices)) =
+        ap (λ (r : Reply A). Answered r) (away.reply ∙ ap (λ o. reply.Bytes (unwrap_or o [])) (sym same)) in
+        let both = stepped_call old new slot n TakeSent (frame_response (sent_at slot n old.slots)) (λ b. refl) many
+        idle (taken_reply n found.devices) (Ok taken) means stepped in
+        record { told = both.0; refuses = both.1; waited = rw same (away.waited) }
 
 -- ---- a range that doesn't lie in the memory
 

@@ -24,3 +24,5 @@ pub mod Asking
 pub mod Kept
 pub mod Refusals
 pub mod Untouched
+pub mod Devices
+pub mod Plugged

@@ -1,11 +1,12 @@
 -- A guest of a new session is as it is in one of its own.
-use Rattle.std.proofs.Common.{◌≡◌, ℕ, zero, suc, ◌+◌, ◌*◌, ◌/◌, ◌<◌, ◌≤◌, List, [], ◌∷◌, Option, Some, None, length, replicate, map, take, drop, refl, sym, ap, subst, ◌∙◌, arith}
+use Rattle.std.proofs.Common.{◌≡◌, false, ℕ, zero, suc, ◌+◌, ◌*◌, ◌/◌, ◌<◌, ◌≤◌, List, [], ◌∷◌, Option, Some, None, length, replicate, map, take, drop, refl, sym, ap, subst, ◌∙◌, arith}
 use Rattle.std.specs.Prelude.{◌-◌, ◌^◌, min, unwrap_or}
 use Rattle.std.specs.List.{slice_get}
 use Rattle.std.proofs.lemmas.List.{length-take, length-drop, length-replicate, get_or-replicate, take_all}
 use Rattle.std.proofs.lemmas.Option.{get_or_from_slice_get, slice_get_within, same_Some}
 use Rattle.circular_buffer.proofs.Places.{slice_get-some}
 use Rattle.chain.specs.declared.budget.Budget.{Budget}
+use Rattle.device_list.specs.declared.spec.DeviceSpec.{DeviceSpec}
 use Rattle.board.specs.declared.pause.Pause.{Pause}
 use Rattle.sector_cache.specs.Sector.{extent_of}
 use Rattle.block_device.specs.declared.extent.Extent.{Extent}
@@ -16,12 +17,12 @@ use Rattle.board.specs.declared.spec.SlotSpec.{SlotSpec}
 use Rattle.board.specs.Backing.{HostDisk}
 use Rattle.board.specs.Fault.{IsAccepted, IsGoodSlot, place_by, room_by}
 use Rattle.board.specs.Pausing.{HasLimit}
-use Rattle.board.specs.Slot.{SlotState, extent_by, host_by, opened, state_of}
+use Rattle.board.specs.Slot.{BoardSlot, SlotState, extent_by, host_by, opened, state_of}
 use Rattle.session.specs.declared.guest.GuestSpec.{GuestSpec}
 use Rattle.session.specs.Alone.{SeeAlike, at_front, new_session_alone, own_askings, part_of_image}
 use Rattle.session.specs.Course.{SessionStep, IsCourse, NeverPauses}
-use Rattle.session.specs.Refusing.{AreOutlets}
-use Rattle.session.specs.Session.{SessionState, Waiting, none_waiting, new_session, slots_of, world_of}
+use Rattle.session.specs.Refusing.{AreDevices, AreOutlets, has_bad_device}
+use Rattle.session.specs.Session.{SessionState, Waiting, devices_of, none_waiting, new_session, slots_of, with_fresh, world_of}
 use Rattle.session.proofs.Alone.{see_alike}
 use Rattle.session.proofs.PacedCourses.{never_pauses}
 
@@ -48,25 +49,30 @@ host_of_count : (backing : Backing) (extent : Extent) → host_by backing (recor
 host_of_count Image extent = refl
 host_of_count (Host depth) extent = refl
 
-seen_as : (spec : SlotSpec) (bytes bytes' : List ℕ) (host host' : Option HostDisk) → bytes ≡ bytes'
-    → host ≡ host'
-    → ◌≡◌ {A = SlotState} (record (state_of bytes (opened spec)) { extent = bytes; host = host })
-    (record (state_of bytes (opened spec)) { extent = bytes'; host = host' })
-seen_as spec bytes bytes' host host' p q = rw (p, q) refl
+-- a guest's slot of a new session
+abbrev made : GuestSpec → BoardSlot
+made guest = with_fresh (devices_of guest) (opened guest.slot)
+
+seen_as : (spec : SlotSpec) (devices : List DeviceSpec) (bytes bytes' : List ℕ) (host host' : Option HostDisk)
+    → bytes ≡ bytes' → host ≡ host'
+    → ◌≡◌ {A = SlotState}
+    (record (state_of bytes (with_fresh devices (opened spec))) { extent = bytes; host = host })
+    (record (state_of bytes (with_fresh devices (opened spec))) { extent = bytes'; host = host' })
+seen_as spec devices bytes bytes' host host' p q = rw (p, q) refl
 
 -- the guest's state is what it is alone
 same_state : (guest : GuestSpec) (image : List ℕ)
-    → state_of (part_of_image guest image) (opened (at_front guest).slot) ≡ state_of image (opened guest.slot)
+    → state_of (part_of_image guest image) (made (at_front guest)) ≡ state_of image (made guest)
 same_state guest image =
-    seen_as guest.slot _ _ _ _ (front_by guest.slot.backing guest.slot.extent image)
+    seen_as guest.slot (devices_of guest) _ _ _ _ (front_by guest.slot.backing guest.slot.extent image)
     (host_of_count guest.slot.backing guest.slot.extent)
 
 there_in : (guests : List GuestSpec) (g : ℕ) (guest : GuestSpec) (image : List ℕ) (budget : Budget)
     → slice_get guests g ≡ Some guest → slice_get (world_of (new_session guests image budget)).slots g
-    ≡ Some (state_of image (opened guest.slot))
+    ≡ Some (state_of image (made guest))
 there_in [] g guest image budget here = absurd (cc)
 there_in (one ∷ guests) zero guest image budget here =
-    ap (λ (s : GuestSpec). Some (state_of image (opened s.slot))) (same_Some one guest here)
+    ap (λ (s : GuestSpec). Some (state_of image (made s))) (same_Some one guest here)
 there_in (one ∷ guests) (suc g) guest image budget here = there_in guests g guest image budget here
 
 waits_at : (guests : List GuestSpec) (g : ℕ) (guest : GuestSpec) → slice_get guests g ≡ Some guest
@@ -94,7 +100,7 @@ pub made_alone : {A : Type 0} (g : ℕ) (guests : List GuestSpec) (guest : Guest
 made_alone g guests guest image budget budget' steps more new last here x y never never' askings =
     let waits = waits_at guests g guest here in
     see_alike g 0 (new_session guests image budget) new (new_session_alone guest image budget') last steps
-    more (state_of image (opened guest.slot)) x y never never'
+    more (state_of image (made guest)) x y never never'
     (idle_in (length guests) g (slice_get_within guests g guest here)) (idle_in 1 0 (omega arith))
     (there_in guests g guest image budget here) (ap (λ (s : SlotState). Some s) (same_state guest image))
     (sym (ap (λ (o : Option Waiting). (unwrap_or o (none_waiting 0)).bytes) waits))
@@ -143,6 +149,21 @@ fits_by : (backing : Backing) (extent : Extent) (image : List ℕ)
     (place_by backing (record extent { start = 0 }))
 fits_by Image extent image fits = has_sectors extent image fits
 fits_by (Host depth) extent image fits = fits
+
+-- a guest alone has its devices too
+device_at : (guests : List GuestSpec) (g : ℕ) (guest : GuestSpec) → slice_get guests g ≡ Some guest
+    → AreDevices guests → has_bad_device guest ≡ false
+device_at guests g guest here all =
+    subst (λ (s : GuestSpec). has_bad_device s ≡ false) (get_or_from_slice_get guests g guest guest here)
+    (all g guest (slice_get_within guests g guest here))
+
+only_device : (guest : GuestSpec) → has_bad_device guest ≡ false → AreDevices (at_front guest ∷ [])
+only_device guest good zero d few = good
+only_device guest good (suc k) d few = absurd (omega (arith, few))
+
+pub devices_alone : (g : ℕ) (guests : List GuestSpec) (guest : GuestSpec) → slice_get guests g ≡ Some guest
+    → AreDevices guests → AreDevices (at_front guest ∷ [])
+devices_alone g guests guest here all = only_device guest (device_at guests g guest here all)
 
 outlet_at : (guests : List GuestSpec) (g : ℕ) (guest : GuestSpec) → slice_get guests g ≡ Some guest
     → AreOutlets guests → guest.outlet ≤ 2 ^ 24

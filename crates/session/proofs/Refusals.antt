@@ -1,19 +1,17 @@
 -- Why there is no session: of the faults that are there the first.
-use Rattle.std.proofs.Common.{◌≡◌, ℕ, suc, List, [], ◌∷◌, length, map, drop, Result, Ok, Err, refl, sym, ap, subst, ◌∙◌}
-use Rattle.std.specs.Prelude.{◌≢◌, ◌⊎◌, ◌↔◌, ◌%◌, ◌/◌, OnOk, IfErr, IsErrAnd, IsErrOf}
+use Rattle.std.proofs.Common.{◌≡◌, ℕ, List, length, map, Option, Some, None, Result, Ok, Err, refl, sym, ap, subst, ◌∙◌}
+use Rattle.std.specs.Prelude.{◌≢◌, ◌⊎◌, ◌↔◌, ◌%◌, ◌/◌, OnOk, IfNone, IfOk, IfSome, IfErr, IsErrAnd, IsErrOf}
 use Rattle.std.specs.Vec.{vec_items}
-use Rattle.std.proofs.lemmas.List.{length-map}
 use Rattle.chain.specs.declared.budget.Budget.{Budget}
 use Rattle.chain.specs.Budget.{IsSpent}
-use Rattle.guest_memory.specs.Memory.{Memory}
 use Rattle.board.specs.declared.fault.BoardFault.{BoardFault}
 use Rattle.board.specs.declared.spec.SlotSpec.{SlotSpec}
 use Rattle.board.specs.Fault.{Refuses}
-use Rattle.board.specs.Lent.{AreBytesOf, made_over}
+use Rattle.board.specs.Lent.{AreBytesOf}
 use Rattle.session.specs.declared.fault.SessionFault.{SessionFault}
-use Rattle.session.specs.declared.fault.SessionFault.TheVariants.{BadLoan, BadImage, BadOutlet, SpentBudget, Board, NoMemory}
+use Rattle.session.specs.declared.fault.SessionFault.TheVariants.{BadLoan, BadImage, BadOutlet, BadDevice, SpentBudget, Board, NoMemory}
 use Rattle.session.specs.declared.guest.GuestSpec.{GuestSpec}
-use Rattle.session.specs.Refusing.{AreOutlets, IsJudged, IsLentRefusedFor, IsRefusedFor}
+use Rattle.session.specs.Refusing.{AreDevices, AreOutlets, IsJudged, IsLentRefusedFor, IsRefusedFor}
 use Rattle.session.specs.Session.{slots_of}
 use Rattle.session.proofs.Loans.{Run}
 
@@ -36,6 +34,18 @@ pub if_err : {T : Type 0} (r : Result T SessionFault) (why : SessionFault) (P : 
     → r ≡ Err why → P why → IfErr r P
 if_err r why P is p = subst (λ (s : Result _ SessionFault). IfErr s P) (sym is) p
 
+-- and what it says of a session that is there
+pub no_ok : {T : Type 0} (r : Result T SessionFault) (why : SessionFault) (P : T → Type 0) → r ≡ Err why → IfOk r P
+no_ok r why P is = subst (λ (s : Result _ SessionFault). IfOk s P) (sym is) tt
+
+pub in_none : {X : Type 0} (lent : Option X) (P : Type 0) → P → IfNone lent P
+in_none None P p = p
+in_none (Some x) P p = tt
+
+pub in_some : {X : Type 0} (lent : Option X) (P : X → Type 0) → ((x : X) → P x) → IfSome lent P
+in_some None P p = tt
+in_some (Some x) P p = p x
+
 pub is_err : {T : Type 0} (r : Result T SessionFault) (why : SessionFault) (P : SessionFault → Type 0)
     → r ≡ Err why → P why → IsErrAnd r P
 is_err r why P is p = subst (λ (s : Result _ SessionFault). IsErrAnd s P) (sym is) p
@@ -56,19 +66,10 @@ pub never_outlet : {T : Type 0} (r : Result T SessionFault) → IfErr r (λ why.
 never_outlet (Ok x) want is = cc
 never_outlet (Err e) want is = cc
 
--- as many slots are made as there are described
-length-made_over : {X : Type 0} (made : SlotSpec → Memory → X) (slots : List SlotSpec)
-    (bytes : List (List ℕ)) → length (made_over made slots bytes) ≡ length slots
-length-made_over made [] bytes = refl
-length-made_over made (spec ∷ slots) bytes =
-    ap suc (length-made_over made slots (drop (length spec.regions) bytes))
-
--- and so as many as there are guests
-pub many_made_over : {X : Type 0} (made : SlotSpec → Memory → X) (guests : List GuestSpec)
-    (bytes : List (List ℕ)) (slots : List X) → slots ≡ made_over made (slots_of guests) bytes
-    → length slots ≡ length guests
-many_made_over made guests bytes slots is =
-    ap length is ∙ length-made_over made (slots_of guests) bytes ∙ length-map guests (λ guest. guest.slot)
+pub never_device : {T : Type 0} (r : Result T SessionFault) → IfErr r (λ why. why ≡ NoMemory)
+    → IsErrOf r BadDevice → ⊥
+never_device (Ok x) want is = cc
+never_device (Err e) want is = cc
 
 -- what is judged of a slice is so of its list
 pub lent : (guests : List GuestSpec) {seen runs : List Run} → seen ≡ runs
@@ -90,6 +91,7 @@ module _ (guests : List GuestSpec) (image : List ℕ) (cache : ℕ) (budget : Bu
   only_image BadLoan bad r = absurd r
   only_image BadImage bad r = refl
   only_image BadOutlet bad r = absurd (bad r.0)
+  only_image BadDevice bad r = absurd (bad r.0)
   only_image SpentBudget bad r = absurd (bad r.0)
   only_image (Board fault) bad r = absurd (bad r.whole)
   only_image NoMemory bad r = absurd (bad r.0)
@@ -99,18 +101,31 @@ module _ (guests : List GuestSpec) (image : List ℕ) (cache : ℕ) (budget : Bu
   only_outlet BadLoan bad r = absurd r
   only_outlet BadImage bad r = absurd (r bad.0)
   only_outlet BadOutlet bad r = refl
+  only_outlet BadDevice bad r = absurd (bad.1 r.1)
   only_outlet SpentBudget bad r = absurd (bad.1 r.1)
   only_outlet (Board fault) bad r = absurd (bad.1 r.outlets)
   only_outlet NoMemory bad r = absurd (bad.1 r.1)
 
-  pub only_spent : (why : SessionFault) → (length image % 512 ≡ 0) × AreOutlets guests × IsSpent budget
+  pub only_device : (why : SessionFault)
+      → (length image % 512 ≡ 0) × AreOutlets guests × ¬ AreDevices guests → Refused why → why ≡ BadDevice
+  only_device BadLoan bad r = absurd r
+  only_device BadImage bad r = absurd (r bad.0)
+  only_device BadOutlet bad r = absurd (r.1 bad.1)
+  only_device BadDevice bad r = refl
+  only_device SpentBudget bad r = absurd (bad.2 r.2)
+  only_device (Board fault) bad r = absurd (bad.2 r.devices)
+  only_device NoMemory bad r = absurd (bad.2 r.2)
+
+  pub only_spent : (why : SessionFault)
+      → (length image % 512 ≡ 0) × AreOutlets guests × AreDevices guests × IsSpent budget
       → Refused why → why ≡ SpentBudget
   only_spent BadLoan bad r = absurd r
   only_spent BadImage bad r = absurd (r bad.0)
   only_spent BadOutlet bad r = absurd (r.1 bad.1)
+  only_spent BadDevice bad r = absurd (r.2 bad.2)
   only_spent SpentBudget bad r = refl
-  only_spent (Board fault) bad r = absurd (r.lasts bad.2)
-  only_spent NoMemory bad r = absurd (r.2 bad.2)
+  only_spent (Board fault) bad r = absurd (r.lasts bad.3)
+  only_spent NoMemory bad r = absurd (r.3 bad.3)
 
   module _ {T : Type 0} (r : Result T SessionFault) (why : SessionFault) (is : r ≡ Err why)
       (refused : Refused why) where
@@ -123,7 +138,11 @@ module _ (guests : List GuestSpec) (image : List ℕ) (cache : ℕ) (budget : Bu
     pub told_outlet : IsErrOf r BadOutlet ↔ ((length image % 512 ≡ 0) × ¬ AreOutlets guests)
     told_outlet = (told BadOutlet, λ bad. is ∙ ap Err (only_outlet why bad refused))
 
-    pub told_spent : IsErrOf r SpentBudget ↔ ((length image % 512 ≡ 0) × AreOutlets guests × IsSpent budget)
+    pub told_device : IsErrOf r BadDevice ↔ ((length image % 512 ≡ 0) × AreOutlets guests × ¬ AreDevices guests)
+    told_device = (told BadDevice, λ bad. is ∙ ap Err (only_device why bad refused))
+
+    pub told_spent : IsErrOf r SpentBudget
+        ↔ ((length image % 512 ≡ 0) × AreOutlets guests × AreDevices guests × IsSpent budget)
     told_spent = (told SpentBudget, λ bad. is ∙ ap Err (only_spent why bad refused))
 
   module _ (bytes : List (List ℕ)) (are : AreBytesOf (slots_of guests) bytes) where
@@ -140,8 +159,9 @@ module _ (guests : List GuestSpec) (image : List ℕ) (cache : ℕ) (budget : Bu
     judged_first told BadLoan bad is r = absurd (r are)
     judged_first told BadImage bad is r = only_image told r.1 is
     judged_first told BadOutlet bad is r = only_outlet told r.1 is
+    judged_first told BadDevice bad is r = only_device told r.1 is
     judged_first told SpentBudget bad is r = only_spent told r.1 is
-    judged_first told (Board fault) bad is r = absurd (bad (r.1.whole, r.1.outlets, r.1.lasts))
+    judged_first told (Board fault) bad is r = absurd (bad (r.1.whole, r.1.outlets, r.1.devices, r.1.lasts))
     judged_first told NoMemory bad is r = absurd (bad r.1)
 
     -- and behind it a board's
@@ -154,6 +174,7 @@ module _ (guests : List GuestSpec) (image : List ℕ) (cache : ℕ) (budget : Bu
     then_board r judged by BadLoan other is = absurd (is are)
     then_board r judged by BadImage other is = absurd (is.1 judged.0)
     then_board r judged by BadOutlet other is = absurd (is.1.1 judged.1)
-    then_board r judged by SpentBudget other is = absurd (judged.2 is.1.2)
+    then_board r judged by BadDevice other is = absurd (is.1.2 judged.2)
+    then_board r judged by SpentBudget other is = absurd (judged.3 is.1.3)
     then_board r judged by (Board fault) other is = by fault is.1.other is.1.refused
     then_board r judged by NoMemory other is = absurd (other refl)

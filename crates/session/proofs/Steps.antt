@@ -7,6 +7,7 @@ use Rattle.std.proofs.lemmas.Option.{slice_get_within, same_Some}
 use Rattle.chain.specs.declared.budget.Budget.{Budget}
 use Rattle.sector_cache.specs.Disk.{Disk}
 use Rattle.block_device.specs.declared.extent.Extent.{Extent}
+use Rattle.board.specs.declared.event.DeviceEvent.TheVariants.{Plug, TakeSent}
 use Rattle.board.specs.declared.event.Event.{Event}
 use Rattle.board.specs.declared.event.EventKind.{EventKind}
 use Rattle.board.specs.declared.event.EventKind.TheVariants.{Write, MemRead, Device}
@@ -38,7 +39,7 @@ use Rattle.session.specs.declared.turn_kind.TurnKind.TheVariants.{Begin, Resume}
 use Rattle.session.specs.Pacing.{GoOn, Handle, call_of, paused_by, response_to, work_in}
 use Rattle.session.specs.Answering.{SuitsCall, SuitsTurn}
 use Rattle.session.specs.Pausing.{IsCall, IsTurn, IsWhole, IsWholeCall}
-use Rattle.session.specs.Session.{BeginsNoRead, IsStep, HasNoRead, SessionState, Waiting, none_waiting, limit_of, output_of, world_of}
+use Rattle.session.specs.Session.{AnswersInPlace, BeginsInPlace, IsStep, SessionState, Waiting, none_waiting, limit_of, output_of, world_of}
 use Rattle.session.proofs.Places.{set_same}
 use Rattle.session.proofs.Suiting.{paused_suits, silent, suits}
 use Rattle.session.proofs.Unchanged.{missing}
@@ -103,12 +104,13 @@ task_puts (Serve Transmit) state h = tt
 task_puts (PutOut byte) state h = tt
 task_puts task state h = h
 
-pub lacks_puts : {A : Type 0} (state : SlotState) (what : EventKind A) → HasNoRead what → MayLackMemory state what
+pub lacks_puts : {A : Type 0} (state : SlotState) (what : EventKind A) → AnswersInPlace what → MayLackMemory state what
     → MayPutOut state what
 lacks_puts state (Write window offset width value) why h =
     task_puts (task_at window offset width value state) (with_write window offset width value state) h
 lacks_puts state (MemRead addr len) why h = absurd why
-lacks_puts state (Device n what) why h = absurd why
+lacks_puts state (Device n (Plug spec)) why h = absurd why
+lacks_puts state (Device n TakeSent) why h = absurd why
 lacks_puts state what why h = h
 
 lacks_at : {A : Type 0} (o : Option BoardSlot) (image : List ℕ) (slot : BoardSlot) (what : EventKind A)
@@ -272,12 +274,12 @@ module _ (A : Type 0) (slots slots' : List BoardSlot) (image image' : List ℕ) 
         before.bytes after.bytes r)
 
     -- it is a step
-    stepped : (reply : Reply A) (block console : ℕ) → HasNoRead what → Began (turn.Answered reply) block console
+    stepped : (reply : Reply A) (block console : ℕ) → AnswersInPlace what → Began (turn.Answered reply) block console
         → Decides (turn.Answered reply) → (reply ≡ BadSlot) ↔ (length slots ≤ slot)
         → (reply ≡ BadRange → session slots' image' dirty' outputs paused budget ≡ was)
         → (reply ≡ NoMemory → IsSomeAnd (slice_get slots slot) (λ found. (bytes : List ℕ)
         → MayLackMemory (state_of bytes found) what)) → IsStep was event reply (now (turn.Answered reply))
-    stepped reply block console no_read r decided missing range memory =
+    stepped reply block console in_place r decided missing range memory =
         let told = told_answers reply block console r in
         record {
           answers = answers_at _ _ event reply before.bytes _ after.bytes _ waited (waits (turn.Answered reply)) told;
@@ -297,7 +299,7 @@ module _ (A : Type 0) (slots slots' : List BoardSlot) (image image' : List ℕ) 
               (decided one.0 two.0 one.1 two.1));
           refused = λ lacks found there.
               let one = shown_back slots image slot found there in
-              rw (← one.2) (lacks_puts (state_of image one.0) what no_read
+              rw (← one.2) (lacks_puts (state_of image one.0) what in_place
               (lacks_at (slice_get slots slot) image one.0 what one.1 (memory lacks)));
           bad_slot = missing;
           bad_slot_keeps = λ bad. let past : length slots ≤ slot = missing.0 bad in let here_too = fits in
@@ -308,18 +310,18 @@ module _ (A : Type 0) (slots slots' : List BoardSlot) (image image' : List ℕ) 
           no_memory = λ lacks. at_image (slice_get slots slot) image what (memory lacks);
         }
 
-    pub whole : (t : Turn A) (block console : ℕ) → HasNoRead what → Began t block console → Decides t
+    pub whole : (t : Turn A) (block console : ℕ) → AnswersInPlace what → Began t block console → Decides t
         → (t ≡ turn.Answered BadSlot) ↔ (length slots ≤ slot)
         → (t ≡ turn.Answered BadRange → session slots' image' dirty' outputs paused budget ≡ was)
         → (t ≡ turn.Answered NoMemory → IsSomeAnd (slice_get slots slot) (λ found. (bytes : List ℕ)
         → MayLackMemory (state_of bytes found) what)) → IsWhole was event (response_to t) (now t)
-    whole (turn.Answered reply) block console no_read r decided missing range memory =
-        stepped reply block console no_read r decided (
+    whole (turn.Answered reply) block console in_place r decided missing range memory =
+        stepped reply block console in_place r decided (
           λ bad. missing.0 (ap (λ (a : Reply A). turn.Answered a) bad),
           λ past. cc (missing.1 past),
         ) (λ bad. range (ap (λ (a : Reply A). turn.Answered a) bad))
         (λ lacks. memory (ap (λ (a : Reply A). turn.Answered a) lacks))
-    whole (turn.More pause) block console no_read r decided missing range memory = tt
+    whole (turn.More pause) block console in_place r decided missing range memory = tt
 
     -- and its response is one of those that it may get
     pub suits_call : (t : Turn A) (block console : ℕ) → Began t block console → SuitsCall what (response_to t)
@@ -330,23 +332,23 @@ module _ (A : Type 0) (slots slots' : List BoardSlot) (image image' : List ℕ) 
   -- ---- a turn of either kind
 
   pub turn_taken : (kind : TurnKind A) (pause : Option Pause) (job : Work A) (t : Turn A) (block console : ℕ)
-      → slice_get paused slot ≡ Some pause → work_in kind pause ≡ Ok job → BeginsNoRead kind
+      → slice_get paused slot ≡ Some pause → work_in kind pause ≡ Ok job → BeginsInPlace kind
       → Says job t block console → Turned was slot kind (response_to t) (now t)
-  turn_taken (Begin what) None job t block console is told no_read says =
+  turn_taken (Begin what) None job t block console is told in_place says =
       let same : job ≡ work.Begin what = cc (told) in
       let begun = subst (λ (j : Work A). Says j t block console) same says in
       record {
         call = called what.now is t block console begun.takes begun.within begun.limited;
-        whole = whole what.now is t block console no_read begun.takes begun.within begun.bad_slot
+        whole = whole what.now is t block console in_place begun.takes begun.within begun.bad_slot
             begun.bad_range_keeps begun.no_memory;
         suits = suits_call what.now is t block console begun.takes;
       }
-  turn_taken Resume (Some pause) job t block console is told no_read says =
+  turn_taken Resume (Some pause) job t block console is told in_place says =
       let same : job ≡ work.Resume pause = cc (told) in
       record {
         call = went_on pause t block console is (subst (λ (j : Work A). Says j t block console) same says);
         whole = tt;
         suits = tt;
       }
-  turn_taken (Begin what) (Some pause) job t block console is told no_read says = absurd (cc (told))
-  turn_taken Resume None job t block console is told no_read says = absurd (cc (told))
+  turn_taken (Begin what) (Some pause) job t block console is told in_place says = absurd (cc (told))
+  turn_taken Resume None job t block console is told in_place says = absurd (cc (told))

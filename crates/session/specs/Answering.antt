@@ -1,5 +1,5 @@
 -- What a call answers, as the board's response to its event.
-use Rattle.std.specs.Prelude.{◌≡◌, ◌⊎◌, ℕ, List, ⊤, Result, Ok, Err}
+use Rattle.std.specs.Prelude.{◌≡◌, ◌⊎◌, ℕ, Bool, true, false, List, [], length, ⊤, Option, unwrap_or, Result, Ok, Err}
 use Rattle.board.specs.declared.event.EventKind.{EventKind}
 use Rattle.board.specs.declared.event.EventKind.TheVariants.{Write, Input}
 use Rattle.board.specs.declared.reply.Reply.{Reply}
@@ -12,7 +12,7 @@ use Rattle.session.specs.declared.progress.Progress.TheVariants as progress
 use Rattle.session.specs.declared.response.Response.{Response}
 use Rattle.session.specs.declared.response.Response.TheVariants as response
 use Rattle.session.specs.declared.refusal.Refusal.{Refusal}
-use Rattle.session.specs.declared.refusal.Refusal.TheVariants.{BadSlot, BadRange, NoRoom, Busy, Idle}
+use Rattle.session.specs.declared.refusal.Refusal.TheVariants.{BadSlot, BadRange, BadDevice, NoRoom, Busy, Idle}
 use Rattle.session.specs.declared.typed.Typed.{Typed}
 
 -- The response that a refusal stands for. Where an outlet has no room the board has no memory for the output.
@@ -20,6 +20,7 @@ use Rattle.session.specs.declared.typed.Typed.{Typed}
 abbrev pub RefusalMeans : {A : Type 0} → Refusal → Response A → Type 0
 RefusalMeans BadSlot told = told ≡ response.Answered reply.BadSlot
 RefusalMeans BadRange told = told ≡ response.Answered reply.BadRange
+RefusalMeans BadDevice told = told ≡ response.Answered reply.BadDevice
 RefusalMeans NoRoom told = told ≡ response.Answered reply.NoMemory
 RefusalMeans Busy told = (told ≡ response.Busy) ⊎ (told ≡ response.Answered reply.Busy)
 RefusalMeans Idle told = told ≡ response.Answered reply.Idle
@@ -33,6 +34,7 @@ Means wanted (Err why) told = RefusalMeans why told
 abbrev pub IsRefusing : {A : Type 0} → Response A → Type 0
 IsRefusing (response.Answered reply.BadSlot) = ⊤
 IsRefusing (response.Answered reply.BadRange) = ⊤
+IsRefusing (response.Answered reply.BadDevice) = ⊤
 IsRefusing (response.Answered reply.NoMemory) = ⊤
 IsRefusing (response.Answered reply.Busy) = ⊤
 IsRefusing (response.Answered reply.Idle) = ⊤
@@ -56,6 +58,21 @@ IsTyping (response.Answered (reply.Took taken)) = ⊤
 IsTyping response.More = ⊤
 IsTyping told = IsRefusing told
 
+-- or one that says what a register gave
+abbrev pub IsReading : {A : Type 0} → Response A → Type 0
+IsReading (response.Answered (reply.Value value)) = ⊤
+IsReading told = IsRefusing told
+
+-- or one that says how many bytes a further device took
+abbrev pub IsTaking : {A : Type 0} → Response A → Type 0
+IsTaking (response.Answered (reply.Took taken)) = ⊤
+IsTaking told = IsRefusing told
+
+-- or one that says that a frame was taken whole, or that there was no room for it
+abbrev pub IsTakenWhole : {A : Type 0} → List ℕ → Reply A → Type 0
+IsTakenWhole frame (reply.Took taken) = (taken ≡ length frame) ⊎ (taken ≡ 0)
+IsTakenWhole frame answer = IsRefusing (response.Answered answer)
+
 -- the response to a read of a window that gave this
 abbrev pub value_response : {A : Type 0} → ℕ → Response A
 value_response value = response.Answered (reply.Value value)
@@ -73,6 +90,19 @@ served_response progress.Asks = response.Answered reply.Done
 -- to a read of memory that left these bytes
 abbrev pub bytes_response : {A : Type 0} → List ℕ → Unit {0} → Response A
 bytes_response bytes done = response.Answered (reply.Bytes bytes)
+
+-- to bytes of which a further device took so many
+abbrev pub took_response : {A : Type 0} → ℕ → Response A
+took_response taken = response.Answered (reply.Took taken)
+
+-- to a frame that a network card took whole, or for which it had no room
+abbrev pub taken_response : {A : Type 0} → List ℕ → Bool → Response A
+taken_response frame true = response.Answered (reply.Took (length frame))
+taken_response frame false = response.Answered (reply.Took 0)
+
+-- to the taking of the oldest frame that a network card's driver sent: no bytes where none waited
+abbrev pub frame_response : {A : Type 0} → Option (List ℕ) → Bool → Response A
+frame_response oldest taken = response.Answered (reply.Bytes (unwrap_or oldest []))
 
 -- and to what is typed, of which so many bytes were taken
 abbrev pub typed_by : {A : Type 0} → ℕ → Progress → Response A

@@ -10,3 +10,5 @@ pub mod Steps
 pub mod Course
 pub mod Alone
 pub mod Operations
+pub mod Devices
+pub mod Plugging

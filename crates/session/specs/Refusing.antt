@@ -1,22 +1,33 @@
 -- Why there is no session.
-use Rattle.std.specs.Prelude.{◌≡◌, ◌≢◌, ℕ, ◌^◌, ◌≤◌, ◌/◌, ◌%◌, List, All, length}
+use Rattle.std.specs.Prelude.{◌≡◌, ◌≢◌, ℕ, ◌^◌, ◌≤◌, ◌/◌, ◌%◌, Bool, false, List, All, length}
+use Rattle.std.specs.List.{list_any}
 use Rattle.chain.specs.declared.budget.Budget.{Budget}
 use Rattle.chain.specs.Budget.{IsSpent}
+use Rattle.device_list.specs.Model.{has_bad_mtu}
 use Rattle.board.specs.declared.fault.BoardFault.{BoardFault}
 use Rattle.board.specs.Fault.{Refuses}
 use Rattle.board.specs.Lent.{AreBytesOf}
 use Rattle.session.specs.declared.fault.SessionFault.{SessionFault}
-use Rattle.session.specs.declared.fault.SessionFault.TheVariants.{BadLoan, BadImage, BadOutlet, SpentBudget, Board, NoMemory}
+use Rattle.session.specs.declared.fault.SessionFault.TheVariants.{BadLoan, BadImage, BadOutlet, BadDevice, SpentBudget, Board, NoMemory}
 use Rattle.session.specs.declared.guest.GuestSpec.{GuestSpec}
-use Rattle.session.specs.Session.{slots_of}
+use Rattle.session.specs.Session.{devices_of, slots_of}
 
 -- no more output of a guest may wait than 2^24 bytes
 abbrev pub AreOutlets : List GuestSpec → Type 0
 AreOutlets guests = All (λ guest. guest.outlet ≤ 2 ^ 24) guests
 
--- what is judged before the board: the image's size, the outlets and the budget
+-- whether a guest is to have a network card whose MTU is below 68 (5.1.4.1)
+abbrev pub has_bad_device : GuestSpec → Bool
+has_bad_device guest = list_any has_bad_mtu (devices_of guest)
+
+-- no guest is
+abbrev pub AreDevices : List GuestSpec → Type 0
+AreDevices guests = All (λ guest. has_bad_device guest ≡ false) guests
+
+-- what is judged before the board: the image's size, the outlets, the further devices and the budget
 abbrev pub IsJudged : List GuestSpec → List ℕ → Budget → Type 0
-IsJudged guests image budget = (length image % 512 ≡ 0) × AreOutlets guests × ¬ IsSpent budget
+IsJudged guests image budget = (length image % 512 ≡ 0)
+    × AreOutlets guests × AreDevices guests × ¬ IsSpent budget
 
 -- the board would be refused for this, over an image of whole sectors
 pub record IsBoardFault (guests : List GuestSpec) (image : List ℕ) (cache : ℕ) (budget : Budget)
@@ -24,18 +35,21 @@ pub record IsBoardFault (guests : List GuestSpec) (image : List ℕ) (cache : �
     : Type 0 where
   pub whole : length image % 512 ≡ 0
   pub outlets : AreOutlets guests
+  pub devices : AreDevices guests
   pub lasts : ¬ IsSpent budget
   pub refused : Refuses (length image / 512) (slots_of guests) cache fault
   pub other : fault ≢ BoardFault.NoMemory
 
--- Why a session is refused: the image's size, then an outlet, then the budget, then what a board is refused
--- for. Want of memory may come before the latter, and comes only where none of the others holds.
+-- Why a session is refused: the image's size, then an outlet, then a further device, then the budget, then
+-- what a board is refused for. Want of memory may come before the latter, and comes only where none of the others holds.
 abbrev pub IsRefusedFor : List GuestSpec → List ℕ → ℕ → Budget → SessionFault → Type 0
 IsRefusedFor guests image cache budget BadLoan = ⊥
 IsRefusedFor guests image cache budget BadImage = length image % 512 ≢ 0
 IsRefusedFor guests image cache budget BadOutlet = (length image % 512 ≡ 0) × ¬ AreOutlets guests
+IsRefusedFor guests image cache budget BadDevice = (length image % 512 ≡ 0)
+    × AreOutlets guests × ¬ AreDevices guests
 IsRefusedFor guests image cache budget SpentBudget = (length image % 512 ≡ 0)
-    × AreOutlets guests × IsSpent budget
+    × AreOutlets guests × AreDevices guests × IsSpent budget
 IsRefusedFor guests image cache budget (Board fault) = IsBoardFault guests image cache budget fault
 IsRefusedFor guests image cache budget NoMemory = IsJudged guests image budget
 

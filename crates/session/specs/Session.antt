@@ -1,10 +1,13 @@
 -- A session, as its embedder sees it, and what one event does to it.
-use Rattle.std.specs.Prelude.{⊤, ◌≡◌, ◌≢◌, ◌↔◌, ℕ, ◌≤◌, Bool, false, List, [], length, map, Option, Some, None, replicate, slice_set, unwrap_or, IsSomeAnd}
+use Rattle.std.specs.Prelude.{⊤, ◌≡◌, ◌≢◌, ◌↔◌, ℕ, ◌≤◌, Bool, false, List, [], ◌∷◌, length, map, Option, Some, None, replicate, slice_set, unwrap_or, IsSomeAnd}
 use Rattle.std.specs.List.{slice_get}
 use Rattle.std.specs.Option.{option_map}
 use Rattle.chain.specs.declared.budget.Budget.{Budget}
 use Rattle.guest_memory.specs.Memory.{Inside, Memory}
 use Rattle.sector_cache.specs.Disk.{Disk, new_disk}
+use Rattle.device_list.specs.declared.spec.DeviceSpec.{DeviceSpec}
+use Rattle.device_list.specs.Device.{fresh_device}
+use Rattle.board.specs.declared.event.DeviceEvent.TheVariants.{Plug, TakeSent}
 use Rattle.board.specs.declared.event.Event.{Event}
 use Rattle.board.specs.declared.event.EventKind.{EventKind}
 use Rattle.board.specs.declared.event.EventKind.TheVariants.{MemRead, Device}
@@ -119,11 +122,30 @@ pub record IsStep {A : Type 0} (old : SessionState) (event : Event A) (reply : R
 abbrev pub slots_of : List GuestSpec → List SlotSpec
 slots_of guests = map (λ guest. guest.slot) guests
 
--- a new session: the slots of a new board, the image as it was handed over, nothing put out yet, and nothing
--- paused
+-- a guest's further devices: those before the first place that has none
+abbrev pub before_none : {X : Type 0} → List (Option X) → List X
+before_none [] = []
+before_none (None ∷ places) = []
+before_none (Some x ∷ places) = x ∷ before_none places
+
+abbrev pub devices_of : GuestSpec → List DeviceSpec
+devices_of guest = before_none guest.devices
+
+-- a slot with these further devices, as after a reset
+abbrev pub with_fresh : List DeviceSpec → BoardSlot → BoardSlot
+with_fresh specs slot = record slot { devices = map fresh_device specs }
+
+-- the slots, each with its guest's further devices
+abbrev pub plugged : List GuestSpec → List BoardSlot → List BoardSlot
+plugged [] slots = slots
+plugged (guest ∷ guests) [] = []
+plugged (guest ∷ guests) (slot ∷ slots) = with_fresh (devices_of guest) slot ∷ plugged guests slots
+
+-- a new session: the slots of a new board with the guests' further devices, the image as it was handed over,
+-- nothing put out yet, and nothing paused
 abbrev pub new_session : List GuestSpec → List ℕ → Budget → SessionState
 new_session guests image budget = record {
-  slots = map opened (slots_of guests);
+  slots = plugged guests (map opened (slots_of guests));
   image = image;
   dirty = false;
   outputs = map (λ guest. none_waiting guest.outlet) guests;
@@ -134,7 +156,7 @@ new_session guests image budget = record {
 -- a new session whose guests' memories have these bytes: those of each region, guest by guest
 abbrev pub new_session_over : List GuestSpec → List (List ℕ) → List ℕ → Budget → SessionState
 new_session_over guests bytes image budget = record (new_session guests image budget) {
-  slots = made_over opened_over (slots_of guests) bytes;
+  slots = plugged guests (made_over opened_over (slots_of guests) bytes);
 }
 
 -- a session in which a slot, which was this one, has another memory, and nothing else is other
@@ -161,13 +183,15 @@ pub record IsKept (old new : SessionState) : Type 0 where
   pub paused : new.paused ≡ old.paused
   pub budget : new.budget ≡ old.budget
 
--- an event that is no read of memory, and is not done to a further device: a session has no call for those
-abbrev pub HasNoRead : {A : Type 0} → EventKind A → Type 0
-HasNoRead (MemRead addr len) = ⊥
-HasNoRead (Device n what) = ⊥
-HasNoRead what = ⊤
+-- an event whose answer takes no memory: it is no read of memory, and of what is done to a further device
+-- neither that it is plugged in nor that a frame of it is taken
+abbrev pub AnswersInPlace : {A : Type 0} → EventKind A → Type 0
+AnswersInPlace (MemRead addr len) = ⊥
+AnswersInPlace (Device n (Plug spec)) = ⊥
+AnswersInPlace (Device n TakeSent) = ⊥
+AnswersInPlace what = ⊤
 
--- a turn that reads no memory
-abbrev pub BeginsNoRead : {A : Type 0} → TurnKind A → Type 0
-BeginsNoRead (Begin what) = HasNoRead what.now
-BeginsNoRead Resume = ⊤
+-- a turn that begins no other
+abbrev pub BeginsInPlace : {A : Type 0} → TurnKind A → Type 0
+BeginsInPlace (Begin what) = AnswersInPlace what.now
+BeginsInPlace Resume = ⊤

@@ -18,6 +18,9 @@ pub enum SessionFault {
     /// More output of a guest may wait than 2^24 bytes.
     #[error("an outlet keeps 16777216 bytes at most")]
     BadOutlet,
+    /// A network card that a guest is to have has an MTU below 68.
+    #[error("a network card has an MTU of 68 or more")]
+    BadDevice,
     /// The budget has no chain or no byte, so a service that pauses would never go on.
     #[error("a budget needs one chain and one byte at least")]
     SpentBudget,

@@ -3,11 +3,11 @@
 ghost use Rattle.std.specs.Prelude.{◌≡◌, ◌↔◌, None, length, map, replicate, take, IsTrue, IfOk};
 ghost use Rattle.std.specs.Vec.{vec_items};
 ghost use Rattle.board.specs.Lent.{AreBytesOf};
-ghost use Rattle.session.specs.Refusing.{AreOutlets};
+ghost use Rattle.session.specs.Refusing.{AreDevices, AreOutlets, has_bad_device};
 ghost use Rattle.session.specs.Session.{none_waiting, slots_of};
 
 use crate::output_queue::OutputQueue;
-use board::{Pause, RegionSpec, SlotSpec};
+use board::{DeviceSpec, MOST_DEVICES, Pause, RegionSpec, SlotSpec};
 use std::alloc::{AllocError, Allocator};
 use std_alloc::vec::Lodged;
 
@@ -22,6 +22,8 @@ pub struct GuestSpec {
     /// How many bytes of its console's output may wait to be taken, 2^24 at most. A longer chain is never put
     /// out.
     pub outlet: u32,
+    /// Its further devices, numbered from 0 on: those before the first `None`.
+    pub devices: [Option<DeviceSpec>; MOST_DEVICES],
 }
 
 /// Whether no guest's output is to have more room than it may.
@@ -29,6 +31,28 @@ pub(crate) fn are_outlets(guests: &[GuestSpec]) -> bool
     ensures { IsTrue result ↔ AreOutlets guests.now }
 {
     guests.iter().all(|guest| guest.outlet <= MOST_WAITING)
+}
+
+/// Whether no guest is to have a further device that isn't made.
+pub(crate) fn are_devices(guests: &[GuestSpec]) -> bool
+    ensures { IsTrue result ↔ AreDevices guests.now }
+{
+    guests.iter().all(|guest| !has_bad_device(guest))
+}
+
+/// Whether a guest is to have a network card whose MTU is too low.
+pub fn has_bad_device(guest: &GuestSpec) -> bool
+    ensures { result ≡ has_bad_device guest.now }
+{
+    for device in &guest.devices {
+        let Some(spec) = device else {
+            return false;
+        };
+        if spec.has_bad_mtu() {
+            return true;
+        }
+    }
+    false
 }
 
 /// Whether there are bytes for each region of the guests, in their order and as many as it has.

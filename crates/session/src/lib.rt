@@ -2,14 +2,15 @@
 //! another language stands on them.
 //!
 //! `session` is a board over an image in memory, where each guest's disk is of the image or one that the host serves, a
-//! module for each kind of call: `registers`, `disk`, `memory`, `console`, `image` and `saved`.
+//! module for each kind of call: `registers`, `disk`, `memory`, `console`, `devices`, `image` and `saved`.
 //!
 //! Each call serves within the session's budget. A service pauses where the budget is spent, before its next chain, and goes
 //! on when it is told to. `turn_kind` says what a slot is asked to do in a call, `response` what comes of it, and `progress`
 //! what the caller is told.
 //!
-//! `guest` is what a session is made of, and `output_queue` keeps what a console put out. `fault` says why there is no
-//! session, `refusal` why a call was refused, `typed` what became of input, `laws` what holds of every session, and `lines` what holds of every line of calls.
+//! `guest` is what a session is made of, `plugging` gives its board the guests' further devices, and `output_queue` keeps
+//! what a console put out. `fault` says why there is no session, `refusal` why a call was refused, `typed` what became of
+//! input, `laws` what holds of every session, and `lines` what holds of every line of calls.
 #![tactic(auto)]
 
 mod fault;
@@ -17,6 +18,7 @@ mod guest;
 mod laws;
 mod lines;
 mod output_queue;
+mod plugging;
 mod progress;
 mod refusal;
 mod response;
@@ -27,13 +29,14 @@ mod typed;
 
 pub use block_device::{Operation, OperationKind, Verdict};
 pub use board::{
-    Backing, Board, BoardFault, Budget, CacheFault, Counters, Event, EventKind, Extent, Fault,
-    FaultNote, GuestMemory, HostEvent, MemoryFault, Outlet, Pause, RegionSpec, Regions, Reply,
-    RestoreFault, RestoreRefusal, SaveRefusal, Service, SlotFault, SlotSpec, SlotWindow,
+    Backing, Board, BoardFault, Budget, CacheFault, Counters, DeviceSpec, Event, EventKind, Extent,
+    Fault, FaultNote, GuestMemory, HostEvent, MOST_DEVICES, MemoryFault, Outlet, Pause, RegionSpec,
+    Regions, Reply, RestoreFault, RestoreRefusal, SaveRefusal, Service, SlotFault, SlotSpec,
+    SlotWindow,
 };
 pub use chain::Segment;
 pub use fault::SessionFault;
-pub use guest::GuestSpec;
+pub use guest::{GuestSpec, has_bad_device};
 pub use laws::{
     a_flight_outlasts_own_events, a_guest_with_room_runs_alone, a_write_in_place_is_an_event,
     each_guest_is_alone, the_outlet_decides, what_touches_no_memory_needs_none,
@@ -44,5 +47,5 @@ pub use progress::Progress;
 pub use refusal::Refusal;
 pub use response::Response;
 pub use session::Session;
-pub use told::{Told, Waits};
+pub use told::{DeviceWaits, Told, Waits};
 pub use typed::Typed;

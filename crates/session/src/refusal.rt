@@ -18,6 +18,9 @@ pub enum Refusal {
     /// Not all of the range lies inside the slot's memory. Nothing has changed.
     #[error("not all of the range lies inside the guest's memory")]
     BadRange,
+    /// The slot has no such device, or it takes no such thing. Nothing has changed.
+    #[error("the guest has no such device, or it takes no such thing")]
+    BadDevice,
     /// What the guest's console puts out next doesn't fit behind what waits. What came before it was put out.
     #[error("the guest's output has no room until some of it is taken")]
     NoRoom,
@@ -42,6 +45,17 @@ impl Refusal {
         }
     }
 
+    /// Why a device doesn't answer, where there are so many slots.
+    pub(crate) fn of_device(slot: u8, slots: usize) -> Refusal
+        ensures { result ≡ (if nat_lt slot slots then Refusal.BadDevice else Refusal.BadSlot) }
+    {
+        if usize::from(slot) < slots {
+            Refusal::BadDevice
+        } else {
+            Refusal::BadSlot
+        }
+    }
+
     /// The refusal that a response of the board says.
     #[inline(always)]
     pub(crate) fn of<A: Allocator>(response: &Response<A>) -> Refusal
@@ -51,6 +65,7 @@ impl Refusal {
         match response {
             Response::Answered(Reply::NoMemory) => Refusal::NoRoom,
             Response::Answered(Reply::BadRange) => Refusal::BadRange,
+            Response::Answered(Reply::BadDevice) => Refusal::BadDevice,
             Response::Answered(Reply::Busy) | Response::Busy => Refusal::Busy,
             Response::Answered(Reply::Idle) => Refusal::Idle,
             _ => Refusal::BadSlot,

@@ -19,10 +19,11 @@ ghost use Rattle.session.specs.declared.response.Response.{Response};
 ghost use Rattle.session.specs.Pacing.{call_of, paused_at};
 ghost use Rattle.session.specs.Answering.{SuitsCall, SuitsTurn};
 ghost use Rattle.session.specs.Pausing.{IsCall, IsEventCall, IsWholeCall};
-ghost use Rattle.session.specs.Session.{BeginsNoRead, IsIdle, new_session, new_session_over, none_waiting, slots_of, waits_at};
-ghost use Rattle.session.specs.Refusing.{AreOutlets, IsBoardFault, IsJudged, IsLentRefusedFor, IsRefusedFor};
+ghost use Rattle.session.specs.Session.{BeginsInPlace, IsIdle, new_session, new_session_over, none_waiting, plugged, slots_of, waits_at};
+ghost use Rattle.session.specs.Refusing.{AreDevices, AreOutlets, IsBoardFault, IsJudged, IsLentRefusedFor, IsRefusedFor};
 
 mod console;
+mod devices;
 mod disk;
 mod image;
 mod memory;
@@ -30,8 +31,11 @@ mod registers;
 mod saved;
 
 use crate::fault::{SessionFault, why_not};
-use crate::guest::{GuestSpec, are_bytes_of, are_outlets, none_paused, outputs, slots};
+use crate::guest::{
+    GuestSpec, are_bytes_of, are_devices, are_outlets, none_paused, outputs, slots,
+};
 use crate::output_queue::OutputQueue;
+use crate::plugging::plug_devices;
 use crate::response::{Response, Turned, note};
 use crate::told::Waits;
 use crate::turn_kind::TurnKind;
@@ -73,8 +77,8 @@ impl<A: Allocator> Model for Session<A> {
 }
 
 impl<A: Allocator + Copy> Session<A> {
-    /// A session over a copy of these bytes, with these guests and a cache of at most `cache` sectors before
-    /// the image. Each call serves within the budget. Of a guest whose disk the host serves the extent's count alone is read.
+    /// A session over a copy of these bytes, with these guests, their further devices and a cache of at most `cache` sectors
+    /// before the image. Each call serves within the budget. Of a guest whose disk the host serves the extent's count alone is read.
     pub fn new(
         alloc: A,
         guests: &[GuestSpec],
@@ -85,6 +89,7 @@ impl<A: Allocator + Copy> Session<A> {
         ensures made { IfOk result (λ session. session ≡ new_session guests.now image.now budget) }
         ensures accepted { OnOk result (IsAccepted (length image.now / 512) (slots_of guests.now) cache) }
         ensures outlets { OnOk result (AreOutlets guests.now) }
+        ensures devices { OnOk result (AreDevices guests.now) }
         ensures lasts { OnOk result (¬ IsSpent budget) }
         ensures fault { IfErr result (IsRefusedFor guests.now image.now cache budget) }
 
@@ -92,8 +97,10 @@ impl<A: Allocator + Copy> Session<A> {
         ensures bad_image { IsErrOf result SessionFault.BadImage ↔ (length image.now % 512 ≢ 0) }
         ensures bad_outlet { IsErrOf result SessionFault.BadOutlet ↔
             ((length image.now % 512 ≡ 0) × ¬ AreOutlets guests.now) }
+        ensures bad_device { IsErrOf result SessionFault.BadDevice ↔
+            ((length image.now % 512 ≡ 0) × AreOutlets guests.now × ¬ AreDevices guests.now) }
         ensures spent { IsErrOf result SessionFault.SpentBudget ↔
-            ((length image.now % 512 ≡ 0) × AreOutlets guests.now × IsSpent budget) }
+            ((length image.now % 512 ≡ 0) × AreOutlets guests.now × AreDevices guests.now × IsSpent budget) }
         ensures bad_board { (fault : BoardFault) → IsBoardFault guests.now image.now cache budget fault →
             IsErrAnd result (λ why. (why ≡ SessionFault.Board fault) ⊎ (why ≡ SessionFault.NoMemory)) }
     {
@@ -117,6 +124,7 @@ impl<A: Allocator + Copy> Session<A> {
         ensures lent { OnOk result (AreBytesOf (slots_of guests.now) (map vec_items bytes.items)) }
         ensures accepted { OnOk result (IsAccepted (length image.now / 512) (slots_of guests.now) cache) }
         ensures outlets { OnOk result (AreOutlets guests.now) }
+        ensures devices { OnOk result (AreDevices guests.now) }
         ensures lasts { OnOk result (¬ IsSpent budget) }
         ensures fault { IfErr result (IsLentRefusedFor guests.now (map vec_items bytes.items) image.now cache budget) }
 
@@ -168,7 +176,7 @@ impl<A: Allocator + Copy> Session<A> {
     // A slot takes a turn: an event begins, to its end or up to a pause, or its paused service goes on.
     #[inline(always)]
     fn turn(&mut self, slot: u8, kind: TurnKind<'_, A>) -> Turned<A>
-        requires { BeginsNoRead kind }
+        requires { BeginsInPlace kind }
         ensures call { IsCall self.old (call_of slot kind.entry) result.response self.new }
         ensures whole { IsWholeCall self.old (call_of slot kind.entry) result.response self.new }
         ensures suits { SuitsTurn kind.entry result.response }
@@ -286,15 +294,45 @@ fn judge(guests: &[GuestSpec], image: &[u8], budget: Budget) -> Result<(), Sessi
     if !are_outlets(guests) {
         return Err(SessionFault::BadOutlet);
     }
+    if !are_devices(guests) {
+        return Err(SessionFault::BadDevice);
+    }
     if budget.is_spent() {
         return Err(SessionFault::SpentBudget);
     }
     Ok(())
 }
 
-// The board of the guests' slots over a copy of the image's bytes. Their memories are over bytes that a host lends, if it
-// does.
+// The board of the guests' slots, with their further devices, over a copy of the image's bytes. Their memories are over
+// bytes that a host lends, if it does.
 fn board_of<A: Allocator + Copy>(
+    alloc: A,
+    guests: &[GuestSpec],
+    lent: Option<Vec<Vec<u8, Lodged>, A>>,
+    image: &[u8],
+    cache: u32,
+    budget: Budget,
+) -> Result<Board<MemoryImage<A>, A>, SessionFault>
+    requires lent { IfSome lent (λ bytes. AreBytesOf (slots_of guests.now) (map vec_items bytes.items)) }
+    requires judged { IsJudged guests.now image.now budget }
+    ensures slots { IfNone lent (IfOk result (λ board.
+        board.slots ≡ plugged guests.now (map opened (slots_of guests.now)))) }
+    ensures lent_slots { IfSome lent (λ bytes. IfOk result (λ board.
+        board.slots ≡ plugged guests.now (made_over opened_over (slots_of guests.now) (map vec_items bytes.items)))) }
+    ensures image { IfOk result (λ board. disk_of board.image ≡ new_disk image.now) }
+    ensures accepted { OnOk result (IsAccepted (length image.now / 512) (slots_of guests.now) cache) }
+    ensures fault { IfErr result (λ why. IsRefusedFor guests.now image.now cache budget why) }
+    ensures bad_board { (fault : BoardFault) → fault ≢ BoardFault.NoMemory →
+        Refuses (length image.now / 512) (slots_of guests.now) cache fault →
+        IsErrAnd result (λ why. (why ≡ SessionFault.Board fault) ⊎ (why ≡ SessionFault.NoMemory)) }
+{
+    let mut board = bare_board_of(alloc, guests, lent, image, cache, budget)?;
+    plug_devices(&mut board, guests)?;
+    Ok(board)
+}
+
+// The same without further devices.
+fn bare_board_of<A: Allocator + Copy>(
     alloc: A,
     guests: &[GuestSpec],
     lent: Option<Vec<Vec<u8, Lodged>, A>>,

@@ -18,6 +18,17 @@ pub struct Waits {
     pub output: usize,
 }
 
+/// What waits for a further device's driver and for its host.
+#[derive(Clone, Copy, Debug, PartialEq, Eq)]
+pub struct DeviceWaits {
+    /// InterruptStatus of its window (4.2.2).
+    pub irq: u8,
+    /// Whether its driver waits for what the host supplies or sends: a chain is on offer for it.
+    pub starved: bool,
+    /// How many bytes the oldest frame has that its driver sent and the host hasn't taken, where one waits.
+    pub sent: Option<usize>,
+}
+
 /// What a call of a slot is answered, and what then waits for the slot. Of a slot that isn't there nothing waits.
 #[derive(Clone, Copy, Debug, PartialEq, Eq)]
 pub struct Told<T> {

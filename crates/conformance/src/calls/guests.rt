@@ -13,7 +13,7 @@ use crate::calls::words::Words;
 use board::{Backing, Board, Event, Extent, RegionSpec, Regions, SlotSpec};
 use linked_list_allocator::LocalHeap;
 use sector_cache::ScriptedImage;
-use session::{Budget, GuestSpec, Session};
+use session::{Budget, GuestSpec, MOST_DEVICES, Session};
 use std::alloc::{AllocError, Allocator, Global};
 pub(crate) use stops::Stops;
 use test_support::RefusingHeap;
@@ -91,7 +91,11 @@ impl<'h, B: Allocator> Guests<'h, B> {
         let times = words.u8();
         let outlet = words.u32();
         let slot = slot_of(self.alloc, words)?;
-        let guest = GuestSpec { slot, outlet };
+        let guest = GuestSpec {
+            slot,
+            outlet,
+            devices: [None; MOST_DEVICES],
+        };
         for _ in 0..times {
             self.add(&guest)?;
         }

@@ -1,6 +1,6 @@
 -- Each guest of a session is alone.
 use Rattle.session.proofs.Alone.{see_alike}
-use Rattle.session.proofs.Made.{accepted_alone, made_alone, made_alone_unlimited}
+use Rattle.session.proofs.Made.{accepted_alone, devices_alone, made_alone, made_alone_unlimited}
 use Rattle.session.proofs.laws.each_guest_is_alone.Goals as goal
 
 pub returns-clause-alone : goal.returns-clause-alone
@@ -11,6 +11,9 @@ returns-clause-without g c = made_alone_unlimited
 
 pub returns-clause-there : goal.returns-clause-there
 returns-clause-there g c = accepted_alone
+
+pub returns-clause-devices : goal.returns-clause-devices
+returns-clause-devices g c = devices_alone
 
 pub returns-clause-alike : goal.returns-clause-alike
 returns-clause-alike g c = see_alike

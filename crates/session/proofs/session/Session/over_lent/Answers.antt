@@ -1,8 +1,8 @@
 -- A session is refused by the first fault, the lent bytes' before all others.
-use Rattle.std.proofs.Common.{inl, map, refl}
+use Rattle.std.proofs.Common.{inl, length, map, ap, ◌∙◌, refl}
 use Rattle.std.specs.Vec.{vec_items}
-use Rattle.board.specs.Lent.{opened_over}
-use Rattle.session.proofs.Refusals.{handed_on, if_err, is_err, judged_first, lent, lent_refused, many_made_over, on_ok, then_board, wanting}
+use Rattle.session.proofs.Refusals.{handed_on, if_err, is_err, judged_first, lent, lent_refused, on_ok, then_board, wanting}
+use Rattle.session.proofs.Plugged.{bare_over, length-plugged}
 use Rattle.session.proofs.session.Session.over_lent.Goals as goal
 
 pub returns-in_err-judge-clause-fault : goal.returns-in_err-judge-clause-fault
@@ -27,11 +27,11 @@ returns-in_err-judge-clause-exact g c = λ why other refused.
 
 pub of_board-requires : goal.of_board-requires
 of_board-requires g c =
-    many_made_over opened_over c.args.guests.now (map vec_items c.args.bytes.items) c.in_ok-board.board.slots
-    c.in_ok-board.ensures.lent_slots
+    ap length c.in_ok-board.ensures.lent_slots ∙ length-plugged c.args.guests.now _
+    ∙ (bare_over c.args.guests.now (map vec_items c.args.bytes.items)).many
 
 pub returns-clause-lasts : goal.returns-clause-lasts
-returns-clause-lasts g c = on_ok c.of_board.result _ c.in_ok-judge.ensures.good.2
+returns-clause-lasts g c = on_ok c.of_board.result _ c.in_ok-judge.ensures.good.3
 
 pub returns-clause-fault : goal.returns-clause-fault
 returns-clause-fault g c =

@@ -1,0 +1,226 @@
+-- The guests' further devices are plugged into their slots, one after another.
+use Rattle.std.proofs.Common.{◌≡◌, ℕ, zero, suc, ◌+◌, ◌<◌, Bool, true, false, List, [], ◌∷◌, ◌++◌, length, map, take, drop, get_or, Option, Some, None, refl, sym, ◌∙◌, ap, subst, arith}
+use Rattle.std.specs.Prelude.{◌||◌, slice_set, nat_le, IfNone, IfSome, IsSomeAnd}
+use Rattle.std.specs.List.{AllByRecursion, list_any, slice_get}
+use Rattle.std.proofs.lemmas.Bool.Decides.{nat_tests}
+use Rattle.std.proofs.lemmas.List.{append-nil, drop_more, append_assoc, length-append, length-map, map-append, nil_from_length, set-set}
+use Rattle.std.proofs.lemmas.Option.{same_Some, slice_get_within}
+use Rattle.device_list.specs.declared.spec.DeviceSpec.{DeviceSpec}
+use Rattle.device_list.specs.Device.{DeviceState, fresh_device}
+use Rattle.device_list.specs.List.{refusal_of}
+use Rattle.device_list.specs.Model.{has_bad_mtu}
+use Rattle.board.specs.Lent.{made_over, opened_over}
+use Rattle.board.specs.Slot.{BoardSlot, opened}
+use Rattle.board.proofs.Lists.{get_set, set_same}
+use Rattle.session.specs.declared.guest.GuestSpec.{GuestSpec}
+use Rattle.session.specs.Plugging.{AreBare, GetsDevice, GetsDevices}
+use Rattle.session.specs.Session.{before_none, devices_of, plugged, slots_of, with_fresh}
+
+-- ---- the slots of a new board have no further device
+
+none_opened : (guests : List GuestSpec)
+    → AllByRecursion (λ (slot : BoardSlot). slot.devices ≡ []) (map opened (slots_of guests))
+none_opened [] = tt
+none_opened (guest ∷ guests) = (refl, none_opened guests)
+
+many_opened : (guests : List GuestSpec) → length (map opened (slots_of guests)) ≡ length guests
+many_opened guests = length-map (slots_of guests) opened ∙ length-map guests (λ guest. guest.slot)
+
+pub bare_opened : (guests : List GuestSpec) → AreBare guests (map opened (slots_of guests))
+bare_opened guests = record { many = many_opened guests; none = none_opened guests }
+
+none_over : (guests : List GuestSpec) (bytes : List (List ℕ))
+    → AllByRecursion (λ (slot : BoardSlot). slot.devices ≡ []) (made_over opened_over (slots_of guests) bytes)
+none_over [] bytes = tt
+none_over (guest ∷ guests) bytes = (refl, none_over guests (drop (length guest.slot.regions) bytes))
+
+many_over : (guests : List GuestSpec) (bytes : List (List ℕ))
+    → length (made_over opened_over (slots_of guests) bytes) ≡ length guests
+many_over [] bytes = refl
+many_over (guest ∷ guests) bytes = ap suc (many_over guests (drop (length guest.slot.regions) bytes))
+
+pub bare_over : (guests : List GuestSpec) (bytes : List (List ℕ))
+    → AreBare guests (made_over opened_over (slots_of guests) bytes)
+bare_over guests bytes = record { many = many_over guests bytes; none = none_over guests bytes }
+
+-- so it is over memories of either kind
+pub bare_made : {X : Type 0} (guests : List GuestSpec) (slots : List BoardSlot) (lent : Option X)
+    (runs : X → List (List ℕ)) → IfNone lent (slots ≡ map opened (slots_of guests))
+    → IfSome lent (λ bytes. slots ≡ made_over opened_over (slots_of guests) (runs bytes)) → AreBare guests slots
+bare_made guests slots None runs none some = subst (AreBare guests) (sym none) (bare_opened guests)
+bare_made guests slots (Some bytes) runs none some =
+    subst (AreBare guests) (sym some) (bare_over guests (runs bytes))
+
+-- and what was plugged into them says what was plugged into those
+pub none_plugged : {X : Type 0} (guests : List GuestSpec) (slots made now : List BoardSlot) (lent : Option X)
+    → now ≡ plugged guests slots → IfNone lent (slots ≡ made) → IfNone lent (now ≡ plugged guests made)
+none_plugged guests slots made now None is same = is ∙ ap (plugged guests) same
+none_plugged guests slots made now (Some bytes) is same = tt
+
+pub some_plugged : {X : Type 0} (guests : List GuestSpec) (slots now : List BoardSlot) (made : X → List BoardSlot)
+    (lent : Option X) → now ≡ plugged guests slots → IfSome lent (λ bytes. slots ≡ made bytes)
+    → IfSome lent (λ bytes. now ≡ plugged guests (made bytes))
+some_plugged guests slots now made None is same = tt
+some_plugged guests slots now made (Some bytes) is same = is ∙ ap (plugged guests) same
+
+none_at : (slots : List BoardSlot) (i : ℕ) (found : BoardSlot)
+    → AllByRecursion (λ (slot : BoardSlot). slot.devices ≡ []) slots → slice_get slots i ≡ Some found
+    → found.devices ≡ []
+none_at [] i found none here = absurd (cc (here))
+none_at (slot ∷ slots) zero found none here =
+    ap (λ (s : BoardSlot). s.devices) (sym (same_Some slot found here)) ∙ none.0
+none_at (slot ∷ slots) (suc i) found none here = none_at slots i found none.1 here
+
+-- ---- the first guests' slots have their devices
+
+pub length-plugged : (guests : List GuestSpec) (slots : List BoardSlot) → length (plugged guests slots) ≡ length slots
+length-plugged [] slots = refl
+length-plugged (guest ∷ guests) [] = refl
+length-plugged (guest ∷ guests) (slot ∷ slots) = ap suc (length-plugged guests slots)
+
+-- the slot of the next guest is as it was
+next_kept : (guests : List GuestSpec) (slots : List BoardSlot) (i : ℕ)
+    → slice_get (plugged (take i guests) slots) i ≡ slice_get slots i
+next_kept [] slots zero = refl
+next_kept [] slots (suc i) = refl
+next_kept (guest ∷ guests) slots zero = refl
+next_kept (guest ∷ guests) [] (suc i) = refl
+next_kept (guest ∷ guests) (slot ∷ slots) (suc i) = next_kept guests slots i
+
+past_none : {X : Type 0} (xs : List X) (k : ℕ) → k < length xs → slice_get xs k ≡ None → ⊥
+past_none [] k fits none = absurd (omega (arith, fits))
+past_none (x ∷ xs) zero fits none = absurd (cc (none))
+past_none (x ∷ xs) (suc k) fits none = past_none xs k (omega (arith, fits)) none
+
+pub next_bare : (guests : List GuestSpec) (slots now : List BoardSlot) (i : ℕ) → AreBare guests slots → i < length guests
+    → now ≡ plugged (take i guests) slots → IsSomeAnd (slice_get now i) (λ found. length found.devices ≡ 0)
+next_bare guests slots now i bare few is =
+    rw (is, next_kept guests slots i) (there (slice_get slots i) refl)
+  where
+    there : (o : Option BoardSlot) → slice_get slots i ≡ o → IsSomeAnd o (λ found. length found.devices ≡ 0)
+    there None here = absurd (past_none slots i (omega (arith, few, bare.many)) here)
+    there (Some found) here = ap length (none_at slots i found bare.none here)
+
+one_more : (guests : List GuestSpec) (slots : List BoardSlot) (i : ℕ) (guest : GuestSpec) (found : BoardSlot)
+    → slice_get guests i ≡ Some guest → slice_get slots i ≡ Some found
+    → plugged (take (suc i) guests) slots
+    ≡ slice_set (plugged (take i guests) slots) i (with_fresh (devices_of guest) found)
+one_more [] slots i guest found here there = absurd (cc (here))
+one_more (g ∷ guests) [] i guest found here there = absurd (cc (there))
+one_more (g ∷ guests) (slot ∷ slots) zero guest found here there =
+    let same : g ≡ guest = same_Some g guest here in
+    let same' : slot ≡ found = same_Some slot found there in
+    rw (same, same') refl
+one_more (g ∷ guests) (slot ∷ slots) (suc i) guest found here there =
+    ap (λ rest. with_fresh (devices_of g) slot ∷ rest) (one_more guests slots i guest found here there)
+
+-- a guest more
+pub next_plugged : (guests : List GuestSpec) (slots now last : List BoardSlot) (i : ℕ) (guest : GuestSpec)
+    → AreBare guests slots → slice_get guests i ≡ Some guest → now ≡ plugged (take i guests) slots
+    → GetsDevices i (devices_of guest) now last → last ≡ plugged (take (i + 1) guests) slots
+next_plugged guests slots now last i guest bare here is gets =
+    by_slot (slice_get slots i) refl ∙ ap (λ n. plugged (take n guests) slots) next
+  where
+    next : suc i ≡ i + 1
+    next = omega arith
+
+    by_slot : (o : Option BoardSlot) → slice_get slots i ≡ o → last ≡ plugged (take (suc i) guests) slots
+    by_slot None there =
+        absurd (past_none slots i (omega (arith, slice_get_within guests i guest here, bare.many)) there)
+    by_slot (Some found) there =
+        let now_there : slice_get now i ≡ Some found =
+        ap (λ some. slice_get some i) is ∙ next_kept guests slots i ∙ there in
+        gets found now_there
+        ∙ ap (λ some. slice_set some i (with_fresh (devices_of guest) found)) is
+        ∙ sym (one_more guests slots i guest found here there)
+
+-- ---- the next place
+
+pub next_place : {X : Type 0} (places : List X) (k : ℕ) (place : X) → k < length places
+    → place ≡ get_or places k place → drop k places ≡ place ∷ drop (k + 1) places
+next_place places k place few is =
+    drop_more places k place few ∙ ap (λ p. p ∷ drop (k + 1) places) (sym is)
+
+both_false : (a b : Bool) → (a || b) ≡ false → (a ≡ false) × (b ≡ false)
+both_false true b is = absurd (cc (is))
+both_false false b is = (refl, is)
+
+-- a device of it isn't bad, and those behind it aren't, where none is
+pub good_place : (places rest : List (Option DeviceSpec)) (spec : DeviceSpec) → places ≡ Some spec ∷ rest
+    → list_any has_bad_mtu (before_none places) ≡ false
+    → (has_bad_mtu spec ≡ false) × (list_any has_bad_mtu (before_none rest) ≡ false)
+good_place places rest spec next good =
+    both_false (has_bad_mtu spec) (list_any has_bad_mtu (before_none rest))
+    (sym (ap (λ some. list_any has_bad_mtu (before_none some)) next) ∙ good)
+
+-- ---- the devices of one slot
+
+-- A slot has the devices of the first places, all of which have one.
+pub record IsPlugging (places : List (Option DeviceSpec)) (slot k : ℕ) (old new : List BoardSlot) : Type 0 where
+  pub before : BoardSlot
+  pub there : slice_get old slot ≡ Some before
+  pub done : List DeviceSpec
+  pub count : length done ≡ k
+  pub split : done ++ before_none (drop k places) ≡ before_none places
+  pub is : new ≡ slice_set old slot (with_fresh done before)
+
+pub begun : (places : List (Option DeviceSpec)) (slot : ℕ) (old : List BoardSlot)
+    → IsSomeAnd (slice_get old slot) (λ found. length found.devices ≡ 0) → IsPlugging places slot 0 old old
+begun places slot old bare = by_slot (slice_get old slot) refl bare
+  where
+    by_slot : (o : Option BoardSlot) → slice_get old slot ≡ o
+        → IsSomeAnd o (λ found. length found.devices ≡ 0) → IsPlugging places slot 0 old old
+    by_slot None here none = absurd none
+    by_slot (Some before) here none =
+        let same : with_fresh [] before ≡ before =
+        ap (λ (ds : List DeviceState). record before { devices = ds })
+        (sym (nil_from_length before.devices none)) in
+        record {
+          before = before;
+          there = here;
+          done = [];
+          count = refl;
+          split = refl;
+          is = sym (set_same old slot before (with_fresh [] before) here same);
+        }
+
+module _ (places : List (Option DeviceSpec)) (slot k : ℕ) (old new : List BoardSlot)
+    (h : IsPlugging places slot k old new) where
+  here : slice_get new slot ≡ Some (with_fresh h.done h.before)
+  here = ap (λ some. slice_get some slot) h.is ∙ get_set old slot h.before (with_fresh h.done h.before) h.there
+
+  -- the slot takes another
+  pub takes : (spec : DeviceSpec) → k < 6 → has_bad_mtu spec ≡ false
+      → IsSomeAnd (slice_get new slot) (λ found. refusal_of found.devices spec ≡ None)
+  takes spec few good =
+      let many : length (map fresh_device h.done) ≡ k = length-map h.done fresh_device ∙ h.count in
+      let test : nat_le 6 (length (map fresh_device h.done)) ≡ false = grind (arith, nat_tests, many) in
+      rw here (rw (test, good) refl)
+
+  pub one_plugged : (spec : DeviceSpec) (last : List BoardSlot)
+      → drop k places ≡ Some spec ∷ drop (k + 1) places → GetsDevice slot spec new last
+      → IsPlugging places slot (k + 1) old last
+  one_plugged spec last next gets = record {
+    before = h.before;
+    there = h.there;
+    done = h.done ++ spec ∷ [];
+    count = length-append h.done (spec ∷ []) ∙ omega (arith, h.count);
+    split = append_assoc h.done (spec ∷ []) (before_none (drop (k + 1) places))
+        ∙ sym (ap (λ some. h.done ++ before_none some) next) ∙ h.split;
+    is = gets (with_fresh h.done h.before) here
+        ∙ ap (λ some. slice_set some slot (record h.before { devices = map fresh_device h.done ++ fresh_device spec ∷ [] }))
+        h.is
+        ∙ set-set old slot (with_fresh h.done h.before)
+        (record h.before { devices = map fresh_device h.done ++ fresh_device spec ∷ [] })
+        ∙ ap (λ (ds : List DeviceState). slice_set old slot (record h.before { devices = ds }))
+        (sym (map-append fresh_device h.done (spec ∷ [])));
+  }
+
+  -- no further place has one
+  pub all_plugged : before_none (drop k places) ≡ [] → GetsDevices slot (before_none places) old new
+  all_plugged none = λ found there.
+      let same : h.before ≡ found = same_Some h.before found (sym h.there ∙ there) in
+      let all : h.done ≡ before_none places =
+      sym (append-nil h.done) ∙ sym (ap (λ some. h.done ++ some) none) ∙ h.split in
+      h.is ∙ ap (λ specs. slice_set old slot (with_fresh specs h.before)) all
+      ∙ ap (λ (b : BoardSlot). slice_set old slot (with_fresh (before_none places) b)) same

@@ -1,0 +1,37 @@
+-- A slot's further devices, as a session's calls see them.
+use Rattle.std.specs.Prelude.{◌≡◌, ℕ, Option, None, List, length, IsSomeAnd}
+use Rattle.std.specs.List.{slice_get}
+use Rattle.std.specs.Option.{option_and_then, option_map}
+use Rattle.mmio_window.specs.Interrupts.{interrupt_bits}
+use Rattle.device_list.specs.Device.{DeviceState}
+use Rattle.device_list.specs.List.{is_starved_at}
+use Rattle.board.specs.declared.event.DeviceEvent.{DeviceEvent}
+use Rattle.board.specs.Devices.{oldest_at, reply_at}
+use Rattle.board.specs.Slot.{BoardSlot, state_of}
+use Rattle.session.specs.declared.told.DeviceWaits.{DeviceWaits}
+use Rattle.session.specs.Session.{SessionState}
+
+-- the oldest frame that a slot's network card of this number sent and its host hasn't taken
+abbrev pub sent_at : ℕ → ℕ → List BoardSlot → Option (List ℕ)
+sent_at slot device slots = option_and_then (λ found. oldest_at device found.devices) (slice_get slots slot)
+
+-- what waits for device n of a slot, which is in this state: its interrupt word, whether its driver waits for
+-- the host, and how long the oldest frame is
+abbrev pub device_waits : ℕ → BoardSlot → DeviceState → DeviceWaits
+device_waits n found device = record {
+  irq = interrupt_bits device.window.interrupts;
+  starved = is_starved_at found.memory device;
+  sent = option_map (λ frame. length frame) (oldest_at n found.devices);
+}
+
+-- if there are such a slot and such a device
+abbrev pub device_waits_at : ℕ → ℕ → List BoardSlot → Option DeviceWaits
+device_waits_at slot n slots =
+    option_and_then (λ found. option_map (device_waits n found) (slice_get found.devices n))
+    (slice_get slots slot)
+
+-- The slot is there, and none of its devices takes this: it has none of this number, or that takes no such
+-- thing.
+abbrev pub TakesNothing : {A : Type 0} → ℕ → ℕ → DeviceEvent A → SessionState → Type 0
+TakesNothing slot n what session =
+    IsSomeAnd (slice_get session.slots slot) (λ found. reply_at n what (state_of session.image found) ≡ None)

@@ -1,0 +1,214 @@
+//! What is done to a guest's further devices: its driver's registers, and what its host hands in and takes. Nothing here
+//! takes memory.
+
+ghost use Rattle.std.specs.Prelude.{◌≡◌, ◌↔◌, ◌≤◌, ◌++◌, length, IfOk, IsErrOf, IsSome, IsTrue, ◌⊎◌, IfErr};
+ghost use Rattle.std.specs.Option.{option_map};
+ghost use Rattle.board.specs.declared.event.DeviceEvent.{DeviceEvent};
+ghost use Rattle.board.specs.declared.event.EventKind.{EventKind};
+ghost use Rattle.session.specs.declared.refusal.Refusal.{Refusal};
+ghost use Rattle.session.specs.declared.response.Response.{Response};
+ghost use Rattle.session.specs.Answering.{IsReading, IsTakenWhole, IsTaking, Means, SuitsCall, done_response, frame_response, taken_response, took_response, value_response};
+ghost use Rattle.session.specs.Devices.{TakesNothing, device_waits_at, sent_at};
+ghost use Rattle.session.specs.Pausing.{IsEventCall, IsToldCall};
+ghost use Rattle.session.specs.Session.{AnswersInPlace, IsIdle};
+
+use crate::refusal::Refusal;
+use crate::response::{Response, Turned};
+use crate::session::Session;
+use crate::told::{DeviceWaits, done};
+use crate::turn_kind::TurnKind;
+use board::{DeviceEvent, EventKind, Reply};
+use std::alloc::Allocator;
+
+impl<A: Allocator + Copy> Session<A> {
+    /// A guest's read of `width` bytes, 1, 2 or 4, at an offset of a further device's window (4.2.2): what its register gets,
+    /// extended by zeros. It is refused for a bad slot or device, and while a service of the slot is paused.
+    pub fn read_device(
+        &mut self,
+        slot: u8,
+        device: u8,
+        offset: u16,
+        width: u8,
+    ) -> Result<u32, Refusal>
+        ensures call { IsToldCall {A = A} self.old slot (EventKind.Device device (DeviceEvent.Read offset width))
+            (Means value_response result) self.new }
+        ensures bad_slot { IsErrOf result Refusal.BadSlot ↔ (length self.old.slots ≤ slot) }
+        ensures busy { IsErrOf result Refusal.Busy ↔ ¬ IsIdle slot self.old }
+        ensures bad_device { IsErrOf result Refusal.BadDevice ↔
+            (IsIdle slot self.old × TakesNothing {A = A} slot device (DeviceEvent.Read offset width) self.old) }
+    {
+        let read = DeviceEvent::Read { offset, width };
+        gave(self.device_event(slot, device, read))
+    }
+
+    /// A guest's write of a further device's window (4.2.2). A queue that it notifies is served to its end. It is refused for a
+    /// bad slot or device, and while a service of the slot is paused.
+    pub fn write_device(
+        &mut self,
+        slot: u8,
+        device: u8,
+        offset: u16,
+        width: u8,
+        value: u32,
+    ) -> Result<(), Refusal>
+        ensures call { IsToldCall {A = A} self.old slot (EventKind.Device device (DeviceEvent.Write offset width value))
+            (Means done_response result) self.new }
+        ensures bad_slot { IsErrOf result Refusal.BadSlot ↔ (length self.old.slots ≤ slot) }
+        ensures busy { IsErrOf result Refusal.Busy ↔ ¬ IsIdle slot self.old }
+        ensures bad_device { IsErrOf result Refusal.BadDevice ↔
+            (IsIdle slot self.old × TakesNothing {A = A} slot device (DeviceEvent.Write offset width value) self.old) }
+    {
+        let write = DeviceEvent::Write {
+            offset,
+            width,
+            value,
+        };
+        done(self.device_event(slot, device, write))
+    }
+
+    /// Sets whether a network card's link is up, and tells its driver (5.1.4). It is refused for a bad slot, for a device that is no
+    /// network card, and while a service of the slot is paused.
+    pub fn set_link(&mut self, slot: u8, device: u8, up: bool) -> Result<(), Refusal>
+        ensures call { IsToldCall {A = A} self.old slot (EventKind.Device device (DeviceEvent.SetLink up))
+            (Means done_response result) self.new }
+        ensures bad_slot { IsErrOf result Refusal.BadSlot ↔ (length self.old.slots ≤ slot) }
+        ensures busy { IsErrOf result Refusal.Busy ↔ ¬ IsIdle slot self.old }
+        ensures bad_device { IsErrOf result Refusal.BadDevice ↔
+            (IsIdle slot self.old × TakesNothing {A = A} slot device (DeviceEvent.SetLink up) self.old) }
+    {
+        done(self.device_event(slot, device, DeviceEvent::SetLink { up }))
+    }
+
+    // Does this to a further device, whose answer takes no memory.
+    fn device_event(&mut self, slot: u8, device: u8, what: DeviceEvent<A>) -> Response<A>
+        requires { AnswersInPlace (EventKind.Device device what) }
+        ensures call { IsEventCall self.old slot (EventKind.Device device what) result self.new }
+        ensures suits { SuitsCall (EventKind.Device device what) result }
+        ensures as_many { length self.old.paused ≡ length self.old.slots }
+    {
+        let what = EventKind::Device { device, what };
+        let Turned { response, waits: _ } = self.turn(slot, TurnKind::Begin(&what));
+        response
+    }
+
+    /// Supplies an entropy device with random bytes (5.4), and answers how many it took: the first ones. The chains on offer are
+    /// filled then. It is refused for a bad slot, for a device that takes none, and while a service of the slot is paused.
+    pub fn supply(&mut self, slot: u8, device: u8, bytes: &[u8]) -> Result<usize, Refusal>
+        ensures call { IsToldCall {A = A} self.old slot (EventKind.Device device (DeviceEvent.Supply bytes.now))
+            (Means took_response result) self.new }
+        ensures bad_slot { IsErrOf result Refusal.BadSlot ↔ (length self.old.slots ≤ slot) }
+        ensures busy { IsErrOf result Refusal.Busy ↔ ¬ IsIdle slot self.old }
+        ensures bad_device { IsErrOf result Refusal.BadDevice ↔
+            (IsIdle slot self.old × TakesNothing {A = A} slot device (DeviceEvent.Supply bytes.now) self.old) }
+    {
+        if self.is_paused(slot) {
+            return Err(Refusal::Busy);
+        }
+        took(self.board.supply(slot, device, bytes))
+    }
+
+    /// Hands a network card a frame (5.1), and answers whether it was taken: whole, or not at all where there is no room for it
+    /// until its driver has taken others. It is refused for a bad slot, for a frame of no bytes, for a device that is no network card
+    /// or whose frames are shorter, and while a service of the slot is paused.
+    pub fn receive(&mut self, slot: u8, device: u8, frame: &[u8]) -> Result<bool, Refusal>
+        ensures call { IsToldCall {A = A} self.old slot (EventKind.Device device (DeviceEvent.Receive frame.now))
+            (Means (taken_response frame.now) result) self.new }
+        ensures bad_slot { IsErrOf result Refusal.BadSlot ↔ (length self.old.slots ≤ slot) }
+        ensures busy { IsErrOf result Refusal.Busy ↔ ¬ IsIdle slot self.old }
+        ensures bad_device { IsErrOf result Refusal.BadDevice ↔
+            (IsIdle slot self.old × TakesNothing {A = A} slot device (DeviceEvent.Receive frame.now) self.old) }
+    {
+        if self.is_paused(slot) {
+            return Err(Refusal::Busy);
+        }
+        took_frame(self.board.receive(slot, device, frame), frame)
+    }
+
+    /// Takes away the frame that `sent` tells, and answers whether there was one. It is refused for a bad slot, for a device that
+    /// is no network card, and while a service of the slot is paused.
+    pub fn take_sent(&mut self, slot: u8, device: u8) -> Result<bool, Refusal>
+        ensures call { IsToldCall {A = A} self.old slot (EventKind.Device device DeviceEvent.TakeSent)
+            (Means (frame_response (sent_at slot device self.old.slots)) result) self.new }
+        ensures taken { IfOk result (λ taken.
+            IsTrue taken ↔ IsSome (sent_at slot device self.old.slots)) }
+        ensures refused { IfErr result (λ why.
+            (why ≡ Refusal.BadSlot) ⊎ (why ≡ Refusal.Busy) ⊎ (why ≡ Refusal.BadDevice)) }
+        ensures bad_slot { IsErrOf result Refusal.BadSlot ↔ (length self.old.slots ≤ slot) }
+        ensures busy { IsErrOf result Refusal.Busy ↔ ¬ IsIdle slot self.old }
+        ensures bad_device { IsErrOf result Refusal.BadDevice ↔
+            (IsIdle slot self.old × TakesNothing {A = A} slot device DeviceEvent.TakeSent self.old) }
+    {
+        if self.is_paused(slot) {
+            return Err(Refusal::Busy);
+        }
+        let Some(taken) = self.board.take_sent(slot, device) else {
+            return Err(Refusal::of_device(slot, self.slots()));
+        };
+        Ok(taken)
+    }
+}
+
+impl<A: Allocator> Session<A> {
+    /// The oldest frame that a network card's driver sent and the host hasn't taken, in two parts. There is none where no frame
+    /// waits, of a device that is no network card, and where there is no such slot or device.
+    pub fn sent(&self, slot: u8, device: u8) -> Option<(&[u8], &[u8])>
+        ensures { option_map (λ parts. parts.0.now ++ parts.1.now) result ≡ sent_at slot device self.now.slots }
+    {
+        self.board.sent(slot, device)
+    }
+
+    /// What waits for a further device's driver and for its host. There is no answer where there is no such slot or device.
+    pub fn device_waits(&self, slot: u8, device: u8) -> Option<DeviceWaits>
+        ensures { result ≡ device_waits_at slot device self.now.slots }
+    {
+        let found = self.board.device(slot, device)?;
+        let starved = self.board.starved(slot, device)?;
+        Some(DeviceWaits {
+            irq: found.interrupts(),
+            starved,
+            sent: len_of(self.board.sent(slot, device)),
+        })
+    }
+}
+
+// How many bytes a frame in two parts has.
+fn len_of(parts: Option<(&[u8], &[u8])>) -> Option<usize>
+    ensures { result ≡ option_map (λ frame. length frame)
+        (option_map (λ parts. parts.0.now ++ parts.1.now) parts.entry) }
+{
+    let (front, back) = parts?;
+    Some(front.len() + back.len())
+}
+
+// What a register gave.
+fn gave<A: Allocator>(response: Response<A>) -> Result<u32, Refusal>
+    requires { IsReading response }
+    ensures { Means value_response result response }
+{
+    match response {
+        Response::Answered(Reply::Value(value)) => Ok(value),
+        response => Err(Refusal::of(&response)),
+    }
+}
+
+// How many bytes a device took.
+fn took<A: Allocator>(reply: Reply<A>) -> Result<usize, Refusal>
+    requires { IsTaking (Response.Answered reply) }
+    ensures { Means took_response result (Response.Answered reply) }
+{
+    match reply {
+        Reply::Took(count) => Ok(count),
+        reply => Err(Refusal::of(&Response::Answered(reply))),
+    }
+}
+
+// Whether a frame was taken.
+fn took_frame<A: Allocator>(reply: Reply<A>, frame: &[u8]) -> Result<bool, Refusal>
+    requires { IsTakenWhole frame.now reply }
+    ensures { Means (taken_response frame.now) result (Response.Answered reply) }
+{
+    match reply {
+        Reply::Took(count) => Ok(count == frame.len()),
+        reply => Err(Refusal::of(&Response::Answered(reply))),
+    }
+}
