@@ -1,6 +1,7 @@
 /*
- * kalyubos.h: up to sixty-four guests, each with a block device and a console over virtio-mmio, behind a CPU loop of
- * your own. docs/model.md says what the devices do, and docs/EMBEDDING.md how an exit of a guest becomes a call.
+ * kalyubos.h: up to sixty-four guests, each with a block device, a console and up to six entropy devices and network
+ * cards over virtio-mmio, behind a CPU loop of your own. docs/model.md says what the devices do, and docs/EMBEDDING.md
+ * how an exit of a guest becomes a call.
  *
  * `make install` installs it, and `pkg-config --cflags --libs kalyubos` says how to link it. Its heap is malloc's,
  * unless the host defines the functions at the end of this file.
@@ -18,15 +19,16 @@
  *    them turns a smaller stack into a fault.
  *  - No call is made in the forked child of a process that had threads. The heap functions return: they neither jump
  *    out by longjmp nor throw.
- *  - Seven calls touch a guest's memory: kalyubos_write at offset 0x050 (QueueNotify), kalyubos_input, kalyubos_go_on,
- *    kalyubos_completed, kalyubos_release, kalyubos_read_memory and kalyubos_write_memory. While one of them runs for a
+ *  - Eleven calls touch a guest's memory: kalyubos_write at offset 0x050 (QueueNotify), kalyubos_input, kalyubos_go_on,
+ *    kalyubos_completed, kalyubos_release, kalyubos_read_memory, kalyubos_write_memory, kalyubos_supply,
+ *    kalyubos_receive, kalyubos_take_frame and kalyubos_device_pending. While one of them runs for a
  *    guest, and from a KALYUBOS_MORE until its service is done, no CPU of that guest runs, and nobody else reads or
  *    writes its memory in place (kalyubos_memory), also by DMA. Other guests' CPUs may run: a call touches its own
  *    guest's memory alone. During every other call but kalyubos_destroy the guest's CPUs and DMA may run. Each
  *    kalyubos_read is such a call, and so is each kalyubos_write at another offset; Linux's interrupt handler makes one
- *    of either. It is proved that such a call on a board changes no byte of guest memory, and that none decides what it
- *    does or tells, but for the numbers of kalyubos_counters. That it doesn't read one all the same is tested
- *    (examples/embed/untouched.c).
+ *    of either. It is proved that such a call on a board, for no further device, changes no byte of guest memory, and
+ *    that none decides what it does or tells, but for the numbers of kalyubos_counters. That it doesn't read one all the
+ *    same, and that a call for a further device touches none, is tested (examples/embed/untouched.c).
  *  - Where the host serves a disk, it says of an operation that it is done only once it is, as kalyubos_operation has
  *    it. It ends each transfer before kalyubos_drop, and before kalyubos_destroy.
  *
@@ -35,17 +37,18 @@
  * The library keeps no pointer of the caller but those of loans (kalyubos_create, kalyubos_keep_pages): a call copies
  * what it needs.
  *
- * Each call answers a number. After any but KALYUBOS_DONE its out parameters are unchanged, with three exceptions:
- * `pending` is told after every answer where the slot exists but KALYUBOS_BAD_WINDOW, `took` after KALYUBOS_MORE too,
- * and kalyubos_judge tells what its answer is about. The numbers never change; a later version only adds some.
+ * Each call answers a number. After any but KALYUBOS_DONE its out parameters are unchanged, with these exceptions. A
+ * struct kalyubos_pending is told after every answer where the slot exists, and `took` after KALYUBOS_MORE too. The
+ * `len` of a frame is told after KALYUBOS_SHORT_BUFFER too, and kalyubos_judge tells what its answer is about. The
+ * numbers never change; a later version only adds some.
  *
  * A struct that the host fills begins with its `size`, its sizeof in the header that the host was built with. This
  * version takes its own size alone, and answers KALYUBOS_BAD_SIZE for any other before it looks at another field. A
  * later version that this header fits (kalyubos_version) also takes this version's size, and then does what this
  * version does. It adds fields behind all others. The structs of an array lie `size` bytes apart, so all have one size.
- * The handle, struct kalyubos_region, struct kalyubos_loan, struct kalyubos_pending, struct kalyubos_counters,
- * struct kalyubos_fault and struct kalyubos_block have no size and never change: a later version tells more by further
- * calls.
+ * The handle, struct kalyubos_region, struct kalyubos_device, struct kalyubos_loan, struct kalyubos_pending,
+ * struct kalyubos_device_pending, struct kalyubos_counters, struct kalyubos_fault and struct kalyubos_block have no size
+ * and never change: a later version tells more by further calls.
  *
  * Slot by slot a disk is of one of two kinds. It is an extent of an image in the library's memory, or the host serves
  * it. Then the board says what it wants of the disk, one to sixty-four operations at a time; the host does them as it
@@ -90,7 +93,7 @@ enum {
     KALYUBOS_BAD_SLOT = 3,          /* the board has no such slot; nothing changed */
     KALYUBOS_BAD_RANGE = 4,         /* no region, nor the image, holds all of the range; nothing changed */
     KALYUBOS_NO_MEMORY = 5,         /* the heap refused; only kalyubos_create and kalyubos_judge answer this */
-    KALYUBOS_BAD_WINDOW = 6,        /* no window has this number; nothing changed */
+    KALYUBOS_BAD_WINDOW = 6,        /* the slot has no such window, or no device there takes this; nothing changed */
     KALYUBOS_BAD_IMAGE = 7,         /* the image isn't whole sectors of 512 bytes */
     KALYUBOS_NO_SLOTS = 8,          /* a board needs a slot */
     KALYUBOS_TOO_MANY_SLOTS = 9,    /* a board has sixty-four slots at most */
@@ -110,20 +113,23 @@ enum {
     KALYUBOS_BAD_SNAPSHOT = 23,     /* the bytes are no snapshot; nothing changed */
     KALYUBOS_OTHER_SLOT = 24,       /* the snapshot is of a slot of another description; nothing changed */
     KALYUBOS_BAD_STATE = 25,        /* the snapshot has a state that no driver can bring about; nothing changed */
-    KALYUBOS_SHORT_BUFFER = 26,     /* the snapshot doesn't fit into the buffer; nothing is written */
+    KALYUBOS_SHORT_BUFFER = 26,     /* the snapshot or the frame doesn't fit into the buffer; nothing is written */
     KALYUBOS_NO_REGIONS = 27,       /* a slot has no region of memory */
     KALYUBOS_REGIONS_NOT_APART = 28, /* a region doesn't begin behind a gap after the one before it */
     KALYUBOS_BAD_LOAN = 29,         /* the loans have another number or length than the regions */
-    KALYUBOS_BAD_DEPTH = 30         /* a disk that the host serves has a depth above 64 */
+    KALYUBOS_BAD_DEPTH = 30,        /* a disk that the host serves has a depth above 64 */
+    KALYUBOS_OTHER_DEVICES = 31,    /* the snapshot has other further devices than the slot; nothing changed */
+    KALYUBOS_BAD_DEVICE = 32        /* a further device's kind isn't known, or a network card's MTU is below 68 */
 };
 
 /* What an answer says, as a sentence for a person. It is never null: a number of a later version has a sentence too. */
 const char *kalyubos_answer(uint32_t number);
 
-/* A slot's windows, each of 4096 bytes. */
+/* A slot's windows, each of 4096 bytes. That of its further device n is KALYUBOS_DEVICE + n. */
 enum {
     KALYUBOS_BLOCK = 0,
-    KALYUBOS_CONSOLE = 1
+    KALYUBOS_CONSOLE = 1,
+    KALYUBOS_DEVICE = 2
 };
 
 /* A board, or none where it is zeroed. */
@@ -139,8 +145,8 @@ struct kalyubos_pending {
 };
 
 /*
- * What the devices of a slot did since its board was made, each number modulo 2^64. kalyubos_restore keeps the numbers.
- * They are counted beside the proof: tests compare them, and no promise speaks of them.
+ * What the disk and the console of a slot did since its board was made, each number modulo 2^64. kalyubos_restore keeps
+ * the numbers. They are counted beside the proof: tests compare them, and no promise speaks of them.
  */
 struct kalyubos_counters {
     uint64_t notifies;  /* writes to QueueNotify that named a ready queue of a live window */
@@ -159,6 +165,23 @@ enum { KALYUBOS_REGIONS = 8 };
 struct kalyubos_region {
     uint64_t base;
     uint64_t len;
+};
+
+/* The kinds of further devices, by the standard's device IDs (5). */
+enum {
+    KALYUBOS_NO_DEVICE = 0,
+    KALYUBOS_NETWORK = 1, /* a network card (5.1) */
+    KALYUBOS_ENTROPY = 4  /* an entropy device (5.4) */
+};
+
+/* How many further devices a slot has at most. */
+enum { KALYUBOS_DEVICES = 6 };
+
+/* A further device. */
+struct kalyubos_device {
+    uint32_t kind;  /* KALYUBOS_NO_DEVICE, _NETWORK or _ENTROPY */
+    uint16_t mtu;   /* of a network card: how many bytes a frame has behind its header of Ethernet at most, 68 or more */
+    uint8_t mac[6]; /* and its address */
 };
 
 /* How many operations of a guest's disk are in flight at most, where the host serves it. */
@@ -181,6 +204,7 @@ struct kalyubos_slot {
     uint8_t identity[20]; /* what its disk answers to GET_ID, a shorter text with NULs behind it; Linux's `serial` */
     uint32_t depth;       /* how many operations may be in flight where the host serves its disk, 1 to KALYUBOS_TAGS; 0
                              is 1. It isn't looked at where the disk is of the image. */
+    struct kalyubos_device devices[KALYUBOS_DEVICES]; /* its further devices: those before the first of no kind */
 };
 
 /* What is wanted of a disk that the host serves. */
@@ -242,7 +266,7 @@ static inline struct kalyubos_config kalyubos_config(const struct kalyubos_slot 
  * Makes a board and puts it into an empty handle. A refusal leaves the handle as it was and keeps no memory. The first
  * of these that holds is answered:
  *  - HAS_BOARD; BAD_SIZE, where the config's `size` or a slot's is another than its sizeof, and nothing behind it is
- *    read; BAD_LOAN, where there are loans; BAD_IMAGE; BAD_OUTLET; NO_SLOTS; TOO_MANY_SLOTS;
+ *    read; BAD_LOAN, where there are loans; BAD_IMAGE; BAD_OUTLET; BAD_DEVICE; NO_SLOTS; TOO_MANY_SLOTS;
  *  - slot by slot NO_REGIONS, then region by region BAD_MEMORY_SIZE, BAD_MEMORY_BASE and REGIONS_NOT_APART, then
  *    BAD_DEPTH, EXTENT_OUTSIDE and EXTENTS_OVERLAP;
  *  - BAD_CACHE.
@@ -275,8 +299,8 @@ uint32_t kalyubos_create(struct kalyubos *board, struct kalyubos_config *config)
 /*
  * Judges a config as kalyubos_create does for an empty handle, and makes no board: it answers what that call would
  * answer, want of memory aside, and takes no loan. `slot` is told where the answer is about one: its place in the
- * array, of its BAD_SIZE and BAD_OUTLET too. So is `region`: its place in the slot's `regions`. NO_MEMORY may come in
- * the place of a number from NO_SLOTS on.
+ * array, of its BAD_SIZE, BAD_OUTLET and BAD_DEVICE too. So is `region`: its place in the slot's `regions`. NO_MEMORY
+ * may come in the place of a number from NO_SLOTS on.
  */
 uint32_t kalyubos_judge(const struct kalyubos_config *config, size_t *slot, size_t *region);
 
@@ -288,7 +312,8 @@ uint32_t kalyubos_destroy(struct kalyubos *board);
 
 /*
  * A guest's read of `width` bytes (1, 2 or 4) at an offset of a window: `value` is what its register gets, extended
- * by zeros. Every offset and width has an answer. A read changes nothing: no interrupt word, and no output.
+ * by zeros. Every offset and width has an answer. A read changes nothing: no interrupt word, and no output. BAD_WINDOW
+ * where the slot has no window of this number.
  */
 uint32_t kalyubos_read(const struct kalyubos *board, uint8_t slot, uint8_t window, uint16_t offset, uint8_t width,
                        uint32_t *value);
@@ -307,6 +332,9 @@ uint32_t kalyubos_read(const struct kalyubos *board, uint8_t slot, uint8_t windo
  * other answer says so. BUSY: the write, to Status (0x070) or QueueReady (0x044) of the block window, waits for all
  * that is in flight. The CPU that made it waits with it; make the same write again once all is completed or dropped.
  * All else goes on meanwhile.
+ *
+ * A write of a further device's window is DONE, BUSY in a pause, or BAD_WINDOW where the slot has no such window. What
+ * it notifies is served to its end. kalyubos_device_pending tells its line.
  */
 KALYUBOS_LOOK_AT_IT
 uint32_t kalyubos_write(struct kalyubos *board, uint8_t slot, uint8_t window, uint16_t offset, uint8_t width,
@@ -318,10 +346,10 @@ uint32_t kalyubos_write(struct kalyubos *board, uint8_t slot, uint8_t window, ui
  * then waits.
  *
  * From MORE until the end of the service the guest waits as in a long call. Every call for its slot but this one is
- * answered BUSY then and changes nothing, except kalyubos_interrupts, kalyubos_disturbed, kalyubos_counters,
- * kalyubos_last_fault, kalyubos_in_flight, kalyubos_operation, kalyubos_keep_pages and kalyubos_take_output;
- * kalyubos_completed answers IDLE where nothing is in flight with its tag. Calls for other slots may stand in between,
- * and no guest sees that one paused.
+ * answered BUSY then and changes nothing, except kalyubos_interrupts, kalyubos_device_pending, kalyubos_disturbed,
+ * kalyubos_counters, kalyubos_last_fault, kalyubos_in_flight, kalyubos_operation, kalyubos_keep_pages and
+ * kalyubos_take_output; kalyubos_completed answers IDLE where nothing is in flight with its tag. Calls for other slots
+ * may stand in between, and no guest sees that one paused.
  */
 KALYUBOS_LOOK_AT_IT
 uint32_t kalyubos_go_on(struct kalyubos *board, uint8_t slot, struct kalyubos_pending *pending);
@@ -355,7 +383,7 @@ uint32_t kalyubos_in_flight(const struct kalyubos *board, uint8_t slot, uint64_t
  *  - FLUSH: all that was completed before it began is on the medium, as after fdatasync. It needs to wait for nothing
  *    that is in flight beside it.
  * A host that moves bytes between the file and the guest's memory in place keeps the duty above: no transfer touches
- * the memory while one of the seven calls runs for this guest. examples/embed/file_disk.c has buffers of its own, so
+ * the memory while a call that touches it runs for this guest. examples/embed/file_disk.c has buffers of its own, so
  * that the guest's calls go on during its transfers.
  */
 uint32_t kalyubos_operation(const struct kalyubos *board, uint8_t slot, uint8_t tag,
@@ -407,7 +435,7 @@ uint32_t kalyubos_release(struct kalyubos *board, uint8_t slot, struct kalyubos_
 /*
  * Lends the slot's memory in place, from address `addr` to the end of the region that holds it: `bytes` is where the
  * byte of `addr` lies, and `len` how many there are from it on. BAD_RANGE where no region holds `addr`. Both stay until
- * kalyubos_destroy. Read and write the bytes as you like, but during the seven calls that touch them, or map them to
+ * kalyubos_destroy. Read and write the bytes as you like, but during the calls that touch them, or map them to
  * the slot's CPUs; what is written in place is the event of a memory write of that guest. Each region that isn't lent
  * is one block of the heap, of exactly as many bytes: a heap that begins such blocks at a page makes it fit to be
  * mapped.
@@ -423,7 +451,7 @@ uint32_t kalyubos_write_memory(struct kalyubos *board, uint8_t slot, uint64_t ad
 /*
  * Has the pages of the slot's memory marked in `bits` that its devices write to, for a host that moves the guest: KVM's
  * dirty log doesn't see what the library writes. Bit k % 8 of byte k / 8 stands for the page of 4096 bytes that begins
- * 4096 k bytes behind the base of the first region. The seven calls that touch guest memory set bits, but for
+ * 4096 k bytes behind the base of the first region. The calls that touch guest memory set bits, but for
  * kalyubos_write_memory, and no call clears one: between two of them the host reads the bits, and clears what it has
  * seen. A page whose bit stays clear is as it was, but for what the host wrote itself: by kalyubos_write_memory, in
  * place, by an operation of a disk that it serves, or by DMA.
@@ -454,13 +482,65 @@ uint32_t kalyubos_resize(struct kalyubos *board, uint8_t slot, uint16_t cols, ui
  */
 uint32_t kalyubos_take_output(struct kalyubos *board, uint8_t slot, uint8_t *into, size_t into_len, size_t *taken);
 
-/* InterruptStatus of both windows of a slot. A window's line is high while its word isn't 0. */
+/*
+ * The following calls are for further devices: `window` is KALYUBOS_DEVICE or above. BAD_WINDOW where it isn't, where the
+ * slot has no such device, and where that takes no such thing: an entropy device is supplied, and a network card has
+ * frames and a link. Each call but kalyubos_device_pending is BUSY while a service of the slot is paused.
+ */
+
+/* What waits for a further device's driver and for its host. */
+struct kalyubos_device_pending {
+    uint32_t interrupt; /* InterruptStatus of its window; its line is high while this isn't 0 */
+    bool starved;       /* whether its driver waits for the host: a chain is on offer for bytes or for a frame */
+    uint8_t padding[3]; /* zeros */
+    uint64_t frame;     /* how many bytes the oldest frame has that its driver sent; 0 where none waits */
+};
+
+/*
+ * Tells what waits for a further device. Set its window's line by `interrupt` after each kalyubos_write to the window, and
+ * after each of the other calls for it.
+ */
+uint32_t kalyubos_device_pending(const struct kalyubos *board, uint8_t slot, uint8_t window,
+                                 struct kalyubos_device_pending *pending);
+
+/*
+ * Supplies an entropy device with random bytes; `taken` is how many it took, the first ones: it keeps 4096 until its
+ * driver takes them.
+ */
+uint32_t kalyubos_supply(struct kalyubos *board, uint8_t slot, uint8_t window, const uint8_t *bytes, size_t bytes_len,
+                         size_t *taken);
+
+/*
+ * Hands a network card a frame, which begins with the addresses of Ethernet and has no check sequence. `taken` says
+ * whether the card took it, whole. Where there is no room it takes nothing, until its driver has taken others: it keeps
+ * 64 frames, of 65536 bytes together. BAD_WINDOW also of a frame without bytes, or of more than the card's MTU and 14.
+ */
+uint32_t kalyubos_receive(struct kalyubos *board, uint8_t slot, uint8_t window, const uint8_t *frame, size_t frame_len,
+                          bool *taken);
+
+/*
+ * Moves out the oldest frame that a network card's driver sent, whole, to the front of `into`. `len` is how many bytes
+ * it has, and 0 where none waits. SHORT_BUFFER where `into` is shorter: `len` is how many bytes it needs, and the frame
+ * stays. No frame has more than 65536 bytes, and none of a driver that keeps to the MTU more than that and 14.
+ *
+ * Take frames after each kalyubos_write to the window, until there is none. The card keeps as many as the other way;
+ * where there is no room the driver's next frame waits for such a call.
+ */
+uint32_t kalyubos_take_frame(struct kalyubos *board, uint8_t slot, uint8_t window, uint8_t *into, size_t into_len,
+                             size_t *len);
+
+/* Sets whether a network card's link is up, and tells its driver. It is up when the board is made. */
+uint32_t kalyubos_set_link(struct kalyubos *board, uint8_t slot, uint8_t window, bool up);
+
+/* InterruptStatus of the block window and the console window. A window's line is high while its word isn't 0. */
 uint32_t kalyubos_interrupts(const struct kalyubos *board, uint8_t slot, uint8_t *block, uint8_t *console);
 
 /* Whether a call of the image ever failed for the slot: never, since the image is in memory, or there is none. */
 uint32_t kalyubos_disturbed(const struct kalyubos *board, uint8_t slot, bool *disturbed);
 
-/* What the slot's devices did since the board was made; told in a pause too, and while something is in flight. */
+/*
+ * What the slot's disk and console did since the board was made; told in a pause too, and while something is in flight.
+ */
 uint32_t kalyubos_counters(const struct kalyubos *board, uint8_t slot, struct kalyubos_counters *counters);
 
 /* Why a window asks for a reset (DEVICE_NEEDS_RESET): what is wrong with what its driver wrote. */
@@ -495,7 +575,8 @@ struct kalyubos_fault {
 /*
  * The last fault of a slot's window; told in a pause too, and while something is in flight. It stays until the
  * window's next fault: neither a reset nor kalyubos_restore takes it away. So a host may ask once it sees the
- * window's InterruptStatus bit 1 or the next reset, and log what kalyubos_fault_text says of `kind`.
+ * window's InterruptStatus bit 1 or the next reset, and log what kalyubos_fault_text says of `kind`. BAD_WINDOW of a
+ * further device's window: its faults aren't noted.
  */
 uint32_t kalyubos_last_fault(const struct kalyubos *board, uint8_t slot, uint8_t window, struct kalyubos_fault *fault);
 
@@ -503,13 +584,13 @@ uint32_t kalyubos_last_fault(const struct kalyubos *board, uint8_t slot, uint8_t
 const char *kalyubos_fault_text(uint32_t kind);
 
 /*
- * How many bytes the slot's snapshot has: some 300, and its pending input. It stays so until the next call for the
- * slot. BUSY while a service of the slot is paused, or an operation of it is in flight.
+ * How many bytes the slot's snapshot has: some 300, some 120 for each further device, and its pending input. It stays
+ * so until the next call for the slot. BUSY while a service of the slot is paused, or an operation of it is in flight.
  */
 uint32_t kalyubos_saved_len(const struct kalyubos *board, uint8_t slot, size_t *len);
 
 /*
- * Writes the slot's snapshot to the front of `into`: what its two devices keep, the pending input, and the description
+ * Writes the slot's snapshot to the front of `into`: what its devices keep, the pending input, and the description
  * of the slot. `written` is how many bytes it has; those behind them stay. BUSY as kalyubos_saved_len; SHORT_BUFFER
  * where `into` is shorter, and then nothing is written. Nothing of the board changes.
  *
@@ -526,15 +607,16 @@ uint32_t kalyubos_save(const struct kalyubos *board, uint8_t slot, uint8_t *into
 /*
  * Puts the slot's devices into the state of a snapshot, and the guest goes on where it was saved. Memory and disk stay.
  * The slot may be of any board, whoever has its disk. Where its memory begins and ends, `count`, `read_only` and
- * `identity` are as of the slot that was saved, or the answer is OTHER_SLOT. That its regions are the same is the
- * host's to see. The console's size is the snapshot's. `pending` is what then waits.
+ * `identity` are as of the slot that was saved, or the answer is OTHER_SLOT; and so are its further devices, or it is
+ * OTHER_DEVICES. That its regions are the same is the host's to see. The console's size is the snapshot's. `pending` is
+ * what then waits.
  *
  * A slot that was on hold when it was saved is on hold behind this call, and kalyubos_release begins there what stayed
  * on offer. Only a slot whose disk the host serves takes such a snapshot; for another it is OTHER_SLOT.
  *
- * Each snapshot that kalyubos_save wrote of such a slot is taken. Of other bytes the first of BAD_SNAPSHOT, OTHER_SLOT
- * and BAD_STATE that holds is answered, or they are taken as they spell: there is no checksum. A snapshot that was
- * changed on its way harms its own guest alone. BUSY as kalyubos_saved_len.
+ * Each snapshot that kalyubos_save wrote of such a slot is taken. Of other bytes the first of BAD_SNAPSHOT,
+ * OTHER_SLOT, OTHER_DEVICES and BAD_STATE that holds is answered, or they are taken as they spell: there is no
+ * checksum. A snapshot that was changed on its way harms its own guest alone. BUSY as kalyubos_saved_len.
  *
  * Before it the host puts back the guest's memory and its disk, those of an image by the board that it makes. Behind it
  * the host sets both lines by `pending`, makes a write again that was answered NO_ROOM, and starts the guest's CPUs.

@@ -17,7 +17,7 @@ const char *kalyubos_answer(uint32_t number)
     case KALYUBOS_NO_MEMORY:
         return "out of memory";
     case KALYUBOS_BAD_WINDOW:
-        return "a window is KALYUBOS_BLOCK or KALYUBOS_CONSOLE";
+        return "the slot has no such window, or the device there takes no such thing";
     case KALYUBOS_BAD_IMAGE:
         return "the image isn't whole sectors of 512 bytes";
     case KALYUBOS_NO_SLOTS:
@@ -53,11 +53,11 @@ const char *kalyubos_answer(uint32_t number)
     case KALYUBOS_BAD_SNAPSHOT:
         return "the bytes are no snapshot";
     case KALYUBOS_OTHER_SLOT:
-        return "the snapshot is of a slot with another memory, another disk or other devices";
+        return "the snapshot is of a slot with another memory, another disk or other features";
     case KALYUBOS_BAD_STATE:
         return "the snapshot has a state that no driver can bring a window into";
     case KALYUBOS_SHORT_BUFFER:
-        return "the buffer is shorter than the snapshot: kalyubos_saved_len tells its length";
+        return "the buffer is shorter than the snapshot or the frame: kalyubos_saved_len or `len` tells its length";
     case KALYUBOS_NO_REGIONS:
         return "a slot needs a region of memory";
     case KALYUBOS_REGIONS_NOT_APART:
@@ -66,6 +66,10 @@ const char *kalyubos_answer(uint32_t number)
         return "each region of each slot needs a loan of its length";
     case KALYUBOS_BAD_DEPTH:
         return "a disk that the host serves has 1 to 64 operations in flight";
+    case KALYUBOS_OTHER_DEVICES:
+        return "the snapshot has other devices";
+    case KALYUBOS_BAD_DEVICE:
+        return "a further device is a network card, of an MTU of 68 or more, or an entropy device";
     default:
         return "a number that this version of kalyubos.h doesn't know";
     }

@@ -1,6 +1,9 @@
 -- What a call does to the board behind its handle.
-use Rattle.std.specs.Prelude.{◌≡◌, ℕ, ◌==◌, if◌then◌else◌, List, Option, Some, None, MatchOption, IsSomeAnd, length}
+use Rattle.std.specs.Prelude.{◌≡◌, ℕ, ◌-◌, ◌==◌, nat_lt, if◌then◌else◌, List, Option, Some, None, MatchOption, IsSomeAnd, length}
+use Rattle.std.specs.Global.{Global}
 use Rattle.std.specs.List.{slice_get}
+use Rattle.std.specs.Option.{option_map_or}
+use Rattle.board.specs.declared.event.DeviceEvent.{DeviceEvent}
 use Rattle.board.specs.declared.event.SlotWindow.{SlotWindow}
 use Rattle.board.specs.declared.event.SlotWindow.TheVariants.{Block, Console}
 use Rattle.board.specs.Slot.{interrupt_words}
@@ -11,6 +14,7 @@ use Rattle.board_ffi.specs.declared.pending.Pending.{Pending}
 use Rattle.board_ffi.specs.Handle.{Held}
 pub use Rattle.board.specs.declared.event.EventKind.{EventKind}
 pub use Rattle.board.specs.declared.reply.Reply.{Reply}
+pub use Rattle.board_ffi.specs.Devices.{HasDevicePending, IsNoDevice, IsTooShort, TakesFrame}
 pub use Rattle.board_ffi.specs.Disk.{IsAskedFor, IsAtRest}
 pub use Rattle.board_ffi.specs.Events.{Completes, CopiesImage, Drops, GoesOn, HasImage, HasMemory, HasNoRegion, Holds, IsBusy, IsOutside, KeepsPages, MovesOutput, PausesBehind, Releases, Restores, Takes, Writes}
 pub use Rattle.board_ffi.specs.Kept.{HasInFlight, HasSavedLen, HasWords, IsMissing, IsThere, IsUndisturbed, Saves}
@@ -21,15 +25,36 @@ abbrev pub Calls : Held → Held → ℕ → (SessionState → SessionState → 
 Calls before after code step =
     MatchOption before ((code ≡ 1) × (after ≡ None)) (λ old. IsSomeAnd after (step old))
 
--- the window of each number
+-- The windows of a slot have numbers: 0 is its disk's and 1 its console's,
 abbrev pub window_of : ℕ → Option SlotWindow
 window_of number = if number == 0 then Some Block else (if number == 1 then Some Console else None)
 
--- A call for a window of this number: of a number of none it answers 6, and leaves the handle as it was.
+-- and those from 2 on are its further devices', in their order
+abbrev pub device_at : ℕ → Option ℕ
+device_at number = if nat_lt number 2 then None else Some (number - 2)
+
+-- a driver's read of the window of a number, and its write
+abbrev pub read_event : ℕ → ℕ → ℕ → EventKind Global
+read_event number offset width =
+    option_map_or (λ window. EventKind.Read window offset width) (window_of number)
+    (EventKind.Device (number - 2) (DeviceEvent.Read offset width))
+
+abbrev pub write_event : ℕ → ℕ → ℕ → ℕ → EventKind Global
+write_event number offset width value =
+    option_map_or (λ window. EventKind.Write window offset width value) (window_of number)
+    (EventKind.Device (number - 2) (DeviceEvent.Write offset width value))
+
+-- A call for the disk's window or the console's: of another number it answers 6, and leaves the handle as it was.
 abbrev pub AtWindow : ℕ → Handle → Handle → ℕ → (SlotWindow → SessionState → SessionState → Type 0) → Type 0
 AtWindow number before after code step =
     MatchOption (window_of number) ((code ≡ 6) × (after ≡ before))
     (λ window. Calls before.session after.session code (step window))
+
+-- the same of one for a further device's window
+abbrev pub AtDevice : ℕ → Handle → Handle → ℕ → (ℕ → SessionState → SessionState → Type 0) → Type 0
+AtDevice number before after code step =
+    MatchOption (device_at number) ((code ≡ 6) × (after ≡ before))
+    (λ device. Calls before.session after.session code (step device))
 
 -- ---- what waits
 

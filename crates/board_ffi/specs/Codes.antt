@@ -13,13 +13,13 @@ use Rattle.board.specs.declared.fault.BoardFault.TheVariants as board
 use Rattle.board.specs.declared.fault.SlotFault.{SlotFault}
 use Rattle.board.specs.declared.fault.SlotFault.TheVariants as slot
 use Rattle.board.specs.declared.saved.RestoreFault.{RestoreFault}
-use Rattle.board.specs.declared.saved.RestoreFault.TheVariants.{Snapshot, OtherSlot, BadBlock, BadConsole}
+use Rattle.board.specs.declared.saved.RestoreFault.TheVariants.{Snapshot, OtherSlot, BadDevice, BadBlock, BadConsole, BadDeviceWindow}
 use Rattle.board.specs.declared.saved.RestoreRefusal.{RestoreRefusal}
 use Rattle.board.specs.declared.saved.RestoreRefusal.TheVariants as restore
 use Rattle.board.specs.declared.saved.SaveRefusal.{SaveRefusal}
 use Rattle.board.specs.declared.saved.SaveRefusal.TheVariants as save
 use Rattle.session.specs.declared.refusal.Refusal.{Refusal}
-use Rattle.session.specs.declared.refusal.Refusal.TheVariants.{BadSlot, BadRange, NoRoom, Busy, Idle}
+use Rattle.session.specs.declared.refusal.Refusal.TheVariants.{BadSlot, BadRange, BadDevice, NoRoom, Busy, Idle}
 use Rattle.session.specs.declared.progress.Progress.{Progress}
 use Rattle.session.specs.declared.progress.Progress.TheVariants.{Asks, Done, More}
 use Rattle.session.specs.declared.fault.SessionFault.{SessionFault}
@@ -29,18 +29,21 @@ use Rattle.session.specs.declared.fault.SessionFault.TheVariants as session
 abbrev pub refusal_code : Refusal → ℕ
 refusal_code BadSlot = 3
 refusal_code BadRange = 4
+refusal_code BadDevice = 6
 refusal_code NoRoom = 15
 refusal_code Busy = 19
 refusal_code Idle = 21
 
 -- The board's response that a number stands for, where this one is what a call that is done is replied; what a disk is
 -- then asked for is told aside. Where an outlet has no room the board has no memory for the output. A slot is busy where a
--- service of it is paused, and where the event waits for what is in flight.
+-- service of it is paused, and where the event waits for what is in flight. A device that isn't there, or takes no such
+-- thing, is a window that isn't.
 abbrev pub StandsFor : {A : Type 0} → ℕ → Reply A → Response A → Type 0
 StandsFor code done told =
     ((code ≡ 0) × (told ≡ response.Answered done))
     ⊎ ((code ≡ 3) × (told ≡ response.Answered reply.BadSlot))
     ⊎ ((code ≡ 4) × (told ≡ response.Answered reply.BadRange))
+    ⊎ ((code ≡ 6) × (told ≡ response.Answered reply.BadDevice))
     ⊎ ((code ≡ 15) × (told ≡ response.Answered reply.NoMemory))
     ⊎ ((code ≡ 18) × (told ≡ response.More))
     ⊎ ((code ≡ 19) × ((told ≡ response.Busy) ⊎ (told ≡ response.Answered reply.Busy)))
@@ -50,7 +53,7 @@ StandsFor code done told =
 -- the numbers that a call answers which comes to a board's response, but for 20
 abbrev pub is_response : ℕ → Bool
 is_response code =
-    (code == 0) || (code == 3) || (code == 4) || (code == 15) || (code == 18) || (code == 19) || (code == 21)
+    (code == 0) || (code == 3) || (code == 4) || (code == 6) || (code == 15) || (code == 18) || (code == 19) || (code == 21)
 
 -- a call that is done, or was refused
 abbrev pub code_by : {X : Type 0} → Result X Refusal → ℕ
@@ -90,13 +93,15 @@ save_code (Err why) = save_refusal_code why
 abbrev pub is_saving : ℕ → Bool
 is_saving code = (code == 0) || (code == 3) || (code == 19) || (code == 26)
 
--- a snapshot that a slot doesn't take up: bytes that are none, one of another description, or of a window
--- that can't be so
+-- a snapshot that a slot doesn't take up: bytes that are none, one of another description, of other further devices, or of
+-- a window that can't be so
 abbrev pub restore_fault_code : RestoreFault → ℕ
 restore_fault_code (Snapshot fault) = 23
 restore_fault_code OtherSlot = 24
+restore_fault_code BadDevice = 31
 restore_fault_code BadBlock = 25
 restore_fault_code BadConsole = 25
+restore_fault_code BadDeviceWindow = 25
 
 -- a slot that isn't restored
 abbrev pub restore_refusal_code : RestoreRefusal → ℕ
@@ -137,6 +142,7 @@ abbrev pub fault_code : SessionFault → ℕ
 fault_code session.BadLoan = 29
 fault_code session.BadImage = 7
 fault_code session.BadOutlet = 16
+fault_code session.BadDevice = 32
 -- no budget that C describes is spent
 fault_code session.SpentBudget = 0
 fault_code (session.Board why) = board_code why

@@ -4,16 +4,18 @@ use Rattle.std.specs.List.{take_while}
 use Rattle.chain.specs.declared.budget.Budget.{Budget}
 use Rattle.guest_bytes.specs.declared.loan.Loan.{Loan}
 use Rattle.guest_memory.specs.declared.spec.RegionSpec.{RegionSpec}
+use Rattle.device_list.specs.declared.spec.DeviceSpec.{DeviceSpec}
 use Rattle.board.specs.declared.spec.Backing.{Backing}
 use Rattle.board.specs.Fault.{IsAccepted}
 use Rattle.board.specs.Lent.{all_regions}
 use Rattle.session.specs.declared.fault.SessionFault.{SessionFault}
 use Rattle.session.specs.declared.guest.GuestSpec.{GuestSpec}
 use Rattle.session.specs.Session.{SessionState, new_session, new_session_over, slots_of}
-use Rattle.session.specs.Refusing.{AreOutlets, IsLentRefusedFor, IsRefusedFor}
+use Rattle.session.specs.Refusing.{AreDevices, AreOutlets, IsLentRefusedFor, IsRefusedFor}
 use Rattle.board_ffi.specs.declared.config.Config.{Config}
 use Rattle.board_ffi.specs.declared.config.ToldConfig.{ToldConfig}
 use Rattle.board_ffi.specs.declared.config.ToldLoan.{ToldLoan}
+use Rattle.board_ffi.specs.declared.device.Device.{Device}
 use Rattle.board_ffi.specs.declared.slot.Slot.{Slot}
 use Rattle.board_ffi.specs.Codes.{fault_code}
 
@@ -24,6 +26,14 @@ regions_of = take_while (λ region. nat_lt 0 region.len)
 -- Who has the disk of a slot. A depth of 0 is 1; one that is too large for the board is so as it is told, too.
 abbrev pub backing_of : Bool → ℕ → Backing
 backing_of hosted depth = if hosted then Backing.Host (min (max depth 1) 255) else Backing.Image
+
+-- A further device, if it is one, by its type (VIRTIO 1.2, 5): 1 is a network card, and 4 an entropy device. One of a
+-- type that isn't known is a card whose MTU no slot takes.
+abbrev pub device_of : Device → Option DeviceSpec
+device_of device =
+    if device.kind == 0 then None
+    else if device.kind == 4 then Some DeviceSpec.Entropy
+    else Some (DeviceSpec.Network device.mac (if device.kind == 1 then device.mtu else 0))
 
 -- the guest of a slot that C describes
 abbrev pub guest_of : Slot → GuestSpec
@@ -38,11 +48,12 @@ guest_of slot = record {
     identity = slot.identity;
   };
   outlet = slot.outlet;
+  devices = map device_of slot.devices;
 }
 
 -- how many bytes a slot and a config have that this version describes
 abbrev pub slot_size : ℕ
-slot_size = 192
+slot_size = 264
 
 abbrev pub config_size : ℕ
 config_size = 72
@@ -104,6 +115,7 @@ pub record IsGood (config : Config) : Type 0 where
   pub loans : AreLent (guests_of config.slots.now) (lens_of config.loans.now)
   pub whole : length config.image.now % 512 ≡ 0
   pub outlets : AreOutlets (guests_of config.slots.now)
+  pub devices : AreDevices (guests_of config.slots.now)
   pub accepted :
       IsAccepted (length config.image.now / 512) (slots_of (guests_of config.slots.now)) config.cache
 

@@ -1,14 +1,15 @@
 -- What a judging tells: which slot of a description can't be had, and which region of its memory.
-use Rattle.std.specs.Prelude.{◌≡◌, ℕ, ◌==◌, ◌^◌, nat_le, if◌then◌else◌, List}
+use Rattle.std.specs.Prelude.{◌≡◌, ℕ, ◌==◌, ◌^◌, nat_le, not, if◌then◌else◌, List}
 use Rattle.std.specs.List.{prefix_len}
 use Rattle.guest_memory.specs.declared.fault.MemoryFault.TheVariants.{NoRegions}
 use Rattle.board.specs.declared.fault.BoardFault.TheVariants.{Slot as AtSlot}
 use Rattle.board.specs.declared.fault.SlotFault.TheVariants.{Memory}
-use Rattle.session.specs.declared.fault.SessionFault.TheVariants.{BadOutlet, Board}
+use Rattle.session.specs.declared.fault.SessionFault.TheVariants.{BadDevice, BadOutlet, Board}
+use Rattle.session.specs.Refusing.{has_bad_device}
 use Rattle.board_ffi.specs.declared.config.Config.{Config}
 use Rattle.board_ffi.specs.declared.config.ToldConfig.{ToldConfig}
 use Rattle.board_ffi.specs.declared.slot.Slot.{Slot}
-use Rattle.board_ffi.specs.Config.{Describes, IsVerdict, Verdict, Bad, config_size, OtherSize, slot_size, verdict_code}
+use Rattle.board_ffi.specs.Config.{Describes, IsVerdict, Verdict, Bad, config_size, guest_of, OtherSize, slot_size, verdict_code}
 
 -- how many bytes of a console's output may wait at most
 abbrev pub most_waiting : ℕ
@@ -21,11 +22,16 @@ first_of_other_size = prefix_len (λ slot. slot.size == slot_size)
 abbrev pub first_of_large_outlet : List Slot → ℕ
 first_of_large_outlet = prefix_len (λ slot. nat_le slot.outlet most_waiting)
 
+-- and of the first with a further device that no guest may have
+abbrev pub first_of_bad_device : List Slot → ℕ
+first_of_bad_device = prefix_len (λ slot. not (has_bad_device (guest_of slot)))
+
 -- the slot that a verdict is about, where it is about one, and else what stood there
 abbrev pub slot_told : ToldConfig → Verdict → ℕ → ℕ
 slot_told config OtherSize before =
     if config.size == config_size then first_of_other_size config.slots.now else before
 slot_told config (Bad BadOutlet) before = first_of_large_outlet config.slots.now
+slot_told config (Bad BadDevice) before = first_of_bad_device config.slots.now
 slot_told config (Bad (Board (AtSlot number fault))) before = number
 slot_told config _ before = before
 

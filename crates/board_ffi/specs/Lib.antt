@@ -2,6 +2,7 @@ pub mod Handle
 pub mod Lending
 pub mod Codes
 pub mod Events
+pub mod Devices
 pub mod Disk
 pub mod Faults
 pub mod Kept

@@ -73,6 +73,10 @@ pub(crate) const BAD_LOAN: u32 = 29;
 
 pub(crate) const BAD_DEPTH: u32 = 30;
 
+pub(crate) const OTHER_DEVICES: u32 = 31;
+
+pub(crate) const BAD_DEVICE: u32 = 32;
+
 /// The number of a call that was refused.
 pub(crate) fn of_refusal(why: Refusal) -> u32
     ensures { result ≡ refusal_code why }
@@ -80,6 +84,7 @@ pub(crate) fn of_refusal(why: Refusal) -> u32
     match why {
         Refusal::BadSlot => BAD_SLOT,
         Refusal::BadRange => BAD_RANGE,
+        Refusal::BadDevice => BAD_WINDOW,
         Refusal::NoRoom => NO_ROOM,
         Refusal::Busy => BUSY,
         Refusal::Idle => IDLE,
@@ -96,8 +101,8 @@ pub(crate) fn of_done(answer: Result<(), Refusal>) -> u32
     }
 }
 
-/// The number of a call that tells a register's value, and the value where there is one.
-pub(crate) fn told(answer: Result<u32, Refusal>, value: &mut u32) -> u32
+/// The number of a call that tells a value, and the value where there is one.
+pub(crate) fn told<T: Copy>(answer: Result<T, Refusal>, value: &mut T) -> u32
     ensures number { result ≡ code_by answer }
     ensures value { IfOk answer (λ found. value.new ≡ found) }
     ensures kept { OnErr answer (value.new ≡ value.old) }
@@ -178,7 +183,10 @@ fn of_restore_fault(why: RestoreFault) -> u32
     match why {
         RestoreFault::Snapshot(_) => BAD_SNAPSHOT,
         RestoreFault::OtherSlot => OTHER_SLOT,
-        RestoreFault::BadBlock | RestoreFault::BadConsole => BAD_STATE,
+        RestoreFault::BadDevice => OTHER_DEVICES,
+        RestoreFault::BadBlock | RestoreFault::BadConsole | RestoreFault::BadDeviceWindow => {
+            BAD_STATE
+        }
     }
 }
 
@@ -190,6 +198,7 @@ pub(crate) fn of_fault(why: SessionFault) -> u32
         SessionFault::BadLoan => BAD_LOAN,
         SessionFault::BadImage => BAD_IMAGE,
         SessionFault::BadOutlet => BAD_OUTLET,
+        SessionFault::BadDevice => BAD_DEVICE,
         // no budget that C describes is spent
         SessionFault::SpentBudget => DONE,
         SessionFault::Board(why) => of_board_fault(why),

@@ -8,7 +8,7 @@ use crate::codes::{BAD_SIZE, DONE, HAS_BOARD, NO_BOARD, of_fault};
 use crate::config::{Config, is_sized};
 use crate::handle::Handle;
 use crate::loans::taken;
-use crate::slot::{are_outlets, guests};
+use crate::slot::{are_devices, are_outlets, guests};
 use sector_cache::are_whole_sectors;
 use session::{Session, SessionFault};
 use std::alloc::Global;
@@ -113,6 +113,9 @@ fn over_own(alloc: Global, config: &Config<'_>) -> Result<Session, SessionFault>
     }
     if !are_outlets(config.slots) {
         return Err(SessionFault::BadOutlet);
+    }
+    if !are_devices(config.slots) {
+        return Err(SessionFault::BadDevice);
     }
     let Ok(guests) = guests(alloc, config.slots) else {
         return Err(SessionFault::NoMemory);

@@ -7,7 +7,7 @@ ghost use Rattle.board_ffi.specs.Faults.{IsTold, fault_number, told_fault};
 use crate::answers::registers;
 use crate::codes::BAD_WINDOW;
 use crate::handle::{Handle, session_of};
-use crate::registers::window_numbered;
+use crate::window::window_numbered;
 use session::FaultNote;
 
 /// What `head` is where no head was read.

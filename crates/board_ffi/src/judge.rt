@@ -14,7 +14,9 @@ ghost use Rattle.board_ffi.specs.Judging.{Judges, region_told, slot_told};
 use crate::codes::{BAD_SIZE, DONE, of_fault};
 use crate::config::{ToldConfig, has_own_size};
 use crate::loans::are_lent;
-use crate::slot::{Slot, are_outlets, are_sized, guests, sized, with_outlets};
+use crate::slot::{
+    Slot, are_devices, are_outlets, are_sized, guests, sized, with_devices, with_outlets,
+};
 use board::{BoardFault, CacheFault, SlotFault, SlotSpec, check_slots};
 use guest_memory::MemoryFault;
 use sector_cache::are_whole_sectors;
@@ -70,6 +72,9 @@ fn judged(alloc: Global, config: &ToldConfig<'_>) -> Result<(), SessionFault>
     if !are_outlets(config.slots) {
         return Err(SessionFault::BadOutlet);
     }
+    if !are_devices(config.slots) {
+        return Err(SessionFault::BadDevice);
+    }
     let Ok(specs) = specs(alloc, config.slots) else {
         return Err(SessionFault::NoMemory);
     };
@@ -102,6 +107,7 @@ fn tell(config: &ToldConfig<'_>, why: SessionFault, slot: &mut usize, region: &m
 {
     match why {
         SessionFault::BadOutlet => *slot = with_outlets(config.slots),
+        SessionFault::BadDevice => *slot = with_devices(config.slots),
         SessionFault::Board(fault) => tell_fault(fault, slot, region),
         _ => {}
     }

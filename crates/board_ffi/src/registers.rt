@@ -1,15 +1,14 @@
 //! A guest's reads and writes of its devices' registers, and the words that stand for its interrupt lines.
 
-ghost use Rattle.std.specs.Prelude.{◌≡◌, ◌≢◌, MatchOption};
-ghost use Rattle.board_ffi.specs.Calls.{AtWindow, Calls, EventKind, GoesOn, HasWords, IsMissing, IsUndisturbed, Reply, Takes, Tells, Writes, window_of};
+ghost use Rattle.std.specs.Prelude.{◌≡◌, ◌≢◌, ◌≤◌};
+ghost use Rattle.board_ffi.specs.Calls.{Calls, GoesOn, HasWords, IsMissing, IsUndisturbed, Reply, Takes, Tells, Writes, read_event, write_event};
 
-use crate::answers::registers;
-use crate::codes::BAD_WINDOW;
+use crate::answers::{devices, registers};
 use crate::handle::{Handle, session_of};
 use crate::pending::Pending;
-use session::SlotWindow;
+use crate::window::{device_behind, window_numbered};
 
-/// A guest's read of a register: what it gets.
+/// A guest's read of a register of one of its windows: what it gets.
 #[unsafe(no_mangle)]
 pub extern "C" fn kalyubos_read(
     board: &mut Handle,
@@ -19,17 +18,22 @@ pub extern "C" fn kalyubos_read(
     width: u8,
     value: &mut u32,
 ) -> u32
-    ensures step { AtWindow window board.old board.new result
-        (λ kind. Takes slot (EventKind.Read kind offset width) result (Reply.Value value.new)) }
+    ensures step { Calls board.old.session board.new.session result
+        (Takes slot (read_event window offset width) result (Reply.Value value.new)) }
     ensures kept { result ≢ 0 → value.new ≡ value.old }
 {
-    let Some(window) = window_numbered(window) else {
-        return BAD_WINDOW;
-    };
-    registers::read(session_of!(board), slot, window, offset, width, value)
+    let session = session_of!(board);
+    match window_numbered(window) {
+        Some(window) => registers::read(session, slot, window, offset, width, value),
+        None => {
+            let device = device_behind(window);
+            devices::read(session, slot, device, offset, width, value)
+        }
+    }
 }
 
-/// A guest's write of a register. What it notifies is served within the budget, and what then waits is told.
+/// A guest's write of a register of one of its windows. What it notifies is served, of the disk and the console within the
+/// budget, and what then waits is told.
 #[unsafe(no_mangle)]
 pub extern "C" fn kalyubos_write(
     board: &mut Handle,
@@ -40,23 +44,20 @@ pub extern "C" fn kalyubos_write(
     value: u32,
     pending: &mut Pending,
 ) -> u32
-    ensures step { AtWindow window board.old board.new result
-        (λ kind. Writes slot (EventKind.Write kind offset width value) result) }
-    ensures pending { MatchOption (window_of window) (pending.new ≡ pending.old)
-        (λ _. Tells slot board.new.session pending.old pending.new) }
+    ensures step { Calls board.old.session board.new.session result
+        (Writes slot (write_event window offset width value) result) }
+    // of a further device it never pauses, and asks its host for nothing
+    ensures at_once { 2 ≤ window → (result ≢ 18) × (result ≢ 20) }
+    ensures pending { Tells slot board.new.session pending.old pending.new }
 {
-    let Some(window) = window_numbered(window) else {
-        return BAD_WINDOW;
-    };
-    registers::write(
-        session_of!(board),
-        slot,
-        window,
-        offset,
-        width,
-        value,
-        pending,
-    )
+    let session = session_of!(board);
+    match window_numbered(window) {
+        Some(window) => registers::write(session, slot, window, offset, width, value, pending),
+        None => {
+            let device = device_behind(window);
+            devices::write(session, slot, device, offset, width, value, pending)
+        }
+    }
 }
 
 /// Goes on with a guest's service that is paused, and tells what then waits.
@@ -66,17 +67,6 @@ pub extern "C" fn kalyubos_go_on(board: &mut Handle, slot: u8, pending: &mut Pen
     ensures pending { Tells slot board.new.session pending.old pending.new }
 {
     registers::go_on(session_of!(board), slot, pending)
-}
-
-/// The window of a number.
-pub(crate) fn window_numbered(number: u8) -> Option<SlotWindow>
-    ensures { result ≡ window_of number }
-{
-    match number {
-        0 => Some(SlotWindow::Block),
-        1 => Some(SlotWindow::Console),
-        _ => None,
-    }
 }
 
 /// Tells InterruptStatus of both windows of a guest (4.2.2). A line is raised while its word isn't 0.

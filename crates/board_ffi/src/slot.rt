@@ -1,13 +1,14 @@
 //! A slot of a board, as C describes it.
 
-ghost use Rattle.std.specs.Prelude.{◌≡◌, ◌↔◌, ◌≤◌, All, IsTrue, IfOk};
-ghost use Rattle.session.specs.Refusing.{AreOutlets};
-ghost use Rattle.board_ffi.specs.Judging.{first_of_large_outlet, first_of_other_size};
+ghost use Rattle.std.specs.Prelude.{◌≡◌, ◌↔◌, ◌≤◌, false, All, IsTrue, IfOk};
+ghost use Rattle.session.specs.Refusing.{AreDevices, AreOutlets, has_bad_device};
+ghost use Rattle.board_ffi.specs.Judging.{first_of_bad_device, first_of_large_outlet, first_of_other_size};
 ghost use Rattle.board_ffi.specs.Config.{AreSized, backing_of, guest_of, guests_of};
 
+use crate::device::Device;
 use crate::region::regions;
 use guest_memory::{MOST_REGIONS, RegionSpec};
-use session::{Backing, Extent, GuestSpec, SlotSpec};
+use session::{Backing, Extent, GuestSpec, MOST_DEVICES, SlotSpec, has_bad_device};
 use std::alloc::{AllocError, Global};
 
 /// How many bytes of a console's output may wait at most.
@@ -35,6 +36,8 @@ pub struct Slot {
     pub identity: [u8; 20],
     /// How many operations of its disk may be in flight at once, where the host serves it; 0 is 1.
     pub depth: u32,
+    /// Its further devices: the first of no type, and those behind it, are none.
+    pub devices: [Device; MOST_DEVICES],
 }
 
 impl Slot {
@@ -69,7 +72,15 @@ impl Slot {
         GuestSpec {
             slot,
             outlet: self.outlet,
+            devices: self.devices.map(|device| device.spec()),
         }
+    }
+
+    // Whether it has a further device that no guest may have.
+    fn has_bad_device(&self) -> bool
+        ensures { result ≡ has_bad_device (guest_of self.now) }
+    {
+        has_bad_device(&self.guest())
     }
 }
 
@@ -94,6 +105,20 @@ fn no_slot_passes(slots: &[Slot], most: u32) -> bool
     slots.iter().all(|slot| slot.outlet <= most)
 }
 
+/// Whether each further device of each slot is one that a guest may have.
+pub(crate) fn are_devices(slots: &[Slot]) -> bool
+    ensures { IsTrue result ↔ AreDevices (guests_of slots.now) }
+{
+    no_slot_has_bad_device(slots)
+}
+
+// Whether no slot has such a device.
+fn no_slot_has_bad_device(slots: &[Slot]) -> bool
+    ensures { IsTrue result ↔ All (λ slot. has_bad_device (guest_of slot) ≡ false) slots.now }
+{
+    slots.iter().all(|slot| !slot.has_bad_device())
+}
+
 /// How many slots stand before the first that says another size.
 pub(crate) fn sized(slots: &[Slot]) -> usize
     ensures { result ≡ first_of_other_size slots.now }
@@ -111,6 +136,16 @@ pub(crate) fn with_outlets(slots: &[Slot]) -> usize
     slots
         .iter()
         .take_while(|slot| slot.outlet <= MOST_WAITING)
+        .count()
+}
+
+/// How many slots stand before the first with a further device that no guest may have.
+pub(crate) fn with_devices(slots: &[Slot]) -> usize
+    ensures { result ≡ first_of_bad_device slots.now }
+{
+    slots
+        .iter()
+        .take_while(|slot| !slot.has_bad_device())
         .count()
 }
 

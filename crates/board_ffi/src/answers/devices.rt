@@ -1,0 +1,194 @@
+//! A guest's further devices: its driver's registers, and what its host hands in, takes and is told.
+
+ghost use Rattle.std.specs.Prelude.{◌≡◌, ◌≢◌, ◌++◌, IfErr, IfOk, length};
+ghost use Rattle.board.specs.declared.event.DeviceEvent.{DeviceEvent};
+ghost use Rattle.board_ffi.specs.Calls.{EventKind, HasDevicePending, IsNoDevice, IsTooShort, Reply, Takes, TakesFrame, TellsOf, Writes};
+ghost use Rattle.board_ffi.specs.Codes.{code_at, code_by};
+ghost use Rattle.board_ffi.specs.Devices.{IsCopied, IsLonger, count_of, frame_now, pending_of_device};
+
+use crate::codes::{BAD_SLOT, BAD_WINDOW, DONE, SHORT_BUFFER, of_done, of_refusal, told};
+use crate::devices::DevicePending;
+use crate::pending::Pending;
+use session::{DeviceWaits, Refusal, Session};
+
+/// A guest's read of a register: what it gets.
+pub(crate) fn read(
+    session: &mut Session,
+    slot: u8,
+    device: u8,
+    offset: u16,
+    width: u8,
+    value: &mut u32,
+) -> u32
+    ensures takes { Takes slot (EventKind.Device device (DeviceEvent.Read offset width)) result (Reply.Value value.new)
+        session.old session.new }
+    ensures kept { result ≢ 0 → value.new ≡ value.old }
+{
+    told(session.read_device(slot, device, offset, width), value)
+}
+
+/// A guest's write of a register. What then waits is told.
+pub(crate) fn write(
+    session: &mut Session,
+    slot: u8,
+    device: u8,
+    offset: u16,
+    width: u8,
+    value: u32,
+    pending: &mut Pending,
+) -> u32
+    ensures writes { Writes slot (EventKind.Device device (DeviceEvent.Write offset width value)) result
+        session.old session.new }
+    ensures at_once { (result ≢ 18) × (result ≢ 20) }
+    ensures pending { TellsOf slot session.new pending.old pending.new }
+{
+    let answer = of_done(session.write_device(slot, device, offset, width, value));
+    pending.tell(session, slot);
+    answer
+}
+
+/// Supplies an entropy device with bytes, and tells how many it took.
+pub(crate) fn supply(
+    session: &mut Session,
+    slot: u8,
+    device: u8,
+    bytes: &[u8],
+    taken: &mut usize,
+) -> u32
+    ensures takes { Takes slot (EventKind.Device device (DeviceEvent.Supply bytes.now)) result (Reply.Took taken.new)
+        session.old session.new }
+    ensures kept { result ≢ 0 → taken.new ≡ taken.old }
+{
+    told(session.supply(slot, device, bytes), taken)
+}
+
+/// Hands a network card a frame, and tells whether it was taken.
+pub(crate) fn receive(
+    session: &mut Session,
+    slot: u8,
+    device: u8,
+    frame: &[u8],
+    taken: &mut bool,
+) -> u32
+    ensures takes { Takes slot (EventKind.Device device (DeviceEvent.Receive frame.now)) result
+        (Reply.Took (count_of frame.now taken.new)) session.old session.new }
+    ensures kept { result ≢ 0 → taken.new ≡ taken.old }
+{
+    told(session.receive(slot, device, frame), taken)
+}
+
+/// Moves out the oldest frame that a network card's driver sent, where it finds room, and tells how many bytes it has.
+pub(crate) fn take_frame(
+    session: &mut Session,
+    slot: u8,
+    device: u8,
+    into: &mut [u8],
+    len: &mut usize,
+) -> u32
+    ensures taken { result ≢ 26 → TakesFrame slot device into.old into.new len.new result session.old session.new }
+    ensures short { result ≡ 26 → IsTooShort slot device (length into.old) len.new session.old session.new }
+    ensures kept { result ≢ 0 → into.new ≡ into.old }
+    ensures kept_len { result ≢ 0 → result ≢ 26 → len.new ≡ len.old }
+{
+    match copy_sent(session, slot, device, into) {
+        Ok(count) => told_len(session.take_sent(slot, device), count, len),
+        Err(count) => {
+            *len = count;
+            SHORT_BUFFER
+        }
+    }
+}
+
+// Copies the oldest frame to the front of a buffer, if there is one and no service of the slot is paused, and answers how many
+// bytes it has: as an error where it finds no room.
+fn copy_sent(session: &Session, slot: u8, device: u8, into: &mut [u8]) -> Result<usize, usize>
+    ensures copied { IfOk result (λ count. IsCopied (frame_now slot device session.now) into.old into.new count) }
+    ensures short { IfErr result (λ count. IsLonger (frame_now slot device session.now) into.old into.new count) }
+{
+    if session.is_paused(slot) {
+        return Ok(0);
+    }
+    match session.sent(slot, device) {
+        Some((front, back)) => copy(front, back, into),
+        None => Ok(0),
+    }
+}
+
+// Copies a frame in two parts to the front of a buffer, where it finds room.
+fn copy(front: &[u8], back: &[u8], into: &mut [u8]) -> Result<usize, usize>
+    ensures copied { IfOk result (λ count. IsCopied (front.now ++ back.now) into.old into.new count) }
+    ensures short { IfErr result (λ count. IsLonger (front.now ++ back.now) into.old into.new count) }
+{
+    let count = front.len() + back.len();
+    if count > into.len() {
+        return Err(count);
+    }
+    into[..front.len()].copy_from_slice(front);
+    into[front.len()..count].copy_from_slice(back);
+    Ok(count)
+}
+
+// The number of a call that takes a frame away, and how many bytes it has where it is done.
+fn told_len(answer: Result<bool, Refusal>, count: usize, len: &mut usize) -> u32
+    ensures number { result ≡ code_by answer }
+    ensures told { result ≡ 0 → len.new ≡ count }
+    ensures kept { result ≢ 0 → len.new ≡ len.old }
+{
+    match answer {
+        Ok(_) => {
+            *len = count;
+            DONE
+        }
+        Err(why) => of_refusal(why),
+    }
+}
+
+/// Sets whether a network card's link is up.
+pub(crate) fn set_link(session: &mut Session, slot: u8, device: u8, up: bool) -> u32
+    ensures { Takes slot (EventKind.Device device (DeviceEvent.SetLink up)) result Reply.Done session.old session.new }
+{
+    of_done(session.set_link(slot, device, up))
+}
+
+/// Tells what waits for a further device's driver and for its host.
+pub(crate) fn device_pending(
+    session: &Session,
+    slot: u8,
+    device: u8,
+    pending: &mut DevicePending,
+) -> u32
+    ensures told { result ≡ 0 → HasDevicePending slot device pending.new session.now session.now }
+    ensures missing { result ≢ 0 → IsNoDevice slot device result session.now session.now }
+    ensures kept { result ≢ 0 → pending.new ≡ pending.old }
+{
+    let Some(waits) = session.device_waits(slot, device) else {
+        return no_device(slot, session.slots());
+    };
+    *pending = DevicePending::of(waits);
+    DONE
+}
+
+impl DevicePending {
+    // What waits, as C has it.
+    fn of(waits: DeviceWaits) -> DevicePending
+        ensures { result ≡ pending_of_device waits }
+    {
+        DevicePending {
+            interrupt: u32::from(waits.irq),
+            starved: waits.starved,
+            padding: [0; 3],
+            frame: waits.sent.unwrap_or(0) as u64,
+        }
+    }
+}
+
+// What is answered of a slot, of so many, that has no such device.
+fn no_device(slot: u8, slots: usize) -> u32
+    ensures { result ≡ code_at slot slots 6 }
+{
+    if usize::from(slot) < slots {
+        BAD_WINDOW
+    } else {
+        BAD_SLOT
+    }
+}

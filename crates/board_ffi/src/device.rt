@@ -1,0 +1,40 @@
+//! A further device of a slot, as C describes it.
+
+ghost use Rattle.std.specs.Prelude.{◌≡◌};
+ghost use Rattle.board_ffi.specs.Config.{device_of};
+
+use session::DeviceSpec;
+
+/// The type of no device, and those that a slot may have (VIRTIO 1.2, 5).
+const NO_DEVICE: u32 = 0;
+
+const NETWORK: u32 = 1;
+
+const ENTROPY: u32 = 4;
+
+/// A further device, as C describes it.
+#[derive(Clone, Copy)]
+#[repr(C)]
+pub struct Device {
+    /// Its type: the standard's number, or 0 where there is none.
+    pub kind: u32,
+    /// The longest payload of a network card's frame.
+    pub mtu: u16,
+    /// The address of a network card.
+    pub mac: [u8; 6],
+}
+
+impl Device {
+    /// What is described, if it is a device. One of a type that isn't known is a card that no slot takes.
+    pub(crate) fn spec(self) -> Option<DeviceSpec>
+        ensures { result ≡ device_of self }
+    {
+        let mac = self.mac;
+        match self.kind {
+            NO_DEVICE => None,
+            ENTROPY => Some(DeviceSpec::Entropy),
+            NETWORK => Some(DeviceSpec::Network { mac, mtu: self.mtu }),
+            _ => Some(DeviceSpec::Network { mac, mtu: 0 }),
+        }
+    }
+}

@@ -1,0 +1,119 @@
+//! A guest's further devices from the outside: what its host supplies, sends and takes, and what waits.
+
+ghost use Rattle.std.specs.Prelude.{◌≡◌, ◌≢◌, length};
+ghost use Rattle.board.specs.declared.event.DeviceEvent.{DeviceEvent};
+ghost use Rattle.board_ffi.specs.Calls.{AtDevice, EventKind, HasDevicePending, IsNoDevice, IsTooShort, Reply, Takes, TakesFrame};
+ghost use Rattle.board_ffi.specs.Devices.{count_of};
+
+use crate::answers::devices;
+use crate::codes::BAD_WINDOW;
+use crate::handle::{Handle, session_of};
+use crate::window::device_numbered;
+
+/// What waits for a further device's driver and for its host.
+#[derive(Clone, Copy, Debug, PartialEq, Eq)]
+#[repr(C)]
+pub struct DevicePending {
+    /// InterruptStatus of its window (4.2.2).
+    pub interrupt: u32,
+    /// Whether a chain is on offer that waits for what the host supplies or sends.
+    pub starved: bool,
+    /// Zeros.
+    pub padding: [u8; 3],
+    /// How many bytes the oldest frame has that waits for the host, and 0 where none waits.
+    pub frame: u64,
+}
+
+/// Supplies an entropy device with bytes, and tells how many it took, the first ones.
+#[unsafe(no_mangle)]
+pub extern "C" fn kalyubos_supply(
+    board: &mut Handle,
+    slot: u8,
+    window: u8,
+    bytes: &[u8],
+    taken: &mut usize,
+) -> u32
+    ensures step { AtDevice window board.old board.new result (λ device.
+        Takes slot (EventKind.Device device (DeviceEvent.Supply bytes.now)) result (Reply.Took taken.new)) }
+    ensures kept { result ≢ 0 → taken.new ≡ taken.old }
+{
+    let Some(device) = device_numbered(window) else {
+        return BAD_WINDOW;
+    };
+    devices::supply(session_of!(board), slot, device, bytes, taken)
+}
+
+/// Hands a network card a frame, and tells whether it was taken: whole, or not at all.
+#[unsafe(no_mangle)]
+pub extern "C" fn kalyubos_receive(
+    board: &mut Handle,
+    slot: u8,
+    window: u8,
+    frame: &[u8],
+    taken: &mut bool,
+) -> u32
+    ensures step { AtDevice window board.old board.new result (λ device.
+        Takes slot (EventKind.Device device (DeviceEvent.Receive frame.now)) result
+        (Reply.Took (count_of frame.now taken.new))) }
+    ensures kept { result ≢ 0 → taken.new ≡ taken.old }
+{
+    let Some(device) = device_numbered(window) else {
+        return BAD_WINDOW;
+    };
+    devices::receive(session_of!(board), slot, device, frame, taken)
+}
+
+/// Moves out the oldest frame that a network card's driver sent, whole, and tells how many bytes it has: none where none
+/// waits. Where it finds no room it stays, and its length is told.
+#[unsafe(no_mangle)]
+pub extern "C" fn kalyubos_take_frame(
+    board: &mut Handle,
+    slot: u8,
+    window: u8,
+    into: &mut [u8],
+    len: &mut usize,
+) -> u32
+    ensures taken { result ≢ 26 → AtDevice window board.old board.new result (λ device.
+        TakesFrame slot device into.old into.new len.new result) }
+    ensures short { result ≡ 26 → AtDevice window board.old board.new result (λ device.
+        IsTooShort slot device (length into.old) len.new) }
+    ensures kept { result ≢ 0 → into.new ≡ into.old }
+    ensures kept_len { result ≢ 0 → result ≢ 26 → len.new ≡ len.old }
+{
+    let Some(device) = device_numbered(window) else {
+        return BAD_WINDOW;
+    };
+    devices::take_frame(session_of!(board), slot, device, into, len)
+}
+
+/// Sets whether a network card's link is up, of which its driver is told.
+#[unsafe(no_mangle)]
+pub extern "C" fn kalyubos_set_link(board: &mut Handle, slot: u8, window: u8, up: bool) -> u32
+    ensures step { AtDevice window board.old board.new result (λ device.
+        Takes slot (EventKind.Device device (DeviceEvent.SetLink up)) result Reply.Done) }
+{
+    let Some(device) = device_numbered(window) else {
+        return BAD_WINDOW;
+    };
+    devices::set_link(session_of!(board), slot, device, up)
+}
+
+/// Tells what waits for a further device's driver and for its host.
+#[unsafe(no_mangle)]
+pub extern "C" fn kalyubos_device_pending(
+    board: &mut Handle,
+    slot: u8,
+    window: u8,
+    pending: &mut DevicePending,
+) -> u32
+    ensures told { result ≡ 0 → AtDevice window board.old board.new result (λ device.
+        HasDevicePending slot device pending.new) }
+    ensures missing { result ≢ 0 → AtDevice window board.old board.new result (λ device.
+        IsNoDevice slot device result) }
+    ensures kept { result ≢ 0 → pending.new ≡ pending.old }
+{
+    let Some(device) = device_numbered(window) else {
+        return BAD_WINDOW;
+    };
+    devices::device_pending(session_of!(board), slot, device, pending)
+}
