@@ -18,14 +18,34 @@ const MORE: u32 = 18;
 /// The number of a call that is done, after which a disk waits for the host.
 const IO: u32 = 20;
 
-/// A guest's two windows, each of 4096 bytes.
+/// A guest's windows, each of 4096 bytes.
 #[derive(Clone, Copy, Debug, PartialEq, Eq, Hash)]
-#[repr(u8)]
 pub enum Window {
     /// The registers of its disk.
-    Block = 0,
+    Block,
     /// The registers of its console.
-    Console = 1,
+    Console,
+    /// The registers of its further device of this number, from 0 on.
+    Device(u8),
+}
+
+impl Window {
+    /// Its number in C. That of no device is of a window that no slot has.
+    ///
+    /// ```
+    /// use kalyubos::Window;
+    ///
+    /// let windows = [Window::Block, Window::Console, Window::Device(0), Window::Device(5)];
+    /// assert_eq!(windows.map(Window::number), [0, 1, 2, 7]);
+    /// ```
+    #[must_use]
+    pub fn number(self) -> u8 {
+        match self {
+            Window::Block => 0,
+            Window::Console => 1,
+            Window::Device(device) => device.saturating_add(2),
+        }
+    }
 }
 
 /// InterruptStatus of a slot's windows. A window's line is high while its word isn't 0.
@@ -148,8 +168,9 @@ impl Board {
     /// share one. Nobody else reads or writes them while a call touches them, while [`memory`](Board::memory) lends
     /// them, or while a service of their guest is paused. The calls that touch a guest's memory are
     /// [`write`](Board::write) to QueueNotify (0x050), [`input`](Board::input), [`go_on`](Board::go_on),
-    /// [`complete`](Board::complete), [`release`](Board::release), [`read_memory`](Board::read_memory) and
-    /// [`write_memory`](Board::write_memory). During others the guest's CPUs may run.
+    /// [`complete`](Board::complete), [`release`](Board::release), [`read_memory`](Board::read_memory),
+    /// [`write_memory`](Board::write_memory), [`supply`](Board::supply), [`receive`](Board::receive),
+    /// [`take_frame`](Board::take_frame) and [`device_pending`](Board::device_pending). During others the guest's CPUs may run.
     ///
     /// ```
     /// # use kalyubos::{Board, Config, CreateError, Slot};
@@ -215,7 +236,14 @@ impl Board {
     pub fn read(&self, slot: u8, window: Window, offset: u16, width: u8) -> Result<u32, Error> {
         let mut value = 0;
         Error::check(unsafe {
-            ffi::kalyubos_read(&self.handle, slot, window as u8, offset, width, &mut value)
+            ffi::kalyubos_read(
+                &self.handle,
+                slot,
+                window.number(),
+                offset,
+                width,
+                &mut value,
+            )
         })?;
         Ok(value)
     }
@@ -231,6 +259,8 @@ impl Board {
     /// [`Error::Busy`]: a service of the slot is paused. Or the write, to Status or QueueReady of the block window,
     /// waits for all that is in flight of a disk that the host serves. The guest's CPU waits with it; make the same write
     /// again once all is completed or [dropped](Board::drop_operations).
+    ///
+    /// Of a further device [`device_pending`](Board::device_pending) tells what then waits, and all that the guest notified is served.
     ///
     /// ```
     /// # use kalyubos::{Board, Config, Error, Slot, Window};
@@ -260,7 +290,7 @@ impl Board {
             ffi::kalyubos_write(
                 &mut self.handle,
                 slot,
-                window as u8,
+                window.number(),
                 offset,
                 width,
                 value,
@@ -388,7 +418,7 @@ impl Board {
         Ok(taken)
     }
 
-    /// Both interrupt words of a slot. Each write, input and resize tells them; a read moves none.
+    /// The interrupt words of a slot's disk and console. Each write, input and resize tells them; a read moves none.
     pub fn interrupts(&self, slot: u8) -> Result<Interrupts, Error> {
         let (mut block, mut console) = (0, 0);
         Error::check(unsafe {
@@ -407,7 +437,7 @@ impl Board {
         Ok(disturbed)
     }
 
-    /// What the slot's devices did since the board was made. It may be asked at any time, also in a pause.
+    /// What the slot's disk and console did since the board was made. It may be asked at any time, also in a pause.
     ///
     /// ```
     /// # use kalyubos::{Board, Config, Counters, Slot};

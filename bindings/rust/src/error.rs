@@ -12,6 +12,8 @@ pub enum Error {
     BadSlot,
     /// Not all of the range lies in one region of the slot's memory, or in the image.
     BadRange,
+    /// The slot has no such further device, or it takes no such thing.
+    BadDevice,
     /// What the console puts out next doesn't fit behind what waits; see [`Board::write`](crate::Board::write). What came
     /// before it is served: this then waits for the slot.
     NoRoom(Pending),
@@ -24,7 +26,8 @@ pub enum Error {
     Idle,
     /// The board has no image, or one of no bytes.
     NoImage,
-    /// The snapshot doesn't fit into the buffer; see [`Board::save_into`](crate::Board::save_into).
+    /// The snapshot or the frame doesn't fit into the buffer; see [`Board::save_into`](crate::Board::save_into) and
+    /// [`Board::take_frame`](crate::Board::take_frame).
     ShortBuffer,
     /// A number that this crate doesn't know, of a newer library.
     Other(u32),
@@ -40,9 +43,11 @@ pub enum RestoreError {
     Busy,
     /// The bytes are no snapshot.
     BadSnapshot,
-    /// The snapshot is of a slot with another memory, another disk or other devices; or it was [on
+    /// The snapshot is of a slot with another memory, another disk or other features; or it was [on
     /// hold](crate::Board::hold), and this slot's disk is of the image.
     OtherSlot,
+    /// The snapshot has other further devices than the slot.
+    OtherDevices,
     /// The snapshot has a state that no driver can bring a window into.
     BadState,
     /// A number that this crate doesn't know, of a newer library.
@@ -79,6 +84,10 @@ pub enum CreateError {
     BadOutlet,
     /// A disk that the host serves has a depth above 64.
     BadDepth,
+    /// A network card has an MTU below 68.
+    BadDevice,
+    /// A slot has more than six further devices.
+    TooManyDevices,
     /// The lent bytes have another number or length than the regions; see [`Board::over_lent`](crate::Board::over_lent).
     BadLoan,
     /// The library that is linked has a config or a slot of another size than the crate.
@@ -119,6 +128,7 @@ impl Error {
             0 => Ok(()),
             3 => Err(Error::BadSlot),
             4 => Err(Error::BadRange),
+            6 => Err(Error::BadDevice),
             19 => Err(Error::Busy),
             21 => Err(Error::Idle),
             22 => Err(Error::NoImage),
@@ -138,6 +148,7 @@ impl RestoreError {
             23 => Err(RestoreError::BadSnapshot),
             24 => Err(RestoreError::OtherSlot),
             25 => Err(RestoreError::BadState),
+            31 => Err(RestoreError::OtherDevices),
             number => Err(RestoreError::Other(number)),
         }
     }
@@ -163,6 +174,7 @@ impl CreateError {
             28 => RegionsNotApart,
             29 => BadLoan,
             30 => BadDepth,
+            32 => BadDevice,
             number => Other(number),
         })
     }
@@ -173,13 +185,18 @@ impl fmt::Display for Error {
         match self {
             Error::BadSlot => f.write_str("the board has no such slot"),
             Error::BadRange => f.write_str("the range is not inside"),
+            Error::BadDevice => {
+                f.write_str("the slot has no such device, or it takes no such thing")
+            }
             Error::NoRoom(_) => {
                 f.write_str("the console's next output does not fit behind what waits")
             }
             Error::Busy => f.write_str("a service of the slot is paused, or its disk is at work"),
             Error::Idle => f.write_str("there is nothing to complete, drop, hold or release"),
             Error::NoImage => f.write_str("the board has no image, or one of no bytes"),
-            Error::ShortBuffer => f.write_str("the buffer is shorter than the snapshot"),
+            Error::ShortBuffer => {
+                f.write_str("the buffer is shorter than the snapshot or the frame")
+            }
             Error::Other(number) => write!(f, "the library answered {number}"),
         }
     }
@@ -192,7 +209,8 @@ impl fmt::Display for RestoreError {
             BadSlot => "the board has no such slot",
             Busy => "a service of the slot is paused, or its disk is at work",
             BadSnapshot => "the bytes are no snapshot",
-            OtherSlot => "the slot has another memory, another disk or other devices",
+            OtherSlot => "the slot has another memory, another disk or other features",
+            OtherDevices => "the snapshot has other devices",
             BadState => "the snapshot has a state that no driver can bring a window into",
             Other(number) => return write!(f, "the library answered {number}"),
         })
@@ -218,6 +236,8 @@ impl fmt::Display for CreateError {
             BadCache => "a cache keeps 1 to 65536 sectors",
             BadOutlet => "an outlet keeps 2^24 bytes at most",
             BadDepth => "a disk that the host serves has 1 to 64 operations in flight",
+            BadDevice => "a network card has an MTU of 68 or more",
+            TooManyDevices => "a slot has six further devices at most",
             BadLoan => "each region of each slot needs lent bytes of its length",
             BadSize => "the library's config or slot has another size than the crate's",
             WrongLibrary(version) => {

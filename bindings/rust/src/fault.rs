@@ -50,7 +50,8 @@ pub struct DriverFault {
 
 impl Board {
     /// Why a window of a slot asks for a reset, if a fault ever came. It stays until the window's next fault, also
-    /// through a reset and a restore, and may be asked in a pause.
+    /// through a reset and a restore, and may be asked in a pause. [`Error::BadDevice`] of a further device's window, whose
+    /// faults aren't noted.
     ///
     /// ```
     /// # use kalyubos::{Board, Config, Slot, Window};
@@ -61,7 +62,7 @@ impl Board {
     pub fn last_fault(&self, slot: u8, window: Window) -> Result<Option<DriverFault>, Error> {
         let mut told = ffi::Fault::default();
         Error::check(unsafe {
-            ffi::kalyubos_last_fault(self.handle(), slot, window as u8, &mut told)
+            ffi::kalyubos_last_fault(self.handle(), slot, window.number(), &mut told)
         })?;
         Ok(FaultKind::of(told.kind).map(|kind| DriverFault {
             kind,

@@ -23,6 +23,18 @@ impl Handle {
 /// How many regions the memory of a guest has at most.
 pub const REGIONS: usize = 8;
 
+/// How many further devices a slot has at most.
+pub const DEVICES: usize = 6;
+
+/// A further device of a slot, or none of kind 0.
+#[derive(Clone, Copy, Default)]
+#[repr(C)]
+pub struct Device {
+    pub kind: u32,
+    pub mtu: u16,
+    pub mac: [u8; 6],
+}
+
 /// One guest.
 #[repr(C)]
 pub struct Slot {
@@ -37,6 +49,7 @@ pub struct Slot {
     pub hosted: bool,
     pub identity: [u8; 20],
     pub depth: u32,
+    pub devices: [Device; DEVICES],
 }
 
 /// What waits once a call is answered.
@@ -46,6 +59,16 @@ pub struct Pending {
     pub block: u32,
     pub console: u32,
     pub output: u64,
+}
+
+/// What waits for a further device.
+#[derive(Default)]
+#[repr(C)]
+pub struct DevicePending {
+    pub interrupt: u32,
+    pub starved: bool,
+    pub padding: [u8; 3],
+    pub frame: u64,
 }
 
 /// One operation on a guest's disk.
@@ -182,6 +205,37 @@ unsafe extern "C" {
         into_len: usize,
         taken: *mut usize,
     ) -> u32;
+    pub fn kalyubos_device_pending(
+        board: *const Handle,
+        slot: u8,
+        window: u8,
+        pending: *mut DevicePending,
+    ) -> u32;
+    pub fn kalyubos_supply(
+        board: *mut Handle,
+        slot: u8,
+        window: u8,
+        bytes: *const u8,
+        bytes_len: usize,
+        taken: *mut usize,
+    ) -> u32;
+    pub fn kalyubos_receive(
+        board: *mut Handle,
+        slot: u8,
+        window: u8,
+        frame: *const u8,
+        frame_len: usize,
+        taken: *mut bool,
+    ) -> u32;
+    pub fn kalyubos_take_frame(
+        board: *mut Handle,
+        slot: u8,
+        window: u8,
+        into: *mut u8,
+        into_len: usize,
+        len: *mut usize,
+    ) -> u32;
+    pub fn kalyubos_set_link(board: *mut Handle, slot: u8, window: u8, up: bool) -> u32;
     pub fn kalyubos_interrupts(
         board: *const Handle,
         slot: u8,

@@ -4,6 +4,7 @@
 mod board;
 mod config;
 mod counters;
+mod device;
 mod disk;
 mod error;
 mod fault;
@@ -18,6 +19,7 @@ mod tags;
 pub use board::{Board, Budget, Interrupts, Pending, Window};
 pub use config::Config;
 pub use counters::Counters;
+pub use device::{Device, DevicePending};
 pub use error::{CreateError, Error, Fault, RestoreError};
 pub use fault::{DriverFault, FaultKind};
 pub use identity::{Identity, IdentityTooLong};

@@ -13,7 +13,7 @@ impl Board {
         Ok(len)
     }
 
-    /// A slot's snapshot: what its two devices keep, the pending input, and the description of the slot.
+    /// A slot's snapshot: what its devices keep, the pending input, and the description of the slot.
     ///
     /// It has neither memory nor disk, nor the output that waits. Before it the host stops the guest's CPUs, brings a paused
     /// service to its end, puts the slot [on hold](Board::hold), completes what is in flight, and takes the output. Then,

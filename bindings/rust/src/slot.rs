@@ -1,5 +1,6 @@
 //! A guest, as a board is made of them.
 
+use crate::device::Device;
 use crate::error::CreateError;
 use crate::ffi;
 use crate::identity::Identity;
@@ -16,7 +17,7 @@ pub struct Region {
     pub len: u64,
 }
 
-/// One guest: its memory, its disk and its console.
+/// One guest: its memory, its disk, its console and its further devices.
 #[derive(Clone, Debug, PartialEq, Eq)]
 #[must_use = "a slot is there once a board is made of it"]
 pub struct Slot {
@@ -29,6 +30,7 @@ pub struct Slot {
     hosted: bool,
     depth: u32,
     identity: Identity,
+    devices: Vec<Device>,
 }
 
 impl Slot {
@@ -52,6 +54,7 @@ impl Slot {
             hosted: false,
             depth: 1,
             identity: Identity::default(),
+            devices: Vec::new(),
         }
     }
 
@@ -112,6 +115,22 @@ impl Slot {
         self
     }
 
+    /// One more further device, behind those that it has; six at most. Its number is how many there were, from 0 on.
+    ///
+    /// ```
+    /// use kalyubos::{Board, Config, Device, Slot, Window};
+    ///
+    /// let card = Device::Network { mac: [2, 0, 0, 0, 0, 1], mtu: 1500 };
+    /// let guest = Slot::hosted(0x8000_0000, 0x1_0000, 8).with_device(Device::Entropy).with_device(card);
+    /// let board = Board::create(&Config::new(&[guest]))?;
+    /// assert_eq!(board.read(0, Window::Device(1), 0x008, 4)?, 1); // DeviceID
+    /// # Ok::<(), Box<dyn std::error::Error>>(())
+    /// ```
+    pub fn with_device(mut self, device: Device) -> Slot {
+        self.devices.push(device);
+        self
+    }
+
     /// The regions of its memory.
     #[must_use]
     pub fn regions(&self) -> &[Region] {
@@ -154,6 +173,12 @@ impl Slot {
         self.read_only
     }
 
+    /// Its further devices.
+    #[must_use]
+    pub fn devices(&self) -> &[Device] {
+        &self.devices
+    }
+
     /// What its disk answers to GET_ID.
     #[must_use]
     pub fn identity(&self) -> Identity {
@@ -169,6 +194,15 @@ impl Slot {
         if self.regions.iter().any(|region| region.len == 0) {
             return Err(CreateError::BadMemorySize);
         }
+        let mut devices = [ffi::Device::default(); ffi::DEVICES];
+        let places = devices.get_mut(..self.devices.len());
+        for (place, device) in places
+            .ok_or(CreateError::TooManyDevices)?
+            .iter_mut()
+            .zip(&self.devices)
+        {
+            *place = device.in_c();
+        }
         Ok(ffi::Slot {
             size: mem::size_of::<ffi::Slot>(),
             regions,
@@ -181,6 +215,7 @@ impl Slot {
             hosted: self.hosted,
             identity: *self.identity.bytes(),
             depth: self.depth,
+            devices,
         })
     }
 }

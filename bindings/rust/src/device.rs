@@ -1,0 +1,156 @@
+//! A slot's further devices: entropy devices and network cards.
+
+use crate::board::{Board, Window};
+use crate::error::Error;
+use crate::ffi;
+
+/// A further device, as a slot is made with it.
+#[derive(Clone, Copy, Debug, PartialEq, Eq, Hash)]
+#[non_exhaustive]
+pub enum Device {
+    /// An entropy device, which is supplied with random bytes.
+    Entropy,
+    /// A network card, whose link is up.
+    Network {
+        /// Its address.
+        mac: [u8; 6],
+        /// How many bytes a frame has behind its header of Ethernet at most, 68 or more.
+        mtu: u16,
+    },
+}
+
+impl Device {
+    // The device as C has it, with the standard's number of its kind.
+    pub(crate) fn in_c(self) -> ffi::Device {
+        match self {
+            Device::Entropy => ffi::Device {
+                kind: 4,
+                ..ffi::Device::default()
+            },
+            Device::Network { mac, mtu } => ffi::Device { kind: 1, mtu, mac },
+        }
+    }
+}
+
+/// What waits for a further device's driver and for its host.
+#[derive(Clone, Copy, Debug, Default, PartialEq, Eq, Hash)]
+#[must_use = "the device's line moves by it"]
+pub struct DevicePending {
+    /// InterruptStatus of its window. The window's line is high while this isn't 0.
+    pub interrupt: u32,
+    /// Whether its driver waits for the host: a chain is on offer for bytes or for a frame.
+    pub starved: bool,
+    /// How many bytes the oldest frame has that its driver sent, where one waits.
+    pub frame: Option<usize>,
+}
+
+// In C a device is named by its window.
+fn window_of(device: u8) -> u8 {
+    Window::Device(device).number()
+}
+
+/// The calls of a slot's further devices, which are named by their numbers, from 0 on. [`Error::BadDevice`]: the slot has no
+/// such device, or it takes no such thing.
+impl Board {
+    /// What waits for a further device. Move its window's line by it after each [`write`](Board::write) to the window, and after
+    /// each other call for it. It may be asked in a pause.
+    pub fn device_pending(&self, slot: u8, device: u8) -> Result<DevicePending, Error> {
+        let mut told = ffi::DevicePending::default();
+        Error::check(unsafe {
+            ffi::kalyubos_device_pending(self.handle(), slot, window_of(device), &mut told)
+        })?;
+        Ok(DevicePending {
+            interrupt: told.interrupt,
+            starved: told.starved,
+            frame: (told.frame != 0).then_some(told.frame as usize),
+        })
+    }
+
+    /// Supplies an entropy device with random bytes, and tells how many it took, the first ones: it keeps 4096 until its
+    /// driver takes them.
+    ///
+    /// ```
+    /// # use kalyubos::{Board, Config, Device, Error, Slot};
+    /// let slots = [Slot::hosted(0, 0x1000, 1).with_device(Device::Entropy)];
+    /// let mut board = Board::create(&Config::new(&slots))?;
+    /// assert_eq!(board.supply(0, 0, &[7; 5000])?, 4096);
+    /// assert_eq!(board.supply(0, 1, &[7; 5000]), Err(Error::BadDevice));
+    /// # Ok::<(), Box<dyn std::error::Error>>(())
+    /// ```
+    pub fn supply(&mut self, slot: u8, device: u8, bytes: &[u8]) -> Result<usize, Error> {
+        let mut taken = 0;
+        Error::check(unsafe {
+            ffi::kalyubos_supply(
+                self.handle_mut(),
+                slot,
+                window_of(device),
+                bytes.as_ptr(),
+                bytes.len(),
+                &mut taken,
+            )
+        })?;
+        Ok(taken)
+    }
+
+    /// Hands a network card a frame, which begins with the addresses of Ethernet and has no check sequence. Tells whether
+    /// the card took it, whole: where there is no room it takes nothing, until its driver has taken others. It keeps 64
+    /// frames, of 65536 bytes together. [`Error::BadDevice`] also of a frame without bytes, or of more than the card's MTU
+    /// and 14.
+    pub fn receive(&mut self, slot: u8, device: u8, frame: &[u8]) -> Result<bool, Error> {
+        let mut taken = false;
+        Error::check(unsafe {
+            ffi::kalyubos_receive(
+                self.handle_mut(),
+                slot,
+                window_of(device),
+                frame.as_ptr(),
+                frame.len(),
+                &mut taken,
+            )
+        })?;
+        Ok(taken)
+    }
+
+    /// Moves out the oldest frame that a network card's driver sent, whole, to the front of a buffer, and tells how many bytes
+    /// it has, where one waits. [`Error::ShortBuffer`]: it doesn't fit, and waits on; [`device_pending`](Board::device_pending)
+    /// tells its length. None has more than 65536 bytes, or more than the MTU and 14 where the driver keeps to the MTU.
+    ///
+    /// Take frames after each [`write`](Board::write) to the window, until there is none: the card keeps as many as the other
+    /// way, and the driver's next frame waits for such a call.
+    ///
+    /// ```
+    /// # use kalyubos::{Board, Config, Device, Slot};
+    /// let card = Device::Network { mac: [2, 0, 0, 0, 0, 1], mtu: 1500 };
+    /// let mut board = Board::create(&Config::new(&[Slot::hosted(0, 0x1000, 1).with_device(card)]))?;
+    /// assert!(board.receive(0, 0, &[7; 1514])?);
+    /// let mut frame = [0; 1514];
+    /// assert_eq!(board.take_frame(0, 0, &mut frame)?, None);
+    /// # Ok::<(), Box<dyn std::error::Error>>(())
+    /// ```
+    pub fn take_frame(
+        &mut self,
+        slot: u8,
+        device: u8,
+        into: &mut [u8],
+    ) -> Result<Option<usize>, Error> {
+        let mut len = 0;
+        Error::check(unsafe {
+            ffi::kalyubos_take_frame(
+                self.handle_mut(),
+                slot,
+                window_of(device),
+                into.as_mut_ptr(),
+                into.len(),
+                &mut len,
+            )
+        })?;
+        Ok((len != 0).then_some(len))
+    }
+
+    /// Sets whether a network card's link is up, and tells its driver.
+    pub fn set_link(&mut self, slot: u8, device: u8, up: bool) -> Result<(), Error> {
+        Error::check(unsafe {
+            ffi::kalyubos_set_link(self.handle_mut(), slot, window_of(device), up)
+        })
+    }
+}

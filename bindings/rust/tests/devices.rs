@@ -1,0 +1,146 @@
+//! Further devices: an entropy device and a network card, from their making to what their drivers get.
+
+use kalyubos::{Board, Config, CreateError, Device, DevicePending, Error, Slot, Window};
+
+const MEMORY: u64 = 0x8000_0000;
+const LEN: u64 = 0x1_0000;
+const NOTIFY: u16 = 0x050;
+const STATUS: u16 = 0x070;
+const CARD: Device = Device::Network {
+    mac: [2, 0, 0, 0, 0, 1],
+    mtu: 68,
+};
+const HEADER: usize = 12; // before a frame in a chain (5.1.6)
+
+fn slot() -> Slot {
+    Slot::hosted(MEMORY, LEN, 2)
+}
+
+fn board_of(devices: &[Device]) -> Board {
+    let slot = devices
+        .iter()
+        .fold(slot(), |slot, one| slot.with_device(*one));
+    assert_eq!(slot.devices(), devices);
+    Board::create(&Config::new(&[slot])).expect("a board")
+}
+
+/// A driver brings a device's queue of four up, and offers a chain of one buffer at 0x400.
+fn offer(board: &mut Board, device: u8, queue: u32, len: u32, flags: u8) {
+    let at = MEMORY as u32;
+    let memory = board.memory(0, MEMORY).expect("a memory");
+    memory[..0x400].fill(0);
+    memory[0x100..0x108].copy_from_slice(&(MEMORY + 0x400).to_le_bytes());
+    memory[0x108..0x10c].copy_from_slice(&len.to_le_bytes());
+    memory[0x10c] = flags;
+    memory[0x202] = 1;
+    for (offset, value) in [
+        (STATUS, 0),
+        (STATUS, 1),
+        (STATUS, 3),
+        (0x024, 1),
+        (0x020, 1),
+        (STATUS, 11),
+        (0x030, queue),
+        (0x038, 4),
+        (0x080, at + 0x100),
+        (0x090, at + 0x200),
+        (0x0a0, at + 0x300),
+        (0x044, 1),
+        (STATUS, 15),
+        (NOTIFY, queue),
+    ] {
+        let window = Window::Device(device);
+        let pending = board.write(0, window, offset, 4, value).expect("a store");
+        assert!(!pending.more && !pending.io);
+    }
+}
+
+/// How many chains the queue gave back, and how many bytes the first of them was given.
+fn used(board: &mut Board) -> (u8, u8) {
+    let memory = board.memory(0, MEMORY).expect("a memory");
+    (memory[0x302], memory[0x308])
+}
+
+#[test]
+fn a_slot_has_up_to_six_devices() {
+    let board = board_of(&[Device::Entropy, CARD, CARD, CARD, CARD, Device::Entropy]);
+    for (device, id) in [(0, 4), (1, 1), (4, 1), (5, 4)] {
+        assert_eq!(board.read(0, Window::Device(device), 0x008, 4), Ok(id));
+    }
+    for device in [6, 7, 252, 253, 254, 255] {
+        let window = Window::Device(device);
+        assert_eq!(board.read(0, window, 0x008, 4), Err(Error::BadDevice));
+        assert_eq!(board.last_fault(0, window), Err(Error::BadDevice));
+        assert_eq!(board.device_pending(0, device), Err(Error::BadDevice));
+    }
+    assert_eq!(board.device_pending(1, 0), Err(Error::BadSlot));
+}
+
+#[test]
+fn what_no_slot_has_is_refused() {
+    let refused = |slot: Slot| {
+        let slots = [slot];
+        let config = Config::new(&slots);
+        let why = Board::create(&config).unwrap_err();
+        let fault = config.judge().unwrap_err();
+        assert_eq!((fault.why, fault.slot), (why, Some(0)));
+        why
+    };
+    let short = Device::Network {
+        mac: [0; 6],
+        mtu: 67,
+    };
+    let many = (0..7).fold(slot(), |slot, _| slot.with_device(Device::Entropy));
+    assert_eq!(refused(slot().with_device(short)), CreateError::BadDevice);
+    assert_eq!(refused(many), CreateError::TooManyDevices);
+}
+
+#[test]
+fn a_driver_gets_the_bytes_of_its_host() {
+    let mut board = board_of(&[Device::Entropy]);
+    offer(&mut board, 0, 0, 16, 2);
+    assert!(board.device_pending(0, 0).unwrap().starved);
+    assert_eq!(board.supply(0, 0, b"sixteen bytes..!"), Ok(16));
+    let pending = board.device_pending(0, 0).unwrap();
+    assert_eq!((pending.interrupt, pending.starved), (1, false));
+    assert_eq!(used(&mut board), (1, 16));
+    assert_eq!(
+        &board.memory(0, MEMORY + 0x400).unwrap()[..16],
+        b"sixteen bytes..!"
+    );
+    assert_eq!(board.receive(0, 0, &[0; 64]), Err(Error::BadDevice));
+}
+
+#[test]
+fn frames_go_both_ways() {
+    let mut board = board_of(&[Device::Entropy, CARD]);
+    for len in [0, 68 + 15] {
+        assert_eq!(board.receive(0, 1, &vec![1; len]), Err(Error::BadDevice));
+    }
+    offer(&mut board, 1, 0, 200, 2);
+    assert_eq!(board.receive(0, 1, &[9; 82]), Ok(true));
+    assert_eq!(used(&mut board), (1, 82 + HEADER as u8));
+    let chain = &board.memory(0, MEMORY + 0x400).unwrap()[..HEADER + 83];
+    assert_eq!((chain[10], chain[HEADER], chain[HEADER + 82]), (1, 9, 0));
+
+    board.memory(0, MEMORY + 0x400).unwrap()[..HEADER + 64].fill(5);
+    offer(&mut board, 1, 1, HEADER as u32 + 64, 0);
+    let sent = DevicePending {
+        interrupt: 1,
+        starved: false,
+        frame: Some(64),
+    };
+    let mut into = [0; 100];
+    assert_eq!(board.device_pending(0, 1), Ok(sent));
+    assert_eq!(
+        board.take_frame(0, 1, &mut into[..63]),
+        Err(Error::ShortBuffer)
+    );
+    assert_eq!(board.take_frame(0, 1, &mut into), Ok(Some(64)));
+    assert_eq!((into[0], into[63], into[64]), (5, 5, 0));
+    assert_eq!(board.take_frame(0, 1, &mut into), Ok(None));
+
+    assert_eq!(board.set_link(0, 1, false), Ok(()));
+    assert_eq!(board.device_pending(0, 1).unwrap().interrupt, 3);
+    assert_eq!(board.set_link(0, 0, false), Err(Error::BadDevice));
+}
