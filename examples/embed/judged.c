@@ -1,6 +1,6 @@
 /*
  * What kalyubos_judge tells of a config: of slots, also of two that are wrong, of extents beside disks that the host
- * serves, and of all else that a config has. kalyubos_create answers the same. Where the heap refuses all, judge
+ * serves, of further devices, and of all else that a config has. kalyubos_create answers the same. Where the heap refuses all, judge
  * answers NO_MEMORY or the same.
  */
 #include <stdio.h>
@@ -8,7 +8,7 @@
 
 #include "shut_heap.h"
 
-enum { CONFIG = 72, SIZE = 192, PAGE = 0x1000, TOO_LARGE = (1 << 24) + 1, SECTORS = 4, IMAGE = SECTORS * 512 };
+enum { CONFIG = 72, SIZE = 264, PAGE = 0x1000, TOO_LARGE = (1 << 24) + 1, SECTORS = 4, IMAGE = SECTORS * 512 };
 enum { UNTOLD = 99 };
 
 _Static_assert(sizeof(struct kalyubos_config) == CONFIG, "a config of this version has 72 bytes");
@@ -19,7 +19,7 @@ static const uint8_t image[IMAGE];
 static bool is_judged_first(uint32_t answer)
 {
     return answer == KALYUBOS_BAD_SIZE || answer == KALYUBOS_BAD_LOAN || answer == KALYUBOS_BAD_IMAGE ||
-           answer == KALYUBOS_BAD_OUTLET;
+           answer == KALYUBOS_BAD_OUTLET || answer == KALYUBOS_BAD_DEVICE;
 }
 
 /* What an answer isn't about is left, and no loan is taken. */
@@ -153,6 +153,59 @@ static void check_before_depth(void)
     check(over_image(&slot, 1, image, 0), KALYUBOS_BAD_MEMORY_SIZE, (struct place){ 0, 0 }, 0);
 }
 
+/* ---- further devices: a kind that is known and an MTU of 68 or more, up to the first of no kind */
+
+#define CARD_OF(mtu_of_it) { .kind = KALYUBOS_NETWORK, .mtu = mtu_of_it, .mac = { 2, 0, 0, 0, 0, 1 } }
+#define ONLY_ENTROPY { .kind = KALYUBOS_ENTROPY }
+
+static const struct {
+    struct kalyubos_device devices[2][KALYUBOS_DEVICES];
+    uint32_t answer;
+    size_t slot;
+} DEVICES[] = {
+    { { { CARD_OF(68) }, { ONLY_ENTROPY } }, KALYUBOS_DONE, UNTOLD },
+    { { { CARD_OF(67) }, { ONLY_ENTROPY } }, KALYUBOS_BAD_DEVICE, 0 },
+    { { { CARD_OF(UINT16_MAX) }, { CARD_OF(0) } }, KALYUBOS_BAD_DEVICE, 1 },
+    { { { ONLY_ENTROPY, CARD_OF(67) }, { CARD_OF(67) } }, KALYUBOS_BAD_DEVICE, 0 },
+    { { { { .kind = 2, .mtu = 1500 } }, { ONLY_ENTROPY } }, KALYUBOS_BAD_DEVICE, 0 }, /* a slot has its disk already */
+    { { { ONLY_ENTROPY }, { ONLY_ENTROPY, { .kind = 3, .mtu = 1500 } } }, KALYUBOS_BAD_DEVICE, 1 },
+    { { { { .kind = 5, .mtu = 1500 } }, { { .kind = 5 } } }, KALYUBOS_BAD_DEVICE, 0 },
+    { { { { .kind = 0x101, .mtu = 1500 } }, { ONLY_ENTROPY } }, KALYUBOS_BAD_DEVICE, 0 },
+    { { { { .kind = UINT32_MAX } }, { ONLY_ENTROPY } }, KALYUBOS_BAD_DEVICE, 0 },
+    { { { { .kind = 0, .mtu = 1 }, { .kind = 9 } }, { ONLY_ENTROPY, { .kind = 0 }, CARD_OF(1) } }, KALYUBOS_DONE, UNTOLD },
+    { { { CARD_OF(68), CARD_OF(69), CARD_OF(1500), CARD_OF(9000), CARD_OF(65535), ONLY_ENTROPY },
+        { ONLY_ENTROPY, ONLY_ENTROPY, ONLY_ENTROPY, ONLY_ENTROPY, ONLY_ENTROPY, ONLY_ENTROPY } }, KALYUBOS_DONE, UNTOLD },
+    { { { CARD_OF(68), CARD_OF(69), CARD_OF(1500), CARD_OF(9000), CARD_OF(65535), ONLY_ENTROPY },
+        { ONLY_ENTROPY, ONLY_ENTROPY, ONLY_ENTROPY, ONLY_ENTROPY, ONLY_ENTROPY, CARD_OF(67) } }, KALYUBOS_BAD_DEVICE, 1 },
+};
+enum { DEVICES_LEN = sizeof DEVICES / sizeof *DEVICES };
+
+static void check_devices(void)
+{
+    for (size_t i = 0; i < DEVICES_LEN; i++) {
+        struct kalyubos_slot slots[2];
+        for (int j = 0; j < 2; j++) {
+            slots[j] = (struct kalyubos_slot){ .size = SIZE, .regions = { { 0, PAGE } } };
+            memcpy(slots[j].devices, DEVICES[i].devices[j], sizeof slots[j].devices);
+        }
+        check(over_image(slots, 2, image, IMAGE), DEVICES[i].answer, (struct place){ DEVICES[i].slot, UNTOLD }, i);
+    }
+}
+
+/* Outlets are judged before them, and the memory behind them. */
+static void check_beside_devices(void)
+{
+    struct kalyubos_slot slots[2] = {
+        { .size = SIZE, .regions = { { 0, 1 } }, .devices = { CARD_OF(67) } },
+        { .size = SIZE, .regions = { { 0, PAGE } }, .outlet = TOO_LARGE },
+    };
+    check(over_image(slots, 2, image, 0), KALYUBOS_BAD_OUTLET, (struct place){ 1, UNTOLD }, 0);
+    slots[1].outlet = 0;
+    check(over_image(slots, 2, image, 0), KALYUBOS_BAD_DEVICE, (struct place){ 0, UNTOLD }, 1);
+    slots[0].devices[0].mtu = 68;
+    check(over_image(slots, 2, image, 0), KALYUBOS_BAD_MEMORY_SIZE, (struct place){ 0, 0 }, 2);
+}
+
 /* ---- the config's own fields, of one slot: its size comes before the slot's, loans before the image */
 
 enum { ALL_GOOD = 0, OTHER_SIZE = 1, LARGE_OUTLET = 2, SMALL_REGION = 4, LARGE_DISK = 8 };
@@ -211,8 +264,10 @@ int main(void)
     check_pairs();
     check_disks();
     check_before_depth();
+    check_devices();
+    check_beside_devices();
     check_configs();
-    printf("judged: %d pairs of slots, with disks of either kind, %d pairs of disks, %d configs; create alike\n",
-           PAIRS_LEN, DISKS_LEN, CONFIGS_LEN);
+    printf("judged: %d pairs of slots, with disks of either kind, %d pairs of disks, %d of further devices, %d configs; create alike\n",
+           PAIRS_LEN, DISKS_LEN, DEVICES_LEN, CONFIGS_LEN);
     return 0;
 }

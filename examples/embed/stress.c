@@ -156,8 +156,7 @@ static void write_register(struct kalyubos *board, uint8_t slot, uint8_t window,
         value &= (1u << 8 * width) - 1;
     struct kalyubos_pending pending = {0};
     uint32_t answer = kalyubos_write(board, slot, window, offset, width, value, &pending);
-    if (answer != KALYUBOS_BAD_WINDOW)
-        compare(board, slot, &pending);
+    compare(board, slot, &pending);
     if (!told(board))
         return;
     fprintf(trace, "w %x %c %03x %u %0*" PRIx32 "\n", slot, window ? 'c' : 'b', offset, width, 2 * width, value);

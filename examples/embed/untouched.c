@@ -1,8 +1,8 @@
 /*
  * Which calls touch a guest's memory: kalyubos_write to QueueNotify, kalyubos_input, kalyubos_go_on, kalyubos_completed,
- * kalyubos_release and the two that copy. The host lends the memory and forbids each access to it, so that one ends the
- * program. Then it makes every other call: at each step of a driver's bring-up, with a service paused, with a disk at work.
- * Children show that the seven calls do touch it.
+ * kalyubos_release, the two that copy, and four of a further device. The host lends the memory and forbids each access to it,
+ * so that one ends the program. Then it makes every other call: at each step of a driver's bring-up, with a service paused,
+ * with a disk at work. Children show that the eleven calls do touch it.
  */
 #define _GNU_SOURCE
 #include <signal.h>
@@ -22,6 +22,9 @@ static const uint64_t MEMORY = 0x80000000;
 /* Where both windows have their queue, and what its one chain, of a request or of console bytes, consists of. */
 enum { TABLE = 0x100, AVAILABLE = 0x200, USED = 0x300, HEADER = 0x400, DATA = 0x800, END = 0xc00, NEXT = 1, WRITE = 2 };
 enum { NOTIFY = 0x050, QUEUE_SEL = 0x030, STATUS = 0x070, EMERGENCY = 0x108, CONFIG_END = 0x140 };
+
+/* The windows of the guest's further devices, and how many windows it has. */
+enum { ENTROPY = KALYUBOS_DEVICE, CARD = KALYUBOS_DEVICE + 1, WINDOWS = KALYUBOS_DEVICE + 2 };
 
 static struct kalyubos board;
 static struct kalyubos_pending pending;
@@ -63,6 +66,7 @@ static void make(enum kind kind)
     struct kalyubos_slot slot = {
         .size = sizeof slot, .regions = { { MEMORY, LEN } }, .count = SECTORS, .cols = 80, .rows = 25, .outlet = OUTLET,
         .hosted = kind == HOSTED, .depth = 2,
+        .devices = { { .kind = KALYUBOS_ENTROPY }, { .kind = KALYUBOS_NETWORK, .mtu = 1500 } },
     };
     struct kalyubos_loan loan = { memory, LEN };
     struct kalyubos_config config = kalyubos_config(&slot, 1);
@@ -120,7 +124,7 @@ static void offer(uint8_t window, uint16_t count)
 static void read_all(uint32_t answer)
 {
     uint32_t value;
-    for (uint8_t window = KALYUBOS_BLOCK; window <= KALYUBOS_CONSOLE; window++)
+    for (uint8_t window = 0; window < WINDOWS; window++)
         for (uint32_t offset = 0; offset <= 0x1000; offset++)
             for (uint8_t width = 1; width <= 4; width *= 2)
                 need(kalyubos_read(&board, 0, window, (uint16_t)offset, width, &value) == answer, "read");
@@ -206,22 +210,30 @@ static void write_behind(uint8_t window, uint32_t queue, int ring, int steps)
         }
 }
 
+/* Each queue of each window. */
+static const struct {
+    uint8_t window;
+    uint32_t queue;
+} QUEUES[] = { { KALYUBOS_CONSOLE, 0 }, { KALYUBOS_CONSOLE, 1 }, { KALYUBOS_BLOCK, 0 }, { ENTROPY, 0 }, { CARD, 0 }, { CARD, 1 } };
+enum { QUEUES_LEN = sizeof QUEUES / sizeof *QUEUES };
+
 static void write_all(void)
 {
-    for (uint32_t queue = 0; queue < 3; queue++)
+    for (int i = 0; i < QUEUES_LEN; i++)
         for (int ring = 0; ring < RINGS; ring++)
             for (int steps = 1; steps <= STEPS; steps++) {
-                uint8_t window = queue == 2 ? KALYUBOS_BLOCK : KALYUBOS_CONSOLE;
-                write_behind(window, queue % 2, ring, steps);
-                bring_up(window, queue % 2, ring, steps);
+                write_behind(QUEUES[i].window, QUEUES[i].queue, ring, steps);
+                bring_up(QUEUES[i].window, QUEUES[i].queue, ring, steps);
+                for (int up = 0; up < 2; up++)
+                    done(kalyubos_set_link(&board, 0, CARD, up), "set_link");
                 save_and_restore();
             }
 }
 
-/* Writes of both windows, of each offset and width, but to Status. */
+/* Writes of all windows, of each offset and width, but to Status. */
 static void write_on(void)
 {
-    for (uint8_t window = KALYUBOS_BLOCK; window <= KALYUBOS_CONSOLE; window++)
+    for (uint8_t window = 0; window < WINDOWS; window++)
         for (uint16_t offset = 0; offset < CONFIG_END; offset++)
             for (uint8_t width = 1; width <= 4; width *= 2)
                 if (offset != NOTIFY && offset != STATUS)
@@ -338,6 +350,31 @@ static void copy_in(void)
     kalyubos_write_memory(&board, 0, MEMORY, (const uint8_t *)"", 1);
 }
 
+static void supply(void)
+{
+    size_t taken;
+    kalyubos_supply(&board, 0, ENTROPY, (const uint8_t *)"random", 6, &taken);
+}
+
+static void receive(void)
+{
+    bool taken;
+    kalyubos_receive(&board, 0, CARD, (const uint8_t *)"a frame", 7, &taken);
+}
+
+static void take_frame(void)
+{
+    uint8_t frame[512];
+    size_t len;
+    kalyubos_take_frame(&board, 0, CARD, frame, sizeof frame, &len);
+}
+
+static void ask_card(void)
+{
+    struct kalyubos_device_pending card;
+    kalyubos_device_pending(&board, 0, CARD, &card);
+}
+
 /* Makes a call in a child, whose memory is forbidden: it must be ended by SIGSEGV. */
 static void faults(const char *name, void (*call)(void))
 {
@@ -377,6 +414,25 @@ static void control(void)
     done(kalyubos_destroy(&board), "destroy");
 }
 
+/* A card's driver has room for a frame, or has sent one. */
+static void control_devices(void)
+{
+    make(OF_IMAGE);
+    bring_up(ENTROPY, 0, 0, STEPS);
+    bring_up(CARD, 0, 0, STEPS);
+    offer(CARD, 1);
+    faults("supply", supply);
+    faults("receive", receive);
+    faults("device_pending", ask_card);
+    bring_up(CARD, 1, 0, STEPS);
+    offer(CARD, 1);
+    const struct descriptor sent = { MEMORY + DATA, 512, 0, 0 };
+    memcpy(memory + TABLE, &sent, sizeof sent);
+    done(set(CARD, NOTIFY, 4, 1), "a frame is sent");
+    faults("take_frame", take_frame);
+    done(kalyubos_destroy(&board), "destroy");
+}
+
 int main(void)
 {
     need(kalyubos_version() == KALYUBOS_VERSION, "the library is of another version than the header");
@@ -388,5 +444,6 @@ int main(void)
     while_a_disk_works();
     in_a_pause();
     control();
+    control_devices();
     return munmap(memory, LEN);
 }

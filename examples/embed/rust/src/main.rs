@@ -47,7 +47,7 @@ struct Driver<'board> {
 impl Driver<'_> {
     /// Where the window's queue lies: each window has 32 KiB of the memory.
     fn area(&self) -> u64 {
-        MEMORY + 0x8000 * self.window as u64
+        MEMORY + 0x8000 * u64::from(self.window.number())
     }
 
     fn get(&mut self, offset: u16) -> Result<u32, Error> {
@@ -132,7 +132,7 @@ fn guest(board: &mut Board) -> Result<(), Error> {
         let (magic, device) = (driver.get(0x000)?, driver.get(0x008)?);
         println!(
             "window {}: magic {magic:08x}, device {device}",
-            window as u8
+            window.number()
         );
     }
     let mut disk = Driver {

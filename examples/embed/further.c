@@ -1,0 +1,283 @@
+/*
+ * The calls of further devices at their edges: what each takes and refuses, where a buffer is too short, and in a pause. What is
+ * refused leaves its out parameters.
+ */
+#include <inttypes.h>
+#include <stdio.h>
+#include <stdlib.h>
+#include <string.h>
+
+#include "kalyubos.h"
+
+enum { MEMORY_LEN = 0x10000, SECTORS = 2, MTU = 68, POOL = 4096, FRAMES = 64, ROOM = 65536, UNTOLD = 0x77 };
+enum { NOTIFY = 0x050, STATUS = 0x070, DEVICE_ID = 0x008, NEXT = 1, WRITE = 2 };
+/* the windows of guest 0's devices, and of one that it doesn't have */
+enum { ENTROPY = KALYUBOS_DEVICE, CARD = KALYUBOS_DEVICE + 1, LARGE_CARD = KALYUBOS_DEVICE + 2, NO_WINDOW = KALYUBOS_DEVICE + 3 };
+static const uint64_t MEMORY = 0x80000000;
+
+static struct kalyubos board;
+static uint8_t *memory;
+
+static void need(bool holds, const char *what, uint64_t number)
+{
+    if (!holds) {
+        fprintf(stderr, "further: %s (%" PRIu64 ")\n", what, number);
+        exit(1);
+    }
+}
+
+/* ---- what each call answers, and that what is refused tells nothing */
+
+static uint32_t load(uint8_t slot, uint8_t window, uint32_t *value)
+{
+    *value = UNTOLD;
+    uint32_t answer = kalyubos_read(&board, slot, window, DEVICE_ID, 4, value);
+    need(answer == KALYUBOS_DONE || *value == UNTOLD, "a refused read tells a value", answer);
+    return answer;
+}
+
+static uint32_t store(uint8_t slot, uint8_t window, uint16_t offset, uint32_t value)
+{
+    struct kalyubos_pending pending = { UNTOLD, UNTOLD, UNTOLD };
+    uint32_t answer = kalyubos_write(&board, slot, window, offset, 4, value, &pending);
+    need((pending.output == UNTOLD) == (answer == KALYUBOS_BAD_SLOT || answer == KALYUBOS_NO_BOARD), "what a write tells", answer);
+    return answer;
+}
+
+static uint32_t supply(uint8_t slot, uint8_t window, size_t len, size_t *taken)
+{
+    static const uint8_t bytes[POOL];
+    *taken = UNTOLD;
+    uint32_t answer = kalyubos_supply(&board, slot, window, bytes, len, taken);
+    need(answer == KALYUBOS_DONE || *taken == UNTOLD, "a refused supply tells a count", answer);
+    return answer;
+}
+
+static uint32_t receive(uint8_t slot, uint8_t window, size_t len, bool *taken)
+{
+    static const uint8_t frame[ROOM + 16];
+    *taken = true;
+    uint32_t answer = kalyubos_receive(&board, slot, window, frame, len, taken);
+    need(answer == KALYUBOS_DONE || *taken, "a refused frame tells that it isn't taken", answer);
+    return answer;
+}
+
+static uint32_t take(uint8_t slot, uint8_t window, uint8_t *into, size_t room, size_t *len)
+{
+    *len = UNTOLD;
+    memset(into, UNTOLD, room);
+    uint32_t answer = kalyubos_take_frame(&board, slot, window, into, room, len);
+    need(answer == KALYUBOS_DONE || answer == KALYUBOS_SHORT_BUFFER || *len == UNTOLD, "a refused take tells a length", answer);
+    for (size_t i = answer == KALYUBOS_DONE ? *len : 0; i < room; i++)
+        need(into[i] == UNTOLD, "a byte behind the frame", i);
+    return answer;
+}
+
+static uint32_t wait(uint8_t slot, uint8_t window, struct kalyubos_device_pending *pending)
+{
+    struct kalyubos_device_pending before;
+    memset(pending, UNTOLD, sizeof *pending);
+    before = *pending;
+    uint32_t answer = kalyubos_device_pending(&board, slot, window, pending);
+    need(answer == KALYUBOS_DONE || memcmp(pending, &before, sizeof before) == 0, "what a refused question tells", answer);
+    return answer;
+}
+
+/* What all calls for a further device answer, where they answer the same; kalyubos_device_pending answers this. */
+static void all_answer(uint8_t slot, uint8_t window, uint32_t answer, uint32_t pending_answer)
+{
+    uint8_t into[ROOM];
+    size_t count;
+    bool taken;
+    struct kalyubos_device_pending pending;
+    need(supply(slot, window, 1, &count) == answer, "supply", window);
+    need(receive(slot, window, 1, &taken) == answer, "receive", window);
+    need(take(slot, window, into, sizeof into, &count) == answer, "take_frame", window);
+    need(kalyubos_set_link(&board, slot, window, false) == answer, "set_link", window);
+    need(wait(slot, window, &pending) == pending_answer, "device_pending", window);
+}
+
+/* ---- what there isn't */
+
+static void check_no_board(void)
+{
+    uint32_t value;
+    for (unsigned window = 0; window < 256; window++) {
+        uint32_t answer = window < KALYUBOS_DEVICE ? KALYUBOS_BAD_WINDOW : KALYUBOS_NO_BOARD;
+        need(load(0, (uint8_t)window, &value) == KALYUBOS_NO_BOARD && store(0, (uint8_t)window, STATUS, 0) == KALYUBOS_NO_BOARD,
+             "a register without a board", window);
+        all_answer(0, (uint8_t)window, answer, answer);
+    }
+}
+
+static void check_windows(void)
+{
+    static const uint32_t ids[] = { 2, 3, 4, 1, 1 }; /* (5): a disk, a console, an entropy device and two network cards */
+    uint32_t value;
+    for (unsigned window = 0; window < 256; window++) {
+        uint32_t own = window < NO_WINDOW ? KALYUBOS_DONE : KALYUBOS_BAD_WINDOW;
+        uint32_t other = window < KALYUBOS_DEVICE ? KALYUBOS_DONE : KALYUBOS_BAD_WINDOW;
+        need(load(0, (uint8_t)window, &value) == own && (own != KALYUBOS_DONE || value == ids[window]), "guest 0's window", window);
+        need(store(0, (uint8_t)window, STATUS, 0) == own, "a write of guest 0's window", window);
+        need(load(1, (uint8_t)window, &value) == other && store(1, (uint8_t)window, STATUS, 0) == other, "guest 1's window", window);
+        need(load(2, (uint8_t)window, &value) == KALYUBOS_BAD_SLOT && store(2, (uint8_t)window, STATUS, 0) == KALYUBOS_BAD_SLOT,
+             "a window of no guest", window);
+        all_answer(1, (uint8_t)window, KALYUBOS_BAD_WINDOW, KALYUBOS_BAD_WINDOW);
+        all_answer(2, (uint8_t)window, window < KALYUBOS_DEVICE ? KALYUBOS_BAD_WINDOW : KALYUBOS_BAD_SLOT,
+                   window < KALYUBOS_DEVICE ? KALYUBOS_BAD_WINDOW : KALYUBOS_BAD_SLOT);
+        if (window < KALYUBOS_DEVICE || window >= NO_WINDOW)
+            all_answer(0, (uint8_t)window, KALYUBOS_BAD_WINDOW, KALYUBOS_BAD_WINDOW);
+    }
+}
+
+/* A device of the other kind takes no such thing. */
+static void check_kinds(void)
+{
+    uint8_t into[ROOM];
+    size_t count = 0;
+    bool taken = false;
+    need(supply(0, CARD, 1, &count) == KALYUBOS_BAD_WINDOW, "supply of a card", count);
+    need(receive(0, ENTROPY, 64, &taken) == KALYUBOS_BAD_WINDOW, "a frame for an entropy device", taken);
+    need(take(0, ENTROPY, into, sizeof into, &count) == KALYUBOS_BAD_WINDOW, "a frame of an entropy device", count);
+    need(kalyubos_set_link(&board, 0, ENTROPY, true) == KALYUBOS_BAD_WINDOW, "the link of an entropy device", 0);
+}
+
+/* ---- what finds room */
+
+static void check_pool(void)
+{
+    static const struct { size_t len, taken; } rows[] = { { 0, 0 }, { 4000, 4000 }, { 200, 96 }, { 1, 0 }, { POOL, 0 } };
+    size_t taken;
+    for (size_t i = 0; i < sizeof rows / sizeof *rows; i++)
+        need(supply(0, ENTROPY, rows[i].len, &taken) == KALYUBOS_DONE && taken == rows[i].taken, "what a pool takes", i);
+}
+
+/* A frame has a byte and up to the MTU and 14; 64 wait, of 65536 bytes together. */
+static void check_frames(void)
+{
+    bool taken;
+    need(receive(0, CARD, 0, &taken) == KALYUBOS_BAD_WINDOW, "a frame of no bytes", 0);
+    need(receive(0, CARD, MTU + 15, &taken) == KALYUBOS_BAD_WINDOW, "a frame above the MTU", 0);
+    for (size_t i = 0; i <= FRAMES; i++)
+        need(receive(0, CARD, i % 2 == 0 ? MTU + 14 : 1, &taken) == KALYUBOS_DONE && taken == (i < FRAMES), "a frame", i);
+    need(receive(0, LARGE_CARD, ROOM - 1, &taken) == KALYUBOS_DONE && taken, "a large frame", 0);
+    need(receive(0, LARGE_CARD, 2, &taken) == KALYUBOS_DONE && !taken, "a frame that doesn't fit", 0);
+    need(receive(0, LARGE_CARD, 1, &taken) == KALYUBOS_DONE && taken, "one that does", 0);
+    need(receive(0, LARGE_CARD, 1, &taken) == KALYUBOS_DONE && !taken, "one behind it", 0);
+}
+
+/* ---- a driver: its queue and buffers lie in the first pages of the memory */
+
+enum { TABLE = 0x1000, AVAILABLE = 0x2000, USED = 0x3000, DATA = 0x4000, END = 0x5000, HEADER = 12 };
+
+struct descriptor {
+    uint64_t addr;
+    uint32_t len;
+    uint16_t flags, next;
+};
+
+/* Brings up a window's queue (3.1.1, 4.2.3.2), offers a chain for each of so many heads, and notifies. */
+static uint32_t offer(uint8_t window, uint32_t queue, const struct descriptor *chain, size_t len, uint16_t heads)
+{
+    const uint32_t at = (uint32_t)MEMORY;
+    const uint32_t steps[][2] = { { STATUS, 0 }, { STATUS, 1 }, { STATUS, 3 }, { 0x24, 1 }, { 0x20, 1 }, { STATUS, 11 }, { 0x30, queue },
+                                  { 0x38, 4 }, { 0x80, at + TABLE }, { 0x90, at + AVAILABLE }, { 0xa0, at + USED }, { 0x44, 1 },
+                                  { STATUS, 15 } };
+    for (size_t i = 0; i < sizeof steps / sizeof *steps; i++)
+        need(store(0, window, (uint16_t)steps[i][0], steps[i][1]) == KALYUBOS_DONE, "a step of the driver", i);
+    memset(memory + AVAILABLE, 0, USED + 0x1000 - AVAILABLE);
+    memcpy(memory + TABLE, chain, len);
+    memcpy(memory + AVAILABLE + 2, &heads, sizeof heads);
+    return store(0, window, NOTIFY, queue);
+}
+
+static uint16_t used(void)
+{
+    uint16_t idx;
+    memcpy(&idx, memory + USED + 2, sizeof idx);
+    return idx;
+}
+
+/* A frame stays until it finds room, and its length is told. */
+static void check_short_buffer(void)
+{
+    enum { LEN = 64 };
+    const struct descriptor chain = { MEMORY + DATA, HEADER + LEN, 0, 0 };
+    uint8_t into[ROOM];
+    size_t len = 0;
+    struct kalyubos_device_pending pending;
+    need(take(0, CARD, into, 0, &len) == KALYUBOS_DONE && len == 0, "a frame where none waits", len);
+    for (uint8_t i = 0; i < LEN; i++)
+        memory[DATA + HEADER + i] = i;
+    need(offer(CARD, 1, &chain, sizeof chain, 1) == KALYUBOS_DONE && used() == 1, "a frame is sent", used());
+    for (size_t room = 0; room < LEN; room++) {
+        need(take(0, CARD, into, room, &len) == KALYUBOS_SHORT_BUFFER && len == LEN, "a short buffer", room);
+        need(wait(0, CARD, &pending) == KALYUBOS_DONE && pending.frame == LEN, "the frame waits", pending.frame);
+    }
+    need(take(0, CARD, into, LEN, &len) == KALYUBOS_DONE && len == LEN, "a buffer that is long enough", len);
+    need(memcmp(into, memory + DATA + HEADER, LEN) == 0, "the frame's bytes", 0);
+    need(take(0, CARD, into, sizeof into, &len) == KALYUBOS_DONE && len == 0, "a frame behind the last", len);
+    need(wait(0, CARD, &pending) == KALYUBOS_DONE && pending.frame == 0 && pending.interrupt == 1, "what waits", pending.frame);
+}
+
+/* Where 65536 bytes wait the driver's next frame does too, and a take lets it pass. */
+static void check_full_card(void)
+{
+    const struct descriptor chain = { MEMORY + DATA, HEADER + ROOM / 2, 0, 0 };
+    uint8_t into[ROOM];
+    size_t len;
+    need(offer(LARGE_CARD, 1, &chain, sizeof chain, 3) == KALYUBOS_DONE && used() == 2, "two frames are sent", used());
+    for (uint16_t left = 3; left > 0; left--) {
+        need(take(0, LARGE_CARD, into, sizeof into, &len) == KALYUBOS_DONE && len == ROOM / 2, "a frame", left);
+        need(used() == 3, "the third one is sent", used());
+    }
+    need(take(0, LARGE_CARD, into, sizeof into, &len) == KALYUBOS_DONE && len == 0, "a fourth frame", len);
+}
+
+/* While the disk's service is paused all calls but one wait. */
+static void check_pause(void)
+{
+    const struct descriptor request[] = { { MEMORY + DATA, 16, NEXT, 1 }, { MEMORY + DATA + 0x200, 512, NEXT | WRITE, 2 },
+                                          { MEMORY + END, 1, WRITE, 0 } };
+    struct kalyubos_pending pending;
+    uint32_t value;
+    memset(memory + DATA, 0, 16);
+    need(offer(KALYUBOS_BLOCK, 0, request, sizeof request, 2) == KALYUBOS_MORE, "a service that pauses", 0);
+    for (uint8_t window = ENTROPY; window < NO_WINDOW; window++) {
+        need(load(0, window, &value) == KALYUBOS_BUSY && store(0, window, STATUS, 0) == KALYUBOS_BUSY, "a register in a pause", window);
+        all_answer(0, window, KALYUBOS_BUSY, KALYUBOS_DONE);
+    }
+    all_answer(0, NO_WINDOW, KALYUBOS_BUSY, KALYUBOS_BAD_WINDOW);
+    need(load(1, KALYUBOS_BLOCK, &value) == KALYUBOS_DONE, "another guest in a pause", 0);
+    need(kalyubos_go_on(&board, 0, &pending) == KALYUBOS_DONE, "go_on", 0);
+    need(load(0, ENTROPY, &value) == KALYUBOS_DONE && value == 4, "a register behind it", value);
+}
+
+int main(void)
+{
+    static const uint8_t image[SECTORS * 512];
+    struct kalyubos_slot slots[2] = {
+        { .size = sizeof *slots, .regions = { { MEMORY, MEMORY_LEN } }, .count = SECTORS, .outlet = 64,
+          .devices = { { .kind = KALYUBOS_ENTROPY }, { .kind = KALYUBOS_NETWORK, .mtu = MTU },
+                       { .kind = KALYUBOS_NETWORK, .mtu = UINT16_MAX } } },
+        { .size = sizeof *slots, .regions = { { MEMORY, MEMORY_LEN } }, .outlet = 64 },
+    };
+    struct kalyubos_config config = kalyubos_config(slots, 2);
+    size_t len;
+    check_no_board();
+    config.image = image;
+    config.image_len = sizeof image;
+    config.chains = 1;
+    need(kalyubos_create(&board, &config) == KALYUBOS_DONE, "create", 0);
+    need(kalyubos_memory(&board, 0, MEMORY, &memory, &len) == KALYUBOS_DONE, "memory", len);
+    check_windows();
+    check_kinds();
+    check_pool();
+    check_frames();
+    check_short_buffer();
+    check_full_card();
+    check_pause();
+    need(kalyubos_destroy(&board) == KALYUBOS_DONE, "destroy", 0);
+    puts("further: 256 windows of a guest with three further devices and one with none; what finds room; a pause");
+    return 0;
+}
