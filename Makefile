@@ -141,7 +141,7 @@ embed:
 # Boots Linux on the board: two guests, their consoles side by side; examples/linux has more ways. GUEST=0 shows one of them,
 # INTERACTIVE=1 gives a person the console of guest 0, RECORD=FILE writes what the guests did as a trace, DISK=FILE keeps
 # guest 0's disk, IMAGE=FILE has both disks in place, DISKS=hosted has the host serve each from a file, and SAVE_GUEST=FILE
-# saves guest 0, which RESUME_GUEST=FILE goes on with.
+# saves guest 0, which RESUME_GUEST=FILE goes on with. With DEVICES=1 both have an entropy device and a network card.
 linux:
 	@examples/linux/run
 

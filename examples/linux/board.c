@@ -97,6 +97,13 @@ static void create(const struct kalyubos_slot *slots, uint64_t sectors)
         open_disk(i);
 }
 
+static void add_devices(struct kalyubos_slot *slot, const uint8_t address[BOARD_ADDRESS])
+{
+    slot->devices[BOARD_ENTROPY - KALYUBOS_DEVICE] = (struct kalyubos_device){ .kind = KALYUBOS_ENTROPY };
+    slot->devices[BOARD_CARD - KALYUBOS_DEVICE] = (struct kalyubos_device){ .kind = KALYUBOS_NETWORK, .mtu = BOARD_MTU };
+    memcpy(slot->devices[BOARD_CARD - KALYUBOS_DEVICE].mac, address, BOARD_ADDRESS);
+}
+
 void board_open(const struct board_settings *wanted)
 {
     struct kalyubos_slot slots[GUESTS];
@@ -106,6 +113,8 @@ void board_open(const struct board_settings *wanted)
         slots[i] = (struct kalyubos_slot){ .size = sizeof *slots, .start = start, .count = settings.sectors[i],
                                            .cols = COLUMNS, .rows = ROWS, .outlet = settings.outlet,
                                            .hosted = settings.hosted, .depth = settings.depth };
+        if (settings.addresses != NULL)
+            add_devices(&slots[i], settings.addresses[i]);
         memcpy(slots[i].regions, settings.large ? LARGE : SMALL, sizeof slots[i].regions);
         name_disk(&slots[i], settings.names[i]);
         start += settings.sectors[i];
@@ -333,8 +342,52 @@ size_t board_output(uint8_t slot, uint8_t *into, size_t len)
     return taken;
 }
 
+/* ---- further devices */
+
+static struct kalyubos_device_pending wait_of(uint8_t slot, uint8_t window)
+{
+    struct kalyubos_device_pending pending;
+    before(slot);
+    must(kalyubos_device_pending(&board, slot, window, &pending), "device_pending");
+    return pending;
+}
+
+bool board_starved(uint8_t slot)
+{
+    return wait_of(slot, BOARD_ENTROPY).starved;
+}
+
+size_t board_supply(uint8_t slot, const uint8_t *bytes, size_t len)
+{
+    size_t taken;
+    before(slot);
+    must(kalyubos_supply(&board, slot, BOARD_ENTROPY, bytes, len, &taken), "supply");
+    after(slot);
+    return taken;
+}
+
+bool board_receive(uint8_t slot, const uint8_t *frame, size_t len)
+{
+    bool taken;
+    before(slot);
+    must(kalyubos_receive(&board, slot, BOARD_CARD, frame, len, &taken), "receive");
+    after(slot);
+    return taken;
+}
+
+size_t board_take_frame(uint8_t slot, uint8_t into[BOARD_ANY_FRAME])
+{
+    size_t len;
+    before(slot);
+    must(kalyubos_take_frame(&board, slot, BOARD_CARD, into, BOARD_ANY_FRAME, &len), "take_frame");
+    after(slot);
+    return len;
+}
+
 bool board_line(uint8_t slot, uint8_t window)
 {
+    if (window >= KALYUBOS_DEVICE)
+        return wait_of(slot, window).interrupt != 0;
     return (window == KALYUBOS_BLOCK ? waits[slot].block : waits[slot].console) != 0;
 }
 

@@ -14,6 +14,12 @@
 enum { MEMORY_LEN = 0x01000000 };
 static const uint64_t MEMORY_BASE = 0x80000000;
 
+/* The windows of a guest that has further devices, and the MTU of its network card. */
+enum { BOARD_ENTROPY = KALYUBOS_DEVICE, BOARD_CARD, BOARD_WINDOWS, BOARD_MTU = 1500, BOARD_ADDRESS = 6 };
+
+/* The longest frame of a driver that keeps to the MTU, and that of any. */
+enum { BOARD_FRAME = BOARD_MTU + 14, BOARD_ANY_FRAME = 65536 };
+
 struct board_settings {
     size_t guests;
     const uint64_t *sectors; /* of each guest's disk; the disks stand in the image one after the other */
@@ -29,6 +35,8 @@ struct board_settings {
     bool threads;       /* without io_uring */
     bool large;         /* each guest's memory is a large one */
     uint32_t depth;     /* how many operations of a disk that the host serves may be in flight */
+    const uint8_t (*addresses)[BOARD_ADDRESS]; /* of each guest's network card, which stands behind an entropy device; or NULL:
+                                                  there are no further devices */
 };
 
 void board_open(const struct board_settings *settings);
@@ -84,6 +92,14 @@ void board_resize(uint8_t slot, uint16_t cols, uint16_t rows);
 
 /* Takes output, and tells how many bytes it was. */
 size_t board_output(uint8_t slot, uint8_t *into, size_t len);
+
+/* Of a slot's entropy device: whether its driver waits for bytes, and how many of these were taken. */
+bool board_starved(uint8_t slot);
+size_t board_supply(uint8_t slot, const uint8_t *bytes, size_t len);
+
+/* Of its network card: whether that took a frame, and the length of the oldest frame that its driver sent, or 0. */
+bool board_receive(uint8_t slot, const uint8_t *frame, size_t len);
+size_t board_take_frame(uint8_t slot, uint8_t into[BOARD_ANY_FRAME]);
 
 /* Whether a window's interrupt line is high. */
 bool board_line(uint8_t slot, uint8_t window);

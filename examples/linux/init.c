@@ -1,12 +1,15 @@
 /*
  * The guest's only program, without a C library (the kernel's nolibc). It writes and reads files and the raw disk
  * behind the file system, says what it found, then answers lines from the console until it is told to go off. Each
- * line that begins with "good" or "bad" is a check.
+ * line that begins with "good" or "bad" is a check. With NETWORK it also has words for further devices.
  */
 #include <linux/fs.h>
 #include <stdbool.h>
 
 #include "pattern.h"
+#ifdef NETWORK
+#include "talk.h"
+#endif
 
 enum {
     NAME = 64,
@@ -190,6 +193,46 @@ static void show_features(void)
     printf("features of the console: %s\n", digits);
 }
 
+#ifdef NETWORK
+
+static void show_features_of_devices(void)
+{
+    char digits[NAME + 1];
+    read_text("/sys/bus/virtio/devices/virtio2/features", digits, sizeof digits);
+    printf("features of the entropy device: %s\n", digits);
+    read_text("/sys/bus/virtio/devices/virtio3/features", digits, sizeof digits);
+    printf("features of the network card: %s\n", digits);
+}
+
+/* The words of further devices; false of another. */
+static bool answer_of_devices(const char *line, unsigned int seed)
+{
+    static const char WORD[] = "talk-";
+    if (strcmp(line, "devices") == 0) {
+        show_features_of_devices();
+    } else if (strcmp(line, "random") == 0) {
+        show_random();
+    } else if (strncmp(line, WORD, strlen(WORD)) == 0) {
+        struct talk talk = try_talk(seed, atoi(line + strlen(WORD)));
+        check(talk.first == talk.count, "all that was sent has come");
+        check(talk.wanted == talk.count && talk.same, "all that came is the other guest's");
+    } else {
+        return false;
+    }
+    return true;
+}
+
+#else
+
+static bool answer_of_devices(const char *line, unsigned int seed)
+{
+    (void)line;
+    (void)seed;
+    return false;
+}
+
+#endif
+
 static void show_file(const char *path)
 {
     int file = open(path, O_RDONLY, 0), length;
@@ -202,6 +245,9 @@ static void show_help(void)
 {
     printf("size: of the console; serial: of the disk; features: of both; interrupts, version: of the kernel;\n"
            "lines: many of them; sync: all files go to the disk; crowd: many requests at once; off; all else is said again\n");
+#ifdef NETWORK
+    printf("devices: features of the others; random: bytes of the host; talk-1024: 1024 KiB go to another guest, and come from it\n");
+#endif
 }
 
 static void write_all(void)
@@ -236,7 +282,7 @@ static void answer(const char *line, unsigned int seed)
         try_crowd(seed);
     else if (strcmp(line, "help") == 0)
         show_help();
-    else
+    else if (!answer_of_devices(line, seed))
         printf("you said \"%s\"\n", line);
 }
 

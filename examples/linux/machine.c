@@ -4,10 +4,11 @@
 #include <string.h>
 
 #include "board.h"
+#include "chance.h"
 
 static const uint64_t PLIC = 0x0c000000, PLIC_LEN = 0x400000, WINDOWS = 0x10000000;
 
-enum { WINDOW_LEN = 0x1000, WINDOW_COUNT = 2 };
+enum { WINDOW_LEN = 0x1000 };
 
 /* Where the kernel and the tree lie in memory. */
 enum { KERNEL = 0x200000, TREE = MEMORY_LEN - 0x10000 };
@@ -18,7 +19,7 @@ static const uint64_t NEVER = ~(uint64_t)0;
 
 static void move_lines(struct machine *machine)
 {
-    for (unsigned window = 0; window < WINDOW_COUNT; window++) {
+    for (unsigned window = 0; window < machine->windows; window++) {
         bool was = machine->plic.high >> (window + 1) & 1, is = board_line(machine->slot, window);
         machine->counts[window].rises += is && !was;
         plic_line(&machine->plic, window + 1, is);
@@ -122,22 +123,13 @@ static void note_due(struct machine *machine)
         machine->cpu.stop_at = machine->due;
 }
 
-/* The next number by chance (splitmix64): the same from the same seed. */
-static uint64_t by_chance(struct machine *machine)
-{
-    uint64_t number = machine->chance += 0x9e3779b97f4a7c15;
-    number = (number ^ number >> 30) * 0xbf58476d1ce4e5b9;
-    number = (number ^ number >> 27) * 0x94d049bb133111eb;
-    return number ^ number >> 31;
-}
-
 /* When an operation that begins is done; beside others after up to so many times the instructions, so that they end in any order. */
 static uint64_t due_of(struct machine *machine, bool beside)
 {
     enum { SPREAD = 16 };
     if (machine->latency == NEVER)
         return NEVER;
-    uint64_t more = beside && machine->latency > 0 ? by_chance(machine) % ((SPREAD - 1) * machine->latency) : 0;
+    uint64_t more = beside && machine->latency > 0 ? by_chance(&machine->chance) % ((SPREAD - 1) * machine->latency) : 0;
     return machine->cpu.cycles + machine->latency + more;
 }
 
@@ -201,6 +193,16 @@ static void window_store(struct machine *machine, unsigned window, uint16_t offs
         machine->selected[window] = value;
     machine->store = (struct machine_store){ window, offset, width, value };
     settle(machine, store(machine));
+    if (window >= KALYUBOS_DEVICE)
+        machine_serve(machine);
+}
+
+void machine_serve(struct machine *machine)
+{
+    if (machine->windows <= KALYUBOS_DEVICE || machine->paused)
+        return;
+    devices_serve(&machine->devices, machine->slot, machine->cpu.cycles);
+    move_lines(machine);
 }
 
 void machine_go_on(struct machine *machine)
@@ -213,10 +215,15 @@ void machine_go_on(struct machine *machine)
 
 /* ---- the bus */
 
+static bool is_window(const struct machine *machine, uint64_t addr)
+{
+    return addr - WINDOWS < machine->windows * WINDOW_LEN;
+}
+
 static bool bus_load(void *user, uint64_t addr, unsigned width, uint64_t *value)
 {
     struct machine *machine = user;
-    if (addr - WINDOWS < WINDOW_COUNT * WINDOW_LEN && width <= 4)
+    if (is_window(machine, addr) && width <= 4)
         *value = window_load(machine, (addr - WINDOWS) / WINDOW_LEN, addr % WINDOW_LEN, width);
     else if (addr - PLIC < PLIC_LEN && width == 4)
         *value = plic_load(&machine->plic, addr - PLIC);
@@ -229,7 +236,7 @@ static bool bus_load(void *user, uint64_t addr, unsigned width, uint64_t *value)
 static bool bus_store(void *user, uint64_t addr, unsigned width, uint64_t value)
 {
     struct machine *machine = user;
-    if (addr - WINDOWS < WINDOW_COUNT * WINDOW_LEN && width <= 4)
+    if (is_window(machine, addr) && width <= 4)
         window_store(machine, (addr - WINDOWS) / WINDOW_LEN, addr % WINDOW_LEN, width, value);
     else if (addr - PLIC < PLIC_LEN && width == 4)
         plic_store(&machine->plic, addr - PLIC, value);
@@ -292,9 +299,10 @@ static void place(struct machine *machine, uint64_t offset, struct machine_file 
     memcpy(machine->cpu.memory.regions[0].bytes + offset, file.bytes, file.len);
 }
 
-void machine_open(struct machine *machine, uint8_t slot)
+void machine_open(struct machine *machine, uint8_t slot, unsigned windows)
 {
     machine->slot = slot;
+    machine->windows = windows;
     machine->timer = machine->due = NEVER;
     machine->cpu.memory = *board_memory(slot);
     machine->cpu.bus = (struct cpu_bus){ machine, bus_load, bus_store, call };
@@ -314,6 +322,7 @@ void machine_resume(struct machine *machine, const struct machine *other, const 
     ours = *machine;
     *machine = *other;
     machine->slot = ours.slot;
+    machine->devices = ours.devices;
     machine->late = ours.late;
     machine->latency = ours.latency;
     machine->early = ours.early;

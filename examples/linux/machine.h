@@ -1,10 +1,12 @@
-/* A guest's machine: a CPU, an interrupt controller, the board's two windows, and what mode M answers. */
+/* A guest's machine: a CPU, an interrupt controller, the board's windows, and what mode M answers. */
 #ifndef MACHINE_H
 #define MACHINE_H
 
 #include <stdint.h>
 
+#include "board.h"
 #include "cpu.h"
+#include "devices.h"
 #include "plic.h"
 #include "terminal.h"
 
@@ -34,8 +36,9 @@ struct machine {
     uint64_t due;         /* and the first of these */
     uint64_t flies;       /* the tags of what is in flight */
     uint64_t hidden;      /* feature bits of the devices that the driver isn't shown */
-    uint32_t selected[2]; /* the word of the features that each window was asked for */
-    struct machine_counts counts[2];
+    unsigned windows;     /* how many it has: a disk and a console, and where there are further devices also those */
+    uint32_t selected[BOARD_WINDOWS]; /* the word of the features that each was asked for */
+    struct machine_counts counts[BOARD_WINDOWS];
     struct machine_store store; /* the last one to a window */
     uint64_t refused;     /* writes that were made again, since there was no room for the output */
     uint64_t pauses;
@@ -44,6 +47,7 @@ struct machine {
     struct cpu cpu;
     struct plic plic;
     struct terminal terminal;
+    struct devices devices;
 };
 
 /* A kernel or a device tree, in memory. */
@@ -53,7 +57,7 @@ struct machine_file {
 };
 
 /* Puts a machine round a slot. */
-void machine_open(struct machine *machine, uint8_t slot);
+void machine_open(struct machine *machine, uint8_t slot, unsigned windows);
 
 /* Loads the kernel and the tree into the slot's memory. */
 void machine_start(struct machine *machine, struct machine_file kernel, struct machine_file tree);
@@ -63,6 +67,9 @@ void machine_resume(struct machine *machine, const struct machine *other, const 
 
 /* Goes on with the service that is paused, where one is, and completes what its disk has done. */
 void machine_go_on(struct machine *machine);
+
+/* Does what the host has to do for its further devices; nothing while it is paused. */
+void machine_serve(struct machine *machine);
 
 /* Runs for some cycles, until it is off, waits for an interrupt, or is paused. */
 void machine_run(struct machine *machine, uint64_t cycles);

@@ -14,6 +14,10 @@
  *   --bytes COUNT     begins no chain in a call after so many bytes: 65536 where it isn't said; 0 is no limit
  *   --late            takes them only where there is no room for more, and while the guest waits
  *   --large           gives each guest 1 GiB in two regions, which the tree has to tell
+ *   --devices         gives each guest an entropy device and a network card, which the tree has to tell; the cards hang on a
+ *                     switch. What the one was supplied with and the other was handed goes to guest-0.random and guest-0.frames
+ *   --frames FILE     hands guest 0's card the frames of such a file, each after as many instructions as then, in place of those
+ *                     of the switch
  *   --copies          copies each guest's memory into the board and back round each call
  *   --without FEATURE a feature that no driver is shown, as RING_PACKED
  *   --cycles COUNT    leaves a guest that isn't off by then
@@ -47,6 +51,7 @@
 #include "noise.h"
 #include "report.h"
 #include "saved.h"
+#include "switch.h"
 #include "words.h"
 
 enum { GUESTS = 16, PATH = 4096, SECTOR = 512, TURN = 1000000, STEP = 100, ACTS = 5000, NOISE_SECTORS = 64 };
@@ -83,6 +88,36 @@ static struct winsize size_of_terminal(void)
     return size;
 }
 
+static unsigned windows(void)
+{
+    return words.devices ? BOARD_WINDOWS : KALYUBOS_DEVICE;
+}
+
+/* The address of a guest's card: by the last character of its disk's name, as its program has it; of noise by its slot. */
+static void set_address(size_t guest, uint8_t address[BOARD_ADDRESS])
+{
+    const char *name = words.guests[guest];
+    bool is_noise = guests[guest].is_noise;
+    uint8_t last = is_noise ? (uint8_t)guest : (uint8_t)name[strlen(name) - 1];
+    memcpy(address, (uint8_t[BOARD_ADDRESS]){ 2, 0, 0, 0, is_noise, last }, BOARD_ADDRESS);
+}
+
+/* The host's part of a guest's further devices; its random bytes are of a seed of the guest's own. */
+static struct devices devices_of(size_t guest)
+{
+    uint8_t address[BOARD_ADDRESS];
+    set_address(guest, address);
+    struct devices devices = { .seed = (uint64_t)address[BOARD_ADDRESS - 1] << 32 };
+    switch_plug(guest, address);
+    if (!guests[guest].is_noise) {
+        devices.random = create_file(words.to, guest, "random");
+        devices.handed = create_file(words.to, guest, "frames");
+    }
+    if (guest == 0 && words.frames != NULL)
+        devices.frames = open_file(words.frames, "rb");
+    return devices;
+}
+
 static void power_on(size_t index, struct machine_file kernel, struct machine_file tree)
 {
     struct machine *machine = &guests[index].machine;
@@ -99,7 +134,9 @@ static void power_on(size_t index, struct machine_file kernel, struct machine_fi
     machine->terminal.screen = screen_of(index);
     machine->terminal.log = create_file(words.to, index, "console");
     machine->terminal.script = words.script;
-    machine_open(machine, index);
+    machine_open(machine, index, windows());
+    if (words.devices)
+        machine->devices = devices_of(index);
     board_watch(index, machine->mistakes);
     if (guests[index].saved != NULL)
         saved_resume(guests[index].saved, machine);
@@ -162,22 +199,33 @@ static uint8_t *image_of_guests(size_t *all)
     return image;
 }
 
+static void start_noise(size_t guest)
+{
+    noise_open(&guests[guest].noise, guest, windows());
+    if (words.devices)
+        guests[guest].noise.devices = devices_of(guest);
+}
+
 static void open_guests(void)
 {
-    uint64_t sectors[GUESTS];
+    static uint64_t sectors[GUESTS]; /* the board keeps both */
+    static uint8_t addresses[GUESTS][BOARD_ADDRESS];
     size_t len;
     uint8_t *image = image_of_guests(&len);
     const uint8_t *served = words.image != NULL ? disk_open(words.image, len) : image;
     struct machine_file kernel = read_file(words.kernel), tree = read_file(words.tree);
-    for (size_t i = 0; i < words.count; i++)
+    for (size_t i = 0; i < words.count; i++) {
         sectors[i] = guests[i].sectors;
+        set_address(i, addresses[i]);
+    }
     board_open(&(struct board_settings){ words.count, sectors, words.guests, served, words.cache, words.outlet,
                                          words.chains, words.bytes, words.record, words.copies, words.hosted,
-                                         words.threads, words.large, words.depth });
+                                         words.threads, words.large, words.depth,
+                                         words.devices ? (const uint8_t (*)[BOARD_ADDRESS])addresses : NULL });
     free(image);
     for (size_t i = 0; i < words.count; i++)
         if (guests[i].is_noise)
-            guests[i].noise = (struct noise){ i, i + 1, 0 };
+            start_noise(i);
         else
             power_on(i, kernel, tree);
     free((void *)kernel.bytes);
@@ -211,6 +259,7 @@ static void take_turn(struct guest *guest)
 {
     struct machine *machine = &guest->machine;
     machine_go_on(machine);
+    machine_serve(machine);
     if (machine_stands(machine))
         return;
     machine_run(machine, cycles_of_turn(guest));
@@ -291,6 +340,15 @@ static void listen(struct machine *machine)
 
 /* ---- the end */
 
+/* Says what became of the frames that a guest's card sent. */
+static void report_card(size_t guest)
+{
+    struct switch_counts counts = switch_counts(guest);
+    if (words.devices)
+        printf("guest %zu: its card sent %llu frames, of which %llu came to another and %llu were lost before it\n", guest,
+               (unsigned long long)counts.sent, (unsigned long long)counts.passed, (unsigned long long)counts.lost);
+}
+
 /* Whether all went off, or on elsewhere. */
 static bool report_guests(void)
 {
@@ -300,6 +358,7 @@ static bool report_guests(void)
     for (size_t i = 0; i < words.count; i++) {
         const char *kept = words.kept == (int)i && !guests[i].is_noise ? words.guests[i] : NULL;
         report_disk(i, guests[i].sectors * SECTOR, words.to, kept);
+        report_card(i);
         if (guests[i].is_noise)
             printf("guest %zu: noise, %llu writes\n", i, (unsigned long long)guests[i].noise.writes);
         else

@@ -5,7 +5,10 @@
 
 #include "board.h"
 
-enum { QUEUES = 2, AREA = 0x10000, AREAS = QUEUES * 2 * AREA, REGISTERS = 0x140 };
+enum { QUEUES = 2, AREA = 0x10000, RINGS = 0x3000 /* of an area; the rest is buffers */, REGISTERS = 0x140 };
+
+/* How long a buffer is at most, where there is a network card: so that frames at random mostly are no longer than its MTU. */
+enum { LONGEST = 0x10000, LONGEST_OF_CARD = 0x800 };
 
 /* The registers that a driver writes (VIRTIO 1.2, 4.2.2). */
 enum {
@@ -37,6 +40,8 @@ static void set(struct noise *noise, unsigned window, uint16_t offset, uint32_t 
              (answer == KALYUBOS_NO_ROOM && board_output(noise->slot, bytes, sizeof bytes) > 0));
     while (board_output(noise->slot, bytes, sizeof bytes) > 0)
         continue;
+    if (window >= KALYUBOS_DEVICE)
+        devices_serve(&noise->devices, noise->slot, noise->writes);
 }
 
 static void bring_up(struct noise *noise, unsigned window)
@@ -58,22 +63,35 @@ static void bring_up(struct noise *noise, unsigned window)
     set(noise, window, STATUS, 15);
 }
 
+static uint8_t *area_of(const struct noise *noise, uint32_t number)
+{
+    return board_memory(noise->slot)->regions[0].bytes + number * AREA;
+}
+
 /* A descriptor at random, whose buffer mostly lies in the memory, somewhere in a ring. */
 static void write_noise(struct noise *noise)
 {
-    uint8_t *area = board_memory(noise->slot)->regions[0].bytes + at_random(noise) % (AREAS / AREA) * AREA;
-    uint32_t fields[4] = { MEMORY_BASE + at_random(noise) % AREAS, 0, at_random(noise) % 0x10000,
-                           at_random(noise) };
+    uint32_t areas = noise->windows * QUEUES, longest = noise->windows > BOARD_CARD ? LONGEST_OF_CARD : LONGEST;
+    uint8_t *area = area_of(noise, at_random(noise) % areas);
+    uint32_t fields[4] = { MEMORY_BASE + at_random(noise) % (areas * AREA), 0, at_random(noise) % longest, at_random(noise) };
     memcpy(area + at_random(noise) % 8 * 16, fields, sizeof fields);
     memcpy(area + 0x1000 + at_random(noise) % 24, &fields[3], 2);
-    memcpy(area + at_random(noise) % 0x3000, &fields[2], 4);
+    memcpy(area + at_random(noise) % RINGS, &fields[2], 4);
+}
+
+/* Where there is a card its buffers are of ones: what it sends of them goes to all other guests. */
+void noise_open(struct noise *noise, uint8_t slot, unsigned windows)
+{
+    *noise = (struct noise){ .slot = slot, .state = slot + 1, .windows = windows };
+    for (uint32_t number = 0; windows > BOARD_CARD && number < windows * QUEUES; number++)
+        memset(area_of(noise, number) + RINGS, 0xff, AREA - RINGS);
 }
 
 void noise_run(struct noise *noise, unsigned count)
 {
     board_complete(noise->slot, &(uint8_t){ BOARD_ANY });
     for (unsigned i = 0; i < count; i++) {
-        unsigned window = at_random(noise) % 2, what = at_random(noise) % 16;
+        unsigned window = at_random(noise) % noise->windows, what = at_random(noise) % 16;
         if (what == 0)
             bring_up(noise, window);
         else if (what == 1)

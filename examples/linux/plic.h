@@ -1,12 +1,12 @@
-/* The interrupt controller: two lines, one target (RISC-V Platform-Level Interrupt Controller, 1.0.0). */
+/* The interrupt controller: four lines, one target (RISC-V Platform-Level Interrupt Controller, 1.0.0). */
 #ifndef PLIC_H
 #define PLIC_H
 
 #include <stdbool.h>
 #include <stdint.h>
 
-/* Source 0 is none; the board's windows are 1 and 2. */
-enum { PLIC_SOURCES = 3 };
+/* Source 0 is none; the board's windows are 1 and on. */
+enum { PLIC_SOURCES = 5 };
 
 struct plic {
     uint32_t priority[PLIC_SOURCES];

@@ -70,6 +70,10 @@ bool report_machine(const struct machine *machine, const char *folder)
             (unsigned long long)machine->cpu.cycles);
     report_window(report, "block", &machine->counts[0]);
     report_window(report, "console", &machine->counts[1]);
+    if (machine->windows > KALYUBOS_DEVICE) {
+        report_window(report, "entropy", &machine->counts[BOARD_ENTROPY]);
+        report_window(report, "network", &machine->counts[BOARD_CARD]);
+    }
     fprintf(report, "memory: %016llx\n", (unsigned long long)sum_of(board_memory(machine->slot)));
     fclose(report);
     fclose(machine->terminal.log);

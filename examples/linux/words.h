@@ -26,6 +26,8 @@ struct words {
     uint64_t cycles; /* a guest that isn't off after so many is left */
     bool late, copies, interactive, quiet;
     bool large; /* each guest has two regions of memory */
+    bool devices; /* each has an entropy device and a network card */
+    const char *frames; /* the file of the frames that guest 0's card is handed, or NULL: those of the switch */
     int shown; /* the one guest on the screen, or -1 for all */
     int kept;  /* the guest whose disk goes back to its file, or -1 */
     char **guests;
