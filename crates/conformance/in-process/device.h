@@ -19,8 +19,16 @@ struct region {
     uint64_t base, len;
 };
 
-/* One guest: its memory, the sectors of the image that its disk shows, its console's size, and what its disk answers to
- * GET_ID. */
+/* How many further devices a guest has at most, and one of them: an entropy device, or a network card. */
+enum { MOST_DEVICES = 6 };
+struct further_device {
+    bool is_card;
+    uint8_t mac[6];
+    uint16_t mtu;
+};
+
+/* One guest: its memory, the sectors of the image that its disk shows, its console's size, what its disk answers to
+ * GET_ID, and all further devices that the trace ever plugs in. */
 struct guest {
     struct region regions[MOST_REGIONS];
     size_t regions_len;
@@ -30,6 +38,8 @@ struct guest {
     bool read_only;
     uint16_t cols, rows;
     uint8_t identity[20];
+    struct further_device devices[MOST_DEVICES];
+    size_t devices_len;
 };
 
 /* How many bytes the regions of a guest have together. */
@@ -96,6 +106,20 @@ struct hosting {
     bool (*release)(unsigned guest);
 };
 
+/* What a device has besides where guests may have further devices (docs/model.md#further-devices), which are named by their
+ * numbers. False, and nothing changed: the guest's device of that number takes no such thing. */
+struct further {
+    bool (*read)(unsigned guest, unsigned number, unsigned offset, unsigned width, uint32_t *value);
+    bool (*write)(unsigned guest, unsigned number, unsigned offset, unsigned width, uint32_t value);
+    /* Supplies an entropy device with bytes; how many of them it took, the first ones. */
+    bool (*supply)(unsigned guest, unsigned number, const uint8_t *bytes, size_t len, size_t *taken);
+    /* Hands a network card a frame; whether it took it. Takes the oldest that the card's driver sent, which has `len`
+     * bytes, or 0 where none waits. */
+    bool (*receive)(unsigned guest, unsigned number, const uint8_t *frame, size_t len, bool *taken);
+    bool (*take)(unsigned guest, unsigned number, uint8_t *frame, size_t room, size_t *len);
+    bool (*set_link)(unsigned guest, unsigned number, bool up);
+};
+
 /* The device. What a write or an input notifies is served before the call returns. */
 struct device {
     /* A guest reads or writes `width` bytes (1, 2 or 4) at an offset of a window. A read has no effect. */
@@ -117,6 +141,8 @@ struct device {
     const char *(*restore)(unsigned guest, const uint8_t *bytes, size_t len);
     /* Null: no trace may serve the disks. */
     const struct hosting *hosting;
+    /* Null: no guest may have further devices. */
+    const struct further *further;
 };
 
 /* The device that run.c drives, and that fuzz.c compares with the C library of this repository. */

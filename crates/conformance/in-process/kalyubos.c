@@ -85,6 +85,12 @@ static const char *make(const struct setup *setup)
         for (size_t j = 0; j < guest->regions_len; j++)
             slots[i].regions[j] = (struct kalyubos_region){guest->regions[j].base, guest->regions[j].len};
         memcpy(slots[i].identity, guest->identity, sizeof slots[i].identity);
+        for (size_t j = 0; j < guest->devices_len; j++) {
+            const struct further_device *device = &guest->devices[j];
+            slots[i].devices[j].kind = device->is_card ? KALYUBOS_NETWORK : KALYUBOS_ENTROPY;
+            slots[i].devices[j].mtu = device->mtu;
+            memcpy(slots[i].devices[j].mac, device->mac, sizeof device->mac);
+        }
     }
     memset(begun, 0, sizeof begun);
     image = setup->image;
@@ -261,6 +267,57 @@ static void asked(unsigned guest, unsigned tag, struct operation *operation)
         operation->runs[i] = (struct run){runs[i].at, runs[i].len};
 }
 
+/* --- further devices */
+
+static uint8_t window_of(unsigned number)
+{
+    return (uint8_t)(KALYUBOS_DEVICE + number);
+}
+
+/* Whether a device took what was done to it. */
+static bool took(uint32_t answer)
+{
+    if (answer == KALYUBOS_BAD_WINDOW)
+        return false;
+    must(answer);
+    return true;
+}
+
+static bool read_device(unsigned guest, unsigned number, unsigned offset, unsigned width, uint32_t *value)
+{
+    return took(kalyubos_read(&board, (uint8_t)guest, window_of(number), (uint16_t)offset, (uint8_t)width, value));
+}
+
+static bool write_device(unsigned guest, unsigned number, unsigned offset, unsigned width, uint32_t value)
+{
+    struct kalyubos_pending pending;
+    return took(kalyubos_write(&board, (uint8_t)guest, window_of(number), (uint16_t)offset, (uint8_t)width, value, &pending));
+}
+
+static bool supply(unsigned guest, unsigned number, const uint8_t *bytes, size_t len, size_t *taken)
+{
+    static const uint8_t none[1];
+    return took(kalyubos_supply(&board, (uint8_t)guest, window_of(number), bytes ? bytes : none, len, taken));
+}
+
+static bool receive(unsigned guest, unsigned number, const uint8_t *frame, size_t len, bool *taken)
+{
+    static const uint8_t none[1];
+    return took(kalyubos_receive(&board, (uint8_t)guest, window_of(number), frame ? frame : none, len, taken));
+}
+
+static bool take(unsigned guest, unsigned number, uint8_t *frame, size_t room, size_t *len)
+{
+    return took(kalyubos_take_frame(&board, (uint8_t)guest, window_of(number), frame, room, len));
+}
+
+static bool set_link(unsigned guest, unsigned number, bool up)
+{
+    return took(kalyubos_set_link(&board, (uint8_t)guest, window_of(number), up));
+}
+
+static const struct further further = {read_device, write_device, supply, receive, take, set_link};
+
 static const struct hosting hosting = {true, write_hosted, complete, began, asked, drop, hold, release};
 
 #ifdef OURS
@@ -269,4 +326,4 @@ extern const struct device kalyubos;
 #else
 #define NAME device
 #endif
-const struct device NAME = {read, write, memory, input, resize, make, end, restore, &hosting};
+const struct device NAME = {read, write, memory, input, resize, make, end, restore, &hosting, &further};

@@ -155,6 +155,52 @@ static bool read_disk(struct field field, struct guest *guest)
     return guest->hosted;
 }
 
+/* What a further device is. */
+static bool read_kind(struct field field, struct further_device *device)
+{
+    static const char word[] = "network:";
+    size_t len = strlen(word), digits = 2 * sizeof device->mac;
+    uint64_t mtu;
+    device->is_card = !is(field, "entropy");
+    if (!device->is_card)
+        return true;
+    if (field.len < len + digits + 1 || memcmp(field.at, word, len) || field.at[len + digits] != ':')
+        return false;
+    for (size_t i = 0; i < sizeof device->mac; i++) {
+        int high = digit(field.at[len + 2 * i]), low = digit(field.at[len + 2 * i + 1]);
+        if (high < 0 || low < 0)
+            return false;
+        device->mac[i] = (uint8_t)(16 * high + low);
+    }
+    if (!number((struct field){field.at + len + digits + 1, field.len - len - digits - 1}, 0xffff, &mtu))
+        return false;
+    device->mtu = (uint16_t)mtu;
+    return true;
+}
+
+/* Whether a guest with so many further devices takes this one as its next. */
+static bool may_plug(size_t plugged, unsigned number, const struct further_device *device)
+{
+    enum { LEAST_MTU = 68 };
+    return number == plugged && plugged < MOST_DEVICES && (!device->is_card || device->mtu >= LEAST_MTU);
+}
+
+/* Gives each guest the devices that the events plug in: those that aren't plugged in yet take no event. */
+static void read_plugs(struct trace *trace)
+{
+    struct field line, fields[4];
+    uint64_t guest, which;
+    for (const char *at = trace->events; next_line(&at, trace->end, &line);) {
+        struct further_device device = {0};
+        if (split(line.at, line.len, fields, 4) != 4 || !is(fields[0], "plug") || !number(fields[1], 0xff, &guest) ||
+            !number(fields[2], 0xff, &which) || !read_kind(fields[3], &device) || guest >= trace->guests_len)
+            continue;
+        struct guest *its = &trace->guests[guest];
+        if (may_plug(its->devices_len, (unsigned)which, &device))
+            its->devices[its->devices_len++] = device;
+    }
+}
+
 /* Line 2: the cache's capacity. */
 static bool read_cache(struct field line, struct trace *trace)
 {
@@ -179,8 +225,11 @@ bool read_setup(const char *text, size_t len, struct trace *trace)
         return false;
     most = named ? MOST_GUESTS : 16;
     for (const char *at = trace->events; next_line(&at, trace->end, &line); trace->events = at) {
-        if (line.len < 5 || memcmp(line.at, "slot ", 5))
+        if (line.len < 5 || memcmp(line.at, "slot ", 5)) {
+            if (extended)
+                read_plugs(trace);
             return true;
+        }
         struct guest *guest = &trace->guests[trace->guests_len];
         if (trace->guests_len++ == most || split(line.at, line.len, fields, 9) != (named ? 9 : 8) ||
             !(extended ? read_regions(fields[1], guest) && read_disk(fields[2], guest)
@@ -216,13 +265,10 @@ static bool read_bytes(struct field field, struct event *event)
     return true;
 }
 
-/* The window, offset and width of a register access. */
-static bool read_place(const struct field *fields, struct event *event)
+/* The offset and width of a register access, in the fields behind its window. */
+static bool read_offset(const struct field *fields, struct event *event)
 {
     uint64_t offset, width;
-    if (!is(fields[2], "b") && !is(fields[2], "c"))
-        return false;
-    event->window = is(fields[2], "c") ? CONSOLE_WINDOW : BLOCK_WINDOW;
     if (fields[3].len != 3 || !number(fields[3], 0xfff, &offset) || !number(fields[4], 4, &width))
         return false;
     event->offset = (unsigned)offset;
@@ -230,22 +276,77 @@ static bool read_place(const struct field *fields, struct event *event)
     return width == 1 || width == 2 || width == 4;
 }
 
-static bool read_fields(const struct field *fields, size_t count, struct event *event)
+/* The window, offset and width. */
+static bool read_place(const struct field *fields, struct event *event)
+{
+    if (!is(fields[2], "b") && !is(fields[2], "c"))
+        return false;
+    event->window = is(fields[2], "c") ? CONSOLE_WINDOW : BLOCK_WINDOW;
+    return read_offset(fields, event);
+}
+
+/* The value of a write, of as many digits as its width has. */
+static bool read_value(struct field field, struct event *event)
+{
+    uint64_t value;
+    if (field.len != 2 * event->width || !number(field, UINT32_MAX, &value))
+        return false;
+    event->value = (uint32_t)value;
+    return true;
+}
+
+/* A line for a further device, behind its slot's number. */
+static bool read_device_fields(const struct field *fields, size_t count, struct event *event, struct trace *trace)
+{
+    static const struct { const char *word; int kind; size_t count; } lines[] = {
+        {"plug", PLUG, 4}, {"dr", DEVICE_READ, 5}, {"dw", DEVICE_WRITE, 6}, {"supply", SUPPLY, 4}, {"frame", RECEIVE, 4},
+        {"take", TAKE, 3}, {"link", SET_LINK, 4},
+    };
+    struct further_device device = {0};
+    uint64_t value;
+    size_t i = 0, of = sizeof lines / sizeof *lines;
+    while (i < of && !(is(fields[0], lines[i].word) && count == lines[i].count))
+        i++;
+    if (i == of || !number(fields[2], 0xff, &value))
+        return false;
+    size_t *plugged = event->guest < trace->guests_len ? &trace->plugged[event->guest] : NULL;
+    event->kind = lines[i].kind;
+    event->number = (unsigned)value;
+    event->is_there = plugged && event->number < *plugged;
+    switch (lines[i].kind) {
+    case PLUG:
+        if (!read_kind(fields[3], &device))
+            return false;
+        event->is_there = plugged && may_plug(*plugged, event->number, &device);
+        if (event->is_there)
+            ++*plugged;
+        return true;
+    case DEVICE_READ: return read_offset(fields, event);
+    case DEVICE_WRITE: return read_offset(fields, event) && read_value(fields[5], event);
+    case SUPPLY:
+    case RECEIVE: return read_bytes(fields[3], event);
+    case SET_LINK:
+        event->up = is(fields[3], "up");
+        return event->up || is(fields[3], "down");
+    default: return true;
+    }
+}
+
+static bool read_fields(const struct field *fields, size_t count, struct event *event, struct trace *trace)
 {
     uint64_t value, other;
     if (!number(fields[1], 0xff, &value))
         return false;
     event->guest = (unsigned)value;
+    if (count >= 3 && read_device_fields(fields, count, event, trace))
+        return true;
     if (is(fields[0], "r") && count == 5) {
         event->kind = READ;
         return read_place(fields, event);
     }
     if (is(fields[0], "w") && count == 6) {
         event->kind = WRITE;
-        if (!read_place(fields, event) || fields[5].len != 2 * event->width || !number(fields[5], UINT32_MAX, &value))
-            return false;
-        event->value = (uint32_t)value;
-        return true;
+        return read_place(fields, event) && read_value(fields[5], event);
     }
     if (is(fields[0], "mr") && count == 4) {
         event->kind = MEMORY_READ;
@@ -289,7 +390,7 @@ bool read_event(struct trace *trace, struct event *event)
     if (!next_line(&trace->events, trace->end, &line))
         return false;
     size_t count = split(line.at, line.len, fields, 6);
-    if (count >= 2 && read_fields(fields, count, event))
+    if (count >= 2 && read_fields(fields, count, event, trace))
         return true;
     free(event->bytes);
     event->bytes = NULL;
@@ -336,16 +437,74 @@ static say *call_of(const struct hosting *hosting, const struct event *event)
     return event->kind == DROP ? hosting->drop : event->kind == HOLD ? hosting->hold : hosting->release;
 }
 
+/* Whether a guest is restored before the trace has plugged in all that the device has from the beginning. */
+static bool is_early(const struct trace *trace, const struct event *event)
+{
+    return event->kind == RESTORE && event->guest < trace->guests_len &&
+           trace->plugged[event->guest] < trace->guests[event->guest].devices_len;
+}
+
 bool can_be_asked(const struct device *device, const struct trace *trace, const struct event *event)
 {
-    bool of_host = event->kind >= DROP && event->guest < trace->guests_len && trace->guests[event->guest].hosted;
-    return (event->kind != RESTORE || device->restore) && (!of_host || call_of(device->hosting, event));
+    bool of_host = (event->kind == DROP || event->kind == HOLD || event->kind == RELEASE) &&
+                   event->guest < trace->guests_len && trace->guests[event->guest].hosted;
+    return (event->kind != RESTORE || device->restore) && (!of_host || call_of(device->hosting, event)) &&
+           (event->kind < PLUG || device->further) && !is_early(trace, event);
+}
+
+/* What an event of a further device is answered that its guest has; false: it takes no such thing. */
+static bool reply_device(const struct further *further, const struct event *event, struct text *record)
+{
+    static uint8_t frame[1 << 16];
+    char word[32] = "done";
+    uint32_t value;
+    size_t len;
+    bool taken;
+    switch (event->kind) {
+    case DEVICE_READ:
+        if (!further->read(event->guest, event->number, event->offset, event->width, &value))
+            return false;
+        snprintf(word, sizeof word, "v:%08x", (unsigned)value);
+        break;
+    case DEVICE_WRITE:
+        if (!further->write(event->guest, event->number, event->offset, event->width, event->value))
+            return false;
+        break;
+    case SUPPLY:
+        if (!further->supply(event->guest, event->number, event->bytes, event->len, &len))
+            return false;
+        snprintf(word, sizeof word, "took:%zx", len);
+        break;
+    case RECEIVE:
+        if (!further->receive(event->guest, event->number, event->bytes, event->len, &taken))
+            return false;
+        snprintf(word, sizeof word, "took:%zx", taken ? event->len : 0);
+        break;
+    case TAKE:
+        if (!further->take(event->guest, event->number, frame, sizeof frame, &len))
+            return false;
+        append_word(record, "b:");
+        append_bytes(record, frame, len);
+        return true;
+    case SET_LINK:
+        if (!further->set_link(event->guest, event->number, event->up))
+            return false;
+        break;
+    default: break; /* a plug: the device has it from the beginning */
+    }
+    append_word(record, word);
+    return true;
 }
 
 static void reply(const struct device *device, const struct trace *trace, const struct event *event,
                   struct text *record)
 {
     char word[32] = "done";
+    if (event->kind >= PLUG) {
+        if (!event->is_there || !reply_device(device->further, event, record))
+            append_word(record, "baddevice");
+        return;
+    }
     switch (event->kind) {
     case READ:
         snprintf(word, sizeof word, "v:%08x",
@@ -383,6 +542,7 @@ static void reply(const struct device *device, const struct trace *trace, const 
     case RESIZE:
         device->resize(event->guest, event->cols, event->rows);
         break;
+    default: break;
     }
     append_word(record, word);
 }

@@ -13,13 +13,18 @@ struct trace {
     struct guest guests[MOST_GUESTS];
     size_t guests_len;
     const char *events, *end;
+    size_t plugged[MOST_GUESTS]; /* how many further devices each guest has before these events */
 };
 
 /* One event, with its bytes in `bytes`. */
 struct event {
-    enum { READ, WRITE, MEMORY_READ, MEMORY_WRITE, INPUT, RESIZE, RESTORE, COMPLETE, DROP, HOLD, RELEASE } kind;
+    enum {
+        READ, WRITE, MEMORY_READ, MEMORY_WRITE, INPUT, RESIZE, RESTORE, COMPLETE, DROP, HOLD, RELEASE,
+        PLUG, DEVICE_READ, DEVICE_WRITE, SUPPLY, RECEIVE, TAKE, SET_LINK /* of a further device */
+    } kind;
     bool failed;
-    unsigned guest, window, offset, width, tag;
+    bool is_there, up; /* the guest has the further device, or it may be plugged in; its link goes up */
+    unsigned guest, window, offset, width, tag, number;
     uint64_t address;
     uint32_t value;
     uint16_t cols, rows;

@@ -14,7 +14,7 @@ ACKNOWLEDGE, DRIVER, DRIVER_OK, FEATURES_OK, NEEDS_RESET, FAILED = 1, 2, 4, 8, 6
 EXTENDED = "kalyubos 1"
 
 FEATURE = {"indirect_desc": 28, "event_idx": 29, "version_1": 32, "ring_packed": 34, "notification_data": 38, "seg_max": 2, "ro": 5,
-           "blk_size": 6, "flush": 9, "write_zeroes": 14, "size": 0, "emerg_write": 2}
+           "blk_size": 6, "flush": 9, "write_zeroes": 14, "size": 0, "emerg_write": 2, "mtu": 3, "mac": 5, "status": 16}
 EVERY = ["indirect_desc", "event_idx", "version_1", "ring_packed", "notification_data"]
 OK, IOERR, UNSUPP = 0, 1, 2
 IN, OUT, FLUSH, GET_ID = 0, 1, 4, 8
@@ -37,6 +37,10 @@ class NoSnapshot(Exception):
 
 class Busy(Exception):
     """An event that waits for what is in flight."""
+
+
+class BadDevice(Exception):
+    """An event that no further device of the slot takes."""
 
 
 class Asks(Exception):
@@ -596,6 +600,7 @@ class Slot:
         self.windows = {"b": Window("b", [name for name in block if name not in lacks]),
                         "c": Window("c", [name for name in console if name not in lacks])}
         self.pending = b""
+        self.devices, self.lacks = [], lacks
 
     # --- registers
 
@@ -644,7 +649,7 @@ class Slot:
         """Takes up a snapshot; where it can't, nothing changes."""
         snapshot = Snapshot(content)
         snapshot.only(b"KALYUBOS")
-        snapshot.only_value(4, 1)
+        snapshot.only_value(4, 2 if self.devices else 1)
         first, span = self.memory.span()
         snapshot.only_value(8, first)
         snapshot.only_value(8, span)
@@ -654,6 +659,9 @@ class Slot:
         cols, rows = snapshot.value(2), snapshot.value(2)
         held = snapshot.choice(self.may_be_held) == 1
         windows = {window: self.windows[window].restored(snapshot, self.memory) for window in "bc"}
+        if self.devices:
+            snapshot.only_value(4, len(self.devices))
+        of_devices = [device.restored(snapshot) for device in self.devices]
         count = snapshot.value(4)
         if count > 4096:
             raise NoSnapshot
@@ -662,6 +670,8 @@ class Slot:
             raise NoSnapshot
         self.windows, self.pending, self.cols, self.rows = windows, pending, cols, rows
         self.held = held
+        for device, window in zip(self.devices, of_devices):
+            device.windows = {"further": window}
 
     # --- services
 
@@ -927,6 +937,176 @@ class HostedSlot(Slot):
         raise Asks("zeroes" + self.stable(), 0, 0, runs)
 
 
+class FurtherWindow(Window):
+    """The window of a further device: which device it is, and how many queues it has."""
+
+    def __init__(self, device_id, queues, offered):
+        super().__init__("further", offered)
+        self.device_id, self.queues = device_id, [Queue(256) for _ in range(queues)]
+
+    def read(self, offset):
+        return self.device_id if offset == 0x008 else super().read(offset)
+
+    def restored(self, snapshot, memory):
+        """A snapshot has two queues of each window."""
+        found, new = super().restored(snapshot, memory), FurtherWindow(self.device_id, len(self.queues), self.offered)
+        vars(new).update(vars(found), queues=found.queues[:len(self.queues)])
+        return new
+
+
+class Further(Slot):
+    """A further device: a slot's registers and services over the memory of its slot, and over one window."""
+
+    # What a snapshot has of one that is no card.
+    address, mtu = bytes(6), 0
+
+    def __init__(self, slot, device_id, queues, own=()):
+        self.memory = slot.memory
+        offered = [name for name in [*EVERY, *own] if name not in slot.lacks]
+        self.windows = {"further": FurtherWindow(device_id, queues, offered)}
+
+    @property
+    def window(self):
+        return self.windows["further"]
+
+    def restored(self, snapshot):
+        """Its window of a snapshot that has such a device."""
+        snapshot.only_value(4, self.window.device_id)
+        snapshot.only(self.address)
+        snapshot.only_value(2, self.mtu)
+        return self.window.restored(snapshot, self.memory)
+
+    def serve(self, window, index):
+        served, is_fault = self.window.queues[index], False
+        try:
+            served.open(self.memory)
+            self.use_chains(served, index)
+        except Fault:
+            is_fault = True
+        self.close(window, served, is_fault)
+        return b""
+
+    def use_chains(self, served, index):
+        """Chains in turn, while the device wants one and doesn't leave it on offer."""
+        while self.wants(index):
+            chain = served.take(self.memory)
+            used = self.use(index, chain) if chain else None
+            if used is None:
+                return
+            served.give(self.memory, chain, *used)
+
+
+class Entropy(Further):
+    """An entropy device (5.4), and the bytes that the host supplied."""
+
+    def __init__(self, slot):
+        super().__init__(slot, 4, 1)
+        self.pool = b""
+
+    def configuration(self, window):
+        return bytes(64)
+
+    def supply(self, content):
+        """How many bytes the pool took."""
+        fit = content[:4096 - len(self.pool)]
+        self.pool += fit
+        self.notify("further", 0)
+        return len(fit)
+
+    def wants(self, index):
+        return self.pool != b""
+
+    def use(self, index, chain):
+        given = self.pool[:chain.room()]
+        chain.write(0, given)
+        self.pool = self.pool[len(given):]
+        return len(given), given != b""
+
+
+class Frames:
+    """The frames that wait one way, the oldest first."""
+
+    def __init__(self):
+        self.waiting = []
+
+    def put(self, frame):
+        """Whether there is room for it."""
+        if len(self.waiting) >= 64 or sum(map(len, self.waiting)) + len(frame) > 65536:
+            return False
+        self.waiting.append(frame)
+        return True
+
+    def first(self):
+        """The oldest one leaves."""
+        return self.waiting.pop(0)
+
+
+class Card(Further):
+    """A network card (5.1), and the frames that wait each way."""
+
+    # The header before a frame: flags, gso_type, hdr_len, gso_size, csum_start and csum_offset, then num_buffers (5.1.6).
+    header = bytes(10) + b"\1\0"
+
+    def __init__(self, slot, address, mtu):
+        if mtu < 68:
+            raise BadDevice
+        super().__init__(slot, 1, 2, ["mtu", "mac", "status"])
+        self.address, self.mtu, self.link = address, mtu, 1
+        self.incoming, self.sent = Frames(), Frames()
+
+    def configuration(self, window):
+        fields = bytearray(64)
+        fields[0:6] = self.address
+        fields[6:8] = self.link.to_bytes(2, "little")
+        fields[10:12] = self.mtu.to_bytes(2, "little")
+        return bytes(fields)
+
+    def frame(self, content):
+        """How many bytes of a frame there was room for: all or none."""
+        if not 1 <= len(content) <= self.mtu + 14:
+            raise BadDevice
+        if not self.incoming.put(content):
+            return 0
+        self.notify("further", 0)
+        return len(content)
+
+    def take(self):
+        """The oldest frame that the driver sent, or nothing."""
+        if not self.sent.waiting:
+            return b""
+        found = self.sent.first()
+        self.notify("further", 1)
+        return found
+
+    def set_link(self, is_up):
+        self.link = int(is_up)
+        self.window.generation = (self.window.generation + 1) % 2**32
+        if self.window.status & DRIVER_OK:
+            self.window.interrupts |= 2
+
+    def wants(self, index):
+        return index == 1 or self.incoming.waiting != []
+
+    def use(self, index, chain):
+        return self.transmit(chain) if index == 1 else self.fill(chain)
+
+    def fill(self, chain):
+        """The first frame that fits goes in, and those before it are dropped; none where none fits."""
+        while self.incoming.waiting:
+            content = self.header + self.incoming.first()
+            if len(content) <= chain.room():
+                chain.write(0, content)
+                return len(content), True
+        return None
+
+    def transmit(self, chain):
+        """The frame waits for the host; none where there is no room for it."""
+        count = chain.count() - len(self.header)
+        if 1 <= count <= 65536 and not self.sent.put(chain.readable()[len(self.header):]):
+            return None
+        return 0, False
+
+
 class BadBoard(Exception):
     """A board that is refused, by the fault's name."""
 
@@ -1107,8 +1287,63 @@ def released(slot):
     return told(slot.release())
 
 
+def device_of(slot, number, kind=Further):
+    """A slot's further device of this kind."""
+    named = slot.devices[int(number, 16):][:1]
+    if not named or not isinstance(named[0], kind):
+        raise BadDevice
+    return named[0]
+
+
+def plugged(slot, number, kind):
+    if int(number, 16) != len(slot.devices) or len(slot.devices) >= 6:
+        raise BadDevice
+    _, *card = kind.split(":")
+    slot.devices.append(Card(slot, bytes.fromhex(card[0]), int(card[1], 16)) if card else Entropy(slot))
+    return "done"
+
+
+def device_read(slot, number, offset, width):
+    return f"v:{device_of(slot, number).read('further', int(offset, 16), int(width)):08x}"
+
+
+def device_written(slot, number, *fields):
+    offset, width, value = (int(field, 16) for field in fields)
+    device_of(slot, number).write("further", offset, width, value)
+    return "done"
+
+
+def supplied(slot, number, content):
+    return f"took:{device_of(slot, number, Entropy).supply(bytes_of(content)):x}"
+
+
+def frame_handed(slot, number, content):
+    return f"took:{device_of(slot, number, Card).frame(bytes_of(content)):x}"
+
+
+def frame_taken(slot, number):
+    return f"b:{spelled(device_of(slot, number, Card).take())}"
+
+
+def link_set(slot, number, link):
+    device_of(slot, number, Card).set_link(link == "up")
+    return "done"
+
+
+def of_device(reply):
+    """A reply of a further device, which puts nothing out, or BadDevice."""
+    def told(slot, *fields):
+        try:
+            return reply(slot, *fields), b""
+        except BadDevice:
+            return "baddevice", b""
+    return told
+
+
 REPLIES = {"r": read, "w": write, "mr": memory_read, "mw": memory_write, "in": typed, "sz": resized, "st": restored,
-           "io": completed, "drop": dropped, "hold": held, "release": released}
+           "io": completed, "drop": dropped, "hold": held, "release": released, "plug": of_device(plugged),
+           "dr": of_device(device_read), "dw": of_device(device_written), "supply": of_device(supplied),
+           "frame": of_device(frame_handed), "take": of_device(frame_taken), "link": of_device(link_set)}
 
 
 def replay(text, content, fails=(), lacks=(), fault_of=None):

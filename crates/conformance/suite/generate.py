@@ -16,7 +16,8 @@ from scene import slot_line
 SECTORS = 8
 SLOT = Slot(0x80000000, 0x10000, 0, SECTORS, False, 80, 25, IDENTITY_TEXT)
 FLUSH_FEATURE = 1 << 9
-PROBE = "".join(f"w 0 {window} 014 4 {word:08x}\nr 0 {window} 010 4\n" for window, word in [("b", 0), ("c", 0), ("b", 1)])
+ASKED = [("b", 0), ("c", 0), ("b", 1)]
+PROBE = "".join(f"w 0 {window} 014 4 {word:08x}\nr 0 {window} 010 4\n" for window, word in ASKED)
 
 
 class Polite:
@@ -173,11 +174,11 @@ def front(cache):
 def offered_by(replies):
     """The features that the answers to the probe tell, or None where they tell other than three words."""
     words = re.findall(r"^0 v:([0-9a-f]{8}) ", "\n".join(replies), re.MULTILINE)
-    return Offered(*(int(word, 16) for word in words)) if len(words) == len(Offered._fields) else None
+    return Offered(*(int(word, 16) for word in words)) if len(words) == len(ASKED) else None
 
 
 def in_common(one, other):
-    return Offered(*(a & b for a, b in zip(one, other)))
+    return Offered(*(a & b for a, b in zip(one[:len(ASKED)], other[:len(ASKED)])))
 
 
 def work(seed, offered, wildness):
