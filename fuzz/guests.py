@@ -31,8 +31,9 @@ class Slot(namedtuple("Slot", "base length start count read_only columns rows id
 
 
 
-# What a board offers its drivers: the low word of each window's features, and the high word of both.
-Offered = namedtuple("Offered", "block console high")
+# What a board offers its drivers: the low word of each window's features, and the high word of both; and the low words of an entropy
+# device and of a network card, where it has further devices.
+Offered = namedtuple("Offered", "block console high entropy network", defaults=[None, None])
 
 # Where a guest keeps its virtqueues, block, receive and transmit: from its memory's base on.
 PLACES = [0x0000, 0x3000, 0x4800]
@@ -46,6 +47,8 @@ OK, IOERR, UNSUPPORTED = 0, 1, 2
 # The identity of each slot of a trace of version 1.
 IDENTITY_TEXT = b"vreplay-block".ljust(20, b"\0")
 PENDING_LIMIT = 4096
+# The events of further devices.
+FURTHER_WORDS = ["plug", "dr", "dw", "supply", "frame", "take", "link"]
 
 # What a hostile guest picks from.
 ODD_COUNTS = [1, 2, 3, 15, 16, 17, 31, 32, 33, 127, 128, 129, 255, 256, 257]
@@ -63,8 +66,14 @@ def segment_bytes(sector, count, flags):
     return sector.to_bytes(8, "little") + count.to_bytes(4, "little") + flags.to_bytes(4, "little")
 
 
+class Event(namedtuple("Event", "word fields")):
+    """A word of a trace and its fields behind the slot; `meant` says what it is to arrivals.py, where it is anything."""
+
+    meant = None
+
+
 class Guest:
-    """What one guest does: its events, each as a word and its fields behind the slot."""
+    """What one guest does: its events in their order."""
 
     def __init__(self, dice, slot, wildness=0.0):
         self.dice, self.slot, self.wildness = dice, slot, wildness
@@ -77,23 +86,36 @@ class Guest:
         # of each block request: the event that reads its status, its type, whether it is refused, and runs of sectors with
         # what it writes to them
         self.looked = []
+        # the drivers of its further devices, how many of these are plugged in, and the region that is these drivers' alone
+        self.further, self.plugged, self.apart = [], 0, (0, 0)
 
     def disk_field(self):
         """Who has its disk, as a slot line says it."""
         return f"host:{self.depth:x}" if self.is_hosted else "image"
 
+    def is_apart(self, word, fields):
+        """Whether an event concerns nothing but further devices and their drivers' region."""
+        first, length = self.apart
+        return word in FURTHER_WORDS or word in ("mr", "mw") and first <= int(fields.split()[0], 16) < first + length
+
     def do(self, word, fields, reply=None, output="-"):
         """Writes an event down, and the reply that the guest relies on, where it does."""
         if reply is not None and not self.wildness:
             self.expected[len(self.events)] = f"{reply} {output}"
-        self.events.append((word, fields))
+        self.events.append(Event(word, fields))
+
+    def mean(self, *meant):
+        """Says what the last event is to arrivals.py."""
+        self.events[-1].meant = meant
 
     def read(self, window, offset, width=4, found=None):
-        self.do("r", f"{window} {offset:03x} {width}", None if found is None else f"v:{found:08x}")
+        word = "r" if window in "bc" else "dr"
+        self.do(word, f"{window} {offset:03x} {width}", None if found is None else f"v:{found:08x}")
 
     def write(self, window, offset, value, width=4, reply=None, output="-"):
         value %= 1 << 8 * width
-        self.do("w", f"{window} {offset:03x} {width} {value:0{2 * width}x}", reply, output)
+        word = "w" if window in "bc" else "dw"
+        self.do(word, f"{window} {offset:03x} {width} {value:0{2 * width}x}", reply, output)
 
     def look(self, address, length, found=None):
         self.do("mr", f"{address:x} {length:x}", None if found is None else f"b:{found.hex() or '-'}")
@@ -103,12 +125,11 @@ class Guest:
 
 
 class Driver:
-    """A driver of one window: brings it up with its virtqueues."""
+    """A driver of one window, `b`, `c` or the number of a further device: brings it up with its virtqueues."""
 
     def __init__(self, guest, window, offered, places):
         dice, self.guest, self.window, self.offered = guest.dice, guest, window, offered
-        low = offered.block if window == "b" else offered.console
-        self.low = low & dice.choice([0, INDIRECT_DESC, EVENT_IDX, 0xFFFFFFFF])
+        self.low = self.own_features() & dice.choice([0, INDIRECT_DESC, EVENT_IDX, 0xFFFFFFFF])
         is_packed = bool(offered.high & RING_PACKED) and dice.random() < 0.5
         self.high = VERSION_1 | (offered.high & dice.choice([0, NOTIFICATION_DATA]))
         if is_packed:
@@ -120,9 +141,14 @@ class Driver:
         for queue, place in zip(self.queues, places):
             self.put_apart(queue, place)
 
+    def own_features(self):
+        """The low word of what the window offers."""
+        return self.offered.block if self.window == "b" else self.offered.console
+
     def areas_at(self, place):
-        """Where the areas of a virtqueue lie: in any region, of which each has room for all."""
-        return self.guest.places.choice(self.guest.slot.regions())[0] + place
+        """Where the areas of a virtqueue lie: in any region but that of further devices. Each has room for all."""
+        regions = [region for region in self.guest.slot.regions() if region != self.guest.apart]
+        return self.guest.places.choice(regions)[0] + place
 
     def put_apart(self, queue, place):
         """Gives the virtqueue's buffers another region than its areas, where there are several."""
@@ -338,6 +364,9 @@ class Mischief:
         self.ways = [self.odd_request] * 6 + [self.odd_zero] * 2 + [self.scribble, self.jump, self.notify, self.notify] + [self.restart] * 4
         self.ways += [self.register, self.register, self.odd_read, self.status, self.move, self.outside, self.long_table]
         self.ways += [self.type] if types else []
+        self.windows = ["b", "c"] + [driver.window for driver in guest.further]
+        if guest.further:
+            self.ways += [self.odd_chain] * 6 + [self.plug] + [self.odd_host] * 4
 
     def step(self):
         self.dice.choice(self.ways)()
@@ -346,7 +375,7 @@ class Mischief:
         return self.dice.choice(self.dice.choice(self.drivers).queues)
 
     def window(self):
-        return self.dice.choice("bc")
+        return self.dice.choice(self.windows)
 
     def number(self):
         """A number at which something may go wrong."""
@@ -481,6 +510,34 @@ class Mischief:
         else:
             self.guest.put(at, self.dice.randbytes(self.dice.randrange(4)))
 
+    def odd_chain(self):
+        """Buffers of any kind for a further device, often around the length of a card's header."""
+        dice, queue = self.dice, self.dice.choice(self.dice.choice(self.guest.further).queues)
+        queue.give_buffers_back()
+        for _ in range(dice.choice([1, 1, 2])):
+            lengths = [dice.choice([0, 1, 11, 12, 13, 26, 100, 1526, self.number() % (1 << 32)]) for _ in range(dice.choice([1, 1, 2, 3]))]
+            places = [queue.buffer(length) if length <= 1526 else self.address() for length in lengths]
+            if queue.left >= len(lengths):
+                queue.offer([(at, length, dice.random() < 0.5) for at, length in zip(places, lengths)])
+        queue.publish()
+        self.guest.write(queue.window, 0x050, queue.notification())
+        queue.look_at_used()
+        self.guest.read(queue.window, 0x070)
+
+    def plug(self):
+        """A further device as any number."""
+        dice = self.dice
+        kind = dice.choice(["entropy", f"network:{dice.randbytes(6).hex()}:{dice.choice([0, 67, 68, 1500, 0xFFFF]):x}"])
+        self.guest.do("plug", f"{dice.choice([0, self.guest.plugged, 5, 6, 255]):x} {kind}")
+
+    def odd_host(self):
+        """What a host does to further devices, of either kind and of any number."""
+        dice, number = self.dice, self.dice.choice([0, 1, 2, 5, 6, 255])
+        word, fields = dice.choice([
+            ("supply", dice.randbytes(dice.choice([0, 1, 100, 5000])).hex() or "-"), ("link", dice.choice(["up", "down"])), ("take", ""),
+            ("frame", dice.randbytes(dice.choice([0, 1, 14, 60, 82, 83, 1514, 1515])).hex() or "-")])
+        self.guest.do(word, f"{number:x} {fields}".strip())
+
     def type(self):
         if self.dice.random() < 0.5:
             self.guest.do("in", self.dice.randbytes(self.dice.choice([0, 1, 100, 5000])).hex() or "-")
@@ -491,7 +548,7 @@ class Mischief:
 def live(guest, offered, disk, count):
     """Makes a guest run its drivers until it has done about `count` events, and then look at all that it has."""
     dice, has_console = guest.dice, bool(offered.console & CONSOLE_SIZE)
-    drivers = [BlockDriver(guest, offered, disk)] + ([ConsoleDriver(guest, offered)] if has_console else [])
+    drivers = [BlockDriver(guest, offered, disk)] + ([ConsoleDriver(guest, offered)] if has_console else []) + guest.further
     guest.disk = drivers[0].disk
     mischief, probes = Mischief(guest, drivers, has_console), Probes(guest, drivers[0])
     if has_console and dice.random() < 0.3:
@@ -507,7 +564,9 @@ def live(guest, offered, disk, count):
             dice.choice(drivers).step()
         if dice.random() < 0.05:
             dice.choice(drivers).bring_up()
-    for window in "bc":
+    for driver in guest.further:
+        driver.finish()
+    for window in ["b", "c"] + [driver.window for driver in guest.further]:
         for offset in (0x034, 0x044, 0x060, 0x070, 0x0FC, 0x100):
             guest.read(window, offset)
     for base, length in guest.slot.regions():

@@ -9,6 +9,7 @@ import sys
 
 sys.path.insert(0, os.path.join(os.path.dirname(os.path.dirname(os.path.abspath(__file__))), "crates", "conformance", "mutants"))
 import model
+from guests import Event
 
 # Before how many of the guest's events an operation is completed. Mostly it is before the next notify: a driver that never waits fills its ring.
 DELAYS = [0, 1, 2, 3, 5, 20, 60]
@@ -40,9 +41,13 @@ class Host:
 
     def serve(self):
         """The guest's events with the host's among them, and the model's records of them. A guest whose host is late relies on
-        nothing."""
+        nothing of its disk and its console."""
         expected = {}
-        for number, (word, fields) in enumerate(self.guest.events):
+        for number, event in enumerate(self.guest.events):
+            word, fields = event
+            if self.guest.is_apart(word, fields):
+                self.pass_on(event, self.guest.expected.get(number), expected)
+                continue
             is_notify = word == "w" and fields.startswith(NOTIFY)
             if is_notify and self.dice.random() < self.patience:
                 self.complete_all()
@@ -67,6 +72,13 @@ class Host:
                 self.say()
         self.guest.events, self.guest.told, self.guest.expected = self.events, self.told, expected
 
+    def pass_on(self, event, reply, expected):
+        """Writes an event down of which the model knows nothing, since it concerns no disk."""
+        if reply is not None:
+            expected[len(self.events)] = reply
+        self.events.append(event)
+        self.told.append(None)
+
     def say(self):
         """Now and then holds the slot, later releases it, or drops what is in flight."""
         self.until = max(0, self.until - 1)
@@ -81,7 +93,7 @@ class Host:
     def do(self, word, fields=""):
         """Writes an event down; its record."""
         record = model.hosted_record_of(self.board, word, ["0", *fields.split()]).partition(" ")[2]
-        self.events.append((word, fields))
+        self.events.append(Event(word, fields))
         self.told.append(record)
         if not record.endswith(" -"):
             self.due = self.dice.choice(DELAYS) if self.is_late else 0
@@ -128,10 +140,10 @@ def complete_nothing(guest, dice):
     for number, event in enumerate(guest.events):
         if dice.random() < 0.02:
             expected[len(events)] = "idle -"
-            events.append(("io", f"{dice.choice([0, 0, 1, 63, 255]):x} {dice.choice(['done', 'failed'])}"))
+            events.append(Event("io", f"{dice.choice([0, 0, 1, 63, 255]):x} {dice.choice(['done', 'failed'])}"))
         if said.random() < 0.02:
             expected[len(events)] = "idle -"
-            events.append((said.choice(["drop", "hold", "hold", "release"]), ""))
+            events.append(Event(said.choice(["drop", "hold", "hold", "release"]), ""))
         if number in guest.expected:
             expected[len(events)] = guest.expected[number]
         events.append(event)

@@ -14,7 +14,8 @@ class Queue:
         self.guest, self.window, self.number, self.size, self.indirect = guest, window, number, size, indirect
         self.tells_next = tells_next
         self.at, self.driver_area, self.room = at, at + DESCRIPTOR * size, at + AREAS
-        self.left = size
+        # whether the driver says now and then which notifications it wants
+        self.left, self.space, self.suppresses = size, BUFFERS, True
         self.give_buffers_back()
 
     def notification(self):
@@ -25,7 +26,7 @@ class Queue:
         return self.number | (self.guest.dice.randrange(1 << 16) if is_lie else self.next_place()) << 16
 
     def room_left(self):
-        return self.room + BUFFERS - self.free
+        return self.room + self.space - self.free
 
     def buffer(self, length):
         """An address for a buffer that nothing else lies in until the buffers are given back."""
@@ -119,6 +120,7 @@ class SplitQueue(Queue):
         return self.idx
 
     def offer(self, buffers, flags=None):
+        """Offers a chain; by which number the device will name it, and how many places of the ring it has."""
         if flags is None:
             buffers, flags = self.in_table(buffers)
         head = self.size - self.left
@@ -129,11 +131,12 @@ class SplitQueue(Queue):
         self.left -= len(buffers)
         self.put_number(self.driver_area + 4 + 2 * (self.idx % self.size), head)
         self.idx = (self.idx + 1) % (1 << 16)
+        return head, 1
 
     def publish(self):
         """Tells the device; it uses all that is offered in one notify, so all descriptors are free then."""
         dice = self.guest.dice
-        if dice.random() < 0.2:
+        if dice.random() < 0.2 and self.suppresses:
             self.put_number(self.driver_area, dice.randrange(2))
             self.put_number(self.driver_area + 4 + 2 * self.size, (self.idx - dice.randrange(3)) % (1 << 16))
         self.put_number(self.driver_area + 2, self.idx)
@@ -141,6 +144,10 @@ class SplitQueue(Queue):
 
     def look_at_used(self):
         self.guest.look(self.device_area + 2, 2, self.idx.to_bytes(2, "little"))
+        self.look_at_ring()
+
+    def look_at_ring(self):
+        """The used ring."""
         self.guest.look(self.device_area, 6 + 8 * self.size)
 
 
@@ -164,6 +171,7 @@ class PackedQueue(Queue):
         return self.position | self.wrap << 15
 
     def offer(self, buffers, flags=None):
+        """Offers a chain; by which number the device will name it, and how many places of the ring it has."""
         if flags is None:
             buffers, flags = self.in_table(buffers)
         name = self.guest.dice.randrange(1 << 16)
@@ -175,13 +183,18 @@ class PackedQueue(Queue):
             if self.position == self.size:
                 self.position, self.wrap = 0, not self.wrap
         self.left -= len(buffers)
+        return name, len(buffers)
 
     def publish(self):
         dice = self.guest.dice
-        if dice.random() < 0.2:
+        if dice.random() < 0.2 and self.suppresses:
             self.put_number(self.driver_area, dice.randrange(self.size) | dice.choice([0, 0x8000]))
             self.put_number(self.driver_area + 2, dice.randrange(4))
         self.left = self.size
 
     def look_at_used(self):
+        self.look_at_ring()
+
+    def look_at_ring(self):
+        """The ring, in which used descriptors stand too."""
         self.guest.look(self.at, DESCRIPTOR * self.size + 8)

@@ -1,6 +1,7 @@
 """A board with its guests and the order of their events, from a seed."""
 import random
 
+from further_devices import give_devices
 from guests import IDENTITY_TEXT, MEMORIES, SECTOR, Guest, Slot, live
 from host import Host, complete_nothing
 from reader import EXTENDED, FIRST, FIRST_LINES
@@ -20,6 +21,13 @@ GAPS = [0x1000, 0x1000, 0x3000, 0x100000, 0x10000000]
 # often the host of a guest is late.
 HOSTED, BOTH, LATE = 1 / 3, 1 / 2, 0.7
 
+# The share of the guests of an extended trace with further devices, where there may be any. A hostile guest whose disk the host serves has
+# none: what they write may change what it asks of its disk, and the model knows nothing of them.
+FURTHER = 1 / 2
+# How many events more a guest does for each of them.
+FURTHER_EVENTS = 300
+STRANGE = ["plug {} 0 entropy", "dr {} 0 000 4", "dw {} 0 070 4 00000000", "supply {} 0 ff", "frame {} 0 ff", "take {} 0", "link {} 0 up"]
+
 # How many operations of a hosted disk may be in flight.
 DEPTHS = [1, 1, 2, 3, 8, 64]
 
@@ -31,9 +39,10 @@ class Scene:
     GUESTS = 2, 5
     DISKS = 2 * [0, 1, 2, 4, 8] + [130]
 
-    def __init__(self, seed, offered, may_be_hosted=False):
+    def __init__(self, seed, offered, may_be_hosted=False, may_have_devices=False):
         self.seed, dice = seed, random.Random(seed)
         names, hosts, kinds = (random.Random(f"{what} {seed}") for what in ("identities", "hosts", "kinds"))
+        self.may_have_devices = may_have_devices and offered.entropy is not None
         self.is_hosted = may_be_hosted and hosts.random() < HOSTED
         is_both = kinds.random() < BOTH
         self.first_line = EXTENDED if self.is_hosted else self.first_line_of(seed, names)
@@ -51,10 +60,11 @@ class Scene:
             self.guests[-1].depth = kinds.choice(DEPTHS)
             start += count + dice.choice([0, 0, 1, 2])
         self.image = dice.randbytes(SECTOR * (start + dice.randrange(2)))
-        for guest in self.guests:
+        for number, guest in enumerate(self.guests):
             first = SECTOR * guest.slot.start
+            self.give(guest, offered, random.Random(f"further {seed} {number}"))
             disk = self.image[first:first + SECTOR * guest.slot.count]
-            self.live(guest, offered, disk, dice.randrange(100, 350))
+            self.live(guest, offered, disk, dice.randrange(100, 350) + FURTHER_EVENTS * len(guest.further))
             if guest.is_hosted:
                 Host(guest, disk, hosts, hosts.random() < LATE).serve()
                 guest.slot = guest.slot._replace(start=kinds.choice([guest.slot.start, 0, self.guests[0].slot.start, (1 << 64) - 1]))
@@ -79,6 +89,12 @@ class Scene:
                 found.append((dice.choice(places), size))
         return tuple(found)
 
+    def give(self, guest, offered, dice):
+        """Gives a guest further devices, where it may have some."""
+        may = self.may_have_devices and self.first_line == EXTENDED and not (guest.is_hosted and guest.wildness)
+        if may and dice.random() < FURTHER:
+            give_devices(guest, offered, dice)
+
     def live(self, guest, offered, disk, count):
         """Makes a guest do about `count` events over its disk."""
         live(guest, offered, disk, count)
@@ -92,7 +108,12 @@ class Scene:
                 yield guest, done[guest]
                 done[guest] += 1
             if dice.random() < 0.01:
-                yield None, dice.choice(STRANGERS + SAID if self.is_hosted else STRANGERS).format(f"{dice.randrange(len(done), 256):x}")
+                yield None, dice.choice(self.strangers()).format(f"{dice.randrange(len(done), 256):x}")
+
+    def strangers(self):
+        """What happens to slots that aren't there."""
+        has_devices = any(guest.further for guest in self.guests)
+        return STRANGERS + (SAID if self.is_hosted else []) + (STRANGE if has_devices else [])
 
     def trace(self, cache=None, first_line=None):
         """The whole trace."""

@@ -7,9 +7,11 @@
  *    called by a thread each, all at once and without a lock.
  *
  *     sessions TRACE IMAGE SEED    prints what was counted, or ends with 1 and the first event that was answered otherwise
- *     sessions                     prints the features that a board offers, as records: of both windows, and the high word
+ *     sessions                     prints the features that a board offers, as records: of both windows, the high word, of an
+ *                                  entropy device and of a network card
  *
- * On the board of all guests a guest is saved now and then, a stranger uses its devices, and it is restored (saves.c).
+ * On the board of all guests a guest is saved now and then, a stranger uses its devices, and it is restored (saves.c). All its
+ * further devices are there from the beginning (further.c).
  *
  * What the host does beside the events follows from SEED and a guest's own answers: it takes output now and then, and
  * where there was no room it takes some and mostly makes the same write again. The heap is open to create and destroy
@@ -22,6 +24,7 @@
 #include <string.h>
 
 #include "flights.h"
+#include "further.h"
 #include "saves.h"
 #include "shut_heap.h"
 
@@ -106,6 +109,7 @@ static void check_busy(struct seat *seat)
     need(kalyubos_read_memory(seat->board, seat->slot, seat->guest->regions[0].base, &byte, 1) == KALYUBOS_BUSY,
          "a read of memory isn't busy", seat->slot);
     check_no_save(seat);
+    check_devices_busy(seat);
 }
 
 /* Goes on with a service until it ends, and lets an event of another guest be served before each piece. */
@@ -173,6 +177,7 @@ static void look(struct seat *seat)
     tell_number(&seat->told, kalyubos_disturbed(seat->board, seat->slot, &disturbed));
     tell(&seat->told, words, sizeof words);
     tell_number(&seat->told, disturbed);
+    tell_devices(seat);
 }
 
 static void act(struct seat *seat, const struct event *event)
@@ -185,6 +190,7 @@ static void act(struct seat *seat, const struct event *event)
     size_t took = 0;
     if (seat->disk != NULL)
         serve_by_chance(seat);
+    serve_devices_by_chance(seat);
     switch (event->kind) {
     case READ:
         tell_number(told, kalyubos_read(seat->board, seat->slot, (uint8_t)event->window, (uint16_t)event->offset,
@@ -211,6 +217,7 @@ static void act(struct seat *seat, const struct event *event)
     case DROP:
     case HOLD:
     case RELEASE: break; /* these traces have none */
+    default: act_on_device(seat, event); break;
     }
     look(seat);
     if (chance(seat, 8) == 0)
@@ -267,6 +274,13 @@ static uint32_t depth_of(size_t guest)
     return DEPTHS[(seed + guest) % (sizeof DEPTHS / sizeof *DEPTHS)];
 }
 
+static struct kalyubos_device device_of(const struct further_device *it)
+{
+    struct kalyubos_device device = { .kind = it->is_card ? KALYUBOS_NETWORK : KALYUBOS_ENTROPY, .mtu = it->mtu };
+    memcpy(device.mac, it->mac, sizeof device.mac);
+    return device;
+}
+
 static struct kalyubos_slot slot_of(size_t guest, uint64_t start)
 {
     const struct guest *it = &trace.guests[guest];
@@ -277,6 +291,8 @@ static struct kalyubos_slot slot_of(size_t guest, uint64_t start)
     };
     for (size_t i = 0; i < it->regions_len; i++)
         slot.regions[i] = (struct kalyubos_region){ it->regions[i].base, it->regions[i].len };
+    for (size_t i = 0; i < it->devices_len; i++)
+        slot.devices[i] = device_of(&it->devices[i]);
     return slot;
 }
 
@@ -431,6 +447,11 @@ static void add_counts(const struct counts *counts)
     total.holds += counts->holds;
     total.waits += counts->waits;
     total.saves += counts->saves;
+    total.supplied += counts->supplied;
+    total.handed += counts->handed;
+    total.sent += counts->sent;
+    total.short_buffers += counts->short_buffers;
+    total.pages += counts->pages;
 }
 
 static void release(struct seat *seat)
@@ -443,12 +464,13 @@ static void release(struct seat *seat)
 
 static void print_features(void)
 {
-    static const uint8_t windows[] = { KALYUBOS_BLOCK, KALYUBOS_CONSOLE, KALYUBOS_BLOCK };
+    static const uint8_t windows[] = { KALYUBOS_BLOCK, KALYUBOS_CONSOLE, KALYUBOS_BLOCK, KALYUBOS_DEVICE, KALYUBOS_DEVICE + 1 };
     static uint8_t image[SECTOR];
     struct kalyubos board = { NULL };
-    struct kalyubos_slot slot = { .size = sizeof slot, .regions = { { 0, 0x1000 } }, .count = 1 };
+    struct kalyubos_slot slot = { .size = sizeof slot, .regions = { { 0, 0x1000 } }, .count = 1,
+                                  .devices = { { .kind = KALYUBOS_ENTROPY }, { .kind = KALYUBOS_NETWORK, .mtu = 1500 } } };
     make(&board, over_image(&slot, 1, image, SECTOR));
-    for (uint32_t i = 0; i < 3; i++) {
+    for (uint32_t i = 0; i < sizeof windows; i++) {
         struct kalyubos_pending pending;
         uint32_t word = 0;
         bool selected = kalyubos_write(&board, 0, windows[i], 0x014, 4, i == 2, &pending) == KALYUBOS_DONE;
@@ -492,9 +514,11 @@ int main(int argc, char **argv)
     check_boards(image);
     printf("%zu events, %" PRIu64 " pauses, %" PRIu64 " writes without room, %" PRIu64 " bytes taken, %" PRIu64
            " operations, %" PRIu64 " of them failed, %" PRIu64 " drops, %" PRIu64 " holds, %" PRIu64
-           " writes that waited for a disk, %" PRIu64 " guests that were saved and restored\n",
+           " writes that waited for a disk, %" PRIu64 " guests that were saved and restored, %" PRIu64
+           " bytes of entropy, %" PRIu64 " frames handed over, %" PRIu64 " frames taken, %" PRIu64 " buffers too short for one, %" PRIu64 " marked pages\n",
            BOARDS_LEN * events_len, total.pauses, total.refused, total.taken, total.operations, total.failures,
-           total.drops, total.holds, total.waits, total.saves);
+           total.drops, total.holds, total.waits, total.saves, total.supplied, total.handed, total.sent, total.short_buffers,
+           total.pages);
     free(begun);
     for (size_t i = 0; i < events_len; i++)
         free(events[i].bytes);
