@@ -1,0 +1,146 @@
+/*
+ * Times frames of a network card from C: the processor time of one, the best of many rounds. bench/frames builds it.
+ */
+#include <stdio.h>
+#include <stdlib.h>
+#include <string.h>
+#include <time.h>
+
+#include "kalyubos.h"
+
+enum { ROUNDS = 40, COUNT = 20000, HEADER = 12, SHORT = 64, LONG = 1514, CARD = KALYUBOS_DEVICE };
+
+static const uint64_t MEMORY = 0x80000000;
+
+/* Where a queue and its one buffer lie, from the memory's first byte on. */
+struct place {
+    uint32_t descriptors, available, used, buffer;
+};
+static const struct place RECEIVE = { 0x1000, 0x2000, 0x3000, 0x10000 }, TRANSMIT = { 0x5000, 0x6000, 0x7000, 0x20000 };
+
+static struct kalyubos board;
+static uint8_t frame[LONG], other[LONG], *memory;
+static size_t frame_len;
+
+static void must(uint32_t answer)
+{
+    if (answer != KALYUBOS_DONE) {
+        fprintf(stderr, "refused with %u\n", (unsigned)answer);
+        exit(1);
+    }
+}
+
+static void set(uint16_t offset, uint32_t value)
+{
+    struct kalyubos_pending pending;
+    must(kalyubos_write(&board, 0, CARD, offset, 4, value, &pending));
+}
+
+/* A queue of four, whose every chain is one buffer. */
+static void bring_up_queue(uint32_t number, const struct place *place, uint16_t flags)
+{
+    struct { uint64_t addr; uint32_t len; uint16_t flags, next; } it = { MEMORY + place->buffer, HEADER, flags, 0 };
+    it.len += (uint32_t)(flags ? LONG : frame_len);
+    memcpy(memory + place->descriptors, &it, sizeof it);
+    set(0x30, number);
+    set(0x38, 4);
+    set(0x80, (uint32_t)MEMORY + place->descriptors);
+    set(0x90, (uint32_t)MEMORY + place->available);
+    set(0xa0, (uint32_t)MEMORY + place->used);
+    set(0x44, 1);
+}
+
+/* One guest with a card, and a driver that has both queues ready. */
+static void open_board(size_t len)
+{
+    struct kalyubos_slot slot = {
+        .size = sizeof slot, .regions = { { MEMORY, 0x100000 } }, .cols = 80, .rows = 25, .hosted = true, .count = 8,
+        .devices = { { .kind = KALYUBOS_NETWORK, .mtu = 1500, .mac = { 0x52, 0x54, 0, 0, 0, 1 } } },
+    };
+    struct kalyubos_config config = kalyubos_config(&slot, 1);
+    size_t memory_len;
+    must(kalyubos_create(&board, &config));
+    must(kalyubos_memory(&board, 0, MEMORY, &memory, &memory_len));
+    frame_len = len;
+    set(0x70, 0);
+    set(0x70, 1);
+    set(0x70, 3);
+    set(0x24, 1);
+    set(0x20, 1);
+    set(0x70, 11);
+    bring_up_queue(0, &RECEIVE, 2);
+    bring_up_queue(1, &TRANSMIT, 0);
+    set(0x70, 15);
+}
+
+/* One chain more is on offer. */
+static void offer(const struct place *place)
+{
+    uint16_t idx;
+    memcpy(&idx, memory + place->available + 2, 2);
+    idx++;
+    memcpy(memory + place->available + 2, &idx, 2);
+}
+
+/* The driver sends a frame, and the host takes it. */
+static void out(void)
+{
+    size_t len;
+    offer(&TRANSMIT);
+    set(0x50, 1);
+    must(kalyubos_take_frame(&board, 0, CARD, frame, LONG, &len));
+    if (len != frame_len)
+        must(KALYUBOS_BAD_SLOT);
+}
+
+/* The host hands a frame to a driver with a chain for it. */
+static void in(void)
+{
+    bool taken;
+    offer(&RECEIVE);
+    must(kalyubos_receive(&board, 0, CARD, frame, frame_len, &taken));
+    if (!taken)
+        must(KALYUBOS_BAD_SLOT);
+}
+
+/* The like of it without a board. The compiler can't see what the copies are for. */
+static void *(*volatile copy)(void *, const void *, size_t) = memcpy;
+
+static void copy_twice(void)
+{
+    copy(frame, other, frame_len);
+    copy(other, frame, frame_len);
+}
+
+static double now(void)
+{
+    struct timespec t;
+    clock_gettime(CLOCK_PROCESS_CPUTIME_ID, &t);
+    return (double)t.tv_sec * 1e9 + (double)t.tv_nsec;
+}
+
+static void time_of(const char *what, void (*work)(void))
+{
+    double best = 1e18;
+    for (int round = 0; round < ROUNDS; round++) {
+        double start = now();
+        for (int i = 0; i < COUNT; i++)
+            work();
+        double one = (now() - start) / COUNT;
+        best = one < best ? one : best;
+    }
+    printf("%4zu bytes %-42s %8.1f ns\n", frame_len, what, best);
+}
+
+int main(void)
+{
+    const size_t lengths[] = { SHORT, LONG };
+    for (size_t i = 0; i < sizeof lengths / sizeof *lengths; i++) {
+        open_board(lengths[i]);
+        time_of("out: offered, notified, taken", out);
+        time_of("in: offered, handed in", in);
+        time_of("copied twice", copy_twice);
+        must(kalyubos_destroy(&board));
+    }
+    return 0;
+}
