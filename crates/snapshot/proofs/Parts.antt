@@ -216,8 +216,10 @@ window_read =
 device_read : IsRead device_at device device_fields DeviceFits
 unfolding device_at device device_fields
 device_read =
-    made_read (both_read read32 (both_read (bytes_read 6) (both_read read16 window_read))) _
-    (λ d. (d.device_id, (d.mac, (d.mtu, d.window)))) (λ x fits. refl) (λ d. refl)
+    made_read
+    (both_read read32 (both_read (bytes_read 6) (both_read read16
+    (both_read read64 (both_read (bytes_read 20) window_read))))) _
+    (λ d. (d.device_id, (d.mac, (d.mtu, (d.sectors, (d.identity, d.window)))))) (λ x fits. refl) (λ d. refl)
 
 -- a value of which nothing is spelled
 module _ {A : Type 0} (value : A) (text : A → List ℕ) (fields : A → List Field) (Same : A → Type 0)

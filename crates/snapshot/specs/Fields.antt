@@ -76,6 +76,8 @@ device_fields d =
     field (to_le_bytes w32 d.device_id)
     ∷ field d.mac
     ∷ field (to_le_bytes w16 d.mtu)
+    ∷ field (to_le_bytes w64 d.sectors)
+    ∷ field d.identity
     ∷ window_fields d.window
 
 abbrev pub each_fields : List SavedDevice → List Field

@@ -150,8 +150,14 @@ window_at =
 
 unfoldable pub device_at : Reader SavedDevice
 device_at =
-    made (λ x. record { device_id = x.0; mac = x.1.0; mtu = x.1.1.0; window = x.1.1.1 })
-    (number_at w32 & bytes_at 6 & number_at w16 & window_at)
+    made (λ x. record {
+      device_id = x.0;
+      mac = x.1.0;
+      mtu = x.1.1.0;
+      sectors = x.1.1.1.0;
+      identity = x.1.1.1.1.0;
+      window = x.1.1.1.1.1;
+    }) (number_at w32 & bytes_at 6 & number_at w16 & number_at w64 & bytes_at 20 & window_at)
 
 -- so many devices
 abbrev pub many_at : ℕ → Reader (List SavedDevice)

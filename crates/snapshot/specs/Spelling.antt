@@ -46,9 +46,11 @@ window w =
 
 -- ---- the further devices
 
--- the type of device, what a network card is known by, and its window
+-- the type of device, what a network card and a disk are known by, and its window
 unfoldable pub device : SavedDevice → List ℕ
-device d = to_le_bytes w32 d.device_id ++ (d.mac ++ (to_le_bytes w16 d.mtu ++ window d.window))
+device d =
+    to_le_bytes w32 d.device_id
+    ++ (d.mac ++ (to_le_bytes w16 d.mtu ++ (to_le_bytes w64 d.sectors ++ (d.identity ++ window d.window))))
 
 -- devices one behind another
 abbrev pub each : List SavedDevice → List ℕ
@@ -129,7 +131,10 @@ WindowFits w =
     × ((QueueFits w.queue_0 × QueueFits w.queue_1) × (w.config_generation < 2 ^ 32))
 
 abbrev pub DeviceFits : SavedDevice → Type 0
-DeviceFits d = (d.device_id < 2 ^ 32) × ((length d.mac ≡ 6) × ((d.mtu < 2 ^ 16) × WindowFits d.window))
+DeviceFits d =
+    (d.device_id < 2 ^ 32)
+    × ((length d.mac ≡ 6)
+    × ((d.mtu < 2 ^ 16) × ((d.sectors < 2 ^ 64) × ((length d.identity ≡ 20) × WindowFits d.window))))
 
 abbrev pub EachFits : List SavedDevice → Type 0
 EachFits [] = Unit {0}

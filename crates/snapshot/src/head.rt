@@ -11,7 +11,7 @@ use byteorder::{ByteOrder, LittleEndian};
 use mmio_window::{Reached, SavedQueue, SavedWindow};
 
 /// How long a snapshot is at most, beside the pending input.
-const MOST_FIXED: usize = 1038;
+const MOST_FIXED: usize = 1206;
 
 /// Room for the front of a snapshot.
 pub(crate) type Head = ArrayVec<u8, MOST_FIXED>;
@@ -22,7 +22,7 @@ pub(crate) fn head_of(saved: &SavedSlot, pending: usize) -> Head
     requires { pending ≤ 4096 }
     ensures text { result.items ≡ head saved.now pending }
     ensures fits { SlotFits saved.now }
-    ensures len { length result.items ≤ 1038 }
+    ensures len { length result.items ≤ 1206 }
 {
     let mut out = ArrayVec::new();
     put(&mut out, b"KALYUBOS");
@@ -44,7 +44,7 @@ fn version_of(saved: &SavedSlot) -> u32
 
 // Bytes behind what is there.
 fn put(out: &mut Head, bytes: &[u8])
-    requires room { length out.old.items + length bytes.now ≤ 1038 }
+    requires room { length out.old.items + length bytes.now ≤ 1206 }
     ensures { Puts out.old.items out.new.items bytes.now (length bytes.now) }
 {
     let Ok(()) = out.try_extend_from_slice(bytes) else {
@@ -53,7 +53,7 @@ fn put(out: &mut Head, bytes: &[u8])
 }
 
 fn put_u8(out: &mut Head, byte: u8)
-    requires room { length out.old.items + 1 ≤ 1038 }
+    requires room { length out.old.items + 1 ≤ 1206 }
     ensures puts { Puts out.old.items out.new.items (byte ∷ []) 1 }
     ensures fits { byte < 256 }
 {
@@ -61,7 +61,7 @@ fn put_u8(out: &mut Head, byte: u8)
 }
 
 fn put_u16(out: &mut Head, number: u16)
-    requires room { length out.old.items + 2 ≤ 1038 }
+    requires room { length out.old.items + 2 ≤ 1206 }
     ensures puts { Puts out.old.items out.new.items (to_le_bytes w16 number) 2 }
     ensures fits { number < 2 ^ 16 }
 {
@@ -71,7 +71,7 @@ fn put_u16(out: &mut Head, number: u16)
 }
 
 fn put_u32(out: &mut Head, number: u32)
-    requires room { length out.old.items + 4 ≤ 1038 }
+    requires room { length out.old.items + 4 ≤ 1206 }
     ensures puts { Puts out.old.items out.new.items (to_le_bytes w32 number) 4 }
     ensures fits { number < 2 ^ 32 }
 {
@@ -81,7 +81,7 @@ fn put_u32(out: &mut Head, number: u32)
 }
 
 fn put_u64(out: &mut Head, number: u64)
-    requires room { length out.old.items + 8 ≤ 1038 }
+    requires room { length out.old.items + 8 ≤ 1206 }
     ensures puts { Puts out.old.items out.new.items (to_le_bytes w64 number) 8 }
     ensures fits { number < 2 ^ 64 }
 {
@@ -91,8 +91,8 @@ fn put_u64(out: &mut Head, number: u64)
 }
 
 fn put_slot(out: &mut Head, saved: &SavedSlot)
-    requires room { length out.old.items + 1022 ≤ 1038 }
-    ensures puts { Puts out.old.items out.new.items (slot saved.now) 1022 }
+    requires room { length out.old.items + 1190 ≤ 1206 }
+    ensures puts { Puts out.old.items out.new.items (slot saved.now) 1190 }
     ensures fits { SlotFits saved.now }
 {
     put_u64(out, saved.base);
@@ -111,8 +111,8 @@ fn put_slot(out: &mut Head, saved: &SavedSlot)
 // How many further devices there are, and the devices: nothing where there is none.
 fn put_devices(out: &mut Head, list: &[SavedDevice])
     requires few { length list.now ≤ 6 }
-    requires room { length out.old.items + 748 ≤ 1038 }
-    ensures puts { Puts out.old.items out.new.items (devices list.now) 748 }
+    requires room { length out.old.items + 916 ≤ 1206 }
+    ensures puts { Puts out.old.items out.new.items (devices list.now) 916 }
     ensures fits { DevicesFit list.now }
 {
     if list.is_empty() {
@@ -124,8 +124,8 @@ fn put_devices(out: &mut Head, list: &[SavedDevice])
 
 // Devices one behind another.
 fn put_each(out: &mut Head, list: &[SavedDevice])
-    requires room { length out.old.items + length list.now * 124 ≤ 1038 }
-    ensures puts { Puts out.old.items out.new.items (each list.now) (length list.now * 124) }
+    requires room { length out.old.items + length list.now * 152 ≤ 1206 }
+    ensures puts { Puts out.old.items out.new.items (each list.now) (length list.now * 152) }
     ensures fits { EachFits list.now }
 {
     if let [first, rest @ ..] = list {
@@ -135,18 +135,20 @@ fn put_each(out: &mut Head, list: &[SavedDevice])
 }
 
 fn put_device(out: &mut Head, saved: &SavedDevice)
-    requires room { length out.old.items + 124 ≤ 1038 }
-    ensures puts { Puts out.old.items out.new.items (device saved.now) 124 }
+    requires room { length out.old.items + 152 ≤ 1206 }
+    ensures puts { Puts out.old.items out.new.items (device saved.now) 152 }
     ensures fits { DeviceFits saved.now }
 {
     put_u32(out, saved.device_id);
     put(out, &saved.mac);
     put_u16(out, saved.mtu);
+    put_u64(out, saved.sectors);
+    put(out, &saved.identity);
     put_window(out, &saved.window);
 }
 
 fn put_window(out: &mut Head, saved: &SavedWindow)
-    requires room { length out.old.items + 112 ≤ 1038 }
+    requires room { length out.old.items + 112 ≤ 1206 }
     ensures puts { Puts out.old.items out.new.items (window saved.now) 112 }
     ensures fits { WindowFits saved.now }
 {
@@ -164,7 +166,7 @@ fn put_window(out: &mut Head, saved: &SavedWindow)
 }
 
 fn put_queue(out: &mut Head, saved: &SavedQueue)
-    requires room { length out.old.items + 37 ≤ 1038 }
+    requires room { length out.old.items + 37 ≤ 1206 }
     ensures puts { Puts out.old.items out.new.items (queue saved.now) 37 }
     ensures fits { QueueFits saved.now }
 {
@@ -177,7 +179,7 @@ fn put_queue(out: &mut Head, saved: &SavedQueue)
 
 // How far a queue is served, where it is ready.
 fn put_reached(out: &mut Head, saved: Option<Reached>)
-    requires room { length out.old.items + 9 ≤ 1038 }
+    requires room { length out.old.items + 9 ≤ 1206 }
     ensures puts { Puts out.old.items out.new.items (reached saved) 9 }
     ensures fits { MayReach saved }
 {

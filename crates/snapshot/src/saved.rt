@@ -15,6 +15,10 @@ pub struct SavedDevice {
     pub mac: [u8; 6],
     /// The longest payload of a network card's frame (5.1.4), and 0 of another device.
     pub mtu: u16,
+    /// How many sectors a disk has, and 0 of another device.
+    pub sectors: u64,
+    /// What a disk answers to GET_ID (5.2.6), and zeros of another device.
+    pub identity: [u8; 20],
     /// The device's window.
     pub window: SavedWindow,
 }
@@ -32,6 +36,8 @@ impl Default for SavedDevice {
             device_id: 0,
             mac: [0; 6],
             mtu: 0,
+            sectors: 0,
+            identity: [0; 20],
             window: SavedWindow {
                 negotiation: SavedNegotiation {
                     offered: 0,

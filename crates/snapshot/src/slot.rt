@@ -101,6 +101,8 @@ impl Reader<'_> {
             device_id: self.u32()?,
             mac: self.mac()?,
             mtu: self.u16()?,
+            sectors: self.u64()?,
+            identity: self.identity()?,
             window: self.window()?,
         })
     }
