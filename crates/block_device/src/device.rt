@@ -1,12 +1,15 @@
-//! The device: which sectors it shows, whether they may be written, its identity, and its configuration space (5.2.4).
+//! The device: which sectors it shows, whether they may be written, its identity, its features (5.2.3) and its configuration
+//! space (5.2.4).
 
 ghost use Rattle.std.specs.Prelude.{◌≡◌};
-ghost use Rattle.block_device.specs.Config.{config_of};
+ghost use Rattle.negotiation.specs.Features.{feature_bits};
+ghost use Rattle.block_device.specs.Config.{block_features, config_of};
 
 use crate::extent::Extent;
 use crate::request::SECTOR_LEN;
 use crate::segments::{MAX_WRITE_ZEROES_SECTORS, MAX_WRITE_ZEROES_SEG};
 use byteorder::{ByteOrder, LittleEndian};
+use negotiation::{Features, Flags};
 
 /// How many segments a request may have, next to its header and its status.
 const SEG_MAX: u32 = 126;
@@ -39,6 +42,22 @@ impl BlockDevice {
             extent,
             read_only,
             identity,
+        }
+    }
+
+    /// The features that it offers (5.2.3). One that refuses writes says so.
+    pub fn features(&self) -> Features
+        ensures { feature_bits result ≡ block_features self.now.read_only }
+    {
+        let features = Features::of_every_device()
+            .union(Features::BLOCK_SEG_MAX)
+            .union(Features::BLOCK_BLK_SIZE)
+            .union(Features::BLOCK_FLUSH)
+            .union(Features::BLOCK_WRITE_ZEROES);
+        if self.read_only {
+            features.union(Features::BLOCK_RO)
+        } else {
+            features
         }
     }
 

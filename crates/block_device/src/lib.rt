@@ -35,6 +35,6 @@ pub use laws::{
     one_failure_at_most, one_look, one_whole_look, pieces_are_one_service, what_asks_is_ahead,
     what_lands_is_gone, what_stays_is_ahead,
 };
-pub use operation::{Operation, OperationKind, Verdict};
+pub use operation::{HostEvent, Operation, OperationKind, Verdict};
 pub use request::{Request, RequestStatus};
 pub use serve::Piece;

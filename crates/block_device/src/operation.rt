@@ -54,6 +54,20 @@ pub enum Verdict {
     Failed,
 }
 
+/// What the host says of a disk that it serves.
+#[derive(Clone, Copy, Debug, PartialEq, Eq)]
+pub enum HostEvent {
+    /// The operation of this tag is done, or failed.
+    Complete { tag: u8, verdict: Verdict },
+    /// No transfer touches the guest's memory any more: what is in flight is given up, and the device asks to be reset
+    /// (2.1.2).
+    Drop,
+    /// No further chain is taken until `Release`.
+    Hold,
+    /// Chains are taken again, first those that wait.
+    Release,
+}
+
 impl BlockDevice {
     /// What the host is told of a request: the operation, and in `runs` where its bytes lie. Those of a WRITE_ZEROES
     /// stand there already. `stable` is whether its driver can't flush.
