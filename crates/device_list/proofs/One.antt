@@ -17,10 +17,14 @@ use Rattle.entropy_device.specs.Device.{entropy}
 use Rattle.entropy_device.proofs.Services.{once as entropy_once}
 use Rattle.network_device.specs.Device.{Passing, passing, receive, transmit}
 use Rattle.network_device.proofs.Answering.{receive_once, transmit_once}
+use Rattle.block_device.specs.declared.operation.HostEvent.{HostEvent}
+use Rattle.hosted_disk.specs.Disk.{HostedDisk}
+use Rattle.hosted_disk.specs.Told.{DoesAsTold}
+use Rattle.hosted_disk.proofs.One.{serve_disk, tell_disk}
 use Rattle.device_list.specs.Card.{Card, ReceivesFrames, ServesCard, TransmitsFrames, card_limits, kept_behind, with_frame, without_oldest}
-use Rattle.device_list.specs.Device.{DeviceState, Finishes, Receives, ServesAfter, Supplies, TakesSent, Writes}
+use Rattle.device_list.specs.Device.{DeviceState, Finishes, Receives, ServesAfter, Supplies, TakesSent, Told, Writes}
 use Rattle.device_list.specs.List.{At}
-use Rattle.device_list.specs.Model.{ModelState, Entropy, Network as NetworkModel, Serves, supplied_model, with_card}
+use Rattle.device_list.specs.Model.{ModelState, Entropy, Network as NetworkModel, Block as BlockModel, Serves, supplied_model, with_card}
 use Rattle.device_list.proofs.Cards.{receive_decides, transmit_decides}
 
 -- a device that decides has one service
@@ -111,6 +115,9 @@ serves_once (Entropy pool) (suc q) m n o u v w one other a b =
 serves_once (NetworkModel card) q m n o u v w one other a b =
     let same = card_once card q m n o u v w a.after b.after a.serves b.serves in
     record { memory = same.memory; window = same.window; state = a.is ∙ ap NetworkModel same.state ∙ sym b.is }
+serves_once (BlockModel disk) q m n o u v w one other a b =
+    let same = serve_disk disk a.after b.after q m n o u v w a.serves b.serves in
+    record { memory = same.memory; window = same.window; state = a.is ∙ ap BlockModel same.disk ∙ sym b.is }
 
 finishes_once : (action : Action) (m n o : Memory) (old one other : DeviceState)
     → Finishes action m n old one → Finishes action m o old other
@@ -170,3 +177,17 @@ reception_once frame = after_once (with_card (with_frame frame)) 0
 pub taking_once : (i : ℕ) (m n o : Memory) (old new new' : List DeviceState) → At TakesSent i m n old new
     → At TakesSent i m o old new' → (n ≡ o) × (new ≡ new')
 taking_once = after_once (with_card without_oldest) 1
+
+-- and what the host says of a disk
+told_once : (said : HostEvent) (m n o : Memory) (old one other : DeviceState) → Told said m n old one
+    → Told said m o old other → AreOne n o one.window other.window one.model other.model
+told_once said m n o old one other a b =
+    let found : BlockModel a.before ≡ BlockModel b.before = sym a.there ∙ b.there in
+    let before : b.before ≡ a.before = cc (found) in
+    let same = tell_disk said a.before a.after b.after m n o old.window one.window other.window a.does
+    (subst (λ (d : HostedDisk). DoesAsTold said d m o old.window other.window b.after) before b.does) in
+    record { memory = same.memory; window = same.window; state = a.is ∙ ap BlockModel same.disk ∙ sym b.is }
+
+pub word_once : (said : HostEvent) (i : ℕ) (m n o : Memory) (old new new' : List DeviceState)
+    → At (Told said) i m n old new → At (Told said) i m o old new' → (n ≡ o) × (new ≡ new')
+word_once said = at_once (Told said) (λ m n o old one other a b. told_once said m n o old one other a b)

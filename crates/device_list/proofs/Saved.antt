@@ -1,7 +1,8 @@
 -- Devices one after another: what is said of the first and of the others is said of all.
-use Rattle.std.proofs.Common.{◌≡◌, ◌∙◌, ◌↔◌, ℕ, zero, suc, ◌-◌, ◌≤◌, Option, Some, Bool, false, List, [], ◌∷◌, length, length-set, slice_index_or, take, drop, refl, sym, ap, subst, arith}
-use Rattle.std.specs.Prelude.{◌<◌, None, IsTrue, nat_le, slice_set}
+use Rattle.std.proofs.Common.{append_assoc, ◌≡◌, ◌∙◌, ◌↔◌, ℕ, zero, suc, ◌-◌, ◌≤◌, ◌||◌, Option, Some, Bool, true, false, List, [], ◌∷◌, length, length-set, slice_index_or, take, drop, refl, sym, ap, subst, arith}
+use Rattle.std.specs.Prelude.{◌<◌, ◌++◌, None, IfSome, IsTrue, nat_le, slice_set}
 use Rattle.std.specs.List.{slice_get}
+use Rattle.std.specs.Option.{MatchOption, option_map}
 use Rattle.guest_memory.specs.Memory.{Memory}
 use Rattle.mmio_window.specs.Saved.{saved_window, window_restored}
 use Rattle.mmio_window.specs.declared.saved.SavedWindow.{SavedWindow}
@@ -11,10 +12,10 @@ use Rattle.std.proofs.lemmas.Bool.{lt-leb}
 use Rattle.snapshot.specs.declared.saved.SavedDevice.{SavedDevice}
 use Rattle.device_list.specs.declared.spec.DeviceSpec.{DeviceSpec}
 use Rattle.device_list.specs.Device.{DeviceState, IsSoundDevice}
-use Rattle.device_list.specs.List.{AreSoundDevices, refusal_of}
-use Rattle.device_list.specs.Model.{features_of, has_bad_mtu, kind_of}
-use Rattle.device_list.specs.Saved.{RestoresEach, SuitDevices, SuitsDevice, device_window_restored, first_restored, saved_device}
-use Rattle.device_list.proofs.Sound.{all_sound}
+use Rattle.device_list.specs.List.{AreSoundDevices, are_at_work, refusal_of}
+use Rattle.device_list.specs.Model.{features_of, has_bad_disk, has_bad_mtu, is_at_work, kind_of}
+use Rattle.device_list.specs.Saved.{RestoresEach, SuitDevices, SuitsDevice, device_window_restored, first_restored, saved_device, saved_devices}
+use Rattle.device_list.proofs.Sound.{all_sound, held_idle}
 
 all_taken : {A : Type 0} (xs : List A) → take (length xs) xs ≡ xs
 all_taken [] = refl
@@ -55,11 +56,11 @@ more [] [] some none suit = absurd (omega arith)
 more [] (y ∷ ds) some none suit = suit
 more (x ∷ ss) ds some none suit = absurd (omega arith)
 
--- a device is added to fewer than six, where its MTU isn't too low
+-- a device is added to fewer than six, where its MTU isn't too low and it is a disk that there may be
 pub not_refused : (devices : List DeviceState) (spec : DeviceSpec) (n : ℕ) → n ≡ length devices → n < 6
-    → has_bad_mtu spec ≡ false → refusal_of devices spec ≡ None
-not_refused devices spec n is few fits =
-    let room : nat_le 6 (length devices) ≡ false = lt-leb _ _ (omega (arith, is, few)) in rw (room, fits) refl
+    → has_bad_mtu spec ≡ false → has_bad_disk spec ≡ false → refusal_of devices spec ≡ None
+not_refused devices spec n is few fits may =
+    let room : nat_le 6 (length devices) ≡ false = lt-leb _ _ (omega (arith, is, few)) in rw (room, fits, may) refl
 
 -- ---- an element
 
@@ -159,14 +160,33 @@ sound_at : (m : Memory) (ds : List DeviceState) (i : ℕ) (d : DeviceState) → 
     → d ≡ slice_index_or ds i d → IsSoundDevice m d
 sound_at m ds i d sound lt is = subst (IsSoundDevice m) (sym is) (sound i d lt)
 
+-- none is at work of devices that aren't
+first_idle : (works others : Bool) → (works || others) ≡ false → works ≡ false
+first_idle true others is = absurd (cc is)
+first_idle false others is = refl
+
+others_idle : (works others : Bool) → (works || others) ≡ false → others ≡ false
+others_idle true others is = absurd (cc is)
+others_idle false others is = is
+
+idle_at : (ds : List DeviceState) (i : ℕ) (d : DeviceState) → are_at_work ds ≡ false → slice_get ds i ≡ Some d
+    → is_at_work d.model ≡ false
+idle_at [] i d idle there = absurd (cc there)
+idle_at (y ∷ ds) zero d idle there =
+    ap (λ (e : DeviceState). is_at_work e.model) (sym (some_is y d there))
+    ∙ first_idle (is_at_work y.model) (are_at_work ds) idle
+idle_at (y ∷ ds) (suc i) d idle there =
+    idle_at ds i d (others_idle (is_at_work y.model) (are_at_work ds) idle) there
+
 -- the devices, of which one has its window as it was saved
 pub restored_sound : (m : Memory) (saved : List SavedDevice) (old read after items : List DeviceState) (i : ℕ)
-    (s : SavedDevice) (d there put : DeviceState) (w : WindowState) → SuitDevices saved old → AreSoundDevices m old
+    (s : SavedDevice) (d there put : DeviceState) (w : WindowState) → are_at_work old ≡ false
+    → SuitDevices saved old → AreSoundDevices m old
     → AreSoundDevices m after → items ≡ after → slice_get saved i ≡ Some s → i < length read
     → d ≡ slice_index_or read i d → read ≡ old → slice_get items i ≡ Some there → slice_get after i ≡ slice_get old i
     → put ≡ record { window = w; model = there.model } → w.kind ≡ kind_of d.model → saved_window w ≡ s.window
     → IsSound m w → AreSoundDevices m (slice_set items i put)
-restored_sound m saved old read after items i s d there put w suit sound so same is lt found seen now above made kind
+restored_sound m saved old read after items i s d there put w idle suit sound so same is lt found seen now above made kind
     again here =
     let at_old : slice_get old i ≡ Some d =
     subst (λ (l : List DeviceState). slice_get l i ≡ Some d) seen (got read i d lt found) in
@@ -181,6 +201,7 @@ restored_sound m saved old read after items i s d there put w suit sound so same
           ap (λ (v : SavedWindow). v.negotiation.offered) again
           ∙ (suits.offered ∙ (was.offers ∙ ap features_of (sym models)));
       window = here;
+      held = held_idle m w there.model (ap is_at_work models ∙ idle_at old i d idle at_old);
     } in
     all_sound m m items i put (record { base = refl; size = refl; gaps = refl })
     (subst (λ (l : List DeviceState). AreSoundDevices m l) (sym same) so)
@@ -203,3 +224,32 @@ restores_more m (y ∷ ds) d some is first others sound =
 pub restores_none : (m : Memory) (ds : List DeviceState) → length ds < 1 → RestoresEach m ds
 restores_none m [] none = tt
 restores_none m (y ∷ ds) none = absurd (omega arith)
+
+-- ---- what a look into a list finds
+
+pub looked_up : {X : Type 0} (now : X → DeviceState) (P : X → Type 0) (found : Option X) (items : List DeviceState) (i : ℕ)
+    → IfSome found (λ x. now x ≡ slice_index_or items i (now x))
+    → MatchOption found (length items ≤ i) (λ x. (i < length items) × P x)
+    → option_map now found ≡ slice_get items i
+looked_up now P None items i at bound = sym (not_got items i bound)
+looked_up now P (Some x) items i at bound = sym (got items i (now x) bound.0 at)
+
+-- what is saved of the first and of the others is saved of all
+pub saved_more : (out : List SavedDevice) (ds : List DeviceState) (d : DeviceState) (s : SavedDevice)
+    → 1 ≤ length ds → d ≡ slice_index_or ds 0 d → s ≡ saved_device d
+    → (out ++ s ∷ []) ++ saved_devices (behind_first ds) ≡ out ++ saved_devices ds
+saved_more out [] d s some is saved = absurd (omega arith)
+saved_more out (y ∷ ds) d s some is saved =
+    rw (behind_is y ds, saved, is) (append_assoc out (saved_device y ∷ []) (saved_devices ds))
+
+pub none_suit : (ss : List SavedDevice) (ds : List DeviceState) → length ds < 1 → length ss < 1 → SuitDevices ss ds
+none_suit [] [] none all = tt
+none_suit [] (y ∷ ds) none all = absurd (omega arith)
+none_suit (x ∷ ss) ds none all = absurd (omega arith)
+
+-- a device that is put back in its place leaves the list as it was
+pub set_back : (ds : List DeviceState) (i : ℕ) (d e : DeviceState) → i < length ds → d ≡ slice_index_or ds i d → e ≡ d
+    → slice_set ds i e ≡ ds
+set_back [] i d e lt is same = absurd (omega arith)
+set_back (y ∷ ds) zero d e lt is same = ap (λ (x : DeviceState). x ∷ ds) (same ∙ is)
+set_back (y ∷ ds) (suc i) d e lt is same = ap (λ (l : List DeviceState). y ∷ l) (set_back ds i d e (omega arith) is same)

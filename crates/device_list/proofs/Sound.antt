@@ -1,6 +1,6 @@
 -- Devices stay sound where the bytes of the memory change, and where one of them does its part.
 use Rattle.std.proofs.Common.{◌≡◌, ℕ, List, refl, sym, ◌∙◌, subst}
-use Rattle.std.specs.Prelude.{◌<◌, [], ◌∷◌, ◌++◌, Bool, true, false, if◌then◌else◌, get_or, length, slice_set}
+use Rattle.std.specs.Prelude.{◌<◌, [], ◌∷◌, ◌++◌, Bool, true, false, if◌then◌else◌, get_or, is_some, length, slice_set}
 use Rattle.std.proofs.lemmas.List.Elements.{All-get_or, All-push, All-set, All-weaker}
 use Rattle.guest_memory.specs.Memory.{Memory, SameRange}
 use Rattle.mmio_window.proofs.Soundness.{IsSound-same_range}
@@ -13,37 +13,79 @@ use Rattle.mmio_window.specs.Writing.{action_of, written}
 use Rattle.device_list.specs.declared.spec.DeviceSpec.{DeviceSpec}
 use Rattle.device_list.specs.Device.{DeviceState, Finishes, IsSoundDevice, Writes, fresh_device}
 use Rattle.device_list.specs.List.{AreSoundDevices}
-use Rattle.device_list.specs.Model.{ModelState, features_of, kind_of}
+use Rattle.hosted_disk.specs.Disk.{fresh_disk}
+use Rattle.hosted_disk.proofs.Flights.{idle_held, keeps_all, none_taken, still_held, written_held}
+use Rattle.device_list.specs.Card.{Card}
+use Rattle.device_list.specs.declared.spec.DeviceSpec.TheVariants as spec
+use Rattle.device_list.specs.Model.{ModelState, Block, Entropy, Network, IsHeld, card_of, features_of, fresh_model, is_at_work, kind_of, must_wait, with_card}
 
 -- a device that was sound is so with this window and this model
 pub made_sound : (m m' : Memory) (d : DeviceState) (w : WindowState) (model : ModelState) → IsSoundDevice m d
     → w.kind ≡ d.window.kind → w.negotiation.offered ≡ d.window.negotiation.offered
     → kind_of d.model ≡ kind_of model → features_of d.model ≡ features_of model → IsSound m' w
-    → IsSoundDevice m' (record { window = w; model = model })
-made_sound m m' d w model sound kind offered same_kind same_features here = record {
+    → IsHeld m' w model → IsSoundDevice m' (record { window = w; model = model })
+made_sound m m' d w model sound kind offered same_kind same_features here held = record {
   kind = kind ∙ sound.kind ∙ same_kind;
   offers = offered ∙ sound.offers ∙ same_features;
   window = here;
+  held = held;
 }
+
+-- ---- what is in flight of a disk is held
+
+-- wherever the memory lies in the same range
+held_over : (m m' : Memory) (w : WindowState) (model : ModelState) → SameRange m m' → IsHeld m w model
+    → IsHeld m' w model
+held_over m m' w (Block disk) range held = still_held m m' w w disk range (keeps_all w) held
+held_over m m' w (Entropy pool) range held = tt
+held_over m m' w (Network card) range held = tt
+
+-- and where nothing is in flight
+pub held_idle : (m : Memory) (w : WindowState) (model : ModelState) → is_at_work model ≡ false → IsHeld m w model
+held_idle m w (Block disk) idle = idle_held m w disk idle
+held_idle m w (Entropy pool) idle = tt
+held_idle m w (Network card) idle = tt
+
+-- behind a write that doesn't wait
+pub held_written : (offset width value : ℕ) (m : Memory) (w : WindowState) (model : ModelState)
+    → must_wait offset model ≡ false → IsHeld m w model → IsHeld m (written offset width value m w) model
+held_written offset width value m w (Block disk) free held = written_held offset width value m w disk free held
+held_written offset width value m w (Entropy pool) free held = tt
+held_written offset width value m w (Network card) free held = tt
+
+-- in a window as after a reset
+held_fresh : (m : Memory) (w : WindowState) (spec : DeviceSpec) → IsHeld m w (fresh_model spec)
+held_fresh m w spec.Entropy = tt
+held_fresh m w (spec.Network mac mtu) = tt
+held_fresh m w (spec.Block sectors read_only identity depth) =
+    idle_held m w (fresh_disk sectors read_only identity depth) (none_taken depth)
+
+-- and a card has nothing in flight
+pub held_card : (change : Card → Card) (m : Memory) (w : WindowState) (model : ModelState)
+    → is_some (card_of model) ≡ true → IsHeld m w (with_card change model)
+held_card change m w (Network card) is = tt
+held_card change m w (Entropy pool) is = absurd (cc is)
+held_card change m w (Block disk) is = absurd (cc is)
 
 pub sound_over : (m m' : Memory) (d : DeviceState) → SameRange m m' → IsSoundDevice m d → IsSoundDevice m' d
 sound_over m m' d range sound = record {
   kind = sound.kind;
   offers = sound.offers;
   window = IsSound-same_range m m' d.window range sound.window;
+  held = held_over m m' d.window d.model range sound.held;
 }
 
 -- a write leaves a device's window its device's
 pub written_sound : (m m' : Memory) (d : DeviceState) (offset width value : ℕ) (u w : WindowState)
     (model : ModelState) → u ≡ written offset width value m d.window → IsSoundDevice m d
     → w.kind ≡ u.kind → w.negotiation.offered ≡ u.negotiation.offered
-    → kind_of model ≡ kind_of d.model → features_of model ≡ features_of d.model → IsSound m' w
+    → kind_of model ≡ kind_of d.model → features_of model ≡ features_of d.model → IsSound m' w → IsHeld m' w model
     → IsSoundDevice m' (record { window = w; model = model })
-written_sound m m' d offset width value u w model is sound kind offered same_kind same_features here =
+written_sound m m' d offset width value u w model is sound kind offered same_kind same_features here held =
     let keeps = KeepsDevice-written offset width value m d.window in
     let now = subst (λ (v : WindowState). KeepsDevice d.window v) (sym is) keeps in
     made_sound m m' d w model sound (kind ∙ now.kind) (offered ∙ now.offered) (sym same_kind)
-    (sym same_features) here
+    (sym same_features) here held
 
 -- a write that notifies no queue leaves nothing to be done
 finishes_quiet : (action : Action) (m : Memory) (d : DeviceState) → ((q : ℕ) → action ≡ Notify q → ⊥)
@@ -73,7 +115,12 @@ still_sound m m' devices range sound =
 
 -- a device as after a reset is sound, wherever its memory is
 pub fresh_sound : (m : Memory) (spec : DeviceSpec) → IsSoundDevice m (fresh_device spec)
-fresh_sound m spec = record { kind = refl; offers = refl; window = record { queue_0 = tt; queue_1 = tt } }
+fresh_sound m spec = record {
+  kind = refl;
+  offers = refl;
+  window = record { queue_0 = tt; queue_1 = tt };
+  held = held_fresh m (fresh_device spec).window spec;
+}
 
 -- and so is it behind others, if it is added
 pub added_sound : (m : Memory) (devices after : List DeviceState) (d : DeviceState) (spec : DeviceSpec) (added : Bool)

@@ -10,7 +10,10 @@ use Rattle.mmio_window.specs.Window.{WindowState, fresh_window, with_config_chan
 use Rattle.mmio_window.specs.Writing.{action_of, written}
 use Rattle.device_list.specs.declared.spec.DeviceSpec.{DeviceSpec}
 use Rattle.device_list.specs.Card.{with_frame, with_link, without_oldest}
-use Rattle.device_list.specs.Model.{ModelState, Serves, config_of, features_of, fresh_model, kind_of, supplied_model, taken_of, with_card}
+use Rattle.block_device.specs.declared.operation.HostEvent.{HostEvent}
+use Rattle.hosted_disk.specs.Disk.{HostedDisk}
+use Rattle.hosted_disk.specs.Told.{DoesAsTold}
+use Rattle.device_list.specs.Model.{ModelState, Block, IsHeld, Serves, config_of, features_of, fresh_model, kind_of, supplied_model, taken_of, with_card}
 
 -- a device: its window, and what stands behind it
 pub record DeviceState : Type 0 where
@@ -25,11 +28,12 @@ fresh_device spec = record {
 }
 
 -- The window is that of its device, of its kind and offering what it offers, and sound for the memory: its ready
--- queues lie in it.
+-- queues lie in it. What is in flight of a disk is held.
 pub record IsSoundDevice (m : Memory) (d : DeviceState) : Type 0 where
   pub kind : d.window.kind ≡ kind_of d.model
   pub offers : d.window.negotiation.offered ≡ features_of d.model
   pub window : IsSound m d.window
+  pub held : IsHeld m d.window d.model
 
 -- what a read of its window gives (4.2.2)
 abbrev pub register_of : ℕ → ℕ → DeviceState → ℕ
@@ -76,3 +80,11 @@ linked up d = record {
   window = with_config_changed d.window;
   model = with_card (with_link up) d.model;
 }
+
+-- The host says this of the disk that it serves: it does as it is told.
+pub record Told (said : HostEvent) (m m' : Memory) (d d' : DeviceState) : Type 0 where
+  pub before : HostedDisk
+  pub after : HostedDisk
+  pub there : d.model ≡ Block before
+  pub does : DoesAsTold said before m m' d.window d'.window after
+  pub is : d'.model ≡ Block after

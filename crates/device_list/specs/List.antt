@@ -1,14 +1,17 @@
 -- The list of devices: one of them changes, and the others stay.
-use Rattle.std.specs.Prelude.{◌≡◌, ℕ, All, Bool, nat_le, if◌then◌else◌, Option, Some, None, List, length, slice_set}
-use Rattle.std.specs.List.{slice_get}
+use Rattle.std.specs.Prelude.{◌≡◌, ℕ, All, Bool, true, nat_le, if◌then◌else◌, Option, Some, None, List, length, slice_set}
+use Rattle.std.specs.List.{list_any, slice_get}
 use Rattle.std.specs.Option.{option_and_then, option_map_or}
 use Rattle.guest_memory.specs.Memory.{Memory}
 use Rattle.device_list.specs.declared.spec.AddRefusal.{AddRefusal}
-use Rattle.device_list.specs.declared.spec.AddRefusal.TheVariants.{TooMany, BadMtu, NoMemory}
+use Rattle.device_list.specs.declared.spec.AddRefusal.TheVariants.{TooMany, BadMtu, BadDisk, NoMemory}
+use Rattle.device_list.specs.declared.refusal.WriteRefusal.{WriteRefusal}
+use Rattle.device_list.specs.declared.refusal.WriteRefusal.TheVariants.{NoDevice, Busy}
 use Rattle.device_list.specs.declared.spec.DeviceSpec.{DeviceSpec}
 use Rattle.device_list.specs.Card.{Card}
 use Rattle.device_list.specs.Device.{DeviceState, IsSoundDevice}
-use Rattle.device_list.specs.Model.{card_of, has_bad_mtu, is_starving}
+use Rattle.hosted_disk.specs.Disk.{HostedDisk}
+use Rattle.device_list.specs.Model.{card_of, disk_of, has_bad_disk, has_bad_mtu, is_at_work, is_starving, must_wait}
 
 -- each device is sound for the memory
 abbrev pub AreSoundDevices : Memory → List DeviceState → Type 0
@@ -31,11 +34,30 @@ changed_at change n devices = option_map_or (λ d. slice_set devices n (change d
 abbrev pub card_at : ℕ → List DeviceState → Option Card
 card_at n devices = option_and_then (λ d. card_of d.model) (slice_get devices n)
 
--- Why a device isn't added to these, where it isn't for want of memory: there are six, or its MTU is too low.
+-- the disk of this number, if there is one
+abbrev pub disk_at : ℕ → List DeviceState → Option HostedDisk
+disk_at n devices = option_and_then (λ d. disk_of d.model) (slice_get devices n)
+
+-- whether a write at this offset of the device's window waits for what is in flight
+abbrev pub waits_at : ℕ → DeviceState → Bool
+waits_at offset d = must_wait offset d.model
+
+-- Why a write isn't done to it: there is no such device, or the write waits.
+abbrev pub IsWriteRefusal : ℕ → Option DeviceState → WriteRefusal → Type 0
+IsWriteRefusal offset None why = why ≡ NoDevice
+IsWriteRefusal offset (Some d) why = (why ≡ Busy) × (waits_at offset d ≡ true)
+
+-- whether anything is in flight of any disk
+abbrev pub are_at_work : List DeviceState → Bool
+are_at_work devices = list_any (λ d. is_at_work d.model) devices
+
+-- Why a device isn't added to these, where it isn't for want of memory: there are six, its MTU is too low, or it is no
+-- disk that there may be.
 abbrev pub refusal_of : List DeviceState → DeviceSpec → Option AddRefusal
 refusal_of devices spec =
     if nat_le 6 (length devices) then Some TooMany
     else if has_bad_mtu spec then Some BadMtu
+    else if has_bad_disk spec then Some BadDisk
     else None
 
 -- It isn't added for this: want of memory comes last.

@@ -1,5 +1,5 @@
 -- What stands behind a device's window, by the type of device.
-use Rattle.std.specs.Prelude.{◌≡◌, ◌+◌, ℕ, zero, suc, nat_lt, Bool, false, Option, Some, None, List, [], replicate}
+use Rattle.std.specs.Prelude.{◌≡◌, ◌+◌, ◌^◌, ◌==◌, ◌||◌, ⊤, ℕ, zero, suc, nat_le, nat_lt, Bool, false, Option, Some, None, List, [], replicate}
 use Rattle.guest_memory.specs.Memory.{Memory}
 use Rattle.mmio_window.specs.declared.device_kind.DeviceKind.{DeviceKind}
 use Rattle.mmio_window.specs.declared.device_kind.DeviceKind.TheVariants as kind
@@ -10,46 +10,61 @@ use Rattle.entropy_device.specs.Device.{entropy}
 use Rattle.entropy_device.specs.Pool.{fitting, supplied}
 use Rattle.entropy_device.specs.Waiting.{is_starved}
 use Rattle.network_device.specs.Config as network
+use Rattle.block_device.specs.Config as block
+use Rattle.block_device.specs.Flights.{is_any}
+use Rattle.hosted_disk.specs.Disk as hosted
+use Rattle.hosted_disk.specs.Disk.{HoldsFlights, HostedDisk, ServesDisk, fresh_disk}
 use Rattle.device_list.specs.declared.model.DeviceModel.{DeviceModel}
 use Rattle.device_list.specs.declared.model.DeviceModel.TheVariants as model
 use Rattle.device_list.specs.declared.spec.DeviceSpec.{DeviceSpec}
 use Rattle.device_list.specs.declared.spec.DeviceSpec.TheVariants as spec
 use Rattle.device_list.specs.Card.{Card, ServesCard, fresh_card, is_card_starving}
 
--- an entropy device with its pool, or a network card
+-- an entropy device with its pool, a network card, or a disk that the host serves
 pub data ModelState : Type 0 where
   Entropy : List ℕ → ModelState
   Network : Card → ModelState
+  Block : HostedDisk → ModelState
 
 -- the same, wherever its memory is from
 abbrev pub state_of : {A : Type 0} → DeviceModel A → ModelState
 state_of (model.Entropy pool) = Entropy pool
 state_of (model.Network card) = Network card
+state_of (model.Block disk) = Block disk
 
 -- whether a device is to have an MTU that is below the least (5.1.4.1)
 abbrev pub has_bad_mtu : DeviceSpec → Bool
-has_bad_mtu spec.Entropy = false
 has_bad_mtu (spec.Network mac mtu) = nat_lt mtu 68
+has_bad_mtu spec = false
+
+-- whether a disk is to have so many sectors that its bytes aren't counted in 64 bits, or another depth than 1 to 64
+abbrev pub has_bad_disk : DeviceSpec → Bool
+has_bad_disk (spec.Block sectors read_only identity depth) = nat_le (2 ^ 55) sectors || (depth == 0 || nat_lt 64 depth)
+has_bad_disk spec = false
 
 -- one for which nothing waits
 abbrev pub fresh_model : DeviceSpec → ModelState
 fresh_model spec.Entropy = Entropy []
 fresh_model (spec.Network mac mtu) = Network (fresh_card mac mtu)
+fresh_model (spec.Block sectors read_only identity depth) = Block (fresh_disk sectors read_only identity depth)
 
 -- the type of device
 abbrev pub kind_of : ModelState → DeviceKind
 kind_of (Entropy pool) = kind.Entropy
 kind_of (Network card) = kind.Network
+kind_of (Block disk) = kind.Block
 
 -- the features that it offers: an entropy device has none of its own (5.4.3)
 abbrev pub features_of : ModelState → ℕ
 features_of (Entropy pool) = device_features
 features_of (Network card) = network.offered + device_features
+features_of (Block disk) = block.block_features disk.device.read_only
 
 -- its configuration space: an entropy device has no fields (5.4.4)
 abbrev pub config_of : ModelState → List ℕ
 config_of (Entropy pool) = replicate 64 0
 config_of (Network card) = network.config_of card.network.configuration
+config_of (Block disk) = block.config_of disk.device.extent.count
 
 -- The pool's bytes go into the chains on offer (5.4.6).
 pub record FillsChains (pool : List ℕ) (m m' : Memory) (w w' : WindowState) (model' : ModelState) : Type 0 where
@@ -64,33 +79,65 @@ pub record ServesAsCard (card : Card) (q : ℕ) (m m' : Memory) (w w' : WindowSt
   pub serves : ServesCard card q m m' w w' after
   pub is : model' ≡ Network after
 
+-- A disk serves its queue of this number.
+pub record ServesAsDisk (disk : HostedDisk) (q : ℕ) (m m' : Memory) (w w' : WindowState)
+    (model' : ModelState) : Type 0 where
+  pub after : HostedDisk
+  pub serves : ServesDisk disk q m m' w w' after
+  pub is : model' ≡ Block after
+
 -- what a device does whose queue of this number is notified
 abbrev pub Serves : ModelState → ℕ → Memory → Memory → WindowState → WindowState → ModelState → Type 0
 Serves (Entropy pool) zero m m' w w' model' = FillsChains pool m m' w w' model'
 Serves (Entropy pool) (suc q) m m' w w' model' = NothingHappens m m' w w' (Entropy pool) model'
 Serves (Network card) q m m' w w' model' = ServesAsCard card q m m' w w' model'
+Serves (Block disk) q m m' w w' model' = ServesAsDisk disk q m m' w w' model'
 
--- how many bytes a device takes of those that its host supplies: the first ones that fit. A network card takes none.
+-- how many bytes a device takes of those that its host supplies: the first ones that fit. Another than an entropy
+-- device takes none.
 abbrev pub taken_of : ModelState → List ℕ → Option ℕ
 taken_of (Entropy pool) bytes = Some (fitting pool bytes)
-taken_of (Network card) bytes = None
+taken_of model bytes = None
 
 -- and the device that took them
 abbrev pub supplied_model : ModelState → List ℕ → ModelState
 supplied_model (Entropy pool) bytes = Entropy (supplied pool bytes)
-supplied_model (Network card) bytes = Network card
+supplied_model model bytes = model
 
 -- the network card that it is, if it is one
 abbrev pub card_of : ModelState → Option Card
-card_of (Entropy pool) = None
 card_of (Network card) = Some card
+card_of model = None
 
 -- the device with its card changed so, if it has one
 abbrev pub with_card : (Card → Card) → ModelState → ModelState
-with_card change (Entropy pool) = Entropy pool
 with_card change (Network card) = Network (change card)
+with_card change model = model
 
 -- whether a chain is on offer that waits for what the host supplies or sends
 abbrev pub is_starving : ModelState → Memory → WindowState → Bool
 is_starving (Entropy pool) m w = is_starved m (queue_at 0 w) pool
 is_starving (Network card) m w = is_card_starving card m w
+is_starving (Block disk) m w = false
+
+-- ---- a disk that the host serves
+
+-- the disk that it is, if it is one
+abbrev pub disk_of : ModelState → Option HostedDisk
+disk_of (Block disk) = Some disk
+disk_of model = None
+
+-- what is in flight of it is held
+abbrev pub IsHeld : Memory → WindowState → ModelState → Type 0
+IsHeld m w (Block disk) = HoldsFlights m w disk
+IsHeld m w model = ⊤
+
+-- whether anything is in flight of it
+abbrev pub is_at_work : ModelState → Bool
+is_at_work (Block disk) = is_any disk.tags
+is_at_work model = false
+
+-- whether a write at this offset of its window waits for what is in flight
+abbrev pub must_wait : ℕ → ModelState → Bool
+must_wait offset (Block disk) = hosted.must_wait offset disk
+must_wait offset model = false

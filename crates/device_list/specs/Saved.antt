@@ -1,5 +1,5 @@
 -- What is saved of the devices, and what they become that take it up: their windows alone. What waits in a pool or in a
--- network card isn't saved, and stays as it is.
+-- network card isn't saved, and stays as it is, and so does whether a disk's queue is on hold.
 use Rattle.std.specs.Prelude.{◌≡◌, ℕ, zero, suc, List, [], ◌∷◌, Option, Some, length, map, replicate, slice_set}
 use Rattle.std.specs.List.{AllZip, slice_get}
 use Rattle.std.specs.Option.{option_and_then, option_map}
@@ -9,16 +9,25 @@ use Rattle.mmio_window.specs.Saved.{saved_window, window_restored}
 use Rattle.mmio_window.specs.Window.{WindowState}
 use Rattle.snapshot.specs.declared.saved.SavedDevice.{SavedDevice}
 use Rattle.device_list.specs.Device.{DeviceState}
-use Rattle.device_list.specs.Model.{ModelState, Entropy, Network, kind_of}
+use Rattle.device_list.specs.Model.{ModelState, Block, Network, kind_of}
 
 -- the address and the MTU of a network card (5.1.4), and zeros of another device
 abbrev pub mac_of : ModelState → List ℕ
-mac_of (Entropy pool) = replicate 6 0
 mac_of (Network card) = card.network.configuration.mac
+mac_of model = replicate 6 0
 
 abbrev pub mtu_of : ModelState → ℕ
-mtu_of (Entropy pool) = 0
 mtu_of (Network card) = card.network.configuration.mtu
+mtu_of model = 0
+
+-- how many sectors a disk has, and what it answers to GET_ID (5.2.6), and zeros of another device
+abbrev pub sectors_of : ModelState → ℕ
+sectors_of (Block disk) = disk.device.extent.count
+sectors_of model = 0
+
+abbrev pub identity_of : ModelState → List ℕ
+identity_of (Block disk) = disk.device.identity
+identity_of model = replicate 20 0
 
 -- what is saved of a device
 abbrev pub saved_device : DeviceState → SavedDevice
@@ -26,17 +35,22 @@ saved_device d = record {
   device_id = device_id_of (kind_of d.model);
   mac = mac_of d.model;
   mtu = mtu_of d.model;
+  sectors = sectors_of d.model;
+  identity = identity_of d.model;
   window = saved_window d.window;
 }
 
 abbrev pub saved_devices : List DeviceState → List SavedDevice
 saved_devices devices = map saved_device devices
 
--- The device is of the description that was saved: its type, its address and its MTU, and the features that it offers.
+-- The device is of the description that was saved: its type, its address and its MTU, its sectors and its identity, and the
+-- features that it offers.
 pub record SuitsDevice (saved : SavedDevice) (d : DeviceState) : Type 0 where
   pub device_id : saved.device_id ≡ device_id_of (kind_of d.model)
   pub mac : saved.mac ≡ mac_of d.model
   pub mtu : saved.mtu ≡ mtu_of d.model
+  pub sectors : saved.sectors ≡ sectors_of d.model
+  pub identity : saved.identity ≡ identity_of d.model
   pub offered : saved.window.negotiation.offered ≡ d.window.negotiation.offered
 
 -- there are as many devices, and each suits

@@ -1,10 +1,11 @@
 //! A device: its register window, and what stands behind it.
 
-ghost use Rattle.std.specs.Prelude.{◌≡◌, false, IfOk};
+ghost use Rattle.std.specs.Prelude.{◌≡◌, false, not, IfOk};
+ghost use Rattle.std.specs.Bool.{OnTrue, OnFalse};
 ghost use Rattle.guest_memory.specs.Memory.{SameRange};
 ghost use Rattle.mmio_window.specs.Interrupts.{interrupt_bits};
 ghost use Rattle.device_list.specs.Device.{DeviceState, IsSoundDevice, Writes, fresh_device, register_of};
-ghost use Rattle.device_list.specs.Model.{has_bad_mtu, state_of};
+ghost use Rattle.device_list.specs.Model.{has_bad_disk, has_bad_mtu, must_wait, state_of};
 
 mod host;
 mod saved;
@@ -38,6 +39,7 @@ impl<A: Allocator + Copy> VirtioDevice<A> {
     /// A device as after a reset, for which nothing waits.
     pub(crate) fn new(alloc: A, spec: DeviceSpec) -> Result<VirtioDevice<A>, NoMemory>
         requires mtu { has_bad_mtu spec ≡ false }
+        requires disk { has_bad_disk spec ≡ false }
         ensures { IfOk result (λ device. device ≡ fresh_device spec) }
     {
         let model = DeviceModel::new(alloc, spec)?;
@@ -77,7 +79,8 @@ impl<A: Allocator> VirtioDevice<A> {
         self.window.read(offset, width, &self.model.config())
     }
 
-    /// Writes its window's registers, and does what the write leaves to be done.
+    /// Writes its window's registers, and does what the write leaves to be done. False where the write waits for what is in flight
+    /// of a disk: nothing has changed then.
     pub(crate) fn write<M: Allocator>(
         &mut self,
         offset: u16,
@@ -85,14 +88,21 @@ impl<A: Allocator> VirtioDevice<A> {
         value: u32,
         mem: &mut GuestMemory<M>,
         room: &mut Chain,
-    )
+    ) -> bool
         requires sound { IsSoundDevice mem.old self.old }
-        ensures writes { Writes offset width value mem.old mem.new self.old self.new }
+        ensures waits { result ≡ not (must_wait offset self.old.model) }
+        ensures writes { OnTrue result (Writes offset width value mem.old mem.new self.old self.new) }
+        ensures kept { OnFalse result (self.new ≡ self.old) }
+        ensures unwritten { OnFalse result (mem.new ≡ mem.old) }
         ensures range { SameRange mem.old mem.new }
         ensures sound { IsSoundDevice mem.new self.new }
     {
+        if self.model.must_wait(offset) {
+            return false;
+        }
         if let Action::Notify(q) = self.window.write(offset, width, value, mem) {
             self.model.serve(q, mem, &mut self.window, room);
         }
+        true
     }
 }

@@ -1,11 +1,12 @@
 //! Laws of the definitions. The bodies are empty: each contract is a theorem.
 
-ghost use Rattle.std.specs.Prelude.{◌≡◌, ◌≢◌, ℕ, Bool, List, [], Some, None, replicate};
+ghost use Rattle.std.specs.Prelude.{◌≡◌, ◌≢◌, ℕ, Bool, true, false, List, [], Some, None, replicate};
 ghost use Rattle.std.specs.List.{slice_get};
 ghost use Rattle.guest_memory.specs.Memory.{Memory};
-ghost use Rattle.device_list.specs.declared.spec.AddRefusal.TheVariants.{BadMtu, TooMany};
-ghost use Rattle.device_list.specs.declared.spec.DeviceSpec.TheVariants.{Entropy, Network};
-ghost use Rattle.device_list.specs.Device.{DeviceState, Receives, Supplies, TakesSent, Writes, fresh_device, linked};
+ghost use Rattle.block_device.specs.declared.operation.HostEvent.{HostEvent};
+ghost use Rattle.device_list.specs.declared.spec.AddRefusal.TheVariants.{BadDisk, BadMtu, TooMany};
+ghost use Rattle.device_list.specs.declared.spec.DeviceSpec.TheVariants.{Block, Entropy, Network};
+ghost use Rattle.device_list.specs.Device.{DeviceState, Receives, Supplies, TakesSent, Told, Writes, fresh_device, linked};
 ghost use Rattle.device_list.specs.List.{At, changed_at, refusal_of};
 ghost use Rattle.device_list.specs.Saved.{AreOfModels, RestoresEach, devices_restored, saved_devices};
 ghost use Rattle.device_list.specs.Model.{features_of, fresh_model};
@@ -38,6 +39,13 @@ pub fn one_taking()
         (one ≡ other) × (new ≡ new') }
 {}
 
+/// And what the host says of a disk.
+pub fn one_word()
+    ensures { (n : ℕ) (said : HostEvent) (m one other : Memory) (old new new' : List DeviceState) →
+        At (Told said) n m one old new → At (Told said) n m other old new' →
+        (one ≡ other) × (new ≡ new') }
+{}
+
 /// No other device changes.
 pub fn one_device_changes()
     ensures write { (n other offset width value : ℕ) (m m' : Memory) (old new : List DeviceState) →
@@ -48,20 +56,32 @@ pub fn one_device_changes()
         At (Receives frame) n m m' old new → other ≢ n → slice_get new other ≡ slice_get old other }
     ensures taking { (n other : ℕ) (m m' : Memory) (old new : List DeviceState) →
         At TakesSent n m m' old new → other ≢ n → slice_get new other ≡ slice_get old other }
+    ensures word { (n other : ℕ) (said : HostEvent) (m m' : Memory) (old new : List DeviceState) →
+        At (Told said) n m m' old new → other ≢ n → slice_get new other ≡ slice_get old other }
     ensures link { (n other : ℕ) (up : Bool) (devices : List DeviceState) → other ≢ n
         → slice_get (changed_at (linked up) n devices) other ≡ slice_get devices other }
 {}
 
-/// Six devices are the most, whatever the next one is to be. Else a network card needs an MTU of 68 or more.
+/// Six devices are the most, whatever the next one is to be. Else a network card needs an MTU of 68 or more, and a disk fewer
+/// than 2^55 sectors and a depth of 1 to 64.
 pub fn refusals_in_numbers()
     ensures most { refusal_of (replicate 6 (fresh_device Entropy)) (Network (replicate 6 0) 67) ≡ Some TooMany }
     ensures one_more { refusal_of (replicate 5 (fresh_device Entropy)) (Network (replicate 6 0) 68) ≡ None }
     ensures low { refusal_of [] (Network (replicate 6 0) 67) ≡ Some BadMtu }
+    ensures large { refusal_of [] (Block 36028797018963968 false (replicate 20 0) 1) ≡ Some BadDisk }
+    ensures largest { refusal_of [] (Block 36028797018963967 false (replicate 20 0) 64) ≡ None }
+    ensures shallow { refusal_of [] (Block 0 true (replicate 20 0) 0) ≡ Some BadDisk }
+    ensures deep { refusal_of [] (Block 0 true (replicate 20 0) 65) ≡ Some BadDisk }
 {}
 
-/// Bits 3, 5 and 16 are a network card's own. Bits 28, 29, 32, 34 and 38 are those of every device.
+/// Bits 3, 5 and 16 are a network card's own, and 2, 6, 9 and 14 a disk's, with 5 where it refuses writes. Bits 28, 29, 32, 34 and
+/// 38 are those of every device.
 pub fn features_in_bits()
     ensures network { (mac : List ℕ) (mtu : ℕ) → features_of (fresh_model (Network mac mtu)) ≡ 297158115368 }
+    ensures disk { (sectors depth : ℕ) (identity : List ℕ) →
+        features_of (fresh_model (Block sectors false identity depth)) ≡ 297158066756 }
+    ensures read_only_disk { (sectors depth : ℕ) (identity : List ℕ) →
+        features_of (fresh_model (Block sectors true identity depth)) ≡ 297158066788 }
     ensures entropy { features_of (fresh_model Entropy) ≡ 297158049792 }
 {}
 

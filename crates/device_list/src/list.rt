@@ -1,17 +1,17 @@
 //! The list of devices.
 
-ghost use Rattle.std.specs.Prelude.{◌≡◌, ◌++◌, ◌∷◌, [], length, None, IfOk, IfErr, OnOk, OnErr};
-ghost use Rattle.std.specs.Bool.{OnTrue, OnFalse};
+ghost use Rattle.std.specs.Prelude.{◌≡◌, ◌++◌, ◌∷◌, [], false, length, None, Some, IfOk, IfErr, OnOk, OnErr};
 ghost use Rattle.std.specs.List.{slice_get};
 ghost use Rattle.std.specs.Option.{option_map};
 ghost use Rattle.guest_memory.specs.Memory.{Memory, SameRange};
 ghost use Rattle.device_list.specs.Device.{Writes, fresh_device, register_of};
-ghost use Rattle.device_list.specs.List.{AreSoundDevices, At, IsRefusedFor, refusal_of};
+ghost use Rattle.device_list.specs.List.{AreSoundDevices, At, IsRefusedFor, IsWriteRefusal, refusal_of, waits_at};
 
 mod host;
 mod saved;
 
 use crate::device::VirtioDevice;
+use crate::refusal::WriteRefusal;
 use crate::spec::{AddRefusal, DeviceSpec, MOST_DEVICES};
 use chain::Chain;
 use guest_memory::GuestMemory;
@@ -52,6 +52,9 @@ impl<A: Allocator + Copy> DeviceList<A> {
         }
         if spec.has_bad_mtu() {
             return Err(AddRefusal::BadMtu);
+        }
+        if spec.has_bad_disk() {
+            return Err(AddRefusal::BadDisk);
         }
         let Ok(device) = VirtioDevice::new(alloc, spec) else {
             return Err(AddRefusal::NoMemory);
@@ -96,7 +99,7 @@ impl<A: Allocator> DeviceList<A> {
     }
 
     /// Writes a device's window, and has the device do what the write leaves to be done: a queue that is notified is served.
-    /// False where there is no such device: nothing has changed then. `room` is where the chains stand, one after another.
+    /// What is refused changes nothing. `room` is where the chains stand, one after another.
     pub fn write<M: Allocator>(
         &mut self,
         device: u8,
@@ -105,19 +108,23 @@ impl<A: Allocator> DeviceList<A> {
         value: u32,
         mem: &mut GuestMemory<M>,
         room: &mut Chain,
-    ) -> bool
+    ) -> Result<(), WriteRefusal>
         requires sound { AreSoundDevices mem.old self.old }
-        ensures there { OnTrue result (At (Writes offset width value) device mem.old mem.new self.old self.new) }
-        ensures missing { OnFalse result (slice_get self.old device ≡ None) }
-        ensures kept { OnFalse result (self.new ≡ self.old) }
-        ensures unwritten { OnFalse result (mem.new ≡ mem.old) }
+        ensures there { OnOk result (At (Writes offset width value) device mem.old mem.new self.old self.new) }
+        ensures waits { OnOk result (option_map (waits_at offset) (slice_get self.old device) ≡ Some false) }
+        ensures refused { IfErr result (IsWriteRefusal offset (slice_get self.old device)) }
+        ensures kept { OnErr result (self.new ≡ self.old) }
+        ensures unwritten { OnErr result (mem.new ≡ mem.old) }
         ensures range { SameRange mem.old mem.new }
         ensures sound { AreSoundDevices mem.new self.new }
     {
         let Some(found) = self.devices.get_mut(usize::from(device)) else {
-            return false;
+            return Err(WriteRefusal::NoDevice);
         };
-        found.write(offset, width, value, mem, room);
-        true
+        if found.write(offset, width, value, mem, room) {
+            Ok(())
+        } else {
+            Err(WriteRefusal::Busy)
+        }
     }
 }

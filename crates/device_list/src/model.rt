@@ -4,7 +4,7 @@ ghost use Rattle.std.specs.Prelude.{◌≡◌, false, IfOk};
 ghost use Rattle.guest_memory.specs.Memory.{SameRange};
 ghost use Rattle.mmio_window.specs.Soundness.{IsSound};
 ghost use Rattle.negotiation.specs.Features.{feature_bits};
-ghost use Rattle.device_list.specs.Model.{Serves, config_of, features_of, fresh_model, has_bad_mtu, kind_of, state_of};
+ghost use Rattle.device_list.specs.Model.{IsHeld, Serves, config_of, features_of, fresh_model, has_bad_disk, has_bad_mtu, kind_of, must_wait, state_of};
 
 mod host;
 mod saved;
@@ -14,6 +14,7 @@ use crate::spec::DeviceSpec;
 use chain::{Budget, Chain};
 use entropy_device::{EntropyDevice, REQUESTQ};
 use guest_memory::GuestMemory;
+use hosted_disk::HostedDisk;
 use mmio_window::{CONFIGURATION_LEN, DeviceKind, Stage, Window};
 use negotiation::{Features, Flags};
 use network_device::{NoMemory, offered_features};
@@ -26,12 +27,15 @@ pub enum DeviceModel<A: Allocator = Global> {
     Entropy(EntropyDevice),
     /// A network card, with the frames that wait each way (5.1).
     Network(NetworkCard<A>),
+    /// A disk that the host serves, with what is in flight of it (5.2).
+    Block(HostedDisk<A>),
 }
 
 impl<A: Allocator + Copy> DeviceModel<A> {
     /// One for which nothing waits.
     pub(crate) fn new(alloc: A, spec: DeviceSpec) -> Result<DeviceModel<A>, NoMemory>
         requires mtu { has_bad_mtu spec ≡ false }
+        requires disk { has_bad_disk spec ≡ false }
         ensures { IfOk result (λ model. state_of model ≡ fresh_model spec) }
     {
         match spec {
@@ -40,6 +44,15 @@ impl<A: Allocator + Copy> DeviceModel<A> {
                 let card = NetworkCard::new(alloc, mac, mtu)?;
                 Ok(DeviceModel::Network(card))
             }
+            DeviceSpec::Block {
+                sectors,
+                read_only,
+                identity,
+                depth,
+            } => match HostedDisk::new(alloc, sectors, read_only, identity, depth) {
+                Ok(disk) => Ok(DeviceModel::Block(disk)),
+                Err(_) => Err(NoMemory),
+            },
         }
     }
 }
@@ -52,6 +65,7 @@ impl<A: Allocator> DeviceModel<A> {
         match self {
             DeviceModel::Entropy(_) => DeviceKind::Entropy,
             DeviceModel::Network(_) => DeviceKind::Network,
+            DeviceModel::Block(_) => DeviceKind::Block,
         }
     }
 
@@ -62,6 +76,7 @@ impl<A: Allocator> DeviceModel<A> {
         match self {
             DeviceModel::Entropy(_) => Features::of_every_device(),
             DeviceModel::Network(_) => offered_features().union(Features::of_every_device()),
+            DeviceModel::Block(disk) => disk.features(),
         }
     }
 
@@ -72,6 +87,17 @@ impl<A: Allocator> DeviceModel<A> {
         match self {
             DeviceModel::Entropy(_) => [0; CONFIGURATION_LEN],
             DeviceModel::Network(card) => card.config(),
+            DeviceModel::Block(disk) => disk.config(),
+        }
+    }
+
+    /// Whether a write at this offset of its window waits for what is in flight.
+    pub(crate) fn must_wait(&self, offset: u16) -> bool
+        ensures { result ≡ must_wait offset (state_of self.now) }
+    {
+        match self {
+            DeviceModel::Entropy(_) | DeviceModel::Network(_) => false,
+            DeviceModel::Block(disk) => disk.must_wait(offset),
         }
     }
 
@@ -84,6 +110,7 @@ impl<A: Allocator> DeviceModel<A> {
         room: &mut Chain,
     )
         requires sound { IsSound mem.old window.old }
+        requires held { IsHeld mem.old window.old (state_of self.old) }
         ensures serves { Serves (state_of self.old) q mem.old mem.new window.old window.new (state_of self.new) }
         ensures kind { window.new.kind ≡ window.old.kind }
         ensures offered { window.new.negotiation.offered ≡ window.old.negotiation.offered }
@@ -91,6 +118,7 @@ impl<A: Allocator> DeviceModel<A> {
         ensures same_features { features_of (state_of self.new) ≡ features_of (state_of self.old) }
         ensures range { SameRange mem.old mem.new }
         ensures sound { IsSound mem.new window.new }
+        ensures held { IsHeld mem.new window.new (state_of self.new) }
     {
         match (self, q) {
             (DeviceModel::Entropy(entropy), REQUESTQ) => {
@@ -98,6 +126,7 @@ impl<A: Allocator> DeviceModel<A> {
             }
             (DeviceModel::Entropy(_), _) => (),
             (DeviceModel::Network(card), _) => card.serve(q, mem, window, room),
+            (DeviceModel::Block(disk), _) => disk.serve(q, mem, window, room),
         }
     }
 }

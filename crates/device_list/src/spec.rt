@@ -1,8 +1,9 @@
 //! What a device is to be, and why one isn't added.
 
 ghost use Rattle.std.specs.Prelude.{◌≡◌};
-ghost use Rattle.device_list.specs.Model.{has_bad_mtu};
+ghost use Rattle.device_list.specs.Model.{has_bad_disk, has_bad_mtu};
 
+use block_device::MOST_IN_FLIGHT;
 use thiserror::Error;
 
 /// The most devices that a list may have.
@@ -10,6 +11,9 @@ pub const MOST_DEVICES: usize = 6;
 
 /// The least MTU of a network card (5.1.4.1).
 const LEAST_MTU: u16 = 68;
+
+/// As many sectors a disk doesn't have: its bytes wouldn't be counted in 64 bits.
+const TOO_MANY_SECTORS: u64 = 1 << 55;
 
 /// What a device is to be.
 #[derive(Clone, Copy, Debug, PartialEq, Eq)]
@@ -23,6 +27,17 @@ pub enum DeviceSpec {
         /// The longest payload of a frame, 68 or more. The header of Ethernet doesn't count.
         mtu: u16,
     },
+    /// A disk that the host serves (5.2).
+    Block {
+        /// How many sectors it has: fewer than 2^55.
+        sectors: u64,
+        /// Whether it refuses to write (VIRTIO_BLK_F_RO, 5.2.3).
+        read_only: bool,
+        /// What GET_ID gives (5.2.6). A text that is shorter has NULs behind it.
+        identity: [u8; 20],
+        /// How many operations may be in flight at most: 1 to 64.
+        depth: u8,
+    },
 }
 
 impl DeviceSpec {
@@ -31,8 +46,20 @@ impl DeviceSpec {
         ensures { result ≡ has_bad_mtu self.now }
     {
         match self {
-            DeviceSpec::Entropy => false,
+            DeviceSpec::Entropy | DeviceSpec::Block { .. } => false,
             DeviceSpec::Network { mtu, .. } => *mtu < LEAST_MTU,
+        }
+    }
+
+    /// Whether it has more sectors than a disk may have, or another depth than 1 to 64.
+    pub fn has_bad_disk(&self) -> bool
+        ensures { result ≡ has_bad_disk self.now }
+    {
+        match self {
+            DeviceSpec::Entropy | DeviceSpec::Network { .. } => false,
+            DeviceSpec::Block { sectors, depth, .. } => {
+                *sectors >= TOO_MANY_SECTORS || *depth == 0 || usize::from(*depth) > MOST_IN_FLIGHT
+            }
         }
     }
 }
@@ -46,6 +73,9 @@ pub enum AddRefusal {
     /// The MTU of a network card is below 68.
     #[error("a network card has an MTU of 68 or more")]
     BadMtu,
+    /// A disk has 2^55 sectors or more, or another depth than 1 to 64.
+    #[error("a disk has fewer than 2^55 sectors, and 1 to 64 operations in flight")]
+    BadDisk,
     /// There was no memory for it.
     #[error("no memory for the device")]
     NoMemory,

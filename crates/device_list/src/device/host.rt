@@ -1,18 +1,21 @@
 //! What the host of a device hands in and takes.
 
-ghost use Rattle.std.specs.Prelude.{◌≡◌, ◌++◌, Some, None, IfErr, OnOk, OnErr, IsSome, is_some};
+ghost use Rattle.std.specs.Prelude.{◌≡◌, ◌≢◌, ◌++◌, true, Some, None, IfErr, OnOk, OnErr, IsSome, is_some};
 ghost use Rattle.std.specs.Bool.{OnTrue, OnFalse};
 ghost use Rattle.std.specs.Option.{option_and_then, option_map};
 ghost use Rattle.guest_memory.specs.Memory.{Memory, SameRange};
 ghost use Rattle.device_list.specs.Card.{oldest_of, receive_refusal};
-ghost use Rattle.device_list.specs.Device.{IsSoundDevice, Receives, Supplies, TakesSent, linked, supply_taken};
-ghost use Rattle.device_list.specs.Model.{card_of, is_starving};
+ghost use Rattle.device_list.specs.Device.{IsSoundDevice, Receives, Supplies, TakesSent, Told, linked, supply_taken};
+ghost use Rattle.device_list.specs.Model.{card_of, disk_of, is_at_work, is_starving};
+ghost use Rattle.hosted_disk.specs.Told.{has_effect};
 
 use crate::device::VirtioDevice;
 use crate::model::DeviceModel;
 use crate::refusal::ReceiveRefusal;
+use block_device::HostEvent;
 use chain::Chain;
 use guest_memory::GuestMemory;
+use hosted_disk::HostedDisk;
 use network_device::{RECEIVEQ, TRANSMITQ};
 use std::alloc::Allocator;
 
@@ -114,5 +117,38 @@ impl<A: Allocator> VirtioDevice<A> {
         ensures { result ≡ is_starving self.now.model mem.now self.now.window }
     {
         self.model.starved(mem, &self.window, room)
+    }
+
+    /// The disk that it is, if it is one.
+    pub(crate) fn disk(&self) -> Option<&HostedDisk<A>>
+        ensures { option_map (λ disk. disk.now) result ≡ disk_of self.now.model }
+    {
+        self.model.disk()
+    }
+
+    /// Whether anything is in flight of it.
+    pub(crate) fn is_at_work(&self) -> bool
+        ensures { result ≡ is_at_work self.now.model }
+    {
+        self.model.is_at_work()
+    }
+
+    /// Does what the host says of the disk that it is, and answers whether there was something to do. There is no answer of
+    /// another device. But where there was, nothing has changed.
+    pub(crate) fn tell<M: Allocator>(
+        &mut self,
+        said: HostEvent,
+        mem: &mut GuestMemory<M>,
+        room: &mut Chain,
+    ) -> Option<bool>
+        requires sound { IsSoundDevice mem.old self.old }
+        ensures found { result ≡ option_map (has_effect said) (disk_of self.old.model) }
+        ensures does { result ≡ Some true → Told said mem.old mem.new self.old self.new }
+        ensures kept { result ≢ Some true → self.new ≡ self.old }
+        ensures unwritten { result ≢ Some true → mem.new ≡ mem.old }
+        ensures range { SameRange mem.old mem.new }
+        ensures sound { IsSoundDevice mem.new self.new }
+    {
+        self.model.tell(said, mem, &mut self.window, room)
     }
 }

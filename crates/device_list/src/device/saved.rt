@@ -26,6 +26,8 @@ impl<A: Allocator> VirtioDevice<A> {
             device_id: self.model.device_id(),
             mac: self.model.mac(),
             mtu: self.model.mtu(),
+            sectors: self.model.sectors(),
+            identity: self.model.identity(),
             window: self.window.saved(),
         }
     }
@@ -37,6 +39,8 @@ impl<A: Allocator> VirtioDevice<A> {
         saved.device_id == self.model.device_id()
             && saved.mac == self.model.mac()
             && saved.mtu == self.model.mtu()
+            && saved.sectors == self.model.sectors()
+            && saved.identity == self.model.identity()
             && saved.window.negotiation.offered == self.window.negotiation().offered().bits()
     }
 

@@ -1,18 +1,21 @@
 //! What the host of a list's devices hands in and takes.
 
-ghost use Rattle.std.specs.Prelude.{◌≡◌, ◌++◌, Some, None, IsSome, IfErr, OnOk, OnErr, is_some};
+ghost use Rattle.std.specs.Prelude.{◌≡◌, ◌≢◌, ◌++◌, true, Some, None, IsSome, IfErr, OnOk, OnErr, is_some};
 ghost use Rattle.std.specs.Bool.{OnTrue, OnFalse};
 ghost use Rattle.std.specs.List.{slice_get};
 ghost use Rattle.std.specs.Option.{option_and_then, option_map};
 ghost use Rattle.guest_memory.specs.Memory.{Memory, SameRange};
 ghost use Rattle.device_list.specs.Card.{oldest_of, receive_refusal};
-ghost use Rattle.device_list.specs.Device.{Receives, Supplies, TakesSent, linked, supply_taken};
-ghost use Rattle.device_list.specs.List.{AreSoundDevices, At, card_at, changed_at, is_starved_at};
+ghost use Rattle.device_list.specs.Device.{Receives, Supplies, TakesSent, Told, linked, supply_taken};
+ghost use Rattle.device_list.specs.List.{AreSoundDevices, At, are_at_work, card_at, changed_at, disk_at, is_starved_at};
+ghost use Rattle.hosted_disk.specs.Told.{has_effect};
 
 use crate::list::DeviceList;
 use crate::refusal::ReceiveRefusal;
+use block_device::HostEvent;
 use chain::Chain;
 use guest_memory::GuestMemory;
+use hosted_disk::HostedDisk;
 use std::alloc::Allocator;
 
 impl<A: Allocator> DeviceList<A> {
@@ -129,5 +132,41 @@ impl<A: Allocator> DeviceList<A> {
     {
         let found = self.get(device)?;
         Some(found.starved(mem, room))
+    }
+
+    /// The disk of this number. There is none where the device isn't there or is none.
+    pub fn disk(&self, device: u8) -> Option<&HostedDisk<A>>
+        ensures { option_map (λ disk. disk.now) result ≡ disk_at device self.now }
+    {
+        let found = self.get(device)?;
+        found.disk()
+    }
+
+    /// Whether anything is in flight of any disk.
+    pub fn are_at_work(&self) -> bool
+        ensures { result ≡ are_at_work self.now }
+    {
+        self.devices.iter().any(|device| device.is_at_work())
+    }
+
+    /// Has a disk do what the host says of it, and answers whether there was something to do. There is no answer of a device
+    /// that isn't there or is no disk. But where there was something to do, nothing has changed.
+    pub fn tell<M: Allocator>(
+        &mut self,
+        device: u8,
+        said: HostEvent,
+        mem: &mut GuestMemory<M>,
+        room: &mut Chain,
+    ) -> Option<bool>
+        requires sound { AreSoundDevices mem.old self.old }
+        ensures found { result ≡ option_map (has_effect said) (disk_at device self.old) }
+        ensures does { result ≡ Some true → At (Told said) device mem.old mem.new self.old self.new }
+        ensures kept { result ≢ Some true → self.new ≡ self.old }
+        ensures unwritten { result ≢ Some true → mem.new ≡ mem.old }
+        ensures range { SameRange mem.old mem.new }
+        ensures sound { AreSoundDevices mem.new self.new }
+    {
+        let found = self.devices.get_mut(usize::from(device))?;
+        found.tell(said, mem, room)
     }
 }

@@ -1,10 +1,10 @@
 //! What is saved of the devices, and devices that take it up.
 
-ghost use Rattle.std.specs.Prelude.{◌≡◌, ◌↔◌, ◌≤◌, ◌+◌, ◌++◌, ℕ, IsTrue, None, Some, length};
+ghost use Rattle.std.specs.Prelude.{◌≡◌, ◌↔◌, ◌≤◌, ◌+◌, ◌++◌, ℕ, IsTrue, false, None, Some, length};
 ghost use Rattle.std.specs.List.{slice_get};
 ghost use Rattle.std.specs.Bool.{OnTrue, OnFalse};
 ghost use Rattle.guest_memory.specs.Memory.{Memory};
-ghost use Rattle.device_list.specs.List.{AreSoundDevices};
+ghost use Rattle.device_list.specs.List.{AreSoundDevices, are_at_work};
 ghost use Rattle.device_list.specs.Saved.{RestoresEach, SuitDevices, devices_restored, first_restored, saved_devices};
 
 use crate::device::VirtioDevice;
@@ -35,8 +35,10 @@ impl<A: Allocator> DeviceList<A> {
         each_suits(self.devices.as_slice(), saved)
     }
 
-    /// Restores each device's window over a guest's memory. False where one of them can't stand so: nothing has changed then.
+    /// Restores each device's window over a guest's memory, where nothing is in flight. False where one of them can't stand so:
+    /// nothing has changed then.
     pub fn restore<M: Allocator>(&mut self, saved: &[SavedDevice], mem: &GuestMemory<M>) -> bool
+        requires idle { are_at_work self.old ≡ false }
         ensures restored { OnTrue result (devices_restored mem.now saved.now self.old ≡ Some self.new) }
         ensures refused { OnFalse result (devices_restored mem.now saved.now self.old ≡ None) }
         ensures kept { OnFalse result (self.new ≡ self.old) }
@@ -53,6 +55,7 @@ impl<A: Allocator> DeviceList<A> {
         saved: &[SavedDevice],
         mem: &GuestMemory<M>,
     ) -> bool
+        requires idle { are_at_work self.old ≡ false }
         ensures restored { OnTrue result (first_restored mem.now count saved.now self.old ≡ Some self.new) }
         ensures refused { OnFalse result (first_restored mem.now count saved.now self.old ≡ None) }
         ensures kept { OnFalse result (self.new ≡ self.old) }

@@ -1,16 +1,22 @@
 //! What the host hands to what stands behind a window, and takes from it.
 
-ghost use Rattle.std.specs.Prelude.{◌≡◌, ◌++◌, Some, None, IfErr, OnOk, OnErr, is_some};
+ghost use Rattle.std.specs.Prelude.{◌≡◌, ◌≢◌, ◌++◌, true, Some, None, IfErr, OnOk, OnErr, is_some};
 ghost use Rattle.std.specs.Bool.{OnTrue, OnFalse};
 ghost use Rattle.std.specs.Option.{option_and_then, option_map};
+ghost use Rattle.guest_memory.specs.Memory.{Memory, SameRange};
 ghost use Rattle.mmio_window.specs.Soundness.{IsSound};
+ghost use Rattle.mmio_window.specs.Window.{WindowState};
+ghost use Rattle.hosted_disk.specs.Told.{DoesAsTold, has_effect};
 ghost use Rattle.device_list.specs.Card.{oldest_of, receive_refusal, with_frame, with_link, without_oldest};
-ghost use Rattle.device_list.specs.Model.{card_of, features_of, is_starving, kind_of, state_of, supplied_model, taken_of, with_card};
+ghost use Rattle.device_list.specs.Device.{Told};
+ghost use Rattle.device_list.specs.Model.{IsHeld, card_of, disk_of, features_of, is_at_work, is_starving, kind_of, state_of, supplied_model, taken_of, with_card};
 
 use crate::model::DeviceModel;
 use crate::refusal::ReceiveRefusal;
+use block_device::HostEvent;
 use chain::Chain;
 use guest_memory::GuestMemory;
+use hosted_disk::HostedDisk;
 use mmio_window::Window;
 use std::alloc::Allocator;
 
@@ -22,10 +28,11 @@ impl<A: Allocator> DeviceModel<A> {
         ensures kept { result ≡ None → state_of self.new ≡ state_of self.old }
         ensures same_kind { kind_of (state_of self.new) ≡ kind_of (state_of self.old) }
         ensures same_features { features_of (state_of self.new) ≡ features_of (state_of self.old) }
+        ensures held { (m : Memory) (w : WindowState) → IsHeld m w (state_of self.old) → IsHeld m w (state_of self.new) }
     {
         match self {
             DeviceModel::Entropy(entropy) => Some(entropy.supply(bytes)),
-            DeviceModel::Network(_) => None,
+            DeviceModel::Network(_) | DeviceModel::Block(_) => None,
         }
     }
 
@@ -37,9 +44,10 @@ impl<A: Allocator> DeviceModel<A> {
         ensures kept { OnErr result (state_of self.new ≡ state_of self.old) }
         ensures same_kind { kind_of (state_of self.new) ≡ kind_of (state_of self.old) }
         ensures same_features { features_of (state_of self.new) ≡ features_of (state_of self.old) }
+        ensures held { (m : Memory) (w : WindowState) → IsHeld m w (state_of self.old) → IsHeld m w (state_of self.new) }
     {
         match self {
-            DeviceModel::Entropy(_) => Err(ReceiveRefusal::NoDevice),
+            DeviceModel::Entropy(_) | DeviceModel::Block(_) => Err(ReceiveRefusal::NoDevice),
             DeviceModel::Network(card) => card.receive(frame).map_err(ReceiveRefusal::Frame),
         }
     }
@@ -50,7 +58,7 @@ impl<A: Allocator> DeviceModel<A> {
             ≡ option_and_then oldest_of (card_of (state_of self.now)) }
     {
         match self {
-            DeviceModel::Entropy(_) => None,
+            DeviceModel::Entropy(_) | DeviceModel::Block(_) => None,
             DeviceModel::Network(card) => card.sent(),
         }
     }
@@ -62,9 +70,10 @@ impl<A: Allocator> DeviceModel<A> {
         ensures kept { OnFalse result (state_of self.new ≡ state_of self.old) }
         ensures same_kind { kind_of (state_of self.new) ≡ kind_of (state_of self.old) }
         ensures same_features { features_of (state_of self.new) ≡ features_of (state_of self.old) }
+        ensures held { (m : Memory) (w : WindowState) → IsHeld m w (state_of self.old) → IsHeld m w (state_of self.new) }
     {
         match self {
-            DeviceModel::Entropy(_) => false,
+            DeviceModel::Entropy(_) | DeviceModel::Block(_) => false,
             DeviceModel::Network(card) => card.take_sent(),
         }
     }
@@ -76,9 +85,10 @@ impl<A: Allocator> DeviceModel<A> {
         ensures kept { OnFalse result (state_of self.new ≡ state_of self.old) }
         ensures same_kind { kind_of (state_of self.new) ≡ kind_of (state_of self.old) }
         ensures same_features { features_of (state_of self.new) ≡ features_of (state_of self.old) }
+        ensures held { (m : Memory) (w : WindowState) → IsHeld m w (state_of self.old) → IsHeld m w (state_of self.new) }
     {
         match self {
-            DeviceModel::Entropy(_) => false,
+            DeviceModel::Entropy(_) | DeviceModel::Block(_) => false,
             DeviceModel::Network(card) => {
                 card.set_link(up);
                 true
@@ -99,6 +109,59 @@ impl<A: Allocator> DeviceModel<A> {
         match self {
             DeviceModel::Entropy(entropy) => entropy.starved(mem, window, room),
             DeviceModel::Network(card) => card.starved(mem, window, room),
+            DeviceModel::Block(_) => false,
+        }
+    }
+
+    /// The disk that it is, if it is one.
+    pub fn disk(&self) -> Option<&HostedDisk<A>>
+        ensures { option_map (λ disk. disk.now) result ≡ disk_of (state_of self.now) }
+    {
+        match self {
+            DeviceModel::Entropy(_) | DeviceModel::Network(_) => None,
+            DeviceModel::Block(disk) => Some(disk),
+        }
+    }
+
+    /// Whether anything is in flight of it.
+    pub(crate) fn is_at_work(&self) -> bool
+        ensures { result ≡ is_at_work (state_of self.now) }
+    {
+        match self {
+            DeviceModel::Entropy(_) | DeviceModel::Network(_) => false,
+            DeviceModel::Block(disk) => disk.is_busy(),
+        }
+    }
+
+    /// Does what the host says of the disk that it is, and answers whether there was something to do: there is no answer of
+    /// another device.
+    pub(crate) fn tell<M: Allocator>(
+        &mut self,
+        said: HostEvent,
+        mem: &mut GuestMemory<M>,
+        window: &mut Window,
+        room: &mut Chain,
+    ) -> Option<bool>
+        requires sound { IsSound mem.old window.old }
+        requires held { IsHeld mem.old window.old (state_of self.old) }
+        ensures found { result ≡ option_map (has_effect said) (disk_of (state_of self.old)) }
+        ensures does { result ≡ Some true → Told said mem.old mem.new
+            (record { window = window.old; model = state_of self.old })
+            (record { window = window.new; model = state_of self.new }) }
+        ensures kept { result ≢ Some true → state_of self.new ≡ state_of self.old }
+        ensures unwritten { result ≢ Some true → mem.new ≡ mem.old }
+        ensures untouched { result ≢ Some true → window.new ≡ window.old }
+        ensures kind { window.new.kind ≡ window.old.kind }
+        ensures offered { window.new.negotiation.offered ≡ window.old.negotiation.offered }
+        ensures same_kind { kind_of (state_of self.new) ≡ kind_of (state_of self.old) }
+        ensures same_features { features_of (state_of self.new) ≡ features_of (state_of self.old) }
+        ensures range { SameRange mem.old mem.new }
+        ensures sound { IsSound mem.new window.new }
+        ensures held { IsHeld mem.new window.new (state_of self.new) }
+    {
+        match self {
+            DeviceModel::Entropy(_) | DeviceModel::Network(_) => None,
+            DeviceModel::Block(disk) => Some(disk.tell(said, mem, window, room)),
         }
     }
 }

@@ -3,7 +3,7 @@
 ghost use Rattle.std.specs.Prelude.{◌≡◌};
 ghost use Rattle.mmio_window.specs.DeviceKind.{device_id_of};
 ghost use Rattle.device_list.specs.Model.{kind_of, state_of};
-ghost use Rattle.device_list.specs.Saved.{mac_of, mtu_of};
+ghost use Rattle.device_list.specs.Saved.{identity_of, mac_of, mtu_of, sectors_of};
 
 use crate::model::DeviceModel;
 use std::alloc::Allocator;
@@ -15,6 +15,7 @@ impl<A: Allocator> DeviceModel<A> {
     {
         match self {
             DeviceModel::Network(_) => 1,
+            DeviceModel::Block(_) => 2,
             DeviceModel::Entropy(_) => 4,
         }
     }
@@ -24,7 +25,7 @@ impl<A: Allocator> DeviceModel<A> {
         ensures { result ≡ mac_of (state_of self.now) }
     {
         match self {
-            DeviceModel::Entropy(_) => [0; 6],
+            DeviceModel::Entropy(_) | DeviceModel::Block(_) => [0; 6],
             DeviceModel::Network(card) => card.configuration().mac,
         }
     }
@@ -34,8 +35,28 @@ impl<A: Allocator> DeviceModel<A> {
         ensures { result ≡ mtu_of (state_of self.now) }
     {
         match self {
-            DeviceModel::Entropy(_) => 0,
+            DeviceModel::Entropy(_) | DeviceModel::Block(_) => 0,
             DeviceModel::Network(card) => card.configuration().mtu,
+        }
+    }
+
+    /// How many sectors a disk has, and 0 of another device.
+    pub(crate) fn sectors(&self) -> u64
+        ensures { result ≡ sectors_of (state_of self.now) }
+    {
+        match self {
+            DeviceModel::Entropy(_) | DeviceModel::Network(_) => 0,
+            DeviceModel::Block(disk) => disk.device().extent.count,
+        }
+    }
+
+    /// What a disk answers to GET_ID, and zeros of another device.
+    pub(crate) fn identity(&self) -> [u8; 20]
+        ensures { result ≡ identity_of (state_of self.now) }
+    {
+        match self {
+            DeviceModel::Entropy(_) | DeviceModel::Network(_) => [0; 20],
+            DeviceModel::Block(disk) => disk.device().identity,
         }
     }
 }

@@ -81,7 +81,7 @@ returns-clause-sound g t c = λ suit sound.
     c.index_mut.ensures.value in
     restored_sound c.args.mem.now c.args.saved.now c.args.self.now c.deref.result.now c.restore_first.new.self items
     (c.args.count - 1) c.in-Some.first.now c.in-Some-get.device.now c.index_mut.result.now c.put_window.new.self
-    c.in-Some-window_restored.window suit sound (c.restore_first.ensures.sound suit sound) c.self-2.view_is
+    c.in-Some-window_restored.window c.requires.idle suit sound (c.restore_first.ensures.sound suit sound) c.self-2.view_is
     (got c.args.saved.now (c.args.count - 1) c.in-Some.first.now c.in-Some.ensures.lookup.3.0
     c.in-Some.ensures.lookup.1)
     c.in-Some-get.ensures.lookup.3.0 c.in-Some-get.ensures.lookup.1 (c.deref.ensures.value ∙ c.self.view_is) found

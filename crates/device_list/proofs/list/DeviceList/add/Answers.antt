@@ -17,7 +17,7 @@ pub returns-clause-taken : goal.returns-clause-taken
 returns-clause-taken g c = elim c.match-push.branch [
   | in-Ok-push w ↦ rw w.result-is (not_refused c.args.self.now c.args.spec c.len-number.result
       (search rules)
-      (let few = c.if-number-ge-MOST_DEVICES.false in few) (sym c.has_bad_mtu.ensures ∙ c.if-has_bad_mtu.false))
+      (let few = c.if-number-ge-MOST_DEVICES.false in few) (sym c.has_bad_mtu.ensures ∙ c.if-has_bad_mtu.false) (sym c.has_bad_disk.ensures ∙ c.if-has_bad_disk.false))
   | in-Err w ↦ rw w.result-is tt
 ]
 
@@ -32,7 +32,7 @@ returns-clause-refused g c = elim c.match-push.branch [
   | in-Ok-push w ↦ rw w.result-is tt
   | in-Err w ↦ rw w.result-is (not_refused c.args.self.now c.args.spec c.len-number.result
       (search rules)
-      (let few = c.if-number-ge-MOST_DEVICES.false in few) (sym c.has_bad_mtu.ensures ∙ c.if-has_bad_mtu.false))
+      (let few = c.if-number-ge-MOST_DEVICES.false in few) (sym c.has_bad_mtu.ensures ∙ c.if-has_bad_mtu.false) (sym c.has_bad_disk.ensures ∙ c.if-has_bad_disk.false))
 ]
 
 pub returns-clause-kept : goal.returns-clause-kept
@@ -40,3 +40,9 @@ returns-clause-kept g c = elim c.match-push.branch [
   | in-Ok-push w ↦ rw w.result-is tt
   | in-Err w ↦ rw w.result-is (search rules)
 ]
+
+pub returns-in_default-clause-refused : goal.returns-in_default-clause-refused
+returns-in_default-clause-refused g c =
+    not_refused c.args.self.now c.args.spec c.len-number.result (search rules)
+    (let few = c.if-number-ge-MOST_DEVICES.false in few) (sym c.has_bad_mtu.ensures ∙ c.if-has_bad_mtu.false)
+    (sym c.has_bad_disk.ensures ∙ c.if-has_bad_disk.false)

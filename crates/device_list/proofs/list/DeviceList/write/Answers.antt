@@ -1,7 +1,9 @@
-use Rattle.std.proofs.Common.{List, sym, subst}
+use Rattle.std.proofs.Common.{◌∙◌, List, sym, subst}
 use Rattle.device_list.specs.Device.{DeviceState}
 use Rattle.device_list.specs.List.{AreSoundDevices}
+use Rattle.device_list.proofs.Saved.{set_back}
 use Rattle.device_list.proofs.Sound.{all_sound}
+use Rattle.device_list.proofs.list.DeviceList.write.Goals.{then-write, else-write}
 use Rattle.device_list.proofs.list.DeviceList.write.Goals as goal
 
 pub returns-clause-sound : goal.returns-clause-sound
@@ -9,3 +11,12 @@ returns-clause-sound g c =
     all_sound c.args.mem.now c.write.new.mem c.self.inside.devices.items c.from.result c.write.new.self c.write.ensures.range
     (subst (λ (l : List DeviceState). AreSoundDevices c.args.mem.now l) (sym c.self.view_is) c.requires.sound)
     c.write.ensures.sound
+
+pub returns-clause-kept : goal.returns-clause-kept
+returns-clause-kept g c = elim c.if-write.branch [
+  | then-write w ↦ rw w.result-is tt
+  | else-write w ↦ rw w.result-is
+      (set_back c.self.inside.devices.items c.from.result c.in-Some.found.now c.write.new.self
+      c.in-Some.ensures.item.3.0 c.in-Some.ensures.item.1 (rw w.if-write.false at c.write.ensures.kept)
+      ∙ c.self.view_is)
+]

@@ -1,5 +1,5 @@
 use Rattle.std.proofs.Common.{refl, rules}
-use Rattle.device_list.proofs.Saved.{fewer, first_fails, more, suits_more}
+use Rattle.device_list.proofs.Saved.{fewer, first_fails, more, none_suit, suits_more}
 use Rattle.device_list.proofs.list.saved.+each_suits.Goals as goal
 
 pub returns-then-suits : goal.returns-then-suits
@@ -25,4 +25,10 @@ pub returns-in_default-2 : goal.returns-in_default-2
 returns-in_default-2 g t c = (
   λ never. absurd cc,
   λ suit. absurd (more c.args.saved.now c.args.devices.now (search rules) (search rules) suit),
+)
+
+pub returns-in-empty-empty : goal.returns-in-empty-empty
+returns-in-empty-empty g t c = (
+  λ yes. none_suit c.args.saved.now c.args.devices.now (search rules) (search rules),
+  λ suit. refl,
 )

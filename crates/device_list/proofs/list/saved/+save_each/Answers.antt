@@ -1,8 +1,9 @@
-use Rattle.std.proofs.Common.{◌∙◌, ap, sym}
+use Rattle.std.proofs.Common.{◌∙◌, ◌++◌, List, ap, sym}
+use Rattle.device_list.specs.Saved.{saved_devices}
 use Rattle.mmio_window.specs.Saved.{window_restored}
 use Rattle.snapshot.specs.declared.saved.SavedDevice.{SavedDevice}
 use Rattle.device_list.specs.Model.{kind_of}
-use Rattle.device_list.proofs.Saved.{restores_more}
+use Rattle.device_list.proofs.Saved.{behind_first, restores_more, saved_more}
 use Rattle.device_list.proofs.list.saved.+save_each.Goals as goal
 
 pub returns-in-len1-up-clause-back : goal.returns-in-len1-up-clause-back
@@ -11,3 +12,10 @@ returns-in-len1-up-clause-back g t c = λ m sound.
     (λ here. ap (λ (s : SavedDevice). window_restored (kind_of c.device-item.result.model) m s.window)
     (sym c.saved.ensures.value) ∙ c.saved.ensures.back m here)
     (c.save_each.ensures.back m) sound
+
+pub returns-in-len1-up-clause-value : goal.returns-in-len1-up-clause-value
+returns-in-len1-up-clause-value g t c =
+    c.save_each.ensures.value
+    ∙ (ap (λ (out : List SavedDevice). out ++ saved_devices (behind_first c.args.devices.now)) c.push.ensures.items
+    ∙ saved_more c.args.out.now.items c.args.devices.now c.device-item.result c.saved.result
+    c.in-len1-up.len_at_least c.device-item.is c.saved.ensures.value)

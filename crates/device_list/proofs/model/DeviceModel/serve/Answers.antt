@@ -3,7 +3,7 @@ use Rattle.mmio_window.specs.declared.stage.Stage.TheVariants.{First}
 use Rattle.mmio_window.proofs.Devices.{KeepsDevice-served}
 use Rattle.entropy_device.specs.Device.{entropy}
 use Rattle.device_list.proofs.model.DeviceModel.serve.Goals as goal
-use Rattle.device_list.proofs.model.DeviceModel.serve.Goals.{in-Entropy-eq0, in-Entropy-default, in-Network-default}
+use Rattle.device_list.proofs.model.DeviceModel.serve.Goals.{in-Block-default, in-Entropy-eq0, in-Entropy-default, in-Network-default}
 
 pub returns-clause-kind : goal.returns-clause-kind
 returns-clause-kind g c =
@@ -13,6 +13,7 @@ returns-clause-kind g c =
           ((KeepsDevice-served entropy _ 0 First _ _ _ _ _ _ _ _ w.serve_piece.ensures.served).kind)
       | in-Entropy-default w ↦ rw (w.window-is) refl
       | in-Network-default w ↦ rw (w.window-is) (w.serve.ensures.kind)
+      | in-Block-default w ↦ rw (w.window-is) (w.serve-in-Block-default.ensures.kind)
     ]
 
 pub returns-clause-offered : goal.returns-clause-offered
@@ -23,4 +24,5 @@ returns-clause-offered g c =
           ((KeepsDevice-served entropy _ 0 First _ _ _ _ _ _ _ _ w.serve_piece.ensures.served).offered)
       | in-Entropy-default w ↦ rw (w.window-is) refl
       | in-Network-default w ↦ rw (w.window-is) (w.serve.ensures.offered)
+      | in-Block-default w ↦ rw (w.window-is) (w.serve-in-Block-default.ensures.offered)
     ]
