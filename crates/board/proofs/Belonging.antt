@@ -1,5 +1,6 @@
 -- A slot's windows stay those of its devices, and sound.
-use Rattle.std.proofs.Common.{ℕ, ◌≤◌, ◌∙◌, Bool, List, length, Option, Result, Ok, Err, ap}
+use Rattle.std.proofs.Common.{◌≡◌, ℕ, ◌≤◌, ◌∙◌, Bool, List, [], length, Option, Result, Ok, Err, ap, arith, refl}
+use Rattle.std.proofs.lemmas.List.Elements.{All-nil}
 use Rattle.std.specs.Prelude.{IfOk, OnErr}
 use Rattle.guest_memory.specs.Memory.{Memory, SameRange}
 use Rattle.chain.specs.declared.budget.Budget.{Budget}
@@ -10,13 +11,15 @@ use Rattle.mmio_window.specs.declared.stage.Stage.{Stage}
 use Rattle.mmio_window.specs.DeviceKind.{configuration_changes}
 use Rattle.mmio_window.specs.Pieces.{IsRefusedAt, ServesTo}
 use Rattle.mmio_window.specs.Soundness.{IsSound}
-use Rattle.mmio_window.specs.Window.{WindowState}
+use Rattle.mmio_window.specs.Window.{WindowState, fresh_window}
+use Rattle.mmio_window.specs.declared.device_kind.DeviceKind.TheVariants.{Block, Console}
+use Rattle.block_device.specs.Config.{block_features}
 use Rattle.mmio_window.proofs.Devices.{KeepsDevice, KeepsDevice-refused, KeepsDevice-served}
 use Rattle.mmio_window.proofs.Soundness.{IsSound-same_range}
-use Rattle.device_list.specs.Device.{DeviceState}
+use Rattle.device_list.specs.Device.{DeviceState, IsSoundDevice}
 use Rattle.device_list.specs.List.{AreSoundDevices}
 use Rattle.device_list.proofs.Sound.{still_sound}
-use Rattle.board.specs.Slot.{IsSoundSlot}
+use Rattle.board.specs.Slot.{IsSoundSlot, console_features}
 
 -- a piece of the transmit queue's service, however it ends
 pub transmit_keeps : {E : Type 0} (stage : Stage) (served refused : Device (List ℕ)) (budget : Budget)
@@ -97,3 +100,20 @@ devices_changed m m' read_only block console pending devices devices' sound rang
   pending_fits = sound.pending_fits;
   devices_sound = here;
 }
+
+-- and as it is opened
+pub opened_sound : (m : Memory) (read_only : Bool) (block console : WindowState) (pending : List ℕ)
+    (devices : List DeviceState) → block ≡ fresh_window Block (block_features read_only) 0
+    → console ≡ fresh_window Console console_features 0 → pending ≡ [] → devices ≡ []
+    → IsSoundSlot m read_only block console pending devices
+opened_sound m read_only block console pending devices b c p d = rw (b, c, p, d) (record {
+  block_kind = refl;
+  block_offers = refl;
+  block_generation = refl;
+  console_kind = refl;
+  console_offers = refl;
+  block_sound = record { queue_0 = tt; queue_1 = tt };
+  console_sound = record { queue_0 = tt; queue_1 = tt };
+  pending_fits = omega arith;
+  devices_sound = All-nil (IsSoundDevice m);
+})

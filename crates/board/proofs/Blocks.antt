@@ -11,7 +11,7 @@ use Rattle.block_device.specs.declared.device.BlockDevice.{BlockDevice}
 use Rattle.block_device.specs.declared.extent.Extent.{Extent}
 use Rattle.block_device.specs.Extent.{IsWithin, extent_disk}
 use Rattle.board.specs.declared.event.EventKind.TheVariants.{Read, Host}
-use Rattle.board.specs.declared.event.HostEvent.{HostEvent}
+use Rattle.block_device.specs.declared.operation.HostEvent.{HostEvent}
 use Rattle.board.specs.declared.reply.Reply.TheVariants.{Value, Idle}
 use Rattle.board.specs.Image.{Health, Tells, bytes_of, health_of, sectors_of, disk_with}
 use Rattle.board.specs.Machine.{register}

@@ -1,31 +1,39 @@
 -- What comes of what is done to a further device.
 use Rattle.std.proofs.Common.{◌≡◌, ◌≢◌, inl, inr, ℕ, Bool, true, false, Option, Some, None, List, [], refl, sym, ◌∙◌, ap, subst, length, ◌++◌, ◌∷◌}
-use Rattle.std.specs.Prelude.{if◌then◌else◌, ◌==◌, ◌&&◌, is_none, is_some, unwrap_or}
+use Rattle.std.specs.Prelude.{if◌then◌else◌, ◌==◌, ◌&&◌, IfSome, is_none, is_some, not, unwrap_or}
 use Rattle.std.specs.List.{slice_get}
-use Rattle.std.specs.Option.{option_and_then, option_map}
+use Rattle.std.specs.Option.{option_and_then, option_map, option_map_or}
 use Rattle.std.proofs.lemmas.Bool.{eq-eqb, ne_eqb}
 use Rattle.std.proofs.lemmas.Option.{same_Some}
 use Rattle.guest_memory.specs.Memory.{Memory}
 use Rattle.device_list.specs.declared.spec.DeviceSpec.{DeviceSpec}
-use Rattle.device_list.specs.Device.{DeviceState, Receives, TakesSent, fresh_device, register_of, supply_taken}
+use Rattle.mmio_window.specs.Ready.{may_stop_queues}
+use Rattle.block_device.specs.declared.operation.HostEvent.{HostEvent}
+use Rattle.block_device.specs.declared.operation.HostEvent.TheVariants.{Drop}
+use Rattle.block_device.specs.Flights.{HostedQueue, InFlight, freed, is_any}
+use Rattle.hosted_disk.specs.Disk.{HostedDisk}
+use Rattle.hosted_disk.specs.Told.{has_effect}
+use Rattle.device_list.specs.Model.{ModelState, Block, Entropy, Network, disk_of, must_wait}
+use Rattle.device_list.specs.Device.{DeviceState, Receives, TakesSent, Told, Writes, fresh_device, register_of, supply_taken}
 use Rattle.device_list.specs.declared.spec.AddRefusal.{AddRefusal}
-use Rattle.device_list.specs.List.{At, card_at, refusal_of}
+use Rattle.device_list.specs.List.{At, card_at, disk_at, refusal_of, waits_at}
 use Rattle.device_list.specs.Card.{Card, oldest_of, receive_refusal}
 use Rattle.network_device.specs.declared.refusal.FrameRefusal.TheVariants.{Full}
 use Rattle.device_list.specs.declared.refusal.ReceiveRefusal.{ReceiveRefusal}
 use Rattle.device_list.specs.declared.refusal.ReceiveRefusal.TheVariants.{Frame}
-use Rattle.device_list.proofs.One.{reception_once, supply_once, taking_once, write_once}
+use Rattle.device_list.proofs.One.{reception_once, supply_once, taking_once, word_once, write_once}
 use Rattle.board.specs.declared.event.DeviceEvent.{DeviceEvent}
-use Rattle.board.specs.declared.event.DeviceEvent.TheVariants.{Plug, Read, Write, Supply, Receive, TakeSent, SetLink}
+use Rattle.board.specs.declared.event.DeviceEvent.TheVariants.{Plug, Read, Write, Supply, Receive, TakeSent, SetLink, Host}
 use Rattle.board.specs.declared.event.EventKind.TheVariants.{Device}
 use Rattle.board.specs.declared.reply.Reply.{Reply}
 use Rattle.board.specs.declared.reply.Reply.TheVariants.{Value, Done, Bytes, Took, BadDevice, Busy, Idle, NoMemory}
-use Rattle.board.specs.Devices.{DoesTo, GivesByDevice, GivesDevice, AreSet, DoesIf, IsDeviceStep, IsUnmet, MayReplyDevice, StaysSo, TakesMemoryFor, can_plug, device_reply, oldest_at, received_reply, reply_at, taken_reply}
+use Rattle.board.specs.Devices.{DoesTo, GivesByDevice, GivesDevice, AreSet, DoesIf, IsDeviceStep, IsUnmet, MayReplyDevice, StaysSo, TakesMemoryFor, can_plug, device_reply, has_effect_at, oldest_at, received_reply, reply_at, taken_reply, told_reply, waits_for_disk, waits_there}
+use Rattle.board.specs.Waiting.{may_wait_there}
 use Rattle.board.specs.Image.{Health}
 use Rattle.board.specs.Outcome.{Outcome, replies}
 use Rattle.board.specs.Slot.{SlotState}
 use Rattle.board.specs.World.{MayGiveOverImage}
-use Rattle.board.proofs.Lists.{set_same}
+use Rattle.board.proofs.Lists.{get_set, set_same}
 
 -- the slot with another memory and other devices
 abbrev pub with_devices : SlotState → Memory → List DeviceState → SlotState
@@ -92,7 +100,12 @@ answer_may {A} (Read offset width) d reply is =
     subst (λ (r : Reply A). MayReplyDevice (Read offset width) r)
     (same_Some (Value (register_of offset width d)) reply is) tt
 answer_may {A} (Write offset width value) d reply is =
-    subst (λ (r : Reply A). MayReplyDevice (Write offset width value) r) (same_Some Done reply is) tt
+    by_wait (waits_at offset d) is
+  where
+    by_wait : (waits : Bool) → Some (if waits then Busy else Done) ≡ Some reply
+        → MayReplyDevice (Write offset width value) reply
+    by_wait true is = subst (λ (r : Reply A). MayReplyDevice (Write offset width value) r) (same_Some Busy reply is) tt
+    by_wait false is = subst (λ (r : Reply A). MayReplyDevice (Write offset width value) r) (same_Some Done reply is) tt
 answer_may (Supply bytes) d reply is = took_by bytes (supply_taken bytes d) reply is
 answer_may _ d reply is = absurd (cc)
 
@@ -128,6 +141,14 @@ linked_may up None reply is = absurd (cc)
 linked_may {A} up (Some card) reply is =
     subst (λ (r : Reply A). MayReplyDevice (SetLink up) r) (same_Some Done reply is) tt
 
+told_may : {A : Type 0} (said : HostEvent) (found : Option Bool) (reply : Reply A)
+    → option_map told_reply found ≡ Some reply → MayReplyDevice (Host said) reply
+told_may said None reply is = absurd (cc)
+told_may {A} said (Some true) reply is =
+    subst (λ (r : Reply A). MayReplyDevice (Host said) r) (same_Some Done reply is) tt
+told_may {A} said (Some false) reply is =
+    subst (λ (r : Reply A). MayReplyDevice (Host said) r) (same_Some Idle reply is) tt
+
 reply_may : {A : Type 0} (n : ℕ) (what : DeviceEvent A) (state : SlotState) (reply : Reply A)
     → reply_at n what state ≡ Some reply → MayReplyDevice what reply
 reply_may n (Plug spec) state reply is = plug_may spec (can_plug n spec state) reply is
@@ -140,6 +161,7 @@ reply_may n (Receive frame) state reply is =
     received_may frame (receive_refusal frame (card_at n state.devices)) reply is
 reply_may n TakeSent state reply is = taken_may (card_at n state.devices) reply is
 reply_may n (SetLink up) state reply is = linked_may up (card_at n state.devices) reply is
+reply_may n (Host said) state reply is = told_may said (has_effect_at n said state.devices) reply is
 
 bad_may : {A : Type 0} (what : DeviceEvent A) → MayReplyDevice what BadDevice
 bad_may (Plug spec) = tt
@@ -149,6 +171,7 @@ bad_may (Supply bytes) = tt
 bad_may (Receive frame) = tt
 bad_may TakeSent = tt
 bad_may (SetLink up) = tt
+bad_may (Host said) = tt
 
 pub device_replies : {A : Type 0} (n : ℕ) (what : DeviceEvent A) (state : SlotState) (before after : Health)
     (outcome : Outcome A) → GivesDevice n what state before after outcome → MayReplyDevice what outcome.reply
@@ -169,26 +192,6 @@ pub unmet_replies : {A : Type 0} (n : ℕ) (what : DeviceEvent A) (state : SlotS
     (outcome : Outcome A) → IsUnmet n what state before after outcome → MayReplyDevice what outcome.reply
 unmet_replies {A} n what state before after outcome h =
     subst (λ (o : Outcome A). MayReplyDevice what o.reply) (sym h.unchanged) (unmet_may n what state h.takes)
-
--- none is ever idle or busy
-
-pub never_idle : {A : Type 0} (what : DeviceEvent A) → MayReplyDevice what Idle → ⊥
-never_idle (Plug spec) may = may
-never_idle (Read offset width) may = may
-never_idle (Write offset width value) may = may
-never_idle (Supply bytes) may = may
-never_idle (Receive frame) may = may
-never_idle TakeSent may = may
-never_idle (SetLink up) may = may
-
-pub never_waiting : {A : Type 0} (what : DeviceEvent A) → MayReplyDevice what Busy → ⊥
-never_waiting (Plug spec) may = may
-never_waiting (Read offset width) may = may
-never_waiting (Write offset width value) may = may
-never_waiting (Supply bytes) may = may
-never_waiting (Receive frame) may = may
-never_waiting TakeSent may = may
-never_waiting (SetLink up) may = may
 
 -- what a slot gives for it may be given over an image
 pub device_given : {A : Type 0} (n : ℕ) (what : DeviceEvent A) (old new : SlotState) (reply : Reply A)
@@ -238,9 +241,11 @@ alters_once (Read offset width) n m one other old new new' a b =
     (record { before = a.before; after = a.after; there = a.there; changes = a.changes; is = a.is })
     (record { before = b.before; after = b.after; there = b.there; changes = b.changes; is = b.is })
 alters_once (Write offset width value) n m one other old new new' a b =
-    write_once offset width value n m one other old new new'
-    (record { before = a.before; after = a.after; there = a.there; changes = a.changes; is = a.is })
-    (record { before = b.before; after = b.after; there = b.there; changes = b.changes; is = b.is })
+    does_if_once (not (waits_there n offset old)) (Writes offset width value) n m one other old new new'
+    (write_once offset width value n m one other old new new') a b
+alters_once (Host said) n m one other old new new' a b =
+    does_if_once (unwrap_or (has_effect_at n said old) false) (Told said) n m one other old new new'
+    (word_once said n m one other old new new') a b
 alters_once (Supply bytes) n m one other old new new' a b =
     supply_once bytes n m one other old new new'
     (record { before = a.before; after = a.after; there = a.there; changes = a.changes; is = a.is })
@@ -348,3 +353,148 @@ taken_by A (Some card) = λ same. absurd (cc (same))
 -- there is memory for that
 pub taken_answered : (A : Type 0) (n : ℕ) (devices : List DeviceState) → taken_reply {A = A} n devices ≢ NoMemory
 taken_answered A n devices = taken_by A (card_at n devices)
+
+-- ---- a busy answer and an idle one change nothing
+
+set_back : {A : Type 0} (state : SlotState) (outcome : Outcome A) (reply : Reply A)
+    → outcome ≡ replies (with_devices state outcome.state.memory outcome.state.devices) reply
+    → AreSet state.devices state.memory outcome.state.memory outcome.state.devices → outcome ≡ replies state reply
+set_back state outcome reply is set =
+    is ∙ same_devices state outcome.state.memory state.memory outcome.state.devices state.devices reply set.memory
+    set.devices
+
+-- a write that is told to wait does
+write_waits : {A : Type 0} (offset width value : ℕ) (found : Option DeviceState)
+    → option_and_then (device_reply {A = A} (Write offset width value)) found ≡ Some Busy
+    → option_map_or (waits_at offset) found false ≡ true
+write_waits offset width value None is = absurd (cc)
+write_waits {A} offset width value (Some d) is = by_wait (waits_at offset d) is
+  where
+    by_wait : (waits : Bool) → ◌≡◌ {A = Option (Reply A)} (Some (if waits then Busy else Done)) (Some Busy)
+        → waits ≡ true
+    by_wait true is = refl
+    by_wait false is = absurd (cc is)
+
+-- and what the host is told that there is nothing to do for has no effect
+no_effect : {A : Type 0} (found : Option Bool) → ◌≡◌ {A = Option (Reply A)} (option_map told_reply found) (Some Idle)
+    → unwrap_or found false ≡ false
+no_effect None is = absurd (cc)
+no_effect (Some true) is = absurd (cc)
+no_effect (Some false) is = refl
+
+busy_at : {A : Type 0} (n : ℕ) (what : DeviceEvent A) (state : SlotState) (outcome : Outcome A)
+    → reply_at n what state ≡ Some Busy
+    → DoesTo what n state.memory outcome.state.memory state.devices outcome.state.devices
+    → AreSet state.devices state.memory outcome.state.memory outcome.state.devices
+    × (waits_for_disk what n state.devices ≡ true)
+busy_at {A} n (Write offset width value) state outcome is does =
+    let waits = write_waits {A = A} offset width value (slice_get state.devices n) is in
+    (rw waits at does, waits)
+busy_at n what state outcome is does = absurd (never_waiting n what state is)
+  where
+    never_waiting : {A : Type 0} (n : ℕ) (what : DeviceEvent A) (state : SlotState)
+        → reply_at n what state ≡ Some Busy → MayReplyDevice what Busy
+    never_waiting n what state is = reply_may n what state Busy is
+
+idle_at : {A : Type 0} (n : ℕ) (what : DeviceEvent A) (state : SlotState) (outcome : Outcome A)
+    → reply_at n what state ≡ Some Idle
+    → DoesTo what n state.memory outcome.state.memory state.devices outcome.state.devices
+    → AreSet state.devices state.memory outcome.state.memory outcome.state.devices
+idle_at {A} n (Host said) state outcome is does =
+    rw (no_effect {A = A} (has_effect_at n said state.devices) is) at does
+idle_at n what state outcome is does = absurd (reply_may n what state Idle is)
+
+pub device_busy : {A : Type 0} (n : ℕ) (what : DeviceEvent A) (state : SlotState) (before after : Health)
+    (outcome : Outcome A) → GivesDevice n what state before after outcome → outcome.reply ≡ Busy
+    → (outcome ≡ replies state Busy) × (waits_for_disk what n state.devices ≡ true)
+device_busy {A} n what state before after outcome h =
+    of_device n what state
+    (λ (o : Outcome A). o.reply ≡ Busy → (o ≡ replies state Busy) × (waits_for_disk what n state.devices ≡ true))
+    before after outcome h (λ is. absurd (cc is)) (λ reply found step is.
+    let told : reply ≡ Busy = sym (ap (λ (o : Outcome A). o.reply) step.is) ∙ is in
+    let still = busy_at n what state outcome (found ∙ ap (λ (r : Reply A). Some r) told) step.at in (
+      set_back state outcome Busy (step.is ∙ ap (λ (r : Reply A).
+          replies (with_devices state outcome.state.memory outcome.state.devices) r) told) still.0,
+      still.1,
+    ))
+
+pub device_idle : {A : Type 0} (n : ℕ) (what : DeviceEvent A) (state : SlotState) (before after : Health)
+    (outcome : Outcome A) → GivesDevice n what state before after outcome → outcome.reply ≡ Idle
+    → outcome ≡ replies state Idle
+device_idle {A} n what state before after outcome h =
+    of_device n what state (λ (o : Outcome A). o.reply ≡ Idle → o ≡ replies state Idle)
+    before after outcome h (λ is. absurd (cc is)) (λ reply found step is.
+    let told : reply ≡ Idle = sym (ap (λ (o : Outcome A). o.reply) step.is) ∙ is in
+    let still = idle_at n what state outcome (found ∙ ap (λ (r : Reply A). Some r) told) step.at in
+    set_back state outcome Idle (step.is ∙ ap (λ (r : Reply A).
+    replies (with_devices state outcome.state.memory outcome.state.devices) r) told) still)
+
+-- a write that may wait may stop a queue
+waiting_stops : (offset : ℕ) (model : ModelState) → must_wait offset model ≡ true → may_stop_queues offset ≡ true
+waiting_stops offset (Block disk) waits = both_true (is_any disk.tags) (may_stop_queues offset) waits
+  where
+    both_true : (any stops : Bool) → (any && stops) ≡ true → stops ≡ true
+    both_true true stops is = is
+    both_true false stops is = absurd (cc is)
+waiting_stops offset (Entropy pool) waits = absurd (cc waits)
+waiting_stops offset (Network card) waits = absurd (cc waits)
+
+pub device_may_wait : {A : Type 0} (n : ℕ) (what : DeviceEvent A) (devices : List DeviceState)
+    → waits_for_disk what n devices ≡ true → may_wait_there what ≡ true
+device_may_wait n (Write offset width value) devices waits = by_found (slice_get devices n) waits
+  where
+    by_found : (found : Option DeviceState) → option_map_or (waits_at offset) found false ≡ true
+        → may_stop_queues offset ≡ true
+    by_found None waits = absurd (cc waits)
+    by_found (Some d) waits = waiting_stops offset d.model waits
+device_may_wait n _ devices waits = absurd (cc waits)
+
+-- behind a drop nothing is in flight of the disk
+
+pub freed_none : (tags : List (Option InFlight)) → is_any (freed tags) ≡ false
+freed_none [] = refl
+freed_none (tag ∷ tags) = freed_none tags
+
+disk_in : (devices : List DeviceState) (n : ℕ) (d : DeviceState) → slice_get devices n ≡ Some d
+    → disk_at n devices ≡ disk_of d.model
+disk_in devices n d there = ap (λ found. option_and_then (λ (e : DeviceState). disk_of e.model) found) there
+
+idle_disk : (found : Option HostedDisk) → option_map (has_effect Drop) found ≡ Some false
+    → IfSome found (λ disk. is_any disk.tags ≡ false)
+idle_disk None is = tt
+idle_disk (Some disk) is = same_Some (is_any disk.tags) false is
+
+-- what is there behind a drop of device n
+drop_left : (effect : Option Bool) (n : ℕ) (m m' : Memory) (old new : List DeviceState)
+    → option_map (has_effect Drop) (disk_at n old) ≡ effect
+    → DoesIf (unwrap_or effect false) (Told Drop) n m m' old new → (found : Bool) → effect ≡ Some found
+    → IfSome (disk_at n new) (λ disk. is_any disk.tags ≡ false)
+drop_left None n m m' old new is does found there = absurd (cc there)
+drop_left (Some false) n m m' old new is does found there =
+    rw does.devices (idle_disk (disk_at n old) is)
+drop_left (Some true) n m m' old new is does found there =
+    let told = does.changes in
+    let put : slice_get new n ≡ Some does.after =
+    ap (λ (l : List DeviceState). slice_get l n) does.is ∙ get_set old n does.before does.after does.there in
+    let disk : disk_at n new ≡ Some told.after = disk_in new n does.after put ∙ ap disk_of told.is in
+    let tags : told.after.tags ≡ freed told.before.tags = ap (λ (q : HostedQueue). q.tags) told.does.queue in
+    rw disk (ap is_any tags ∙ freed_none told.before.tags)
+
+pub dropped_disk : {A : Type 0} (n : ℕ) (state : SlotState) (before after : Health) (outcome : Outcome A)
+    → GivesDevice {A = A} n (Host Drop) state before after outcome
+    → IfSome (disk_at n outcome.state.devices) (λ disk. is_any disk.tags ≡ false)
+dropped_disk {A} n state before after outcome h = by_effect (has_effect_at n Drop state.devices) refl h
+  where
+    by_effect : (effect : Option Bool) → has_effect_at n Drop state.devices ≡ effect
+        → GivesByDevice {A = A} (option_map told_reply effect) n (Host Drop) state before after outcome
+        → IfSome (disk_at n outcome.state.devices) (λ disk. is_any disk.tags ≡ false)
+    by_effect None is h =
+        rw (ap (λ (o : Outcome A). o.state.devices) h.alike) (no_disk (disk_at n state.devices) is)
+      where
+        no_disk : (found : Option HostedDisk) → option_map (has_effect Drop) found ≡ None
+            → IfSome found (λ disk. is_any disk.tags ≡ false)
+        no_disk None is = tt
+        no_disk (Some disk) is = absurd (cc is)
+    by_effect (Some found) is h =
+        drop_left (Some found) n state.memory outcome.state.memory state.devices outcome.state.devices is
+        (rw is at h.at) found refl

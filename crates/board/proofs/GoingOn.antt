@@ -18,7 +18,8 @@ use Rattle.board.specs.Line.{IsLine, IsQuiet, Move, events_of, own_events, own_r
 use Rattle.board.specs.Machine.{IsToldAlone, RunsOnItsOwn}
 use Rattle.board.specs.Moving.{HasBytesOf, MovesTo, RanOnBoth, as_of}
 use Rattle.board.specs.Outcome.{Outcome}
-use Rattle.board.specs.Restoring.{IsRestoring, IsTakenUp, slot_in}
+use Rattle.device_list.specs.List.{are_at_work}
+use Rattle.board.specs.Restoring.{IsTakenUp, RestoresUnless, slot_in}
 use Rattle.board.specs.Saved.{IsAs, IsLike, IsSavedTo, IsSnapshotOf, Suits, SuitsBesideDevices, saved_slot, snapshot_of}
 use Rattle.board.specs.Slot.{BoardSlot, SlotState, state_of}
 use Rattle.board.specs.World.{MayGiveBy, MayGiveOverImage, SlotStep, Step, World}
@@ -29,17 +30,18 @@ use Rattle.board.proofs.Steps.{answers_join}
 
 -- ---- a restore that is done was taken up
 
-restoring_done : {A : Type 0} (state : SlotState) (bytes : List ℕ) (outcome : Outcome A)
-    → IsRestoring state bytes outcome → outcome.reply ≡ Done → IsTakenUp state bytes outcome.state
-restoring_done state bytes outcome (inl taken) done = taken.0
-restoring_done {A} state bytes outcome (inr refused) done =
+restoring_done : {A : Type 0} (works : Bool) (state : SlotState) (bytes : List ℕ) (outcome : Outcome A)
+    → RestoresUnless works state bytes outcome → outcome.reply ≡ Done → IsTakenUp state bytes outcome.state
+restoring_done {A} true state bytes outcome h done = let told = ap (λ (o : Outcome A). o.reply) h in absurd (cc)
+restoring_done false state bytes outcome (inl taken) done = taken.0
+restoring_done {A} false state bytes outcome (inr refused) done =
     let told = ap (λ (o : Outcome A). o.reply) refused.1 in absurd (cc)
 
 done_over_image : {A : Type 0} (state : SlotState) (bytes : List ℕ) (before after : Health) (outcome : Outcome A)
     → MayGiveOverImage state (Restore bytes) before after outcome → outcome.reply ≡ Done
     → IsTakenUp state bytes outcome.state
 done_over_image state bytes before after outcome (inl served) done =
-    restoring_done state bytes outcome served.alike.alike done
+    restoring_done (are_at_work state.devices) state bytes outcome served.alike.alike done
 done_over_image state bytes before after outcome (inr refused) done = absurd refused
 
 done_beside : {A : Type 0} (waits : Bool) (state : SlotState) (bytes : List ℕ) (health : Health)

@@ -1,14 +1,18 @@
 -- A drop, a hold and a release.
 use Rattle.std.proofs.Common.{◌≡◌, ◌≢◌, ◌∙◌, inl, inr, ℕ, zero, suc, Bool, true, false, Option, Some, None, List, [], ◌∷◌, get_or, refl, sym, ap, subst}
-use Rattle.std.specs.Prelude.{IsSome, ◌&&◌}
+use Rattle.std.specs.Prelude.{IfSome, IsSome, ◌&&◌, ◌||◌}
 use Rattle.std.proofs.lemmas.Bool.{cases_eq}
 use Rattle.board.specs.declared.event.SlotWindow.TheVariants.{Block}
 use Rattle.block_device.specs.declared.operation.Verdict.{Verdict}
 use Rattle.block_device.specs.Flights.{HostedQueue, InFlight, freed, is_any}
 use Rattle.block_device.proofs.Landing.{landed_free, landed_others}
 use Rattle.board.specs.declared.event.EventKind.{EventKind}
-use Rattle.board.specs.declared.event.EventKind.TheVariants.{Write, Host}
-use Rattle.board.specs.declared.event.HostEvent.TheVariants.{Drop, Release}
+use Rattle.board.specs.declared.event.EventKind.TheVariants.{Write, Host, Device}
+use Rattle.board.specs.declared.event.DeviceEvent.TheVariants as device
+use Rattle.device_list.specs.List.{disk_at}
+use Rattle.board.specs.Waiting.{waits_beside}
+use Rattle.board.proofs.FurtherDevices.{dropped_disk, freed_none}
+use Rattle.block_device.specs.declared.operation.HostEvent.TheVariants.{Drop, Release}
 use Rattle.board.specs.declared.reply.Reply.TheVariants.{Busy}
 use Rattle.board.specs.Backing.{HostDisk, tags_in, with_tags}
 use Rattle.board.specs.Hosting.{CompletesTag, DropGives, IsNoRestore, LooksAtQueue, dropped, held, hosted_queue, must_wait, notifies_block, released, told_in, waits_now, with_queue}
@@ -22,18 +26,14 @@ use Rattle.board.proofs.Hosts.{ringing_own}
 use Rattle.board.proofs.Identities.{given_fixed, readied_fixed}
 use Rattle.board.proofs.OneHosted.{look_once}
 use Rattle.board.proofs.Waiting.{waited}
-use Rattle.board.proofs.Ways.{Drops, Holds, Lands, Looks, Passes, Releases, Rests, Waits, Way, by_disk}
+use Rattle.board.proofs.Ways.{Drops, Holds, Lands, Looks, Passes, Releases, Rests, Waits, Way, by_disk, must_by}
 
 -- ---- a drop
-
-none_any : (tags : List (Option InFlight)) → is_any (freed tags) ≡ false
-none_any [] = refl
-none_any (tag ∷ tags) = none_any tags
 
 pub dropped_tags : (host : Option HostDisk)
     → is_any (tags_in (with_tags (freed (tags_in host)) host)) ≡ false
 dropped_tags None = refl
-dropped_tags (Some disk) = none_any disk.tags
+dropped_tags (Some disk) = freed_none disk.tags
 
 gives_free : {A : Type 0} (any : Bool) (old : SlotState) (outcome : Outcome A) → is_any (tags_in old.host) ≡ any
     → DropGives any old outcome → is_any (tags_in outcome.state.host) ≡ false
@@ -52,18 +52,18 @@ pub dropped_free : {A : Type 0} (old : SlotState) (before after : Health) (outco
     → MayGive old (Host Drop) before after outcome → is_any (tags_in outcome.state.host) ≡ false
 dropped_free old before after outcome h = free_by old.host old before after outcome refl h
 
--- and so nothing waits behind it
+-- and so nothing waits behind it but for a further disk
 pub dropped_passes : {A : Type 0} (old : SlotState) (what : EventKind A) (before mid mid' after : Health)
     (drop outcome : Outcome A) → MayGive old (Host Drop) before mid drop
-    → MayGive drop.state what mid' after outcome → outcome.reply ≢ Busy
+    → MayGive drop.state what mid' after outcome → outcome.reply ≡ Busy → waits_beside what drop.state ≡ true
 dropped_passes old what before mid mid' after drop outcome h later busy =
     let free = dropped_free old before mid drop h in
     let waits = (waited drop.state.host drop.state what mid' after outcome later busy).0.waits in
-    clash (is_any (tags_in drop.state.host)) (must_wait what) free waits
+    beside (is_any (tags_in drop.state.host)) (must_wait what) (waits_beside what drop.state) free waits
   where
-    clash : (any must : Bool) → any ≡ false → (any && must) ≡ true → ⊥
-    clash true must free waits = absurd (cc free)
-    clash false must free waits = absurd (cc waits)
+    beside : (any must further : Bool) → any ≡ false → ((any && must) || further) ≡ true → further ≡ true
+    beside true must further free waits = absurd (cc free)
+    beside false must further free waits = waits
 
 -- what was in flight is given up
 whole_at : {A : Type 0} (host : Option HostDisk) (old : SlotState) (before after : Health) (outcome : Outcome A)
@@ -78,6 +78,35 @@ pub dropped_whole : {A : Type 0} (old : SlotState) (before after : Health) (outc
     → is_any (tags_in old.host) ≡ true → MayGive old (Host Drop) before after outcome
     → outcome.state ≡ dropped old
 dropped_whole old before after outcome any h = whole_at old.host old before after outcome refl any h
+
+-- of a further disk nothing is in flight either behind a drop
+further_over : {A : Type 0} (n : ℕ) (old : SlotState) (before after : Health) (outcome : Outcome A)
+    → MayGiveOverImage old (Device n (device.Host Drop)) before after outcome
+    → IfSome (disk_at n outcome.state.devices) (λ disk. is_any disk.tags ≡ false)
+further_over n old before after outcome (inl served) = dropped_disk n old before after outcome served.alike
+further_over n old before after outcome (inr unmet) = absurd unmet.takes
+
+further_by : {A : Type 0} (n : ℕ) (old : SlotState) (before : Health) (outcome : Outcome A)
+    → Way (λ (o : Outcome A). MayGiveOverImage old (Device n (device.Host Drop)) before before o) old
+    (Device n (device.Host Drop)) outcome
+    → IfSome (disk_at n outcome.state.devices) (λ disk. is_any disk.tags ≡ false)
+further_by n old before outcome (Passes own free quiet h) = further_over n old before before outcome h
+further_by n old before outcome (Waits waits h) =
+    let must = must_by (is_any (tags_in old.host)) false waits in absurd (cc must)
+further_by n old before outcome (Looks rings looks h) = absurd (cc rings)
+further_by n old before outcome (Rests said tells h) = absurd (cc tells)
+further_by n old before outcome (Lands tag verdict tells completes h) = absurd (cc tells)
+further_by n old before outcome (Drops tells h) = absurd (cc tells)
+further_by n old before outcome (Holds tells h) = absurd (cc tells)
+further_by n old before outcome (Releases tells looks h) = absurd (cc tells)
+
+pub dropped_further : {A : Type 0} (n : ℕ) (old : SlotState) (before after : Health) (outcome : Outcome A)
+    → MayGive old (Device n (device.Host Drop)) before after outcome
+    → IfSome (disk_at n outcome.state.devices) (λ disk. is_any disk.tags ≡ false)
+dropped_further {A} n old before after outcome h =
+    by_disk old.host old (Device n (device.Host Drop)) before after outcome
+    (λ given. further_over n old before after outcome given)
+    (λ image ways. further_by n old before outcome ways) h
 
 -- ---- a hold
 

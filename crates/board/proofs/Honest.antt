@@ -29,7 +29,7 @@ use Rattle.board.specs.Hosting.{hosted_queue, LeavesTag}
 use Rattle.board.specs.Line.{MayBeTold}
 use Rattle.board.specs.Slot.{SlotState}
 use Rattle.board.specs.Steps.{IsAnsweredBy}
-use Rattle.board.proofs.Looking.{KeepsTag, from_left, keeps_tag}
+use Rattle.hosted_disk.proofs.Looking.{KeepsTag, from_left, keeps_tag}
 use Rattle.board.proofs.Waiting.{outlasts}
 
 -- ---- the chain as it asked

@@ -6,7 +6,7 @@ use Rattle.block_device.specs.Flights.{is_any}
 use Rattle.board.specs.declared.event.SlotWindow.{SlotWindow}
 use Rattle.board.specs.declared.event.SlotWindow.TheVariants.{Block}
 use Rattle.board.specs.declared.event.EventKind.{EventKind}
-use Rattle.board.specs.declared.event.HostEvent.{HostEvent}
+use Rattle.block_device.specs.declared.operation.HostEvent.{HostEvent}
 use Rattle.board.specs.declared.event.DeviceEvent.{DeviceEvent}
 use Rattle.board.specs.declared.event.EventKind.TheVariants.{Write, Input, Restore, Host, Device}
 use Rattle.board.specs.declared.pause.Pause.{Pause}
@@ -29,7 +29,8 @@ use Rattle.board.specs.Saved.{IsCauseOf, IsRestored}
 use Rattle.board.specs.declared.saved.RestoreFault.{RestoreFault}
 use Rattle.board.specs.declared.saved.RestoreRefusal.{RestoreRefusal}
 use Rattle.board.specs.Slot.{BoardSlot, SlotState, state_of}
-use Rattle.board.proofs.Restoring.{restore_given}
+use Rattle.device_list.specs.List.{are_at_work}
+use Rattle.board.proofs.Restoring.{restore_given, restore_waits}
 use Rattle.board.specs.Task.{Task, PutOut, Serve, task_of}
 use Rattle.mmio_window.specs.declared.action.Action.{Action}
 use Rattle.mmio_window.specs.declared.action.Action.TheVariants as action
@@ -321,14 +322,33 @@ same_reply A (Err why) = refl
 
 pub restore_passes : (A : Type 0) (image : List ℕ) (slot new : BoardSlot) (bytes : List ℕ)
     (r : Result (Unit {0}) RestoreFault) (said : Result (Unit {0}) RestoreRefusal) (health : Health)
-    → is_any (tags_in slot.host) ≡ false → said ≡ refusal_of r
+    → is_any (tags_in slot.host) ≡ false → are_at_work slot.devices ≡ false → said ≡ refusal_of r
     → sectors_of (state_of image slot).extent ≡ slot.extent.count
     → OnOk r (IsRestored slot bytes new) → IfErr r (IsCauseOf slot bytes) → OnErr r (new ≡ slot)
     → MayGive {A = A} (state_of image slot) (Restore bytes) health health
     (replies (state_of image new) (restore_reply said))
-restore_passes A image slot new bytes r said health rests is filled ok fault kept =
+restore_passes A image slot new bytes r said health rests idle is filled ok fault kept =
     let state = state_of image slot in
     rw (is, same_reply A r)
     (passes_by state.host state (Restore bytes) health (replies (state_of image new) (taken_up_reply r))
     (no_part {A = A} state.host (Restore bytes) state refl (rw rests refl) refl)
-    (restore_given A image slot new bytes r health filled ok fault kept))
+    (restore_given A image slot new bytes r health idle filled ok fault kept))
+
+-- while something is in flight of any disk it waits
+pub restore_busy : (A : Type 0) (state : SlotState) (bytes : List ℕ) (health : Health)
+    → (is_any (tags_in state.host) || are_at_work state.devices) ≡ true
+    → MayGive {A = A} state (Restore bytes) health health (replies state Busy)
+restore_busy A state bytes health works = by_own (is_any (tags_in state.host)) refl works
+  where
+    by_own : (any : Bool) → is_any (tags_in state.host) ≡ any → (any || are_at_work state.devices) ≡ true
+        → MayGive {A = A} state (Restore bytes) health health (replies state Busy)
+    by_own true some works = busy_given {A = A} state (Restore bytes) health (rw some refl)
+    by_own false none works =
+        passes_by state.host state (Restore bytes) health (replies state Busy)
+        (no_part {A = A} state.host (Restore bytes) state refl (rw none refl) refl)
+        (restore_waits A state bytes health works)
+
+-- neither part of it does
+pub both_idle : (own further : Bool) → (own || further) ≡ false → (own ≡ false) × (further ≡ false)
+both_idle true further none = absurd (cc none)
+both_idle false further none = (refl, none)

@@ -21,6 +21,7 @@ use Rattle.board.specs.World.{World, MayGive, Step, identities_of}
 use Rattle.std.proofs.lemmas.Option.{get_or_from_slice_get}
 use Rattle.board.proofs.FurtherDevices.{device_rest}
 use Rattle.board.proofs.Replies.{of_read, of_write}
+use Rattle.device_list.specs.List.{are_at_work}
 use Rattle.board.proofs.Restoring.{restored_host, restored_named}
 use Rattle.board.proofs.Refusals.{Failed, Unput, Unread, Unsent, was_refused}
 use Rattle.board.specs.Machine.{GivesOverImage, readied}
@@ -87,8 +88,8 @@ served_fixed {A} state (MemWrite addr bytes) old new outcome h =
     (record { identity = refl; host = refl; on_hold = λ keeps. refl }) (same state)
 served_fixed state (Input bytes) old new outcome h = fixed state outcome _ h.is refl refl refl
 served_fixed state (Restore bytes) old new outcome h = record {
-  identity = restored_named state bytes outcome h.alike;
-  host = restored_host state bytes outcome h.alike;
+  identity = restored_named (are_at_work state.devices) state bytes outcome h.alike;
+  host = restored_host (are_at_work state.devices) state bytes outcome h.alike;
   on_hold = λ keeps. absurd keeps;
 }
 served_fixed state (Device n what) old new outcome h =

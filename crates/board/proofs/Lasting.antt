@@ -25,8 +25,8 @@ use Rattle.block_device.specs.Flights.{InFlight, LandsBy, is_any}
 use Rattle.block_device.specs.Request.{code_of, request_of}
 use Rattle.block_device.proofs.Durable.{word_lasts}
 use Rattle.board.specs.declared.event.EventKind.{EventKind}
-use Rattle.board.specs.declared.event.HostEvent.{HostEvent}
-use Rattle.board.specs.declared.event.HostEvent.TheVariants.{Complete, Drop, Hold, Release}
+use Rattle.block_device.specs.declared.operation.HostEvent.{HostEvent}
+use Rattle.block_device.specs.declared.operation.HostEvent.TheVariants.{Complete, Drop, Hold, Release}
 use Rattle.board.specs.declared.reply.Record.{Record}
 use Rattle.board.specs.Backing.{HostDisk, tags_in}
 use Rattle.board.specs.Hosting.{CompletesTag, CompletionGives, DropGives, HostGives, HostOrGives, LeavesTag, dropped, hosted_queue, tag_of, told_in}

@@ -4,6 +4,7 @@ pub mod Restoring
 pub mod OneRun
 pub mod Blocks
 pub mod FurtherDevices
+pub mod FurtherDisks
 pub mod Outside
 pub mod Lists
 pub mod Seats
@@ -33,7 +34,6 @@ pub mod Answered
 pub mod Belonging
 pub mod GoingOn
 pub mod Flights
-pub mod Looking
 pub mod Beside
 pub mod Hosts
 pub mod OneHosted

@@ -1,57 +1,20 @@
 -- An event of a guest whose disk the host serves has one outcome, where those beside the disk have.
-use Rattle.std.proofs.Common.{◌≡◌, Bool, true, false, ℕ, Option, Some, None, List, get_or, refl, sym, ap, subst, ◌∙◌}
-use Rattle.std.proofs.lemmas.Option.{same_Some}
-use Rattle.guest_memory.specs.Memory.{Memory}
-use Rattle.mmio_window.specs.declared.queue.Queue.{Queue}
-use Rattle.mmio_window.specs.declared.stage.Stage.TheVariants.{First}
-use Rattle.mmio_window.specs.Window.{WindowState, queue_at}
-use Rattle.block_device.specs.declared.device.BlockDevice.{BlockDevice}
+use Rattle.std.proofs.Common.{◌≡◌, Bool, true, false, ℕ, Option, Some, None, get_or, sym, ap, subst, ◌∙◌}
 use Rattle.block_device.specs.declared.operation.Verdict.{Verdict}
-use Rattle.block_device.specs.Flights.{HostedQueue, InFlight, IsLanding, IsLook, LandsBy, is_any}
-use Rattle.block_device.proofs.OneLook.{one_completion}
-use Rattle.block_device.proofs.WholeLooks.{looks_once}
+use Rattle.block_device.specs.Flights.{HostedQueue, InFlight, is_any}
+use Rattle.hosted_disk.proofs.One.{land_queue, unless_queue}
 use Rattle.board.specs.declared.event.EventKind.{EventKind}
-use Rattle.board.specs.declared.event.HostEvent.{HostEvent}
-use Rattle.board.specs.declared.event.HostEvent.TheVariants.{Complete, Drop, Hold, Release}
+use Rattle.block_device.specs.declared.operation.HostEvent.{HostEvent}
+use Rattle.block_device.specs.declared.operation.HostEvent.TheVariants.{Complete, Drop, Hold, Release}
 use Rattle.board.specs.declared.reply.Reply.{Reply}
 use Rattle.board.specs.declared.reply.Reply.TheVariants.{Done}
 use Rattle.board.specs.Backing.{tags_in}
-use Rattle.board.specs.Hosting.{CompletesTag, CompletionGives, DropGives, HoldGives, HostGives, HostOrGives, LandsTag, LooksAtQueue, LooksOrGives, LooksUnless, OwnGives, ReleaseGives, hosted_device, hosted_queue, notifies_block, released, told_in, waits_now, with_queue, with_queue_of}
+use Rattle.board.specs.Hosting.{CompletesTag, CompletionGives, DropGives, HoldGives, HostGives, HostOrGives, LandsTag, LooksAtQueue, LooksOrGives, OwnGives, ReleaseGives, hosted_device, hosted_queue, notifies_block, released, told_in, waits_now, with_queue, with_queue_of}
 use Rattle.board.specs.Machine.{readied}
 use Rattle.board.specs.Outcome.{Outcome, replies}
 use Rattle.board.specs.Slot.{SlotState}
 
 -- ---- a look, and a completion
-
-look_queue : (device : BlockDevice) (old one other : HostedQueue) → IsLook device old one → IsLook device old other
-    → one ≡ other
-look_queue device old one other x y =
-    (looks_once device First old x.asked y.asked one other x.looks y.looks).queue
-
-same_queue : (m n : Memory) (v w : WindowState) (t u : List (Option InFlight)) → m ≡ n → v ≡ w → t ≡ u
-    → ◌≡◌ {A = HostedQueue} (record { memory = m; window = v; tags = t }) (record { memory = n; window = w; tags = u })
-same_queue m n v w t u p q r = rw (p, q, r) refl
-
-lands_by : (found : Option Queue) (tag : ℕ) (here : InFlight) (verdict : Verdict) (old one other : HostedQueue)
-    → LandsBy found tag here verdict old one → LandsBy found tag here verdict old other → one ≡ other
-lands_by None tag here verdict old one other x y = x ∙ sym y
-lands_by (Some queue) tag here verdict old one other x y =
-    let same = one_completion here.flight verdict old.memory one.memory other.memory old.window one.window
-    other.window x.completes y.completes in
-    same_queue one.memory other.memory one.window other.window one.tags other.tags same.0 same.1
-    (x.tags ∙ sym y.tags)
-
-land_queue : (tag : ℕ) (verdict : Verdict) (old one other : HostedQueue) → IsLanding tag verdict old one
-    → IsLanding tag verdict old other → one ≡ other
-land_queue tag verdict old one other x y =
-    let here : y.here ≡ x.here = same_Some y.here x.here (sym y.there ∙ x.there) in
-    lands_by (queue_at 0 old.window) tag x.here verdict old one other x.lands
-    (subst (λ (h : InFlight). LandsBy (queue_at 0 old.window) tag h verdict old other) here y.lands)
-
-unless_queue : (on_hold : Bool) (device : BlockDevice) (old one other : HostedQueue)
-    → LooksUnless on_hold device old one → LooksUnless on_hold device old other → one ≡ other
-unless_queue true device old one other x y = x ∙ sym y
-unless_queue false device old one other x y = look_queue device old one other x y
 
 -- and so the slot is the same
 after_queue : (old one other : SlotState) → hosted_queue one ≡ hosted_queue other

@@ -16,7 +16,7 @@ use Rattle.console_device.specs.Device.{receive, exact_transmit}
 use Rattle.console_device.specs.Input.{fitting}
 use Rattle.console_device.proofs.Services.{receive_once, receive_never_refused}
 use Rattle.board.specs.declared.event.EventKind.{EventKind}
-use Rattle.board.specs.declared.event.HostEvent.{HostEvent}
+use Rattle.block_device.specs.declared.operation.HostEvent.{HostEvent}
 use Rattle.board.specs.declared.event.EventKind.TheVariants.{Write, Input, Restore}
 use Rattle.board.specs.declared.event.EventKind.TheVariants as event
 use Rattle.board.specs.declared.reply.Reply.{Reply}
@@ -33,7 +33,8 @@ use Rattle.board.specs.Task.{Task, Nothing, Serve, PutOut, device_of, IsBlockSer
 use Rattle.board.proofs.FurtherDevices.{device_anyhow, device_once}
 use Rattle.board.proofs.Guests.{AtRest, exact_at_rest}
 use Rattle.board.proofs.OneHosted.{hosted_once}
-use Rattle.board.proofs.Restoring.{restored_once}
+use Rattle.device_list.specs.List.{are_at_work}
+use Rattle.board.proofs.Restoring.{unless_once}
 use Rattle.board.proofs.Steps.{one_course}
 
 -- ---- how the image fared is never seen
@@ -255,7 +256,7 @@ over_image_once state (Write window offset width value) h k one other a b =
 over_image_once state (Input bytes) h k one other a b =
     received_once (with_input bytes state) (Took (fitting state.pending bytes)) h k one other a b
 over_image_once state (Restore bytes) h k one other a b =
-    restored_once state bytes one other a.alike b.alike
+    unless_once (are_at_work state.devices) state bytes one other a.alike b.alike
 over_image_once state (event.Device n what) h k one other a b = device_once n what state at_rest h k one other a b
 over_image_once state _ h k one other a b = a.alike ∙ sym b.alike
 

@@ -1,12 +1,12 @@
 -- Which replies an event of a slot may get.
-use Rattle.std.proofs.Common.{◌≡◌, inl, inr, ℕ, Bool, true, false, Some, List, length, sym, ap, subst}
+use Rattle.std.proofs.Common.{◌≡◌, inl, inr, ℕ, Bool, true, false, Some, List, length, sym, ap, subst, refl}
 use Rattle.std.specs.Prelude.{if◌then◌else◌}
 use Rattle.guest_memory.specs.Memory.{is_inside, part_of, stored}
 use Rattle.board.specs.declared.event.SlotWindow.{SlotWindow}
 use Rattle.board.specs.declared.event.EventKind.{EventKind}
-use Rattle.board.specs.declared.event.HostEvent.{HostEvent}
-use Rattle.board.specs.declared.event.HostEvent.TheVariants.{Complete, Drop, Hold, Release}
-use Rattle.board.specs.declared.event.EventKind.TheVariants.{Read, Write, MemRead, MemWrite, Input, Restore, Host, Device}
+use Rattle.block_device.specs.declared.operation.HostEvent.{HostEvent}
+use Rattle.block_device.specs.declared.operation.HostEvent.TheVariants.{Complete, Drop, Hold, Release}
+use Rattle.board.specs.declared.event.EventKind.TheVariants.{Write, MemRead, MemWrite, Input, Restore, Host, Device}
 use Rattle.board.specs.declared.reply.Reply.{Reply}
 use Rattle.board.specs.declared.reply.Reply.TheVariants.{Done, Bytes, BadRange, BadState, Busy, Idle, NoMemory}
 use Rattle.board.specs.declared.pause.Service.TheVariants.{Block}
@@ -17,11 +17,13 @@ use Rattle.board.specs.Image.{Health}
 use Rattle.board.specs.Machine.{memory_read, memory_written}
 use Rattle.board.specs.Outcome.{Outcome, does, replies}
 use Rattle.board.specs.Replies.{MayReply, MayReplyOverImage}
-use Rattle.board.specs.Restoring.{IsRestoring}
+use Rattle.device_list.specs.List.{are_at_work}
+use Rattle.board.specs.Restoring.{RestoresUnless}
 use Rattle.board.specs.Slot.{SlotState}
 use Rattle.board.specs.Task.{Task, Nothing, Serve, PutOut, Finishes}
 use Rattle.board.specs.World.{MayGive, MayGiveOverImage}
-use Rattle.board.proofs.FurtherDevices.{device_replies, never_idle, never_waiting, unmet_replies}
+use Rattle.board.proofs.FurtherDevices.{device_busy, device_idle, device_image, device_replies, unmet_replies}
+use Rattle.board.specs.Waiting.{waits_beside}
 use Rattle.board.proofs.Refusals.{Failed, Unput, Unread, Unsent, WasRefused, was_refused}
 use Rattle.board.proofs.Ways.{Drops, Holds, Lands, Looks, Passes, Releases, Rests, Waits, Way, by_disk, must_by}
 
@@ -59,11 +61,12 @@ of_write P state addr bytes outcome =
     of_access P state (does (record state { memory = stored state.memory addr bytes }))
     (is_inside state.memory addr (length bytes)) outcome
 
-restore_replies : {A : Type 0} (state : SlotState) (bytes : List ℕ) (outcome : Outcome A)
-    → IsRestoring state bytes outcome → MayReplyOverImage (Restore bytes) outcome.reply
-restore_replies {A} state bytes outcome (inl taken) =
+restore_replies : {A : Type 0} (state : SlotState) (bytes : List ℕ) (outcome : Outcome A) (works : Bool) → RestoresUnless works state bytes outcome → MayReplyOverImage (Restore bytes) outcome.reply
+restore_replies {A} state bytes outcome true h =
+    by_reply (Restore bytes) outcome.reply Busy (ap (λ (o : Outcome A). o.reply) h) tt
+restore_replies {A} state bytes outcome false (inl taken) =
     by_reply (Restore bytes) outcome.reply Done (ap (λ (o : Outcome A). o.reply) taken.1) tt
-restore_replies {A} state bytes outcome (inr refused) =
+restore_replies {A} state bytes outcome false (inr refused) =
     by_reply (Restore bytes) outcome.reply BadState (ap (λ (o : Outcome A). o.reply) refused.1) tt
 
 refused_replies : {A : Type 0} (window : SlotWindow) (offset width value : ℕ) (state : SlotState)
@@ -97,7 +100,7 @@ given_over_image {A} state (MemWrite addr bytes) old new outcome (inl served) =
 given_over_image {A} state (Input bytes) old new outcome (inl served) =
     rw (ap (λ (o : Outcome A). o.reply) served.alike.is) tt
 given_over_image state (Restore bytes) old new outcome (inl served) =
-    restore_replies state bytes outcome served.alike.alike
+    restore_replies state bytes outcome (are_at_work state.devices) served.alike.alike
 given_over_image state (Write window offset width value) old new outcome (inr refused) =
     refused_replies window offset width value state old new outcome
     (was_refused state (Write window offset width value) old new outcome refused)
@@ -109,21 +112,45 @@ given_over_image state (Device n what) old new outcome (inr unmet) =
 given_over_image state _ old new outcome (inr never) = absurd never
 given_over_image state _ old new outcome (inl served) = rw served.alike.alike tt
 
--- over an image no event is told that its slot is busy
-pub never_busy : {A : Type 0} (what : EventKind A) → MayReplyOverImage what Busy → ⊥
-never_busy (Read window offset width) may = may
-never_busy (Device n what) may = never_waiting what may
-never_busy _ may = may
+-- over an image an event that is told that its slot is busy waits for a further disk, and nothing changes
+busy_restore : {A : Type 0} (works : Bool) (state : SlotState) (bytes : List ℕ) (outcome : Outcome A)
+    → RestoresUnless works state bytes outcome → outcome.reply ≡ Busy
+    → (outcome ≡ replies state Busy) × (works ≡ true)
+busy_restore true state bytes outcome h is = (h, refl)
+busy_restore {A} false state bytes outcome (inl taken) is =
+    let done = ap (λ (o : Outcome A). o.reply) taken.1 in absurd (cc (done, is))
+busy_restore {A} false state bytes outcome (inr refused) is =
+    let bad = ap (λ (o : Outcome A). o.reply) refused.1 in absurd (cc (bad, is))
 
--- the host alone says what there is nothing to do for, and the image has no part in it
-pub idle_tells : {A : Type 0} (state : SlotState) (what : EventKind A) (old new : Health)
-    (outcome : Outcome A) → MayReplyOverImage what Idle → MayGiveOverImage state what old new outcome
+pub busy_over_image : {A : Type 0} (state : SlotState) (what : EventKind A) (old new : Health)
+    (outcome : Outcome A) → MayGiveOverImage state what old new outcome → outcome.reply ≡ Busy
+    → (outcome ≡ replies state Busy) × ((waits_beside what state ≡ true) × (new ≡ old))
+busy_over_image state (Restore bytes) old new outcome (inl served) is =
+    let waits = busy_restore (are_at_work state.devices) state bytes outcome served.alike.alike is in
+    (waits.0, (waits.1, served.alike.image))
+busy_over_image state (Restore bytes) old new outcome (inr never) is = absurd never
+busy_over_image state (Device n what) old new outcome (inl served) is =
+    let waits = device_busy n what state old new outcome served.alike is in
+    (waits.0, (waits.1, device_image n what state old new outcome served.alike))
+busy_over_image {A} state (Device n what) old new outcome (inr unmet) is =
+    let none = ap (λ (o : Outcome A). o.reply) unmet.unchanged in absurd (cc (none, is))
+busy_over_image {A} state what old new outcome h is =
+    absurd (subst (λ (r : Reply A). MayReplyOverImage what r) is (given_over_image state what old new outcome h))
+
+-- the host alone says what there is nothing to do for, nothing changes, and the image has no part in it
+pub idle_over_image : {A : Type 0} (state : SlotState) (what : EventKind A) (old new : Health)
+    (outcome : Outcome A) → MayGiveOverImage state what old new outcome → outcome.reply ≡ Idle
     → (outcome ≡ replies state Idle) × (new ≡ old)
-idle_tells state (Host said) old new outcome may (inl served) =
-    (served.alike.alike, served.alike.image)
-idle_tells state (Host said) old new outcome may (inr never) = absurd never
-idle_tells state (Device n what) old new outcome may h = absurd (never_idle what may)
-idle_tells state _ old new outcome may h = absurd may
+idle_over_image state (Host said) old new outcome (inl served) is = (served.alike.alike, served.alike.image)
+idle_over_image state (Host said) old new outcome (inr never) is = absurd never
+idle_over_image state (Device n what) old new outcome (inl served) is = (
+  device_idle n what state old new outcome served.alike is,
+  device_image n what state old new outcome served.alike,
+)
+idle_over_image {A} state (Device n what) old new outcome (inr unmet) is =
+    let none = ap (λ (o : Outcome A). o.reply) unmet.unchanged in absurd (cc (none, is))
+idle_over_image {A} state what old new outcome h is =
+    absurd (subst (λ (r : Reply A). MayReplyOverImage what r) is (given_over_image state what old new outcome h))
 
 -- ---- whoever has the disk
 
@@ -131,7 +158,6 @@ idle_tells state _ old new outcome may h = absurd may
 any_reply : {A : Type 0} (what : EventKind A) (reply : Reply A) → MayReplyOverImage what reply
     → MayReply what reply
 any_reply (Write window offset width value) Busy may = tt
-any_reply (Restore bytes) Busy may = tt
 any_reply (Host said) Done may = tt
 any_reply _ reply may = may
 

@@ -1,5 +1,5 @@
 -- A restore as an event: it has one outcome, and a slot that takes up a snapshot gives it.
-use Rattle.std.proofs.Common.{◌≡◌, ◌∙◌, inl, inr, ℕ, List, [], Option, Some, None, Result, Ok, Err, refl, sym, ap, subst}
+use Rattle.std.proofs.Common.{◌≡◌, ◌∙◌, inl, inr, ℕ, Bool, true, false, List, [], Option, Some, None, Result, Ok, Err, refl, sym, ap, subst}
 use Rattle.std.specs.Prelude.{IfErr, IsSome, OnErr, OnOk}
 use Rattle.sector_cache.specs.Sector.{extent_of}
 use Rattle.snapshot.specs.declared.saved.SavedSlot.{SavedSlot}
@@ -7,13 +7,14 @@ use Rattle.snapshot.specs.Spelling.{IsSnapshot}
 use Rattle.snapshot.proofs.First.{first_fault_once}
 use Rattle.snapshot.proofs.OfSlot.{snapshot_once}
 use Rattle.board.specs.declared.event.EventKind.TheVariants.{Restore}
-use Rattle.board.specs.declared.reply.Reply.TheVariants.{BadState}
+use Rattle.device_list.specs.List.{are_at_work}
+use Rattle.board.specs.declared.reply.Reply.TheVariants.{BadState, Busy}
 use Rattle.board.specs.declared.saved.RestoreFault.{RestoreFault}
 use Rattle.board.specs.declared.saved.RestoreFault.TheVariants.{Snapshot, OtherSlot, BadDevice, BadBlock, BadConsole, BadDeviceWindow}
 use Rattle.board.specs.Image.{Health, sectors_of}
 use Rattle.board.specs.Outcome.{Outcome, does, replies}
 use Rattle.board.specs.Backing.{sectors_by}
-use Rattle.board.specs.Restoring.{IsRestoring, IsTakenUp, slot_in, taken_up_reply}
+use Rattle.board.specs.Restoring.{IsRestoring, IsTakenUp, RestoresUnless, slot_in, taken_up_reply}
 use Rattle.board.specs.Saved.{IsCauseOf, IsPrevented, IsRestored, Prevents, Suits, SuitsBesideDevices, TakesUp}
 use Rattle.board.specs.Slot.{BoardSlot, SlotState, state_of}
 use Rattle.board.specs.World.{MayGiveOverImage}
@@ -123,7 +124,7 @@ state_once state bytes one other a b =
     ap (λ (slot : BoardSlot). state_in one.extent slot) slots
     ∙ ap (λ (extent : List ℕ). state_in extent (slot_in other)) extents
 
-pub restored_once : {A : Type 0} (state : SlotState) (bytes : List ℕ) (one other : Outcome A)
+restored_once : {A : Type 0} (state : SlotState) (bytes : List ℕ) (one other : Outcome A)
     → IsRestoring state bytes one → IsRestoring state bytes other → one ≡ other
 restored_once state bytes one other (inl a) (inl b) =
     a.1 ∙ (ap does (state_once state bytes one.state other.state a.0 b.0) ∙ sym b.1)
@@ -133,17 +134,24 @@ restored_once state bytes one other (inr a) (inl b) =
     absurd (no_cause (slot_in state) bytes (slot_in other.state) a.0.why b.0.restored a.0.cause)
 restored_once state bytes one other (inr a) (inr b) = a.1 ∙ sym b.1
 
+pub unless_once : {A : Type 0} (works : Bool) (state : SlotState) (bytes : List ℕ) (one other : Outcome A)
+    → RestoresUnless works state bytes one → RestoresUnless works state bytes other → one ≡ other
+unless_once true state bytes one other a b = a ∙ sym b
+unless_once false state bytes one other a b = restored_once state bytes one other a b
+
 -- it keeps the identity
-pub restored_named : {A : Type 0} (state : SlotState) (bytes : List ℕ) (outcome : Outcome A)
-    → IsRestoring state bytes outcome → outcome.state.identity ≡ state.identity
-restored_named state bytes outcome (inl a) = ap (λ (slot : BoardSlot). slot.identity) a.0.restored.takes_up.is
-restored_named state bytes outcome (inr a) = ap (λ o. o.state.identity) a.1
+pub restored_named : {A : Type 0} (works : Bool) (state : SlotState) (bytes : List ℕ) (outcome : Outcome A)
+    → RestoresUnless works state bytes outcome → outcome.state.identity ≡ state.identity
+restored_named true state bytes outcome a = ap (λ o. o.state.identity) a
+restored_named false state bytes outcome (inl a) = ap (λ (slot : BoardSlot). slot.identity) a.0.restored.takes_up.is
+restored_named false state bytes outcome (inr a) = ap (λ o. o.state.identity) a.1
 
 -- and who has the disk
-pub restored_host : {A : Type 0} (state : SlotState) (bytes : List ℕ) (outcome : Outcome A)
-    → IsRestoring state bytes outcome → outcome.state.host ≡ state.host
-restored_host state bytes outcome (inl a) = ap (λ (slot : BoardSlot). slot.host) a.0.restored.takes_up.is
-restored_host state bytes outcome (inr a) = ap (λ o. o.state.host) a.1
+pub restored_host : {A : Type 0} (works : Bool) (state : SlotState) (bytes : List ℕ) (outcome : Outcome A)
+    → RestoresUnless works state bytes outcome → outcome.state.host ≡ state.host
+restored_host true state bytes outcome a = ap (λ o. o.state.host) a
+restored_host false state bytes outcome (inl a) = ap (λ (slot : BoardSlot). slot.host) a.0.restored.takes_up.is
+restored_host false state bytes outcome (inr a) = ap (λ o. o.state.host) a.1
 
 -- ---- a slot gives it
 
@@ -225,26 +233,36 @@ cause_in : (image : List ℕ) (slot : BoardSlot) (bytes : List ℕ) (why : Resto
 cause_in image slot bytes (Snapshot fault) counted h = h
 cause_in image slot bytes why counted h = prevented_in image slot bytes why counted h
 
--- A slot that takes up a snapshot, or doesn't, gives what comes of that event.
+-- A slot that takes up a snapshot, or doesn't, gives what comes of that event, where no further disk is at work.
 pub restore_given : (A : Type 0) (image : List ℕ) (slot new : BoardSlot) (bytes : List ℕ)
-    (result : Result (Unit {0}) RestoreFault) (health : Health) → IsCounted image slot
+    (result : Result (Unit {0}) RestoreFault) (health : Health) → are_at_work slot.devices ≡ false → IsCounted image slot
     → OnOk result (IsRestored slot bytes new) → IfErr result (IsCauseOf slot bytes)
     → OnErr result (new ≡ slot)
     → MayGiveOverImage {A = A} (state_of image slot) (Restore bytes) health health
     (replies (state_of image new) (taken_up_reply result))
-restore_given A image slot new bytes (Ok done) health counted ok fault kept = inl (record {
-  alike = record { alike = inl (taken_in image slot new bytes counted ok, refl); image = refl };
+restore_given A image slot new bytes (Ok done) health idle counted ok fault kept = inl (record {
+  alike = record { alike = rw idle (inl (taken_in image slot new bytes counted ok, refl)); image = refl };
   answered = λ no. absurd (cc);
   failures = refl;
 })
-restore_given A image slot new bytes (Err why) health counted ok fault kept = inl (record {
+restore_given A image slot new bytes (Err why) health idle counted ok fault kept = inl (record {
   alike = record {
-    alike = inr (
+    alike = rw idle (inr (
       record { why = why; cause = cause_in image slot bytes why counted fault },
       ap (λ (s : BoardSlot). replies (state_of image s) BadState) kept,
-    );
+    ));
     image = refl;
   };
   answered = λ no. absurd (cc);
+  failures = refl;
+})
+
+-- And one of whose further disks is at work gives a busy answer.
+pub restore_waits : (A : Type 0) (state : SlotState) (bytes : List ℕ) (health : Health)
+    → are_at_work state.devices ≡ true
+    → MayGiveOverImage {A = A} state (Restore bytes) health health (replies state Busy)
+restore_waits A state bytes health works = inl (record {
+  alike = record { alike = rw works refl; image = refl };
+  answered = λ no. absurd (cc no);
   failures = refl;
 })

@@ -12,25 +12,21 @@ use Rattle.mmio_window.specs.Window.{WindowState}
 use Rattle.snapshot.specs.declared.saved.SavedDevice.{SavedDevice}
 use Rattle.device_list.specs.Device.{DeviceState, IsSoundDevice}
 use Rattle.device_list.specs.List.{AreSoundDevices}
-use Rattle.device_list.specs.Model.{ModelState, Entropy, Network, features_of, kind_of}
-use Rattle.device_list.specs.Saved.{AreOfModels, RestoresEach, SuitDevices, SuitsDevice, device_window_restored, devices_restored, first_restored, mac_of, mtu_of, saved_device, saved_devices, with_window}
+use Rattle.device_list.specs.Model.{ModelState, features_of, kind_of}
+use Rattle.device_list.specs.Saved.{AreOfModels, RestoresEach, SuitDevices, SuitsDevice, device_window_restored, devices_restored, first_restored, identity_of, mac_of, mtu_of, saved_device, saved_devices, sectors_of, with_window}
 use Rattle.board.specs.Saved.{IsLikeDevice, IsOffering, with_windows_of}
 use Rattle.board.proofs.SameRange.{window_over}
 
 -- ---- they suit
-
-features_same : (a b : ModelState) → kind_of a ≡ kind_of b → features_of a ≡ features_of b
-features_same (Entropy pool) (Entropy other) is = refl
-features_same (Entropy pool) (Network card) is = absurd (cc (is))
-features_same (Network card) (Entropy pool) is = absurd (cc (is))
-features_same (Network card) (Network other) is = refl
 
 suits_one : (d e : DeviceState) → IsLikeDevice d e → IsOffering d → IsOffering e → SuitsDevice (saved_device d) e
 suits_one d e like here there = record {
   device_id = ap device_id_of (sym like.kind);
   mac = sym like.mac;
   mtu = sym like.mtu;
-  offered = here ∙ (features_same d.model e.model (sym like.kind) ∙ sym there);
+  sectors = sym like.sectors;
+  identity = sym like.identity;
+  offered = here ∙ (sym like.features ∙ sym there);
 }
 
 pub suit_each : (ds es : List DeviceState) → AllZip IsLikeDevice ds es → All IsOffering ds → All IsOffering es
@@ -123,7 +119,14 @@ like_models [] [] same = tt
 like_models [] (e ∷ es) same = absurd same
 like_models (d ∷ ds) [] same = absurd same
 like_models (d ∷ ds) (e ∷ es) same = (
-  record { kind = ap kind_of (sym same.0); mac = ap mac_of (sym same.0); mtu = ap mtu_of (sym same.0) },
+  record {
+    kind = ap kind_of (sym same.0);
+    mac = ap mac_of (sym same.0);
+    mtu = ap mtu_of (sym same.0);
+    sectors = ap sectors_of (sym same.0);
+    identity = ap identity_of (sym same.0);
+    features = ap features_of (sym same.0);
+  },
   like_models ds es same.1,
 )
 

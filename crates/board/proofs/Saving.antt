@@ -21,7 +21,8 @@ use Rattle.snapshot.specs.declared.saved.SavedDevice.{SavedDevice}
 use Rattle.board.specs.declared.saved.RestoreFault.{RestoreFault}
 use Rattle.board.specs.declared.saved.RestoreFault.TheVariants.{Snapshot, OtherSlot, BadDevice, BadBlock, BadConsole, BadDeviceWindow}
 use Rattle.board.specs.Saved.{IsAs, IsCauseOf, IsLike, IsRestored, IsSavedTo, IsSnapshotOf, OffersFeatures, Prevents, RestoresIt, SuitsBesideDevices, TakesUp, block_restored, console_restored, saved_slot, snapshot_of, with_windows_of}
-use Rattle.board.specs.Slot.{BoardSlot, IsSoundSlot, block_features}
+use Rattle.block_device.specs.Config.{block_features}
+use Rattle.board.specs.Slot.{BoardSlot, IsSoundSlot}
 use Rattle.board.proofs.SavedDevices.{offering, suit_each, windows_are}
 
 -- ---- what is saved

@@ -9,8 +9,8 @@ use Rattle.mmio_window.specs.Window.{WindowState}
 use Rattle.snapshot.specs.declared.saved.SavedSlot.{SavedSlot}
 use Rattle.board.specs.declared.event.EventKind.{EventKind}
 use Rattle.board.specs.declared.event.EventKind.TheVariants.{Read, Write, MemRead, Resize, Restore, Host, Device}
-use Rattle.board.specs.declared.event.HostEvent.{HostEvent}
-use Rattle.board.specs.declared.event.HostEvent.TheVariants.{Complete, Drop, Hold, Release}
+use Rattle.block_device.specs.declared.operation.HostEvent.{HostEvent}
+use Rattle.block_device.specs.declared.operation.HostEvent.TheVariants.{Complete, Drop, Hold, Release}
 use Rattle.block_device.specs.declared.operation.Verdict.{Verdict}
 use Rattle.block_device.specs.Flights.{is_any}
 use Rattle.board.specs.declared.reply.Reply.{Reply}
@@ -22,7 +22,8 @@ use Rattle.board.specs.Hosting.{DropGives, GivesOnHost, HoldGives, HostOrGives, 
 use Rattle.board.specs.Image.{Health}
 use Rattle.board.specs.Machine.{Gives, GivesBy, GivesOverImage, register, resized, task_at, with_write}
 use Rattle.board.specs.Outcome.{IsDetermined, Outcome, does, replies}
-use Rattle.board.specs.Restoring.{IsRestoring, IsTakenUp, slot_in}
+use Rattle.device_list.specs.List.{are_at_work}
+use Rattle.board.specs.Restoring.{IsTakenUp, RestoresUnless, slot_in}
 use Rattle.board.specs.Saved.{IsCauseOf, IsPrevented, Prevents, Suits, SuitsBesideDevices, block_restored, console_restored, snapshot_of}
 use Rattle.board.specs.Slot.{BoardSlot, SlotState}
 use Rattle.board.specs.Task.{Finishes, Nothing, PutOut, Serve, Task, puts_out}
@@ -132,13 +133,15 @@ module _ (old : SlotState) (m : Memory) (same : SameRange old.memory m) where
   cause_over bytes (Snapshot fault) h = h
   cause_over bytes why h = prevented_over bytes why h
 
-  restoring_over : {A : Type 0} (bytes : List ℕ) (outcome : Outcome A) → IsRestoring old bytes outcome
-      → Stays (IsRestoring (over_memory m old) bytes) old.memory m outcome
-  restoring_over bytes outcome (inl h) = (
+  restoring_over : {A : Type 0} (works : Bool) (bytes : List ℕ) (outcome : Outcome A)
+      → RestoresUnless works old bytes outcome
+      → Stays (RestoresUnless works (over_memory m old) bytes) old.memory m outcome
+  restoring_over {A} true bytes outcome h = (ap (λ (o : Outcome A). o.state.memory) h, ap (outcome_over m) h)
+  restoring_over false bytes outcome (inl h) = (
     ap (λ (slot : BoardSlot). slot.memory) h.0.restored.takes_up.is,
     inl (taken_over bytes outcome.state h.0, ap (outcome_over m) h.1),
   )
-  restoring_over {A} bytes outcome (inr h) = (
+  restoring_over {A} false bytes outcome (inr h) = (
     ap (λ (o : Outcome A). o.state.memory) h.1,
     inr (record { why = h.0.why; cause = cause_over bytes h.0.why h.0.cause }, ap (outcome_over m) h.1),
   )
@@ -209,7 +212,7 @@ gives_over old (Write window offset width value) m before after outcome none sam
 gives_over old (Resize cols rows) m before after outcome none same h =
     determined_over m outcome (does (resized cols rows old)) before after h
 gives_over old (Restore bytes) m before after outcome none same h =
-    let restoring = restoring_over old m same bytes outcome h.alike in
+    let restoring = restoring_over old m same (are_at_work old.devices) bytes outcome h.alike in
     (restoring.0, record { alike = restoring.1; image = h.image })
 gives_over old (Host said) m before after outcome none same h =
     determined_over m outcome (replies old Idle) before after h

@@ -1,23 +1,25 @@
 -- What waits for what is in flight, and what doesn't end it.
-use Rattle.std.proofs.Common.{◌≡◌, ◌≢◌, ℕ, true, false, Option, Some, None, get_or, sym, ◌∙◌, ap, subst}
+use Rattle.std.proofs.Common.{◌≡◌, ◌≢◌, ℕ, Bool, true, false, Option, Some, None, get_or, sym, ◌∙◌, ap, refl}
+use Rattle.std.specs.Prelude.{◌||◌}
 use Rattle.std.specs.Option.{option_and_then}
 use Rattle.block_device.specs.Flights.{InFlight, is_any}
 use Rattle.board.specs.declared.event.EventKind.{EventKind}
-use Rattle.board.specs.declared.event.HostEvent.TheVariants.{Complete}
+use Rattle.board.specs.declared.event.EventKind.TheVariants.{Restore, Device}
+use Rattle.block_device.specs.declared.operation.HostEvent.TheVariants.{Complete}
 use Rattle.block_device.specs.declared.operation.Verdict.{Verdict}
-use Rattle.board.specs.declared.reply.Reply.{Reply}
 use Rattle.board.specs.declared.reply.Reply.TheVariants.{Busy, Idle}
 use Rattle.board.specs.Backing.{HostDisk, tags_in}
 use Rattle.board.specs.Hosting.{LeavesTag, hosted_device, hosted_queue, must_wait, released, tag_in, tag_of, told_in, waits_now}
 use Rattle.board.specs.Image.{Health}
 use Rattle.board.specs.Machine.{readied}
 use Rattle.board.specs.Outcome.{Outcome, replies}
-use Rattle.board.specs.Replies.{MayReplyOverImage}
 use Rattle.board.specs.Slot.{SlotState}
 use Rattle.board.specs.World.{MayGive, MayGiveBy, MayGiveOverImage}
 use Rattle.board.proofs.Identities.{given_fixed, readied_fixed}
-use Rattle.board.proofs.Looking.{KeepsTag, keeps_tag, landing_keeps, unless_left}
-use Rattle.board.proofs.Replies.{given_over_image, idle_tells, never_busy}
+use Rattle.hosted_disk.proofs.Looking.{KeepsTag, keeps_tag, landing_keeps, unless_left}
+use Rattle.board.specs.Waiting.{may_wait, waits_beside}
+use Rattle.board.proofs.FurtherDevices.{device_may_wait}
+use Rattle.board.proofs.Replies.{busy_over_image, idle_over_image}
 use Rattle.board.proofs.Ways.{Drops, Holds, Lands, Looks, Passes, Releases, Rests, Waits, Way, by_disk, must_by}
 
 -- ---- what doesn't end it
@@ -70,18 +72,31 @@ outlasts old tag here what before after outcome taken other h =
 
 -- ---- what a busy answer says, and an idle one
 
+-- whether an event waits for what is in flight of any disk
+abbrev pub waits_for_any : {A : Type 0} → EventKind A → SlotState → Bool
+waits_for_any what old = waits_now what old.host || waits_beside what old
+
 -- the event waits for what is in flight, and nothing changes
 pub record Waited {A : Type 0} (old : SlotState) (what : EventKind A) (outcome : Outcome A) : Type 0 where
-  pub waits : waits_now what old.host ≡ true
+  pub waits : waits_for_any what old ≡ true
   pub is : outcome ≡ replies old Busy
+
+own_or : (own : Bool) → own ≡ true → (beside : Bool) → (own || beside) ≡ true
+own_or true is beside = refl
+own_or false is beside = absurd (cc is)
+
+beside_or : (own beside : Bool) → beside ≡ true → (own || beside) ≡ true
+beside_or true beside is = refl
+beside_or false beside is = is
 
 waited_by : {A : Type 0} (old : SlotState) (what : EventKind A) (before : Health) (outcome : Outcome A)
     → Way (λ (o : Outcome A). MayGiveOverImage old what before before o) old what outcome
     → outcome.reply ≡ Busy → Waited old what outcome
-waited_by old what before outcome (Waits waits h) is = record { waits = waits; is = h }
-waited_by {A} old what before outcome (Passes own free quiet h) is =
-    absurd (never_busy what (subst (λ (r : Reply A). MayReplyOverImage what r) is
-    (given_over_image old what before before outcome h)))
+waited_by old what before outcome (Waits waits h) is =
+    record { waits = own_or (waits_now what old.host) waits (waits_beside what old); is = h }
+waited_by old what before outcome (Passes own free quiet h) is =
+    let busy = busy_over_image old what before before outcome h is in
+    record { waits = beside_or (waits_now what old.host) (waits_beside what old) busy.1.0; is = busy.0 }
 waited_by old what before outcome (Looks rings looks h) is =
     let done = ap (λ o. o.reply) h in absurd (cc)
 waited_by old what before outcome (Rests said tells h) is =
@@ -99,24 +114,36 @@ pub waited : {A : Type 0} (host : Option HostDisk) (old : SlotState) (what : Eve
     → Waited old what outcome × (after ≡ before)
 waited {A} host old what before after outcome h is =
     by_disk host old what before after outcome
-    (λ given. absurd (never_busy what (subst (λ (r : Reply A). MayReplyOverImage what r) is
-    (given_over_image old what before after outcome given))))
+    (λ given. let busy = busy_over_image old what before after outcome given is in (
+      record { waits = beside_or (waits_now what old.host) (waits_beside what old) busy.1.0; is = busy.0 },
+      busy.1.1,
+    ))
     (λ image ways. (waited_by old what before outcome ways is, image)) h
+
+-- what waits may wait
+beside_may : {A : Type 0} (what : EventKind A) (old : SlotState) → waits_beside what old ≡ true → may_wait what ≡ true
+beside_may (Restore bytes) old waits = refl
+beside_may (Device n what) old waits = device_may_wait n what old.devices waits
+beside_may _ old waits = absurd (cc waits)
+
+must_may : {A : Type 0} (what : EventKind A) → must_wait what ≡ true → may_wait what ≡ true
+must_may (Device n what) must = absurd (cc must)
+must_may _ must = must
+
+may_by : {A : Type 0} (what : EventKind A) (old : SlotState) → waits_for_any what old ≡ true → may_wait what ≡ true
+may_by what old waits = by_own (waits_now what old.host) refl waits
+  where
+    by_own : (own : Bool) → waits_now what old.host ≡ own → (own || waits_beside what old) ≡ true
+        → may_wait what ≡ true
+    by_own true is waits = must_may what (must_by (is_any (tags_in old.host)) (must_wait what) is)
+    by_own false is waits = beside_may what old waits
 
 pub busy_stays : {A : Type 0} (old : SlotState) (what : EventKind A) (before after : Health)
     (outcome : Outcome A) → MayGive old what before after outcome → outcome.reply ≡ Busy
-    → (outcome.state ≡ old) × (must_wait what ≡ true)
+    → (outcome.state ≡ old) × (may_wait what ≡ true)
 busy_stays old what before after outcome h is =
     let found = (waited old.host old what before after outcome h is).0 in
-    (ap (λ o. o.state) found.is, must_by (is_any (tags_in old.host)) (must_wait what) found.waits)
-
-rests_over_image : {A : Type 0} (old : SlotState) (what : EventKind A) (before after : Health)
-    (outcome : Outcome A) → MayGiveOverImage old what before after outcome → outcome.reply ≡ Idle
-    → (outcome ≡ replies old Idle) × (after ≡ before)
-rests_over_image {A} old what before after outcome h is =
-    idle_tells old what before after outcome
-    (subst (λ (r : Reply A). MayReplyOverImage what r) is
-    (given_over_image old what before after outcome h)) h
+    (ap (λ o. o.state) found.is, may_by what old found.waits)
 
 rested_by : {A : Type 0} (old : SlotState) (what : EventKind A) (before : Health) (outcome : Outcome A)
     → Way (λ (o : Outcome A). MayGiveOverImage old what before before o) old what outcome
@@ -124,7 +151,7 @@ rested_by : {A : Type 0} (old : SlotState) (what : EventKind A) (before : Health
 rested_by old what before outcome (Waits waits h) is =
     let busy = ap (λ o. o.reply) h in absurd (cc)
 rested_by old what before outcome (Passes own free quiet h) is =
-    (rests_over_image old what before before outcome h is).0
+    (idle_over_image old what before before outcome h is).0
 rested_by old what before outcome (Looks rings looks h) is =
     let done = ap (λ o. o.reply) h in absurd (cc)
 rested_by old what before outcome (Rests said tells h) is = h
@@ -139,7 +166,7 @@ pub rested : {A : Type 0} (host : Option HostDisk) (old : SlotState) (what : Eve
     (outcome : Outcome A) → MayGiveBy host old what before after outcome → outcome.reply ≡ Idle
     → (outcome ≡ replies old Idle) × (after ≡ before)
 rested host old what before after outcome h is =
-    by_disk host old what before after outcome (λ given. rests_over_image old what before after outcome given is)
+    by_disk host old what before after outcome (λ given. idle_over_image old what before after outcome given is)
     (λ image ways. (rested_by old what before outcome ways is, image)) h
 
 pub idle_stays : {A : Type 0} (old : SlotState) (what : EventKind A) (before after : Health)

@@ -1,6 +1,6 @@
 -- What writes leave of a slot's memory, a service leaves too, and so does each event.
 use Rattle.std.proofs.Common.{◌≡◌, inl, inr, ℕ, zero, suc, Bool, true, false, Option, Some, None, List, [], ◌∷◌, refl, sym, ◌∙◌, ap, subst}
-use Rattle.std.specs.Prelude.{if◌then◌else◌, is_none, is_some}
+use Rattle.std.specs.Prelude.{if◌then◌else◌, is_none, is_some, not, unwrap_or}
 use Rattle.byteorder.specs.Endian.{little_bytes}
 use Rattle.guest_memory.specs.Memory.{Memory, put, put_num}
 use Rattle.chain.specs.Bytes.{writable_of}
@@ -22,15 +22,20 @@ use Rattle.block_device.specs.Flights.{HostedQueue, InFlight, unlimited}
 use Rattle.block_device.specs.Request.{code_of}
 use Rattle.block_device.specs.Hosting.{CompletesIn}
 use Rattle.block_device.proofs.Unasked.{any_disk}
-use Rattle.device_list.specs.Model.{ModelState, Entropy, Network}
+use Rattle.block_device.specs.declared.operation.HostEvent.{HostEvent}
+use Rattle.block_device.specs.declared.operation.HostEvent.TheVariants as host
+use Rattle.hosted_disk.specs.Disk.{queue_of}
+use Rattle.hosted_disk.specs.Told.{QueueTold}
+use Rattle.block_device.specs.declared.device.BlockDevice.{BlockDevice}
+use Rattle.device_list.specs.Model.{ModelState, Entropy, Network, Block as BlockModel}
 use Rattle.device_list.specs.Device as device
-use Rattle.device_list.specs.Device.{DeviceState, Receives, TakesSent}
+use Rattle.device_list.specs.Device.{DeviceState, Receives, TakesSent, Told}
 use Rattle.device_list.specs.Card.{receive_refusal, with_frame, without_oldest}
 use Rattle.device_list.specs.List.{card_at}
 use Rattle.device_list.specs.Model.{Serves, supplied_model, with_card}
 use Rattle.board.specs.declared.event.DeviceEvent.{DeviceEvent}
 use Rattle.board.specs.declared.event.DeviceEvent.TheVariants as event
-use Rattle.board.specs.Devices.{Alters, DoesIf, DoesTo, oldest_at}
+use Rattle.board.specs.Devices.{Alters, DoesIf, DoesTo, has_effect_at, oldest_at, waits_there}
 use Rattle.board.proofs.FurtherDevices.{of_device}
 use Rattle.mmio_window.specs.declared.action.Action.{Action}
 use Rattle.mmio_window.specs.declared.action.Action.TheVariants.{Notify}
@@ -45,12 +50,13 @@ use Rattle.board.specs.Image.{Health}
 use Rattle.board.specs.Marking.{IsForDevices}
 use Rattle.board.specs.Machine.{GivesOverImage, readied, task_at, with_write}
 use Rattle.board.specs.Outcome.{Outcome, replies}
-use Rattle.board.specs.Restoring.{IsRestoring}
+use Rattle.device_list.specs.List.{are_at_work}
+use Rattle.board.specs.Restoring.{RestoresUnless}
 use Rattle.board.specs.Slot.{BoardSlot, SlotState}
 use Rattle.board.specs.Task.{Finishes, Nothing, PutOut, Serve, Task}
 use Rattle.board.specs.World.{IsCutShort, IsRefused, MayGive, MayGiveOverImage}
 use Rattle.board.proofs.Chains.{KeptByEach, kept, kept_by_all, kept_by_end}
-use Rattle.board.proofs.Looking.{IsLeftByLandings, IsLeftByLooks, landing_left, unless_left}
+use Rattle.hosted_disk.proofs.Looking.{IsLeftByLandings, IsLeftByLooks, landing_left, look_left, unless_left}
 use Rattle.board.proofs.Ways.{Drops, Holds, Lands, Looks, Passes, Releases, Rests, Waits, Way, by_disk}
 
 -- it holds of what is left as it was, of two steps if of each, and of a write
@@ -235,6 +241,28 @@ module _ (K : Memory → Memory → Type 0) (left : IsLeftByWrites K) where
   serves_left (Network card) (suc zero) m n v w model' h =
       notified_left _ 1 (queue_at 1 v) h.serves.notified.ending m n v w _ _ h.serves.notified.notified
   serves_left (Network card) (suc (suc q)) m n v w model' h = same_left m n h.serves.memory
+  serves_left (BlockModel disk) zero m n v w model' h =
+      unless_left MemoryLeft memory_left disk.on_hold disk.device (queue_of m v disk) (queue_of n w h.after)
+      h.serves.looks
+  serves_left (BlockModel disk) (suc q) m n v w model' h = same_left m n h.serves.memory
+
+  -- what the host says of a further disk
+  told_queue_left : (said : HostEvent) (device : BlockDevice) (on_hold : Bool) (old new : HostedQueue)
+      → QueueTold said device on_hold old new → K old.memory new.memory
+  told_queue_left (host.Complete tag verdict) device on_hold old new h =
+      left.both old.memory h.landed.memory new.memory
+      (landing_left MemoryLeft memory_left landings_left tag verdict old h.landed h.lands)
+      (unless_left MemoryLeft memory_left on_hold device h.landed new h.looks)
+  told_queue_left host.Drop device on_hold old new h =
+      same_left old.memory new.memory (ap (λ (q : HostedQueue). q.memory) h)
+  told_queue_left host.Hold device on_hold old new h =
+      same_left old.memory new.memory (ap (λ (q : HostedQueue). q.memory) h)
+  told_queue_left host.Release device on_hold old new h = look_left MemoryLeft memory_left device old new h
+
+  told_left : (said : HostEvent) (m n : Memory) (d d' : DeviceState) → Told said m n d d' → K m n
+  told_left said m n d d' h =
+      told_queue_left said h.before.device h.before.on_hold (queue_of m d.window h.before)
+      (queue_of n d'.window h.after) h.does.queue
 
   does_left : (action : Action) (m n : Memory) (d d' : DeviceState) → device.Finishes action m n d d' → K m n
   does_left (Notify q) m n d d' h = serves_left d.model q m n d.window d'.window d'.model h
@@ -243,9 +271,6 @@ module _ (K : Memory → Memory → Type 0) (left : IsLeftByWrites K) where
   alters_left : {A : Type 0} (what : DeviceEvent A) (m n : Memory) (d d' : DeviceState) → Alters what m n d d'
       → K m n
   alters_left (event.Read offset width) m n d d' h = same_left m n h.memory
-  alters_left (event.Write offset width value) m n d d' h =
-      does_left (action_of offset width value d.window) m n
-      (record d { window = written offset width value m d.window }) d' h
   alters_left (event.Supply bytes) m n d d' h =
       serves_left (supplied_model d.model bytes) 0 m n d.window d'.window d'.model h
   alters_left _ m n d d' h = absurd h
@@ -268,17 +293,22 @@ module _ (K : Memory → Memory → Type 0) (left : IsLeftByWrites K) where
       (λ d d' x. serves_left (with_card without_oldest d.model) 1 m n d.window d'.window d'.model x) h
   at_left {A} (event.Read offset width) i m n old new h =
       alters_left {A = A} (event.Read offset width) m n h.before h.after h.changes
-  at_left {A} (event.Write offset width value) i m n old new h =
-      alters_left {A = A} (event.Write offset width value) m n h.before h.after h.changes
+  at_left (event.Write offset width value) i m n old new h =
+      does_if_left (not (waits_there i offset old)) (device.Writes offset width value) i m n old new
+      (λ d d' x. does_left (action_of offset width value d.window) m n
+      (record d { window = written offset width value m d.window }) d' x) h
+  at_left (event.Host said) i m n old new h =
+      does_if_left (unwrap_or (has_effect_at i said old) false) (Told said) i m n old new
+      (λ d d' x. told_left said m n d d' x) h
   at_left {A} (event.Supply bytes) i m n old new h =
       alters_left {A = A} (event.Supply bytes) m n h.before h.after h.changes
 
-  restoring_left : {A : Type 0} (state : SlotState) (bytes : List ℕ) (outcome : Outcome A)
-      → IsRestoring state bytes outcome → K state.memory outcome.state.memory
-  restoring_left state bytes outcome (inl taken) =
+  restoring_left : {A : Type 0} (state : SlotState) (bytes : List ℕ) (outcome : Outcome A) (works : Bool) → RestoresUnless works state bytes outcome → K state.memory outcome.state.memory
+  restoring_left state bytes outcome true h = state_left state outcome _ h refl
+  restoring_left state bytes outcome false (inl taken) =
       same_left state.memory outcome.state.memory
       (ap (λ (slot : BoardSlot). slot.memory) taken.0.restored.takes_up.is)
-  restoring_left state bytes outcome (inr refused) = state_left state outcome _ refused.1 refl
+  restoring_left state bytes outcome false (inr refused) = state_left state outcome _ refused.1 refl
 
   gives_left : {A : Type 0} (state : SlotState) (what : EventKind A) (before after : Health) (outcome : Outcome A)
       → IsForDevices what → GivesOverImage state what before after outcome → K state.memory outcome.state.memory
@@ -293,7 +323,7 @@ module _ (K : Memory → Memory → Type 0) (left : IsLeftByWrites K) where
   gives_left state (Input bytes) before after outcome own h =
       notified_left _ 0 (queue_at 0 state.console) h.notified.ending state.memory outcome.state.memory
       state.console outcome.state.console _ _ h.notified.notified
-  gives_left state (Restore bytes) before after outcome own h = restoring_left state bytes outcome h.alike
+  gives_left state (Restore bytes) before after outcome own h = restoring_left state bytes outcome (are_at_work state.devices) h.alike
   gives_left {A} state (kind.Device n what) before after outcome own h =
       of_device n what state (λ (o : Outcome A). K state.memory o.state.memory) before after outcome h
       (left.none state.memory) (λ reply found step. at_left what n state.memory outcome.state.memory state.devices

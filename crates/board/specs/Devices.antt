@@ -1,19 +1,21 @@
 -- The further devices of a slot: what comes of what is done to one of them.
-use Rattle.std.specs.Prelude.{◌≡◌, ◌==◌, ◌&&◌, ⊤, ℕ, Bool, true, false, if◌then◌else◌, Option, Some, None, IsSome, is_none, is_some, unwrap_or, List, [], ◌∷◌, ◌++◌, length, slice_set}
+use Rattle.std.specs.Prelude.{◌≡◌, ◌==◌, ◌&&◌, ⊤, ℕ, Bool, true, false, if◌then◌else◌, Option, Some, None, IsSome, is_none, is_some, not, unwrap_or, List, [], ◌∷◌, ◌++◌, length, slice_set}
 use Rattle.std.specs.List.{slice_get}
-use Rattle.std.specs.Option.{option_and_then, option_map}
+use Rattle.std.specs.Option.{option_and_then, option_map, option_map_or}
 use Rattle.guest_memory.specs.Memory.{Memory}
+use Rattle.block_device.specs.declared.operation.HostEvent.{HostEvent}
 use Rattle.network_device.specs.declared.refusal.FrameRefusal.TheVariants.{Full}
 use Rattle.device_list.specs.declared.refusal.ReceiveRefusal.{ReceiveRefusal}
 use Rattle.device_list.specs.declared.refusal.ReceiveRefusal.TheVariants.{Frame}
 use Rattle.device_list.specs.declared.spec.DeviceSpec.{DeviceSpec}
 use Rattle.device_list.specs.Card.{oldest_of, receive_refusal}
-use Rattle.device_list.specs.Device.{DeviceState, Receives, Supplies, TakesSent, Writes, fresh_device, linked, register_of, supply_taken}
-use Rattle.device_list.specs.List.{At, IsRefusedFor, card_at, changed_at, refusal_of}
+use Rattle.device_list.specs.Device.{DeviceState, Receives, Supplies, TakesSent, Told, Writes, fresh_device, linked, register_of, supply_taken}
+use Rattle.device_list.specs.List.{At, IsRefusedFor, card_at, changed_at, disk_at, refusal_of, waits_at}
+use Rattle.hosted_disk.specs.Told.{has_effect}
 use Rattle.board.specs.declared.event.DeviceEvent.{DeviceEvent}
-use Rattle.board.specs.declared.event.DeviceEvent.TheVariants.{Plug, Read, Write, Supply, Receive, TakeSent, SetLink}
+use Rattle.board.specs.declared.event.DeviceEvent.TheVariants.{Plug, Read, Write, Supply, Receive, TakeSent, SetLink, Host}
 use Rattle.board.specs.declared.reply.Reply.{Reply}
-use Rattle.board.specs.declared.reply.Reply.TheVariants.{Value, Done, Bytes, Took, BadDevice, NoMemory}
+use Rattle.board.specs.declared.reply.Reply.TheVariants.{Value, Done, Bytes, Took, BadDevice, Busy, Idle, NoMemory}
 use Rattle.board.specs.Image.{Health}
 use Rattle.board.specs.Outcome.{Outcome, replies, IsDetermined}
 use Rattle.board.specs.Slot.{BoardSlot, SlotState}
@@ -23,7 +25,7 @@ use Rattle.board.specs.declared.refusal.PlugRefusal.TheVariants as refusal
 -- what is answered for a device, if it takes such a thing
 abbrev pub device_reply : {A : Type 0} → DeviceEvent A → DeviceState → Option (Reply A)
 device_reply (Read offset width) d = Some (Value (register_of offset width d))
-device_reply (Write offset width value) d = Some Done
+device_reply (Write offset width value) d = Some (if waits_at offset d then Busy else Done)
 device_reply (Supply bytes) d = option_map Took (supply_taken bytes d)
 device_reply what d = None
 
@@ -49,9 +51,26 @@ sent_reply n devices = option_map (λ card. Bytes (unwrap_or (oldest_of card) []
 abbrev pub taken_reply : {A : Type 0} → ℕ → List DeviceState → Reply A
 taken_reply n devices = unwrap_or (sent_reply n devices) BadDevice
 
+-- what the host is answered that says this of a disk, if it is one: there is nothing to do, or it is done
+abbrev pub told_reply : {A : Type 0} → Bool → Reply A
+told_reply found = if found then Done else Idle
+
+-- whether there is something to do at device n
+abbrev pub has_effect_at : ℕ → HostEvent → List DeviceState → Option Bool
+has_effect_at n said devices = option_map (has_effect said) (disk_at n devices)
+
+-- whether a write at this offset of device n waits for what is in flight
+abbrev pub waits_there : ℕ → ℕ → List DeviceState → Bool
+waits_there n offset devices = option_map_or (waits_at offset) (slice_get devices n) false
+
 -- whether the slot takes this device as the one of this number, which is the next
 abbrev pub can_plug : ℕ → DeviceSpec → SlotState → Bool
 can_plug n spec state = n == length state.devices && is_none (refusal_of state.devices spec)
+
+-- whether what is done to device n waits for what is in flight
+abbrev pub waits_for_disk : {A : Type 0} → DeviceEvent A → ℕ → List DeviceState → Bool
+waits_for_disk (Write offset width value) n devices = waits_there n offset devices
+waits_for_disk what n devices = false
 
 -- what is answered where device n of the slot is there, or may be plugged in, and takes such a thing
 abbrev pub reply_at : {A : Type 0} → ℕ → DeviceEvent A → SlotState → Option (Reply A)
@@ -59,6 +78,7 @@ reply_at n (Plug spec) state = if can_plug n spec state then Some Done else None
 reply_at n (Receive frame) state = received_reply frame (receive_refusal frame (card_at n state.devices))
 reply_at n TakeSent state = sent_reply n state.devices
 reply_at n (SetLink up) state = option_map (λ card. Done) (card_at n state.devices)
+reply_at n (Host said) state = option_map told_reply (has_effect_at n said state.devices)
 reply_at n what state = option_and_then (device_reply what) (slice_get state.devices n)
 
 -- nothing changes
@@ -69,7 +89,6 @@ pub record StaysSo (m m' : Memory) (d d' : DeviceState) : Type 0 where
 -- how a device that takes it and the memory change
 abbrev pub Alters : {A : Type 0} → DeviceEvent A → Memory → Memory → DeviceState → DeviceState → Type 0
 Alters (Read offset width) m m' d d' = StaysSo m m' d d'
-Alters (Write offset width value) m m' d d' = Writes offset width value m m' d d'
 Alters (Supply bytes) m m' d d' = Supplies bytes m m' d d'
 Alters what m m' d d' = ⊥
 
@@ -92,6 +111,10 @@ DoesTo (SetLink up) n m m' old new = AreSet (changed_at (linked up) n old) m m' 
 DoesTo (Receive frame) n m m' old new =
     DoesIf (is_none (receive_refusal frame (card_at n old))) (Receives frame) n m m' old new
 DoesTo TakeSent n m m' old new = DoesIf (is_some (oldest_at n old)) TakesSent n m m' old new
+DoesTo (Write offset width value) n m m' old new =
+    DoesIf (not (waits_there n offset old)) (Writes offset width value) n m m' old new
+DoesTo (Host said) n m m' old new =
+    DoesIf (unwrap_or (has_effect_at n said old) false) (Told said) n m m' old new
 DoesTo what n m m' old new = At (Alters what) n m m' old new
 
 -- A device does its part: the devices and the memory change, and the rest of the slot stays.
@@ -142,6 +165,9 @@ MayReplyDevice (Receive frame) (Took taken) = ⊤
 MayReplyDevice TakeSent (Bytes frame) = ⊤
 MayReplyDevice TakeSent NoMemory = ⊤
 MayReplyDevice (SetLink up) Done = ⊤
+MayReplyDevice (Write offset width value) Busy = ⊤
+MayReplyDevice (Host said) Done = ⊤
+MayReplyDevice (Host said) Idle = ⊤
 MayReplyDevice what answer = ⊥
 
 -- ---- a call that plugs a device in

@@ -7,8 +7,8 @@ use Rattle.block_device.specs.declared.operation.Verdict.TheVariants.{Done, Fail
 use Rattle.block_device.specs.Durable.{Asked, Completion, must_last}
 use Rattle.block_device.specs.Flights.{InFlight, IsGivenIn}
 use Rattle.board.specs.declared.event.EventKind.{EventKind}
-use Rattle.board.specs.declared.event.HostEvent.{HostEvent}
-use Rattle.board.specs.declared.event.HostEvent.TheVariants.{Complete, Drop}
+use Rattle.block_device.specs.declared.operation.HostEvent.{HostEvent}
+use Rattle.block_device.specs.declared.operation.HostEvent.TheVariants.{Complete, Drop}
 use Rattle.board.specs.declared.reply.Record.{Record}
 use Rattle.board.specs.Backing.{tags_in}
 use Rattle.board.specs.Hosting.{CompletesTag, dropped, hosted_queue, told_in}

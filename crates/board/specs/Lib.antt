@@ -27,6 +27,7 @@ pub mod Steps
 pub mod Lasting
 pub mod Fault
 pub mod Pausing
+pub mod Waiting
 pub mod Within
 pub mod Lending
 pub mod Lent

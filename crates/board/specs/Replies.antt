@@ -20,13 +20,13 @@ MayReplyOverImage (Input bytes) (Took taken) = ⊤
 MayReplyOverImage (Resize cols rows) Done = ⊤
 MayReplyOverImage (Restore bytes) Done = ⊤
 MayReplyOverImage (Restore bytes) BadState = ⊤
+MayReplyOverImage (Restore bytes) Busy = ⊤
 MayReplyOverImage (Host said) Idle = ⊤
 MayReplyOverImage (Device n what) answer = MayReplyDevice what answer
 MayReplyOverImage what answer = ⊥
 
--- and whoever has it: where the host does, writes and restores may wait, and what it says is done
+-- and whoever has it: where the host does, writes may wait too, and what it says is done
 abbrev pub MayReply : {A : Type 0} → EventKind A → Reply A → Type 0
 MayReply (Write window offset width value) Busy = ⊤
-MayReply (Restore bytes) Busy = ⊤
 MayReply (Host said) Done = ⊤
 MayReply what answer = MayReplyOverImage what answer

@@ -1,5 +1,6 @@
 -- A restore as an event of a slot: what its guest finds that takes up a snapshot.
-use Rattle.std.specs.Prelude.{◌≡◌, ◌⊎◌, ℕ, false, List, Ok, Err, Result}
+use Rattle.std.specs.Prelude.{◌≡◌, ◌⊎◌, ℕ, Bool, true, false, List, Ok, Err, Result}
+use Rattle.device_list.specs.List.{are_at_work}
 use Rattle.board.specs.declared.reply.Reply.{Reply}
 use Rattle.board.specs.declared.reply.Reply.TheVariants.{BadSlot, BadState, Busy, Done}
 use Rattle.board.specs.declared.saved.RestoreFault.{RestoreFault}
@@ -44,10 +45,15 @@ IsRestoring state bytes outcome =
     (IsTakenUp state bytes outcome.state × (outcome ≡ does outcome.state))
     ⊎ (IsNotTakenUp state bytes × (outcome ≡ replies state BadState))
 
--- The same, for an image that has no part in it.
+-- The same, by whether anything is in flight of a further disk: then it waits, and nothing changes.
+abbrev pub RestoresUnless : {A : Type 0} → Bool → SlotState → List ℕ → Outcome A → Type 0
+RestoresUnless true state bytes outcome = outcome ≡ replies state Busy
+RestoresUnless false state bytes outcome = IsRestoring state bytes outcome
+
+-- And an image has no part in it.
 pub record Restores {A : Type 0} (state : SlotState) (bytes : List ℕ) (before after : Health)
     (outcome : Outcome A) : Type 0 where
-  pub alike : IsRestoring state bytes outcome
+  pub alike : RestoresUnless (are_at_work state.devices) state bytes outcome
   pub image : after ≡ before
 
 -- what the event is answered of a slot that is there

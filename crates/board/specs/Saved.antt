@@ -2,19 +2,20 @@
 use Rattle.std.specs.Prelude.{◌≡◌, ◌≤◌, ◌++◌, ◌==◌, ℕ, true, All, IsSome, None, Option, Some, List, [], ◌∷◌, drop, if◌then◌else◌, length}
 use Rattle.std.specs.List.{AllZip}
 use Rattle.guest_memory.specs.Memory.{Memory, SameRange}
+use Rattle.block_device.specs.Config.{block_features}
 use Rattle.mmio_window.specs.declared.device_kind.DeviceKind.TheVariants.{Block, Console}
 use Rattle.mmio_window.specs.declared.saved.SavedWindow.{SavedWindow}
 use Rattle.mmio_window.specs.Saved.{saved_window, window_restored}
 use Rattle.mmio_window.specs.Window.{WindowState}
 use Rattle.device_list.specs.Device.{DeviceState}
 use Rattle.device_list.specs.Model.{features_of, kind_of}
-use Rattle.device_list.specs.Saved.{RestoresEach, SuitDevices, devices_restored, mac_of, mtu_of, saved_devices}
+use Rattle.device_list.specs.Saved.{RestoresEach, SuitDevices, devices_restored, identity_of, mac_of, mtu_of, saved_devices, sectors_of}
 use Rattle.snapshot.specs.declared.saved.SavedSlot.{SavedSlot}
 use Rattle.snapshot.specs.Faults.{IsFirstFault}
 use Rattle.snapshot.specs.Spelling.{IsSnapshot, snapshot}
 use Rattle.board.specs.declared.saved.RestoreFault.{RestoreFault}
 use Rattle.board.specs.declared.saved.RestoreFault.TheVariants.{Snapshot, OtherSlot, BadDevice, BadBlock, BadConsole, BadDeviceWindow}
-use Rattle.board.specs.Slot.{BoardSlot, block_features, console_features, sectors_in}
+use Rattle.board.specs.Slot.{BoardSlot, console_features, sectors_in}
 
 -- ---- what is saved
 
@@ -93,7 +94,7 @@ pub record SuitsBesideDevices (saved : SavedSlot) (slot : BoardSlot) : Type 0 wh
   pub on_hold : saved.on_hold ≡ true → IsSome slot.host
 
 -- The slot is of the description that was saved: it also has as many further devices, each of the same type, address,
--- MTU and features.
+-- MTU, sectors, identity and features.
 pub record Suits (saved : SavedSlot) (slot : BoardSlot) : Type 0 where
   pub beside : SuitsBesideDevices saved slot
   pub devices : SuitDevices saved.devices.items slot.devices
@@ -155,11 +156,15 @@ IsCauseOf slot bytes why = IsPrevented slot bytes why
 
 -- ---- the round trip
 
--- Both devices have one description: one type, one address and one MTU.
+-- Both devices have one description: one type, one address and one MTU, as many sectors, one identity, and one set of
+-- features.
 pub record IsLikeDevice (d other : DeviceState) : Type 0 where
   pub kind : kind_of other.model ≡ kind_of d.model
   pub mac : mac_of other.model ≡ mac_of d.model
   pub mtu : mtu_of other.model ≡ mtu_of d.model
+  pub sectors : sectors_of other.model ≡ sectors_of d.model
+  pub identity : identity_of other.model ≡ identity_of d.model
+  pub features : features_of other.model ≡ features_of d.model
 
 -- Both slots have one description: memories of one range, disks of one size, mode and identity, and as many further
 -- devices, each like the other. Of one on hold the other has its disk from the host.

@@ -1,22 +1,24 @@
 -- A slot: what its guest can see, and what the board keeps of it.
-use Rattle.std.specs.Prelude.{◌≡◌, ℕ, ◌+◌, Bool, false, if◌then◌else◌, nat_lt, List, [], length, ◌≤◌, Option, Some, None, replicate}
+use Rattle.std.specs.Prelude.{◌≡◌, ℕ, ◌+◌, ◌||◌, Bool, false, nat_lt, List, [], length, ◌≤◌, Option, Some, None, replicate}
 use Rattle.guest_memory.specs.Faults.{zeroed_regions}
 use Rattle.guest_memory.specs.Memory.{Memory, SameRange}
-use Rattle.negotiation.specs.Features.{block_seg_max, block_ro, block_blk_size, block_flush, block_write_zeroes, console_size, console_emerg_write, device_features}
+use Rattle.negotiation.specs.Features.{console_size, console_emerg_write, device_features}
 use Rattle.mmio_window.specs.declared.device_kind.DeviceKind.TheVariants.{Block, Console}
 use Rattle.mmio_window.specs.Interrupts.{interrupt_bits}
 use Rattle.mmio_window.specs.Soundness.{IsSound}
 use Rattle.mmio_window.specs.Window.{WindowState, fresh_window}
 use Rattle.device_list.specs.Device.{DeviceState}
-use Rattle.device_list.specs.List.{AreSoundDevices}
+use Rattle.device_list.specs.List.{AreSoundDevices, are_at_work}
 use Rattle.sector_cache.specs.Disk.{Disk}
 use Rattle.sector_cache.specs.Sector.{extent_of}
 use Rattle.block_device.specs.declared.extent.Extent.{Extent}
+use Rattle.block_device.specs.Config.{block_features}
 use Rattle.block_device.specs.Extent.{StaysInExtent}
+use Rattle.block_device.specs.Flights.{is_any}
 use Rattle.board.specs.declared.spec.Backing.{Backing}
 use Rattle.board.specs.declared.spec.Backing.TheVariants.{Image, Host}
 use Rattle.board.specs.declared.spec.SlotSpec.{SlotSpec}
-use Rattle.board.specs.Backing.{HostDisk, sectors_by}
+use Rattle.board.specs.Backing.{HostDisk, sectors_by, tags_in}
 use Rattle.board.specs.Image.{sectors_of}
 
 -- All that one guest can see: its memory, the bytes of its extent of the image, the disk that the host
@@ -79,6 +81,10 @@ disk_sectors state = sectors_by state.host (sectors_of state.extent)
 abbrev pub sectors_in : BoardSlot → ℕ
 sectors_in slot = sectors_by slot.host slot.extent.count
 
+-- whether anything is in flight of any disk of a slot
+abbrev pub is_at_work : BoardSlot → Bool
+is_at_work slot = is_any (tags_in slot.host) || are_at_work slot.devices
+
 -- An event of a slot stays in it: of the image it reaches the slot's extent, which lies where it did.
 pub record StaysInSlot (old new : BoardSlot) (before after : Disk) : Type 0 where
   pub extent : new.extent ≡ old.extent
@@ -102,12 +108,6 @@ pub record KeepsBesideDisk (old new : SlotState) : Type 0 where
 pub record KeepsBesideTransmit (old new : SlotState) : Type 0 where
   pub rest : new ≡ record old { memory = new.memory; console = new.console }
   pub memory : SameRange old.memory new.memory
-
--- the features that a block device offers (5.2.3); one that refuses writes says so
-abbrev pub block_features : Bool → ℕ
-block_features read_only =
-    (if read_only then block_ro else
-    0) + block_seg_max + block_blk_size + block_flush + block_write_zeroes + device_features
 
 -- the features that a console offers (5.3.3): it tells its size, and takes emergency writes
 abbrev pub console_features : ℕ

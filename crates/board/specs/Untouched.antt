@@ -3,7 +3,7 @@ use Rattle.std.specs.Prelude.{◌≡◌, ◌↔◌, ℕ, Bool, true, false, slic
 use Rattle.guest_memory.specs.Memory.{Memory, SameRange}
 use Rattle.board.specs.declared.event.EventKind.{EventKind}
 use Rattle.board.specs.declared.event.EventKind.TheVariants.{Read, Write, Resize, Restore, Host}
-use Rattle.board.specs.declared.event.HostEvent.TheVariants.{Drop, Hold}
+use Rattle.block_device.specs.declared.operation.HostEvent.TheVariants.{Drop, Hold}
 use Rattle.board.specs.Machine.{task_at}
 use Rattle.board.specs.Outcome.{Outcome}
 use Rattle.board.specs.Slot.{SlotState}

@@ -1,7 +1,7 @@
 //! What comes in: the events of the guests and of their consoles.
 
 use crate::bytes::Bytes;
-use block_device::Verdict;
+use block_device::HostEvent;
 use device_list::DeviceSpec;
 use std::alloc::{Allocator, Global};
 
@@ -91,18 +91,6 @@ pub enum DeviceEvent<A: Allocator = Global> {
     TakeSent,
     /// A network card's link goes up or down (5.1.4).
     SetLink { up: bool },
-}
-
-/// What the host says of a disk that it serves.
-#[derive(Clone, Copy, Debug, PartialEq, Eq)]
-pub enum HostEvent {
-    /// The operation of this tag is done, or failed.
-    Complete { tag: u8, verdict: Verdict },
-    /// No transfer touches the guest's memory any more: what is in flight is given up, and the device asks to be reset
-    /// (2.1.2).
-    Drop,
-    /// No further chain is taken until `Release`.
-    Hold,
-    /// Chains are taken again, first those that wait.
-    Release,
+    /// The host says this of a disk that it serves.
+    Host(HostEvent),
 }

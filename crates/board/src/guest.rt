@@ -18,19 +18,19 @@ ghost use Rattle.board.specs.Image.{Health, sectors_of};
 ghost use Rattle.board.specs.Lent.{opened_over};
 ghost use Rattle.board.specs.Outcome.{replies};
 ghost use Rattle.board.specs.Pausing.{Begins, Does, GoesOn, MayLackMemoryIn, PausesByLimit, ServesOver, ServesTurn, met_in};
-ghost use Rattle.board.specs.Slot.{IsUnnoted, StaysInSlot, opened, state_of};
+ghost use Rattle.board.specs.Slot.{IsUnnoted, StaysInSlot, is_at_work, opened, state_of};
 ghost use Rattle.board.specs.Within.{BeginsWithin, DecidesOver, DoesWithin, GoesOnWithin};
 ghost use Rattle.board.specs.World.{MayLackMemory};
 
 mod access;
 mod saved;
 
-use crate::event::{EventKind, HostEvent, SlotWindow};
+use crate::event::{EventKind, SlotWindow};
 use crate::pause::{Pause, Service, Turn, Work};
 use crate::reply::Reply;
 use crate::slot::{Answer, Slot};
 use crate::spec::SlotSpec;
-use block_device::Verdict;
+use block_device::{HostEvent, Verdict};
 use chain::Budget;
 use console_device::Outlet;
 use guest_memory::GuestMemory;
@@ -350,7 +350,14 @@ impl<A: Allocator> Guest<A> {
         self.is_busy() && waits(what)
     }
 
-    // Whether anything is in flight.
+    // Whether anything is in flight of any disk.
+    fn is_at_work(&self) -> bool
+        ensures { result ≡ is_at_work self.now }
+    {
+        self.is_busy() || self.slot.are_at_work()
+    }
+
+    // Whether anything is in flight of the slot's own disk.
     fn is_busy(&self) -> bool
         ensures { result ≡ is_any (tags_in self.now.host) }
     {

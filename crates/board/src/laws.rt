@@ -1,6 +1,6 @@
 //! What holds of every line of events, by itself: no board is made or run here.
 
-ghost use Rattle.std.specs.Prelude.{◌≡◌, ◌≢◌, ◌↔◌, ℕ, ◌+◌, ◌<◌, ◌≤◌, List, [], ◌∷◌, ◌++◌, None, Some, true, false, get_or, length, IsSome};
+ghost use Rattle.std.specs.Prelude.{◌≡◌, ◌≢◌, ◌↔◌, ℕ, ◌+◌, ◌<◌, ◌≤◌, List, [], ◌∷◌, ◌++◌, None, Some, true, false, get_or, length, IfSome, IsSome};
 ghost use Rattle.std.specs.List.{slice_get};
 ghost use Rattle.guest_memory.specs.Memory.{Inside, Memory, SameRange};
 ghost use Rattle.chain.specs.Service.{Served, ServesAll, ServesChain, Site};
@@ -23,15 +23,18 @@ ghost use Rattle.block_device.specs.Durable.{IsCommitted, IsUnwritten, KeepsWord
 ghost use Rattle.block_device.specs.Flights.{HostedQueue, InFlight, is_any};
 ghost use Rattle.block_device.specs.Request.{code_of};
 ghost use Rattle.board.specs.declared.event.Event.{Event};
+ghost use Rattle.board.specs.declared.event.DeviceEvent.{DeviceEvent};
 ghost use Rattle.board.specs.declared.event.EventKind.{EventKind};
-ghost use Rattle.board.specs.declared.event.HostEvent.{HostEvent};
+ghost use Rattle.block_device.specs.declared.operation.HostEvent.{HostEvent};
 ghost use Rattle.board.specs.declared.reply.Reply.{Reply};
 ghost use Rattle.board.specs.declared.reply.Record.{Record};
 ghost use Rattle.board.specs.Durable.{IsLeftAsSeen, TouchesSlot};
 ghost use Rattle.board.specs.Extent.{IsApart};
 ghost use Rattle.board.specs.Backing.{tags_in};
 ghost use Rattle.board.specs.Honest.{IsFlown, IsHonestlyServed};
-ghost use Rattle.board.specs.Hosting.{IsNoRestore, LeavesTag, dropped, held, must_wait, notifies_block, released, told_in, waits_now};
+ghost use Rattle.board.specs.Hosting.{IsNoRestore, LeavesTag, dropped, held, notifies_block, released, told_in, waits_now};
+ghost use Rattle.board.specs.Waiting.{may_wait, waits_beside};
+ghost use Rattle.device_list.specs.List.{disk_at};
 ghost use Rattle.board.specs.Image.{Health, Tells, bytes_of};
 ghost use Rattle.board.specs.Lasting.{Becomes, HasCourse, IsAnswered, IsCourse, Passage, Standing, behind, behind_all, completions, covers};
 ghost use Rattle.board.specs.Line.{Move, IsLine, IsNoted, IsQuiet, IsAlone, IsRun, RunsAsItMay, SeesTheSame, events_of, own_events};
@@ -214,24 +217,29 @@ pub fn a_flight_outlasts_own_events<A: Allocator>()
         MayGive old what before after outcome → get_or (tags_in outcome.state.host) tag None ≡ Some here }
 {}
 
-/// An event that waits changes nothing, and only the two writes and a restore may wait; nor does what the host says for nothing.
+/// An event that waits changes nothing, and only a write of Status or QueueReady of a disk's window and a restore may wait; nor
+/// does what the host says for nothing.
 pub fn what_waits_changes_nothing<A: Allocator>()
     ensures busy { (old : SlotState) (what : EventKind A) (before after : Health) (outcome : Outcome A) →
         MayGive old what before after outcome → outcome.reply ≡ Reply.Busy →
-        (outcome.state ≡ old) × (must_wait what ≡ true) }
+        (outcome.state ≡ old) × (may_wait what ≡ true) }
     ensures idle { (old : SlotState) (what : EventKind A) (before after : Health) (outcome : Outcome A) →
         MayGive old what before after outcome → outcome.reply ≡ Reply.Idle → outcome.state ≡ old }
 {}
 
 /// A host that never answers hangs no guest: behind a drop nothing is in flight, whatever was (`free`), so that the next event
-/// doesn't wait, whichever it is (`passes`). What was in flight leaves its guest a window that asks to be reset, and the bytes
-/// of its memory as they were (`dropped`).
+/// doesn't wait, whichever it is, unless it is for a further disk (`passes`). What was in flight leaves its guest a window that
+/// asks to be reset, and the bytes of its memory as they were (`dropped`). Behind a drop of a further disk nothing is in flight of
+/// that (`further`).
 pub fn a_dropped_slot_never_waits<A: Allocator>()
     ensures free { (old : SlotState) (before after : Health) (outcome : Outcome A) →
         MayGive old (EventKind.Host HostEvent.Drop) before after outcome → is_any (tags_in outcome.state.host) ≡ false }
     ensures passes { (old : SlotState) (what : EventKind A) (before mid mid' after : Health) (drop outcome : Outcome A) →
         MayGive old (EventKind.Host HostEvent.Drop) before mid drop → MayGive drop.state what mid' after outcome →
-        outcome.reply ≢ Reply.Busy }
+        outcome.reply ≡ Reply.Busy → waits_beside what drop.state ≡ true }
+    ensures further { (n : ℕ) (old : SlotState) (before after : Health) (outcome : Outcome A) →
+        MayGive old (EventKind.Device n (DeviceEvent.Host HostEvent.Drop)) before after outcome →
+        IfSome (disk_at n outcome.state.devices) (λ disk. is_any disk.tags ≡ false) }
     ensures dropped { (old : SlotState) (before after : Health) (outcome : Outcome A) →
         is_any (tags_in old.host) ≡ true → MayGive old (EventKind.Host HostEvent.Drop) before after outcome →
         outcome.state ≡ dropped old }

@@ -33,15 +33,15 @@ mod slot;
 mod spec;
 mod task;
 
-pub use block_device::{Extent, Verdict};
+pub use block_device::{Extent, HostEvent, Verdict};
 pub use board::{Board, Taken};
 pub use bytes::Bytes;
 pub use chain::{Budget, Fault};
 pub use check::check_slots;
 pub use console_device::Outlet;
 pub use counters::Counters;
-pub use device_list::{AddRefusal, DeviceSpec, MOST_DEVICES, VirtioDevice};
-pub use event::{DeviceEvent, Event, EventKind, HostEvent, SlotWindow};
+pub use device_list::{AddRefusal, DeviceSpec, HostedDisk, MOST_DEVICES, VirtioDevice};
+pub use event::{DeviceEvent, Event, EventKind, SlotWindow};
 pub use fault::{BoardFault, SlotFault};
 pub use guest_memory::{GuestMemory, MemoryFault, RegionSpec, Regions};
 pub use laws::{

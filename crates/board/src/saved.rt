@@ -34,8 +34,8 @@ pub enum RestoreRefusal {
     /// The board has no such slot.
     #[error("the board has no such slot")]
     BadSlot,
-    /// A service of the slot is paused, or an operation of its disk is in flight.
-    #[error("a service of the slot is paused, or its disk is at work")]
+    /// A service of the slot is paused, or an operation of one of its disks is in flight.
+    #[error("a service of the slot is paused, or one of its disks is at work")]
     Busy,
     /// The slot doesn't take up these bytes.
     #[error("{0}")]
@@ -48,8 +48,8 @@ pub enum SaveRefusal {
     /// The board has no such slot.
     #[error("the board has no such slot")]
     BadSlot,
-    /// A service of the slot is paused, or an operation of its disk is in flight.
-    #[error("a service of the slot is paused, or its disk is at work")]
+    /// A service of the slot is paused, or an operation of one of its disks is in flight.
+    #[error("a service of the slot is paused, or one of its disks is at work")]
     Busy,
     /// The snapshot doesn't fit into the buffer.
     #[error("the buffer is shorter than the snapshot")]

@@ -133,12 +133,13 @@ impl<A: Allocator + Copy> Slot<A> {
         let Ok(console_device) = ConsoleDevice::new(alloc, spec.cols, spec.rows) else {
             return Err(AllocError);
         };
+        let block_device = BlockDevice::new(share(spec), spec.read_only, spec.identity);
         Ok(Slot {
             memory,
-            block_device: BlockDevice::new(share(spec), spec.read_only, spec.identity),
+            block_device,
             host: host_of(alloc, spec)?,
             on_hold: false,
-            block: Window::new(DeviceKind::Block, features::of_block(spec.read_only)),
+            block: Window::new(DeviceKind::Block, block_device.features()),
             console_device,
             console: Window::new(DeviceKind::Console, features::of_console()),
             devices: DeviceList::new(alloc),

@@ -1,9 +1,10 @@
 //! The slots' further devices, as somebody sees them who only looks; and what a host hands them in a slice.
 
-ghost use Rattle.std.specs.Prelude.{◌≡◌, ◌++◌, [], None, Some, IfErr, IfOk, OnErr};
+ghost use Rattle.std.specs.Prelude.{◌≡◌, ◌++◌, [], All, None, Some, IfErr, IfOk, IfSome, IsSomeAnd, OnErr};
 ghost use Rattle.std.specs.List.{slice_get};
 ghost use Rattle.std.specs.Option.{option_and_then, option_map};
-ghost use Rattle.device_list.specs.List.{is_starved_at};
+ghost use Rattle.block_device.specs.Flights.{TagIsHeld};
+ghost use Rattle.device_list.specs.List.{disk_at, is_starved_at};
 ghost use Rattle.board.specs.declared.event.DeviceEvent.{DeviceEvent};
 ghost use Rattle.board.specs.declared.event.EventKind.{EventKind};
 ghost use Rattle.board.specs.Devices.{IsPlugRefusal, IsPlugged, has_sent, oldest_at, taken_reply};
@@ -14,7 +15,7 @@ ghost use Rattle.board.specs.World.{Answers, KeepsOthers, disturbed_of, extents_
 use crate::board::Board;
 use crate::refusal::PlugRefusal;
 use crate::reply::Reply;
-use device_list::{DeviceSpec, VirtioDevice};
+use device_list::{DeviceSpec, HostedDisk, VirtioDevice};
 use sector_cache::Image;
 use std::alloc::Allocator;
 
@@ -27,6 +28,20 @@ impl<I: Image, A: Allocator> Board<I, A> {
     {
         let slot = self.slot(slot)?;
         slot.slot().device_at(device)
+    }
+
+    /// A further disk of a slot that its host serves: what is in flight, by tags. There is no answer where there is no such slot, no
+    /// such device, or it is no disk.
+    pub fn disk(&self, slot: u8, device: u8) -> Option<&HostedDisk<A>>
+        ensures value { option_map (λ disk. disk.now) result ≡
+            option_and_then (λ found. disk_at device found.devices) (slice_get self.now.slots slot) }
+
+        // nothing that the host is told lies outside the guest's memory or the disk, whatever the guest has done since
+        ensures inside { IfSome result (λ disk. IsSomeAnd (slice_get self.now.slots slot) (λ found.
+            All (TagIsHeld disk.now.device.extent.count found.memory) disk.now.tags)) }
+    {
+        let slot = self.slot(slot)?;
+        slot.slot().disk_at(device)
     }
 
     /// Whether a chain is on offer in a further device's queue that waits for what the host supplies.

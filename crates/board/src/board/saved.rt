@@ -4,12 +4,10 @@ ghost use Rattle.std.specs.Prelude.{◌≡◌, ◌↔◌, ◌<◌, ◌≤◌, []
 ghost use Rattle.std.specs.List.{slice_get};
 ghost use Rattle.board.specs.declared.event.EventKind.{EventKind};
 ghost use Rattle.board.specs.declared.saved.{RestoreFault.{RestoreFault}, RestoreRefusal.{RestoreRefusal}, SaveRefusal.{SaveRefusal}};
-ghost use Rattle.block_device.specs.Flights.{is_any};
-ghost use Rattle.board.specs.Backing.{tags_in};
 ghost use Rattle.board.specs.Image.{Tells};
 ghost use Rattle.board.specs.Restoring.{restore_reply};
 ghost use Rattle.board.specs.Saved.{IsAs, IsCauseOf, IsLike, IsSavedTo, IsSnapshotOf, snapshot_of};
-ghost use Rattle.board.specs.Slot.{BoardSlot};
+ghost use Rattle.board.specs.Slot.{BoardSlot, is_at_work};
 ghost use Rattle.board.specs.World.{Answers, KeepsOthers, disturbed_of, extents_of, world_of};
 
 use crate::board::Board;
@@ -25,7 +23,7 @@ impl<I: Image, A: Allocator> Board<I, A> {
             (λ found. len ≡ length (snapshot_of found))) }
         ensures missing { IsErrOf result SaveRefusal.BadSlot ↔ (length self.now.slots ≤ slot) }
         ensures busy { IsErrOf result SaveRefusal.Busy ↔
-            IsSomeAnd (slice_get self.now.slots slot) (λ found. IsTrue (is_any (tags_in found.host))) }
+            IsSomeAnd (slice_get self.now.slots slot) (λ found. IsTrue (is_at_work found)) }
         ensures not_short { ¬ IsErrOf result SaveRefusal.ShortBuffer }
     {
         let Some(found) = self.slot(slot) else {
@@ -42,7 +40,7 @@ impl<I: Image, A: Allocator> Board<I, A> {
             (λ found. IsSavedTo found into.old into.new len)) }
         ensures missing { IsErrOf result SaveRefusal.BadSlot ↔ (length self.now.slots ≤ slot) }
         ensures busy { IsErrOf result SaveRefusal.Busy ↔
-            IsSomeAnd (slice_get self.now.slots slot) (λ found. IsTrue (is_any (tags_in found.host))) }
+            IsSomeAnd (slice_get self.now.slots slot) (λ found. IsTrue (is_at_work found)) }
         ensures short { IsErrOf result SaveRefusal.ShortBuffer → IsSomeAnd (slice_get self.now.slots slot)
             (λ found. length into.old < length (snapshot_of found)) }
         ensures kept { OnErr result (into.new ≡ into.old) }
@@ -63,14 +61,14 @@ impl<I: Image, A: Allocator> Board<I, A> {
             (world_of I.disk self.new) }
         ensures missing { IsErrOf result RestoreRefusal.BadSlot ↔ (length self.old.slots ≤ slot) }
         ensures busy { IsErrOf result RestoreRefusal.Busy ↔
-            IsSomeAnd (slice_get self.old.slots slot) (λ found. IsTrue (is_any (tags_in found.host))) }
+            IsSomeAnd (slice_get self.old.slots slot) (λ found. IsTrue (is_at_work found)) }
         ensures fault { (why : RestoreFault) → IsErrOf result (RestoreRefusal.Fault why) →
             IsSomeAnd (slice_get self.old.slots slot) (λ old. IsCauseOf old from.now why) }
 
         // what was saved of a slot is taken by every slot of its description at rest, and brings it to its state
         ensures taken { (saved old new : BoardSlot) → IsSnapshotOf from.now saved →
             slice_get self.old.slots slot ≡ Some old → slice_get self.new.slots slot ≡ Some new → IsLike saved old →
-            is_any (tags_in old.host) ≡ false → IsOk result × IsAs saved old new }
+            is_at_work old ≡ false → IsOk result × IsAs saved old new }
         ensures kept { OnErr result (self.new ≡ self.old) }
         ensures others { KeepsOthers slot self.old.slots self.new.slots }
         ensures extents { extents_of self.new.slots ≡ extents_of self.old.slots }

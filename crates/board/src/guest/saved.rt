@@ -4,13 +4,11 @@
 ghost use Rattle.std.specs.Prelude.{◌≡◌, ◌↔◌, ◌<◌, ℕ, List, false, IfOk, IsErrOf, IsOk, IsTrue, OnErr, length};
 ghost use Rattle.board.specs.declared.event.EventKind.{EventKind};
 ghost use Rattle.board.specs.declared.saved.{RestoreFault.{RestoreFault}, RestoreRefusal.{RestoreRefusal}, SaveRefusal.{SaveRefusal}};
-ghost use Rattle.block_device.specs.Flights.{is_any};
-ghost use Rattle.board.specs.Backing.{tags_in};
 ghost use Rattle.board.specs.Image.{Health, sectors_of};
 ghost use Rattle.board.specs.Outcome.{replies};
 ghost use Rattle.board.specs.Restoring.{refusal_of, restore_reply};
 ghost use Rattle.board.specs.Saved.{IsAs, IsCauseOf, IsLike, IsSavedTo, IsSnapshotOf, snapshot_of};
-ghost use Rattle.board.specs.Slot.{BoardSlot, state_of};
+ghost use Rattle.board.specs.Slot.{BoardSlot, is_at_work, state_of};
 ghost use Rattle.board.specs.World.{MayGive};
 
 use crate::guest::Guest;
@@ -22,11 +20,11 @@ impl<A: Allocator> Guest<A> {
     /// How many bytes the slot's snapshot has.
     pub(crate) fn saved_len(&self) -> Result<usize, SaveRefusal>
         ensures value { IfOk result (λ len. len ≡ length (snapshot_of self.now)) }
-        ensures busy { IsErrOf result SaveRefusal.Busy ↔ IsTrue (is_any (tags_in self.now.host)) }
+        ensures busy { IsErrOf result SaveRefusal.Busy ↔ IsTrue (is_at_work self.now) }
         ensures there { ¬ IsErrOf result SaveRefusal.BadSlot }
         ensures not_short { ¬ IsErrOf result SaveRefusal.ShortBuffer }
     {
-        if self.is_busy() {
+        if self.is_at_work() {
             return Err(SaveRefusal::Busy);
         }
         Ok(self.slot.saved_len())
@@ -35,13 +33,13 @@ impl<A: Allocator> Guest<A> {
     /// Writes the slot's snapshot to the front of a buffer, and answers how many bytes it has.
     pub(crate) fn save(&self, into: &mut [u8]) -> Result<usize, SaveRefusal>
         ensures saved { IfOk result (IsSavedTo self.now into.old into.new) }
-        ensures busy { IsErrOf result SaveRefusal.Busy ↔ IsTrue (is_any (tags_in self.now.host)) }
+        ensures busy { IsErrOf result SaveRefusal.Busy ↔ IsTrue (is_at_work self.now) }
         ensures short { IsErrOf result SaveRefusal.ShortBuffer →
             length into.old < length (snapshot_of self.now) }
         ensures there { ¬ IsErrOf result SaveRefusal.BadSlot }
         ensures kept { OnErr result (into.new ≡ into.old) }
     {
-        if self.is_busy() {
+        if self.is_at_work() {
             return Err(SaveRefusal::Busy);
         }
         match self.slot.save_into(into) {
@@ -58,15 +56,15 @@ impl<A: Allocator> Guest<A> {
             (replies (state_of image self.new) (restore_reply result)) }
         ensures extent { self.new.extent ≡ self.old.extent }
         ensures disturbed { self.new.disturbed ≡ self.old.disturbed }
-        ensures busy { IsErrOf result RestoreRefusal.Busy ↔ IsTrue (is_any (tags_in self.old.host)) }
+        ensures busy { IsErrOf result RestoreRefusal.Busy ↔ IsTrue (is_at_work self.old) }
         ensures there { ¬ IsErrOf result RestoreRefusal.BadSlot }
         ensures fault { (why : RestoreFault) → IsErrOf result (RestoreRefusal.Fault why) →
             IsCauseOf self.old from.now why }
         ensures kept { OnErr result (self.new ≡ self.old) }
         ensures taken { (slot : BoardSlot) → IsSnapshotOf from.now slot → IsLike slot self.old →
-            is_any (tags_in self.old.host) ≡ false → IsOk result × IsAs slot self.old self.new }
+            is_at_work self.old ≡ false → IsOk result × IsAs slot self.old self.new }
     {
-        if self.is_busy() {
+        if self.is_at_work() {
             return Err(RestoreRefusal::Busy);
         }
         refusal(self.slot.restore(from))

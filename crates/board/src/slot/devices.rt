@@ -1,11 +1,12 @@
 //! What is done to the slot's further devices.
 
-ghost use Rattle.std.specs.Prelude.{◌≡◌, ◌≢◌, ◌++◌, ◌∷◌, ℕ, List, [], None, true, IfErr, IfOk, IsSome, OnErr, OnOk, length};
+ghost use Rattle.std.specs.Prelude.{◌≡◌, ◌≢◌, ◌++◌, ◌∷◌, ℕ, List, [], All, None, true, IfErr, IfOk, IfSome, IsSome, OnErr, OnOk, length};
 ghost use Rattle.std.specs.List.{slice_get};
 ghost use Rattle.std.specs.Option.{option_map};
 ghost use Rattle.guest_memory.specs.Memory.{SameRange};
+ghost use Rattle.block_device.specs.Flights.{TagIsHeld};
 ghost use Rattle.device_list.specs.Device.{fresh_device};
-ghost use Rattle.device_list.specs.List.{IsRefusedFor, is_starved_at, refusal_of};
+ghost use Rattle.device_list.specs.List.{IsRefusedFor, are_at_work, disk_at, is_starved_at, refusal_of};
 ghost use Rattle.board.specs.declared.event.DeviceEvent.{DeviceEvent};
 ghost use Rattle.board.specs.declared.event.EventKind.{EventKind};
 ghost use Rattle.board.specs.declared.reply.Reply.{Reply};
@@ -19,8 +20,9 @@ use crate::bytes::Bytes;
 use crate::event::DeviceEvent;
 use crate::reply::Reply;
 use crate::slot::Slot;
+use block_device::HostEvent;
 use chain::Chain;
-use device_list::{AddRefusal, DeviceSpec, ReceiveRefusal, VirtioDevice};
+use device_list::{AddRefusal, DeviceSpec, HostedDisk, ReceiveRefusal, VirtioDevice, WriteRefusal};
 use network_device::FrameRefusal;
 use std::alloc::{AllocError, Allocator};
 
@@ -48,6 +50,7 @@ impl<A: Allocator + Copy> Slot<A> {
             DeviceEvent::Receive { frame } => self.receive_frame(device, frame.as_slice()),
             DeviceEvent::TakeSent => self.take_sent(alloc, device),
             DeviceEvent::SetLink { up } => self.set_link(device, *up),
+            DeviceEvent::Host(said) => self.tell_device(device, *said),
         }
     }
 
@@ -97,13 +100,32 @@ impl<A: Allocator + Copy> Slot<A> {
         ensures no_memory { result ≢ Reply.NoMemory }
     {
         let (memory, room) = (&mut self.memory, &mut self.chain);
-        if self
+        match self
             .devices
             .write(device, offset, width, value, memory, room)
         {
-            Reply::Done
-        } else {
-            Reply::BadDevice
+            Ok(()) => Reply::Done,
+            Err(WriteRefusal::Busy) => Reply::Busy,
+            Err(WriteRefusal::NoDevice) => Reply::BadDevice,
+        }
+    }
+
+    /// Does what the host says of a disk that it serves.
+    pub(crate) fn tell_device(&mut self, device: u8, said: HostEvent) -> Reply<A>
+        ensures given { (image : List ℕ) (health : Health) →
+            GivesDevice device (DeviceEvent.Host said) (state_of image self.old) health health
+            (replies (state_of image self.new) result) }
+        ensures rest { self.new ≡ record self.old { memory = self.new.memory; devices = self.new.devices } }
+        ensures range { SameRange self.old.memory self.new.memory }
+        ensures there { result ≢ Reply.BadSlot }
+        ensures in_range { result ≢ Reply.BadRange }
+        ensures no_memory { result ≢ Reply.NoMemory }
+    {
+        let (memory, room) = (&mut self.memory, &mut self.chain);
+        match self.devices.tell(device, said, memory, room) {
+            Some(true) => Reply::Done,
+            Some(false) => Reply::Idle,
+            None => Reply::BadDevice,
         }
     }
 
@@ -259,5 +281,21 @@ impl<A: Allocator> Slot<A> {
     {
         self.devices
             .starved(device, &self.memory, &mut Chain::new())
+    }
+
+    /// Whether anything is in flight of a further disk.
+    pub(crate) fn are_at_work(&self) -> bool
+        ensures { result ≡ are_at_work self.now.devices }
+    {
+        self.devices.are_at_work()
+    }
+
+    /// A further disk that the host serves.
+    pub(crate) fn disk_at(&self, device: u8) -> Option<&HostedDisk<A>>
+        ensures value { option_map (λ disk. disk.now) result ≡ disk_at device self.now.devices }
+        ensures held { IfSome result (λ disk.
+            All (TagIsHeld disk.now.device.extent.count self.now.memory) disk.now.tags) }
+    {
+        self.devices.disk(device)
     }
 }

@@ -1,11 +1,11 @@
 //! A slot's snapshot, and a slot that takes one up.
 
-ghost use Rattle.std.specs.Prelude.{◌≡◌, ◌≢◌, ◌↔◌, ◌<◌, ◌≤◌, ℕ, IfErr, IfOk, IfSome, IsErr, IsOk, IsTrue, List, OnErr, OnOk, Some, length};
+ghost use Rattle.std.specs.Prelude.{◌≡◌, ◌≢◌, ◌↔◌, ◌<◌, ◌≤◌, ℕ, false, IfErr, IfOk, IfSome, IsErr, IsOk, IsTrue, List, OnErr, OnOk, Some, length};
 ghost use Rattle.guest_memory.specs.Memory.{Memory};
 ghost use Rattle.mmio_window.specs.declared.device_kind.DeviceKind.{DeviceKind};
 ghost use Rattle.mmio_window.specs.Saved.{saved_window, window_restored};
 ghost use Rattle.mmio_window.specs.Soundness.{IsSound};
-ghost use Rattle.device_list.specs.List.{AreSoundDevices};
+ghost use Rattle.device_list.specs.List.{AreSoundDevices, are_at_work};
 ghost use Rattle.device_list.specs.Saved.{RestoresEach};
 ghost use Rattle.board.specs.Saved.{IsAs, IsCauseOf, IsLike, IsRestored, IsSavedTo, IsSnapshotOf, OffersFeatures, Prevents, SuitsBesideDevices, TakesUp, block_restored, saved_slot, snapshot_of};
 ghost use Rattle.board.specs.declared.event.EventKind.{EventKind};
@@ -75,8 +75,10 @@ impl<A: Allocator> Slot<A> {
         }
     }
 
-    /// Takes up a snapshot of a slot of the same description. What is refused changes nothing.
+    /// Takes up a snapshot of a slot of the same description, where nothing is in flight of a further disk. What is refused
+    /// changes nothing.
     pub(crate) fn restore(&mut self, from: &[u8]) -> Result<(), RestoreFault>
+        requires idle { are_at_work self.old.devices ≡ false }
         ensures ok { OnOk result (IsRestored self.old from.now self.new) }
         ensures fault { IfErr result (IsCauseOf self.old from.now) }
         ensures kept { OnErr result (self.new ≡ self.old) }
@@ -93,7 +95,8 @@ impl<A: Allocator> Slot<A> {
         }
     }
 
-    /// Takes up a snapshot, and answers what the event of that restore is answered.
+    /// Takes up a snapshot, unless something is in flight of a further disk, and answers what the event of that restore is
+    /// answered.
     pub(super) fn answer_restore(&mut self, from: &[u8]) -> Reply<A>
         ensures given { (image : List ℕ) (health : Health) →
             sectors_of (state_of image self.old).extent ≡ self.old.extent.count →
@@ -107,6 +110,9 @@ impl<A: Allocator> Slot<A> {
         ensures in_range { result ≢ Reply.BadRange }
         ensures no_memory { result ≢ Reply.NoMemory }
     {
+        if self.are_at_work() {
+            return Reply::Busy;
+        }
         match self.restore(from) {
             Ok(()) => Reply::Done,
             Err(_) => Reply::BadState,
@@ -115,7 +121,8 @@ impl<A: Allocator> Slot<A> {
 
     // Takes up what was saved, with this pending input.
     fn take_up(&mut self, saved: &SavedSlot, pending: &[u8]) -> Result<(), RestoreFault>
-        requires { length pending.now ≤ 4096 }
+        requires few { length pending.now ≤ 4096 }
+        requires idle { are_at_work self.old.devices ≡ false }
         ensures ok { OnOk result (TakesUp self.old saved.now pending.now self.new) }
         ensures fault { IfErr result (Prevents self.old saved.now) }
         ensures offers { OffersFeatures self.old }

@@ -1,4 +1,4 @@
-use Rattle.board.proofs.Holding.{dropped_free, dropped_passes, dropped_whole}
+use Rattle.board.proofs.Holding.{dropped_free, dropped_further, dropped_passes, dropped_whole}
 use Rattle.board.proofs.laws.a_dropped_slot_never_waits.Goals as goal
 
 pub returns-clause-free : goal.returns-clause-free
@@ -9,3 +9,6 @@ returns-clause-passes g c = dropped_passes
 
 pub returns-clause-dropped : goal.returns-clause-dropped
 returns-clause-dropped g c = dropped_whole
+
+pub returns-clause-further : goal.returns-clause-further
+returns-clause-further g c = λ n. dropped_further n

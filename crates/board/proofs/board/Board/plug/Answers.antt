@@ -1,6 +1,5 @@
 -- A device is plugged in, or refused.
-use Rattle.std.proofs.Common.{◌≡◌, Ok, Err, Some, refl}
-use Rattle.std.specs.List.{slice_get}
+use Rattle.std.proofs.Common.{refl}
 use Rattle.board.proofs.Lists.{is_there, not_there, set_same}
 use Rattle.board.proofs.Seats.{sound_set}
 use Rattle.board.proofs.board.Board.plug.Goals as goal

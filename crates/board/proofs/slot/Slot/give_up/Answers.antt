@@ -3,7 +3,8 @@ use Rattle.std.specs.Option.{option_map}
 use Rattle.board.specs.Slot.{BoardSlot}
 use Rattle.board.proofs.Belonging.{block_changed}
 use Rattle.board.proofs.Beside.{same_range}
-use Rattle.board.proofs.HostedWindows.{gave_up, gave_up_keeps, viewed}
+use Rattle.hosted_disk.proofs.Windows.{gave_up_keeps}
+use Rattle.board.proofs.HostedWindows.{gave_up, viewed}
 use Rattle.board.proofs.slot.Slot.give_up.Goals as goal
 
 pub invariant_of-self : goal.invariant_of-self

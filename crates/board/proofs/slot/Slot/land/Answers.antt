@@ -2,7 +2,8 @@ use Rattle.std.proofs.Common.{Some, ap, refl, sym, ◌∙◌}
 use Rattle.std.specs.Option.{option_map}
 use Rattle.board.specs.Slot.{BoardSlot}
 use Rattle.board.proofs.Belonging.{block_changed}
-use Rattle.board.proofs.HostedWindows.{landed, landed_keeps, viewed}
+use Rattle.hosted_disk.proofs.Windows.{landed_keeps}
+use Rattle.board.proofs.HostedWindows.{landed, viewed}
 use Rattle.board.proofs.slot.Slot.land.Goals as goal
 
 pub invariant_of-self-then-done : goal.invariant_of-self-then-done

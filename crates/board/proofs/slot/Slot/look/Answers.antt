@@ -3,7 +3,8 @@ use Rattle.board.specs.Slot.{BoardSlot}
 use Rattle.std.specs.Option.{option_map}
 use Rattle.board.specs.Hosting.{device_at}
 use Rattle.board.proofs.Belonging.{block_changed}
-use Rattle.board.proofs.HostedWindows.{looked, looked_keeps, viewed}
+use Rattle.hosted_disk.proofs.Windows.{looked_keeps}
+use Rattle.board.proofs.HostedWindows.{looked, viewed}
 use Rattle.board.proofs.slot.Slot.look.Goals as goal
 
 pub invariant_of-self-2 : goal.invariant_of-self-2
