@@ -4,4 +4,5 @@ pub mod Fitting
 pub mod Pieces
 pub mod Receiving
 pub mod Rooms
+pub mod Rows
 pub mod Transmitting

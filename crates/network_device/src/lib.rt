@@ -2,6 +2,7 @@
 //! the buffers of the transmit queue go out.
 #![tactic(auto)]
 
+mod bytes;
 mod configuration;
 mod device;
 mod header;

@@ -1,9 +1,10 @@
-//! Frames that wait, one after another in a ring of bytes, with their lengths in a ring beside it.
+//! Frames that wait, one after another, with their lengths in a ring beside them.
 
 ghost use Rattle.std.specs.Prelude.{◌≡◌, ◌++◌, [], length, slice_get, drop, IfOk};
 ghost use Rattle.std.specs.Option.{option_map};
 ghost use Rattle.network_device.specs.Frames.{Store};
 
+use crate::bytes::ByteQueue;
 use crate::limits::Limits;
 use crate::no_memory::NoMemory;
 use crate::outlet::FrameOutlet;
@@ -15,7 +16,7 @@ use std::marker::Model;
 #[derive(Drop)]
 pub struct FrameStore<A: Allocator = Global> {
     lens: HeapCircularBuffer<usize, A>,
-    bytes: HeapCircularBuffer<u8, A>,
+    bytes: ByteQueue<A>,
     // how many of the bytes are of frames that have ended
     whole: usize,
 }
@@ -42,7 +43,7 @@ impl<A: Allocator + Copy> FrameStore<A> {
         ensures { IfOk result (λ store. store ≡ record { frames = []; begun = []; limits = limits }) }
     {
         let lens = ring(alloc, limits.frames)?;
-        let bytes = ring(alloc, limits.bytes)?;
+        let bytes = ByteQueue::new(alloc, limits.bytes)?;
         Ok(FrameStore {
             lens,
             bytes,
@@ -51,8 +52,8 @@ impl<A: Allocator + Copy> FrameStore<A> {
     }
 }
 
-/// A ring with room for so many items.
-fn ring<T, A: Allocator>(alloc: A, capacity: usize) -> Result<HeapCircularBuffer<T, A>, NoMemory>
+/// A ring with room for so many lengths.
+fn ring<A: Allocator>(alloc: A, capacity: usize) -> Result<HeapCircularBuffer<usize, A>, NoMemory>
     ensures { IfOk result (λ ring. ring ≡ record { items = []; capacity = capacity }) }
 {
     match HeapCircularBuffer::with_capacity(alloc, capacity) {
@@ -81,9 +82,7 @@ impl<A: Allocator> FrameStore<A> {
         ensures { option_map (λ parts. parts.0.now ++ parts.1.now) result ≡ slice_get self.now.frames 0 }
     {
         let len = self.frame_len(0)?;
-        let (front, back) = self.bytes.as_slices();
-        let from_front = front.len().min(len);
-        Some((&front[..from_front], &back[..len - from_front]))
+        Some((&self.bytes.as_slice()[..len], &[]))
     }
 
     /// Takes the oldest frame away.
@@ -91,7 +90,7 @@ impl<A: Allocator> FrameStore<A> {
         ensures { self.new ≡ record self.old { frames = drop 1 self.old.frames } }
     {
         if let Some(len) = self.lens.pop_front() {
-            self.bytes.truncate_front(self.bytes.len() - len);
+            self.bytes.skip(len);
             self.whole -= len;
         }
     }
@@ -114,7 +113,7 @@ impl<A: Allocator> FrameOutlet for FrameStore<A> {
     }
 
     fn append(&mut self, part: &[u8]) {
-        self.bytes.fill_from_slice(part);
+        self.bytes.append(part);
     }
 
     fn end(&mut self) {
