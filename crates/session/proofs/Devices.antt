@@ -1,8 +1,8 @@
 -- What is done to a further device: what it is answered, and the step and the call of its event.
 use Rattle.std.proofs.Common.{◌≡◌, ◌≢◌, ◌↔◌, ◌⊎◌, inl, inr, ℕ, ◌<◌, ◌≤◌, Bool, true, false, List, [], length, Option, Some, None, refl, sym, ◌∙◌, ap, subst, arith}
-use Rattle.std.specs.Prelude.{◌&&◌, if◌then◌else◌, is_some, nat_eq, nat_lt, unwrap_or, IsSome, IsTrue, MatchOption}
+use Rattle.std.specs.Prelude.{◌&&◌, if◌then◌else◌, is_some, nat_eq, nat_lt, unwrap_or, IfOk, IsSome, IsSomeAnd, IsTrue, MatchOption, Result, Ok, Err}
 use Rattle.std.specs.List.{slice_get}
-use Rattle.std.specs.Option.{option_and_then, option_map}
+use Rattle.std.specs.Option.{option_and_then, option_map, option_map_or}
 use Rattle.std.proofs.lemmas.Bool.Decides.{nat_tests}
 use Rattle.std.proofs.lemmas.List.{length-map, same_lists}
 use Rattle.std.proofs.lemmas.Option.{same_Some, slice_get_cases, slice_get_within, unwrap_or-slice_get}
@@ -13,16 +13,20 @@ use Rattle.device_list.specs.declared.refusal.ReceiveRefusal.{ReceiveRefusal}
 use Rattle.device_list.specs.declared.refusal.ReceiveRefusal.TheVariants.{Frame}
 use Rattle.device_list.specs.Card.{Card, oldest_of, receive_refusal}
 use Rattle.device_list.specs.Device.{DeviceState, supply_taken}
-use Rattle.device_list.specs.List.{card_at}
+use Rattle.device_list.specs.List.{card_at, disk_at, waits_at}
+use Rattle.hosted_disk.specs.Disk.{HostedDisk}
+use Rattle.hosted_disk.specs.Told.{has_effect}
+use Rattle.block_device.specs.declared.operation.HostEvent.{HostEvent}
 use Rattle.board.specs.declared.event.DeviceEvent.{DeviceEvent}
-use Rattle.board.specs.declared.event.DeviceEvent.TheVariants.{Plug, Read, Write, Supply, Receive, TakeSent, SetLink}
+use Rattle.board.specs.declared.event.DeviceEvent.TheVariants.{Plug, Read, Write, Supply, Receive, TakeSent, SetLink, Host}
 use Rattle.board.specs.declared.event.EventKind.TheVariants.{Device}
 use Rattle.board.specs.declared.pause.Pause.{Pause}
 use Rattle.board.specs.declared.reply.Record.{Record}
 use Rattle.board.specs.declared.reply.Reply.{Reply}
 use Rattle.board.specs.declared.reply.Reply.TheVariants.{Value, Done, Bytes, Took, BadSlot, BadRange, BadDevice, NoMemory}
+use Rattle.board.specs.declared.reply.Reply.TheVariants as told
 use Rattle.board.specs.Backing.{HostDisk, tags_in}
-use Rattle.board.specs.Devices.{GivesByDevice, MayReplyDevice, TakesMemoryFor, can_plug, device_reply, has_sent, oldest_at, received_reply, reply_at, taken_reply}
+use Rattle.board.specs.Devices.{GivesByDevice, MayReplyDevice, TakesMemoryFor, can_plug, device_reply, has_effect_at, has_sent, oldest_at, received_reply, reply_at, taken_reply, told_reply, waits_for_disk}
 use Rattle.board.specs.Hosting.{OwnGives}
 use Rattle.board.specs.Image.{Health}
 use Rattle.board.specs.Outcome.{Outcome, replies}
@@ -32,7 +36,10 @@ use Rattle.board.proofs.Replies.{given_replies}
 use Rattle.session.specs.declared.response.Response.{Response}
 use Rattle.session.specs.declared.response.Response.TheVariants.{Answered, More, Busy, Idle}
 use Rattle.session.specs.declared.refusal.Refusal.TheVariants as refusal
-use Rattle.session.specs.Answering.{IsDoneOrRefusing, IsReading, IsTakenWhole, IsTaking, RefusalMeans, Suits, SuitsCall, taken_response}
+use Rattle.session.specs.Answering.{IsDoneOrRefusing, IsReading, IsServing, IsTakenWhole, IsTaking, Means, RefusalMeans, Suits, SuitsCall, served_response, taken_response}
+use Rattle.session.specs.declared.progress.Progress.{Progress}
+use Rattle.session.specs.declared.progress.Progress.TheVariants as progress
+use Rattle.session.specs.declared.refusal.Refusal.{Refusal}
 use Rattle.session.specs.Session.{IsStep, SessionState, Waiting, output_of, world_of}
 use Rattle.session.proofs.Parts.{given}
 use Rattle.session.proofs.Ranges.{behind}
@@ -47,9 +54,14 @@ bad_took : (A : Type 0) (found : Option ℕ) → ◌≡◌ {A = Option (Reply A)
 bad_took A None is = absurd (cc (is))
 bad_took A (Some taken) is = absurd (cc (is))
 
+bad_write : (A : Type 0) (waits : Bool)
+    → ◌≡◌ {A = Option (Reply A)} (Some (if waits then told.Busy else Done)) (Some BadDevice) → ⊥
+bad_write A true is = absurd (cc (is))
+bad_write A false is = absurd (cc (is))
+
 bad_answer : {A : Type 0} (what : DeviceEvent A) (d : DeviceState) → device_reply what d ≡ Some BadDevice → ⊥
 bad_answer (Read offset width) d is = absurd (cc (is))
-bad_answer (Write offset width value) d is = absurd (cc (is))
+bad_answer {A} (Write offset width value) d is = bad_write A (waits_at offset d) is
 bad_answer {A} (Supply bytes) d is = bad_took A (supply_taken bytes d) is
 bad_answer _ d is = absurd (cc (is))
 
@@ -74,6 +86,10 @@ bad_card : {A X : Type 0} (answer : X → Reply A) (found : Option X) → ((x : 
 bad_card answer None never is = absurd (cc (is))
 bad_card answer (Some x) never is = never x (same_Some (answer x) BadDevice is)
 
+bad_word : (A : Type 0) (effect : Bool) → told_reply {A = A} effect ≡ BadDevice → ⊥
+bad_word A true is = absurd (cc (is))
+bad_word A false is = absurd (cc (is))
+
 never_bad : {A : Type 0} (n : ℕ) (what : DeviceEvent A) (state : SlotState) → reply_at n what state ≡ Some BadDevice
     → ⊥
 never_bad n (Plug spec) state is = bad_plug (can_plug n spec state) is
@@ -87,6 +103,8 @@ never_bad {A} n TakeSent state is =
     (λ card same. absurd (cc (same))) is
 never_bad {A} n (SetLink up) state is =
     bad_card {A = A} {X = Card} (λ card. Done) (card_at n state.devices) (λ card same. absurd (cc (same))) is
+never_bad {A} n (Host said) state is =
+    bad_card {A = A} {X = Bool} told_reply (has_effect_at n said state.devices) (bad_word A) is
 
 -- and where memory may be wanting for it, it is taken
 plug_there : {A : Type 0} (can : Bool) → can ≡ true
@@ -169,6 +187,44 @@ module _ {A : Type 0} (n : ℕ) (what : DeviceEvent A) (state : SlotState) where
   bad_exact before after outcome h =
       let way = over_image state.host before after outcome h in bad_over before (way.0) outcome (way.1)
 
+-- ---- what is answered that waits, and where there is nothing to do
+
+write_waits : (A : Type 0) (offset width value : ℕ) (found : Option DeviceState)
+    → option_map_or (waits_at offset) found false ≡ true
+    → option_and_then (device_reply {A = A} (Write offset width value)) found ≡ Some told.Busy
+write_waits A offset width value None waits = absurd (cc (waits))
+write_waits A offset width value (Some d) waits = rw waits refl
+
+pub waiting_gives : {A : Type 0} (n : ℕ) (what : DeviceEvent A) (state : SlotState) (before after : Health)
+    (outcome : Outcome A) → waits_for_disk what n state.devices ≡ true
+    → MayGiveOverImage state (Device n what) before after outcome → outcome.reply ≡ told.Busy
+waiting_gives {A} n (Write offset width value) state before after outcome waits (inl served) =
+    said_by n (Write offset width value) state (reply_at n (Write offset width value) state) before after outcome
+    served.alike
+    ∙ ap (λ (o : Option (Reply A)). unwrap_or o BadDevice)
+    (write_waits A offset width value (slice_get state.devices n) waits)
+waiting_gives n (Write offset width value) state before after outcome waits (inr unmet) = absurd unmet.takes
+waiting_gives n _ state before after outcome waits h = absurd (cc (waits))
+
+word_rests : (A : Type 0) (said : HostEvent) (disk : Option HostedDisk) (answer : Reply A)
+    → answer ≡ unwrap_or (option_map told_reply (option_map (has_effect said) disk)) BadDevice
+    → (answer ≡ told.Idle) ↔ IsSomeAnd disk (λ d. has_effect said d ≡ false)
+word_rests A said None answer is = (λ idle. absurd (cc (is, idle)), λ none. absurd none)
+word_rests A said (Some d) answer is = by_effect (has_effect said d) is
+  where
+    by_effect : (effect : Bool) → answer ≡ told_reply effect → (answer ≡ told.Idle) ↔ (effect ≡ false)
+    by_effect true is = (λ idle. absurd (cc (is, idle)), λ none. absurd (cc (none)))
+    by_effect false is = (λ idle. refl, λ none. is)
+
+pub idle_exact : {A : Type 0} (n : ℕ) (word : HostEvent) (state : SlotState) (before after : Health)
+    (outcome : Outcome A) → MayGive state (Device n (Host word)) before after outcome
+    → (outcome.reply ≡ told.Idle) ↔ IsSomeAnd (disk_at n state.devices) (λ disk. has_effect word disk ≡ false)
+idle_exact {A} n word state before after outcome h =
+    word_rests A word (disk_at n state.devices) outcome.reply
+    (said n (Host word) state before after outcome h
+    (λ lacks. subst (λ (r : Reply A). MayReplyDevice (Host word) r) lacks
+    (given_replies state (Device n (Host word)) before after outcome h)))
+
 -- ---- which replies there never are
 
 never_missing : {A : Type 0} (what : DeviceEvent A) → MayReplyDevice what BadSlot → ⊥
@@ -179,6 +235,7 @@ never_missing (Supply bytes) may = may
 never_missing (Receive frame) may = may
 never_missing TakeSent may = may
 never_missing (SetLink up) may = may
+never_missing (Host said) may = may
 
 never_range : {A : Type 0} (what : DeviceEvent A) → MayReplyDevice what BadRange → ⊥
 never_range (Plug spec) may = may
@@ -188,6 +245,7 @@ never_range (Supply bytes) may = may
 never_range (Receive frame) may = may
 never_range TakeSent may = may
 never_range (SetLink up) may = may
+never_range (Host said) may = may
 
 -- ---- which responses there may be
 
@@ -202,14 +260,34 @@ reads_suit n offset width Busy suits = tt
 reads_suit n offset width Idle suits = absurd suits
 
 pub writes_suit : {A : Type 0} (n offset width value : ℕ) (r : Response A)
-    → SuitsCall (Device n (Write offset width value)) r → IsDoneOrRefusing r
+    → SuitsCall (Device n (Write offset width value)) r → IsServing r
 writes_suit n offset width value (Answered Done) suits = tt
 writes_suit n offset width value (Answered BadSlot) suits = tt
 writes_suit n offset width value (Answered BadDevice) suits = tt
+writes_suit n offset width value (Answered told.Busy) suits = tt
 writes_suit n offset width value (Answered reply) suits = absurd suits
 writes_suit n offset width value More suits = absurd suits
 writes_suit n offset width value Busy suits = tt
 writes_suit n offset width value Idle suits = absurd suits
+
+pub words_suit : {A : Type 0} (n : ℕ) (said : HostEvent) (r : Response A) → SuitsCall (Device n (Host said)) r
+    → IsServing r
+words_suit n said (Answered Done) suits = tt
+words_suit n said (Answered BadSlot) suits = tt
+words_suit n said (Answered BadDevice) suits = tt
+words_suit n said (Answered told.Idle) suits = tt
+words_suit n said (Answered reply) suits = absurd suits
+words_suit n said More suits = absurd suits
+words_suit n said Busy suits = tt
+words_suit n said Idle suits = absurd suits
+
+-- none pauses
+pub at_once : {A : Type 0} (n : ℕ) (what : DeviceEvent A) (response : Response A) (r : Result Progress Refusal)
+    → Means served_response r response → SuitsCall (Device n what) response → IfOk r (λ came. came ≢ progress.More)
+at_once n what response (Ok progress.Done) means suits = λ is. cc (is)
+at_once n what response (Ok progress.Asks) means suits = λ is. cc (is)
+at_once n what response (Ok progress.More) means suits = absurd (rw means at suits)
+at_once n what response (Err why) means suits = tt
 
 pub links_suit : {A : Type 0} (n : ℕ) (up : Bool) (r : Response A) → SuitsCall (Device n (SetLink up)) r
     → IsDoneOrRefusing r

@@ -9,11 +9,12 @@ use Rattle.guest_memory.specs.Memory.{Inside}
 use Rattle.block_device.specs.declared.operation.Verdict.{Verdict}
 use Rattle.board.specs.declared.event.DeviceEvent.{DeviceEvent}
 use Rattle.board.specs.declared.event.DeviceEvent.TheVariants.{TakeSent}
+use Rattle.board.specs.declared.event.DeviceEvent.TheVariants.{Host as DiskTold}
 use Rattle.board.specs.declared.event.Event.{Event}
 use Rattle.board.specs.declared.event.EventKind.{EventKind}
-use Rattle.board.specs.declared.event.EventKind.TheVariants.{Device, Host}
-use Rattle.board.specs.declared.event.HostEvent.{HostEvent}
-use Rattle.board.specs.declared.event.HostEvent.TheVariants.{Complete, Drop, Hold, Release}
+use Rattle.board.specs.declared.event.EventKind.TheVariants.{Device, Host, Restore}
+use Rattle.block_device.specs.declared.operation.HostEvent.{HostEvent}
+use Rattle.block_device.specs.declared.operation.HostEvent.TheVariants.{Complete, Drop, Hold, Release}
 use Rattle.board.specs.declared.pause.Pause.{Pause}
 use Rattle.board.specs.declared.pause.Turn.{Turn}
 use Rattle.board.specs.declared.pause.Turn.TheVariants as turn
@@ -21,17 +22,21 @@ use Rattle.board.specs.declared.reply.Reply.{Reply}
 use Rattle.board.specs.declared.reply.Reply.TheVariants as reply
 use Rattle.board.specs.declared.reply.Record.{Record}
 use Rattle.block_device.specs.Flights.{InFlight, is_any}
+use Rattle.hosted_disk.specs.Told.{has_effect}
+use Rattle.device_list.specs.List.{disk_at}
 use Rattle.board.specs.Backing.{HostDisk, tags_in}
-use Rattle.board.specs.Devices.{has_sent, oldest_at, reply_at, taken_reply}
+use Rattle.board.specs.Devices.{has_sent, oldest_at, reply_at, taken_reply, waits_for_disk}
 use Rattle.board.specs.Hosting.{CompletionGives, DropGives, HoldGives, HostGives, HostOrGives, OwnGives, ReleaseGives, has_part, must_wait, told_in, waits_now}
 use Rattle.board.specs.Image.{Health}
 use Rattle.board.specs.Outcome.{Outcome, replies}
-use Rattle.board.specs.Pausing.{Begins, asked}
+use Rattle.board.specs.Pausing.{Begins, asked, asked_over_image}
+use Rattle.board.specs.Restoring.{RestoresUnless}
 use Rattle.board.specs.Slot.{BoardSlot, SlotState, state_of}
 use Rattle.board.specs.Within.{MayPutOut}
 use Rattle.board.specs.World.{Answers, KeepsOthers, MayGive, MayGiveBy, MayGiveOverImage, MayLackMemory, extents_of}
 use Rattle.board.proofs.Alone.{slot_step}
-use Rattle.board.proofs.Waiting.{waited}
+use Rattle.board.specs.Waiting.{waits_beside}
+use Rattle.board.proofs.Waiting.{waited, waits_for_any}
 use Rattle.session.specs.declared.progress.Progress.{Progress}
 use Rattle.session.specs.declared.progress.Progress.TheVariants as progress
 use Rattle.session.specs.declared.refusal.Refusal.{Refusal}
@@ -41,13 +46,14 @@ use Rattle.session.specs.declared.response.Response.TheVariants.{Answered, More,
 use Rattle.session.specs.declared.typed.Typed.{Typed}
 use Rattle.session.specs.Answering.{Means, RefusalMeans, frame_response, served_response, taken_response, typed_by, typed_response}
 use Rattle.session.specs.Devices.{TakesNothing, sent_at}
+use Rattle.session.specs.Disks.{DiskHasNothing}
 use Rattle.session.specs.Operations.{HasNothing, HoldsUp, IsSpare}
 use Rattle.session.specs.Pacing.{Handle, response_to}
 use Rattle.session.specs.Pausing.{ComesTo, IsBegun, IsEventCall, IsToldCall, IsWhole}
 use Rattle.session.specs.Session.{AnswersInPlace, IsIdle, IsOutside, IsStep, SessionState, world_of}
 use Rattle.session.proofs.Access.{found_at}
 use Rattle.session.proofs.Calls.{call_of_step, called_busy}
-use Rattle.session.proofs.Devices.{bad_exact, step, taken_away}
+use Rattle.session.proofs.Devices.{bad_exact, idle_exact, step, taken_away, waiting_gives}
 use Rattle.session.proofs.Parts.{asks_nothing}
 use Rattle.session.proofs.Steps.{lacks_puts}
 use Rattle.session.proofs.Suiting.{asks_none, never_busy, never_idle, never_paused}
@@ -61,7 +67,7 @@ both_true true false is = absurd (cc)
 both_true false b is = absurd (cc)
 
 busy_by : {A : Type 0} (state : SlotState) (what : EventKind A) (old new : Health) (outcome : Outcome A)
-    → MayGive state what old new outcome → outcome.reply ≡ reply.Busy → waits_now what state.host ≡ true
+    → MayGive state what old new outcome → outcome.reply ≡ reply.Busy → waits_for_any what state ≡ true
 busy_by state what old new outcome h is = (waited state.host state what old new outcome h is).0.waits
 
 -- what the host says waits for nothing
@@ -79,14 +85,55 @@ waits_gives {A} Beside state what outcome None own holds h =
 waits_gives Beside state what outcome (Some said) is holds h =
     absurd (said_free said what is (both_true (is_any (tags_in state.host)) (must_wait what) holds).1)
 
-waits_by : {A : Type 0} (host : Option HostDisk) (state : SlotState) (what : EventKind A) (old new : Health)
+own_waits_by : {A : Type 0} (host : Option HostDisk) (state : SlotState) (what : EventKind A) (old new : Health)
     (outcome : Outcome A) → state.host ≡ host → waits_now what state.host ≡ true
     → MayGiveBy host state what old new outcome → outcome.reply ≡ reply.Busy
-waits_by {A} None state what old new outcome is holds h =
+own_waits_by {A} None state what old new outcome is holds h =
     let none : waits_now {A = A} what None ≡ true = ap (waits_now what) (sym is) ∙ holds in absurd (cc (none))
-waits_by {A} (Some disk) state what old new outcome is holds h =
+own_waits_by {A} (Some disk) state what old new outcome is holds h =
     waits_gives (λ (o : Outcome A). MayGiveOverImage state what old old o) state what outcome (told_in what) refl
     holds h.gives
+
+-- the same for what is in flight of a further disk
+beside_gives : {A : Type 0} (state : SlotState) (what : EventKind A) (old new : Health) (outcome : Outcome A)
+    → waits_beside what state ≡ true → MayGiveOverImage state what old new outcome → outcome.reply ≡ reply.Busy
+beside_gives {A} state (Restore bytes) old new outcome waits (inl served) =
+    ap (λ (o : Outcome A). o.reply)
+    (subst (λ (works : Bool). RestoresUnless works state bytes outcome) waits served.alike.alike)
+beside_gives state (Restore bytes) old new outcome waits (inr never) = absurd never
+beside_gives state (Device n what) old new outcome waits h = waiting_gives n what state old new outcome waits h
+beside_gives state _ old new outcome waits h = absurd (cc (waits))
+
+beside_own : {A : Type 0} (state : SlotState) (what : EventKind A) (old : Health) (outcome : Outcome A)
+    → waits_now what state.host ≡ false → waits_beside what state ≡ true
+    → HostOrGives (λ (o : Outcome A). MayGiveOverImage state what old old o) (told_in what) state what outcome
+    → outcome.reply ≡ reply.Busy
+beside_own {A} state (Restore bytes) old outcome free waits h =
+    beside_gives state (Restore bytes) old old outcome waits
+    (subst (λ (w : Bool). OwnGives (λ (o : Outcome A). MayGiveOverImage state (Restore bytes) old old o) w state
+    (Restore bytes) outcome) free h)
+beside_own {A} state (Device n what) old outcome free waits h =
+    beside_gives state (Device n what) old old outcome waits
+    (subst (λ (w : Bool). OwnGives (λ (o : Outcome A). MayGiveOverImage state (Device n what) old old o) w state
+    (Device n what) outcome) free h)
+beside_own state _ old outcome free waits h = absurd (cc (waits))
+
+beside_waits_by : {A : Type 0} (host : Option HostDisk) (state : SlotState) (what : EventKind A) (old new : Health)
+    (outcome : Outcome A) → waits_now what state.host ≡ false → waits_beside what state ≡ true
+    → MayGiveBy host state what old new outcome → outcome.reply ≡ reply.Busy
+beside_waits_by None state what old new outcome free waits h = beside_gives state what old new outcome waits h
+beside_waits_by (Some disk) state what old new outcome free waits h =
+    beside_own state what old outcome free waits h.gives
+
+waits_by : {A : Type 0} (host : Option HostDisk) (state : SlotState) (what : EventKind A) (old new : Health)
+    (outcome : Outcome A) → state.host ≡ host → waits_for_any what state ≡ true
+    → MayGiveBy host state what old new outcome → outcome.reply ≡ reply.Busy
+waits_by host state what old new outcome is holds h = by_own (waits_now what state.host) refl holds
+  where
+    by_own : (own : Bool) → waits_now what state.host ≡ own → (own || waits_beside what state) ≡ true
+        → outcome.reply ≡ reply.Busy
+    by_own true now either = own_waits_by host state what old new outcome is now h
+    by_own false free beside = beside_waits_by host state what old new outcome free beside h
 
 -- and so no service of it begins
 held_part : {A : Type 0} (host : Option HostDisk) (state : SlotState) (what : EventKind A)
@@ -99,9 +146,24 @@ held_part {A} (Some disk) state what is holds = rw holds (by_told (told_in what)
     by_told None = refl
     by_told (Some said) = refl
 
-held_asks : {A : Type 0} (state : SlotState) (what : EventKind A) → waits_now what state.host ≡ true
+own_asks : {A : Type 0} (state : SlotState) (what : EventKind A) → waits_now what state.host ≡ true
     → asked what state ≡ None
-held_asks state what holds = rw (held_part state.host state what refl holds) refl
+own_asks state what holds = rw (held_part state.host state what refl holds) refl
+
+beside_asks : {A : Type 0} (state : SlotState) (what : EventKind A) → waits_beside what state ≡ true
+    → asked what state ≡ None
+beside_asks {A} state (Restore bytes) waits = asks_nothing {A = A} (Restore bytes) state refl
+beside_asks {A} state (Device n what) waits = asks_nothing {A = A} (Device n what) state refl
+beside_asks state _ waits = absurd (cc (waits))
+
+held_asks : {A : Type 0} (state : SlotState) (what : EventKind A) → waits_for_any what state ≡ true
+    → asked what state ≡ None
+held_asks state what holds = by_own (waits_now what state.host) refl holds
+  where
+    by_own : (own : Bool) → waits_now what state.host ≡ own → (own || waits_beside what state) ≡ true
+        → asked what state ≡ None
+    by_own true now either = own_asks state what now
+    by_own false free beside = beside_asks state what beside
 
 -- where there is nothing to do for what the host says
 module _ {A : Type 0} (state : SlotState) (outcome : Outcome A) where
@@ -213,7 +275,7 @@ refused_when {A} {T} wanted told r why {P} pure means says =
 pub record IsExact {A : Type 0} (old : SessionState) (slot : ℕ) (what : EventKind A) (response : Response A)
     : Type 0 where
   pub bad_slot : (refusal_of response ≡ Some refusal.BadSlot) ↔ (length old.slots ≤ slot)
-  pub busy : (refusal_of response ≡ Some refusal.Busy) ↔ ((¬ IsIdle slot old) ⊎ HoldsUp slot what old.slots)
+  pub busy : (refusal_of response ≡ Some refusal.Busy) ↔ ((¬ IsIdle slot old) ⊎ HoldsUp slot what old)
   pub no_room :
       refusal_of response ≡ Some refusal.NoRoom → AnswersInPlace what →
       IsSomeAnd (slice_get old.slots slot) (λ found. MayPutOut (state_of old.image found) what)
@@ -326,12 +388,12 @@ module _ {A : Type 0} (old new : SessionState) (event : Event A)
     idle = idle_at old event.slot (Some None) here refl
 
     abbrev Held : Type 0
-    Held = waits_now event.what found.host ≡ true
+    Held = waits_for_any event.what (state_of old.image found) ≡ true
 
-    holds : Held → HoldsUp event.slot event.what old.slots
+    holds : Held → HoldsUp event.slot event.what old
     holds is = rw there is
 
-    held : HoldsUp event.slot event.what old.slots → Held
+    held : HoldsUp event.slot event.what old → Held
     held is = rw there at is
 
     answered : (answer : Reply A) → IsStep old event answer new
@@ -407,7 +469,7 @@ module _ {A : Type 0} (old new : SessionState) (event : Event A)
     where
       past_holds : (o : Option BoardSlot) → slice_get old.slots event.slot ≡ o
           → length old.slots ≤ event.slot
-          → IsSomeAnd o (λ s. waits_now event.what s.host ≡ true) → ⊥
+          → IsSomeAnd o (λ s. waits_for_any event.what (state_of old.image s) ≡ true) → ⊥
       past_holds None is far waits = waits
       past_holds (Some s) is far waits =
           let fits = slice_get_within old.slots event.slot s is in omega (arith, fits, far)
@@ -435,7 +497,7 @@ exact old new slot what response many call =
 pub record Refuses {A T : Type 0} (old : SessionState) (slot : ℕ) (what : EventKind A) (r : Result T Refusal)
     : Type 0 where
   pub bad_slot : IsErrOf r refusal.BadSlot ↔ (length old.slots ≤ slot)
-  pub busy : IsErrOf r refusal.Busy ↔ ((¬ IsIdle slot old) ⊎ HoldsUp slot what old.slots)
+  pub busy : IsErrOf r refusal.Busy ↔ ((¬ IsIdle slot old) ⊎ HoldsUp slot what old)
   pub no_room :
       IsErrOf r refusal.NoRoom → AnswersInPlace what →
       IsSomeAnd (slice_get old.slots slot) (λ found. MayPutOut (state_of old.image found) what)
@@ -472,9 +534,9 @@ taken_pure A frame false = refl
 
 -- an event that waits for nothing is busy where a service is paused
 pub only_paused : {A : Type 0} (old : SessionState) (slot : ℕ) (what : EventKind A) {P : Type 0}
-    → must_wait what ≡ false → P ↔ ((¬ IsIdle slot old) ⊎ HoldsUp slot what old.slots)
-    → P ↔ (¬ IsIdle slot old)
-only_paused old slot what free says = (
+    → must_wait what ≡ false → ((state : SlotState) → waits_beside what state ≡ false)
+    → P ↔ ((¬ IsIdle slot old) ⊎ HoldsUp slot what old) → P ↔ (¬ IsIdle slot old)
+only_paused old slot what free beside says = (
   λ p. elim (says.0 p) [
     | inl paused ↦ paused
     | inr waits ↦ absurd (free_holds (slice_get old.slots slot) waits)
@@ -482,63 +544,87 @@ only_paused old slot what free says = (
   λ paused. says.1 (inl paused),
 )
   where
+    never : (s : BoardSlot) (own : Bool) → waits_now what s.host ≡ own
+        → (own || waits_beside what (state_of old.image s)) ≡ true → ⊥
+    never s true now either =
+        let must = (both_true (is_any (tags_in s.host)) (must_wait what) now).1 in cc (must, free)
+    never s false now waits = let none = beside (state_of old.image s) in cc (waits, none)
+
     free_holds : (o : Option BoardSlot)
-        → IsSomeAnd o (λ s. waits_now what s.host ≡ true) → ⊥
+        → IsSomeAnd o (λ s. waits_for_any what (state_of old.image s) ≡ true) → ⊥
     free_holds None waits = waits
-    free_holds (Some s) waits =
-        let never = (both_true (is_any (tags_in s.host)) (must_wait what) waits).1 in cc (never, free)
+    free_holds (Some s) waits = never s (waits_now what s.host) refl waits
+
+-- ---- where a slot that is there and idle answers a refusal
+
+module _ {A : Type 0} (old new : SessionState) (slot : ℕ) (what : EventKind A)
+    (many : length old.paused ≡ length old.slots) (why : Refusal) (P : BoardSlot → Type 0) where
+  abbrev its : Event A
+  its = record { slot = slot; what = what }
+
+  abbrev IsSaid : Response A → Type 0
+  IsSaid response =
+      (refusal_of response ≡ Some why) ↔ (IsIdle slot old × IsSomeAnd (slice_get old.slots slot) P)
+
+  -- an event that asks for no service, of which a slot answers this refusal exactly where P holds of it
+  module _ (quiet : (state : SlotState) → asked_over_image what state ≡ None)
+      (there_is : Some refusal.BadSlot ≡ Some why → ⊥) (free : Some refusal.Busy ≡ Some why → ⊥)
+      (answers : (answer : Reply A) (one : BoardSlot) → Gave one old what answer
+      → (refusal_of (Answered answer) ≡ Some why) ↔ P one) where
+    said_here : (here : slice_get old.paused slot ≡ Some None) (answer : Reply A) → IsStep old its answer new
+        → IsSaid (Answered answer)
+    said_here here answer h =
+        let slot_there = there old new its many here in
+        let one = found old new its many here in
+        let exact = answers answer one (gave old new its answer one slot_there h) in (
+          λ is. (idle old new its many here, rw slot_there (exact.0 is)),
+          λ says. exact.1 (rw slot_there at (says.1)),
+        )
+
+    said_exact : (response : Response A) (o : Option (Option Pause)) → slice_get old.paused slot ≡ o
+        → ComesTo (Handle its) o old response new → IsWhole old its response new → IsSaid response
+    said_exact response None is comes whole =
+        let past : length old.slots ≤ slot = grind (arith, many, slice_get_cases old.paused slot) in
+        rw (comes.0) (
+          λ is. absurd (there_is is),
+          λ says. absurd (past_says (slice_get old.slots slot) refl past (says.1)),
+        )
+      where
+        past_says : (o : Option BoardSlot) → slice_get old.slots slot ≡ o → length old.slots ≤ slot
+            → IsSomeAnd o P → ⊥
+        past_says None is far says = says
+        past_says (Some s) is far says =
+            let fits = slice_get_within old.slots slot s is in omega (arith, fits, far)
+    said_exact response (Some (Some pause)) is comes whole =
+        rw (comes.0) (λ told. absurd (free told), λ says. absurd (paused_not old slot pause is (says.0)))
+    said_exact (Answered answer) (Some None) is comes whole = said_here is answer whole
+    said_exact More (Some None) is comes whole = absurd (pauses_never comes.turn.taken.state _ _
+        comes.turn.taken.after comes.turn.output comes.turn.turn comes.turn.told comes.turn.taken.comes)
+      where
+        pauses_never : (state : SlotState) (before after : Health) (last : SlotState) (output : List ℕ)
+            (t : Turn A) → More ≡ response_to t
+            → Begins what old.budget state before after last output t → ⊥
+        pauses_never state before after last output (turn.Answered reply) more h = cc (more)
+        pauses_never state before after last output (turn.More pause) more h =
+            asks_none what old.budget state before after last output pause (quiet state) h
+    said_exact Busy (Some None) is comes whole = absurd (never_busy comes.turn.turn (sym comes.turn.told))
+    said_exact Idle (Some None) is comes whole = absurd (never_idle comes.turn.turn (sym comes.turn.told))
+
+    said_call : (response : Response A) → IsEventCall old slot what response new → IsSaid response
+    said_call response call = said_exact response (slice_get old.paused slot) refl call.turn call.whole
 
 -- ---- what the host says
 
-module _ {A : Type 0} (old new : SessionState) (slot : ℕ) (said : HostEvent)
-    (many : length old.paused ≡ length old.slots) where
-  abbrev event : Event A
-  event = record { slot = slot; what = Host said }
-
-  abbrev IsIdleSaid : Response A → Type 0
-  IsIdleSaid response =
-      (refusal_of response ≡ Some refusal.Idle) ↔ (IsIdle slot old × HasNothing slot said old.slots)
-
-  said_idle : (here : slice_get old.paused slot ≡ Some None) (answer : Reply A) → IsStep old event answer new
-      → IsIdleSaid (Answered answer)
-  said_idle here answer h =
-      let slot_there = there old new event many here in
-      let one = found old new event many here in
-      let came = gave old new event answer one slot_there h in
-      let says = says_idle answer in
-      let rests = rests_by (state_of old.image one) came.outcome one.host said _ came.after refl came.given in (
-        λ is. (idle old new event many here, rw slot_there (rests.0 (came.said ∙ says.0 is))),
-        λ rest. says.1 (sym came.said ∙ rests.1 (rw slot_there at (rest.1))),
-      )
-
-  idle_exact_at : (response : Response A) (o : Option (Option Pause)) → slice_get old.paused slot ≡ o
-      → ComesTo (Handle event) o old response new → IsWhole old event response new → IsIdleSaid response
-  idle_exact_at response None is comes whole =
-      let past : length old.slots ≤ slot = grind (arith, many, slice_get_cases old.paused slot) in
-      rw (comes.0) (
-        λ is. absurd (cc (is)),
-        λ rest. absurd (past_rests (slice_get old.slots slot) refl past (rest.1)),
-      )
-    where
-      past_rests : (o : Option BoardSlot) → slice_get old.slots slot ≡ o → length old.slots ≤ slot
-          → IsSomeAnd o (λ s. IsSpare said s.host s.on_hold) → ⊥
-      past_rests None is far rests = rests
-      past_rests (Some s) is far rests =
-          let fits = slice_get_within old.slots slot s is in omega (arith, fits, far)
-  idle_exact_at response (Some (Some pause)) is comes whole =
-      rw (comes.0) (λ told. absurd (cc (told)), λ rest. absurd (paused_not old slot pause is (rest.0)))
-  idle_exact_at (Answered answer) (Some None) is comes whole = said_idle is answer whole
-  idle_exact_at More (Some None) is comes whole = absurd (pauses_never comes.turn.taken.state _ _
-      comes.turn.taken.after comes.turn.output comes.turn.turn comes.turn.told comes.turn.taken.comes)
-    where
-      pauses_never : (state : SlotState) (before after : Health) (last : SlotState) (output : List ℕ)
-          (t : Turn A) → More ≡ response_to t
-          → Begins (Host said) old.budget state before after last output t → ⊥
-      pauses_never state before after last output (turn.Answered reply) more h = cc (more)
-      pauses_never state before after last output (turn.More pause) more h =
-          asks_none (Host said) old.budget state before after last output pause refl h
-  idle_exact_at Busy (Some None) is comes whole = absurd (never_busy comes.turn.turn (sym comes.turn.told))
-  idle_exact_at Idle (Some None) is comes whole = absurd (never_idle comes.turn.turn (sym comes.turn.told))
+host_idle : {A : Type 0} (old new : SessionState) (slot : ℕ) (said : HostEvent)
+    → length old.paused ≡ length old.slots → (response : Response A) → IsEventCall old slot (Host said) response new
+    → (refusal_of response ≡ Some refusal.Idle) ↔ (IsIdle slot old × HasNothing slot said old.slots)
+host_idle {A} old new slot said many =
+    said_call old new slot (Host said) many refusal.Idle (λ one. IsSpare said one.host one.on_hold) (λ state. refl)
+    (λ is. cc (is)) (λ is. cc (is))
+    (λ answer one came.
+    let says = says_idle answer in
+    let rests = rests_by (state_of old.image one) came.outcome one.host said _ came.after refl came.given in
+    (λ is. rests.0 (came.said ∙ says.0 is), λ rest. says.1 (sym came.said ∙ rests.1 rest)))
 
 -- what each refusal says that is answered to what the host says
 pub record HostRefuses {T : Type 0} (old : SessionState) (slot : ℕ) (said : HostEvent) (r : Result T Refusal)
@@ -554,68 +640,49 @@ host_refuses {A} old new slot said response r means many call =
     let says = refuses old new slot (Host said) response served_response r (served_pure A) means many call in
     record {
       bad_slot = says.bad_slot;
-      busy = only_paused {A = A} old slot (Host said) refl says.busy;
+      busy = only_paused {A = A} old slot (Host said) refl (λ state. refl) says.busy;
       idle = refused_when served_response response r refusal.Idle (served_pure A) means
-          (idle_exact_at old new slot said many response (slice_get old.paused slot) refl call.turn call.whole);
+          (host_idle old new slot said many response call);
     }
 
 -- ---- what is done to a further device
 
-module _ {A : Type 0} (old new : SessionState) (slot n : ℕ) (what : DeviceEvent A)
-    (many : length old.paused ≡ length old.slots) where
-  abbrev done_to : Event A
-  done_to = record { slot = slot; what = Device n what }
+device_bad : {A : Type 0} (old new : SessionState) (slot n : ℕ) (what : DeviceEvent A)
+    → length old.paused ≡ length old.slots → (response : Response A)
+    → IsEventCall old slot (Device n what) response new
+    → (refusal_of response ≡ Some refusal.BadDevice) ↔ (IsIdle slot old × TakesNothing slot n what old)
+device_bad {A} old new slot n what many =
+    said_call old new slot (Device n what) many refusal.BadDevice
+    (λ one. reply_at n what (state_of old.image one) ≡ None) (λ state. refl) (λ is. cc (is)) (λ is. cc (is))
+    (λ answer one came.
+    let says = says_bad_device answer in
+    let exact = bad_exact n what (state_of old.image one) _ came.after came.outcome came.given in
+    (λ is. exact.0 (came.said ∙ says.0 is), λ bad. says.1 (sym came.said ∙ exact.1 bad)))
 
-  abbrev IsBadSaid : Response A → Type 0
-  IsBadSaid response =
-      (refusal_of response ≡ Some refusal.BadDevice) ↔ (IsIdle slot old × TakesNothing slot n what old)
-
-  said_bad : (here : slice_get old.paused slot ≡ Some None) (answer : Reply A) → IsStep old done_to answer new
-      → IsBadSaid (Answered answer)
-  said_bad here answer h =
-      let slot_there = there old new done_to many here in
-      let one = found old new done_to many here in
-      let came = gave old new done_to answer one slot_there h in
-      let says = says_bad_device answer in
-      let exact = bad_exact n what (state_of old.image one) _ came.after came.outcome came.given in (
-        λ is. (idle old new done_to many here, rw slot_there (exact.0 (came.said ∙ says.0 is))),
-        λ bad. says.1 (sym came.said ∙ exact.1 (rw slot_there at (bad.1))),
-      )
-
-  bad_exact_at : (response : Response A) (o : Option (Option Pause)) → slice_get old.paused slot ≡ o
-      → ComesTo (Handle done_to) o old response new → IsWhole old done_to response new → IsBadSaid response
-  bad_exact_at response None is comes whole =
-      let past : length old.slots ≤ slot = grind (arith, many, slice_get_cases old.paused slot) in
-      rw (comes.0) (
-        λ is. absurd (cc (is)),
-        λ bad. absurd (past_takes (slice_get old.slots slot) refl past (bad.1)),
-      )
-    where
-      past_takes : (o : Option BoardSlot) → slice_get old.slots slot ≡ o → length old.slots ≤ slot
-          → IsSomeAnd o (λ s. reply_at n what (state_of old.image s) ≡ None) → ⊥
-      past_takes None is far takes = takes
-      past_takes (Some s) is far takes =
-          let fits = slice_get_within old.slots slot s is in omega (arith, fits, far)
-  bad_exact_at response (Some (Some pause)) is comes whole =
-      rw (comes.0) (λ told. absurd (cc (told)), λ bad. absurd (paused_not old slot pause is (bad.0)))
-  bad_exact_at (Answered answer) (Some None) is comes whole = said_bad is answer whole
-  bad_exact_at More (Some None) is comes whole = absurd (pauses_never comes.turn.taken.state _ _
-      comes.turn.taken.after comes.turn.output comes.turn.turn comes.turn.told comes.turn.taken.comes)
-    where
-      pauses_never : (state : SlotState) (before after : Health) (last : SlotState) (output : List ℕ)
-          (t : Turn A) → More ≡ response_to t
-          → Begins (Device n what) old.budget state before after last output t → ⊥
-      pauses_never state before after last output (turn.Answered reply) more h = cc (more)
-      pauses_never state before after last output (turn.More pause) more h =
-          asks_none (Device n what) old.budget state before after last output pause refl h
-  bad_exact_at Busy (Some None) is comes whole = absurd (never_busy comes.turn.turn (sym comes.turn.told))
-  bad_exact_at Idle (Some None) is comes whole = absurd (never_idle comes.turn.turn (sym comes.turn.told))
+-- and that there is nothing to do for what the host says of a disk
+pub device_idle : {A : Type 0} (old new : SessionState) (slot n : ℕ) (said : HostEvent) (response : Response A)
+    (r : Result Progress Refusal) → Means served_response r response → length old.paused ≡ length old.slots
+    → IsEventCall old slot (Device n (DiskTold said)) response new
+    → IsErrOf r refusal.Idle ↔ (IsIdle slot old × DiskHasNothing slot n said old.slots)
+device_idle {A} old new slot n said response r means many call =
+    refused_when served_response response r refusal.Idle (served_pure A) means
+    (said_call old new slot (Device n (DiskTold said)) many refusal.Idle
+    (λ one. IsSomeAnd (disk_at n one.devices) (λ disk. has_effect said disk ≡ false)) (λ state. refl)
+    (λ is. cc (is)) (λ is. cc (is))
+    (λ answer one came.
+    let says = says_idle answer in
+    let exact = idle_exact n said (state_of old.image one) _ came.after came.outcome came.given in
+    (λ is. exact.0 (came.said ∙ says.0 is), λ rest. says.1 (sym came.said ∙ exact.1 rest))) response call)
 
 -- what each refusal says that is answered to what is done to a further device
 pub record DeviceRefuses {A T : Type 0} (old : SessionState) (slot n : ℕ) (what : DeviceEvent A)
     (r : Result T Refusal) : Type 0 where
   pub bad_slot : IsErrOf r refusal.BadSlot ↔ (length old.slots ≤ slot)
-  pub busy : IsErrOf r refusal.Busy ↔ (¬ IsIdle slot old)
+  pub waits : IsErrOf r refusal.Busy ↔ ((¬ IsIdle slot old) ⊎ HoldsUp slot (Device n what) old)
+  -- of what waits for nothing
+  pub busy :
+      ((state : SlotState) → waits_for_disk what n state.devices ≡ false) →
+      IsErrOf r refusal.Busy ↔ (¬ IsIdle slot old)
   pub bad_device : IsErrOf r refusal.BadDevice ↔ (IsIdle slot old × TakesNothing slot n what old)
 
 pub device_refuses : {A T : Type 0} (old new : SessionState) (slot n : ℕ) (what : DeviceEvent A)
@@ -627,9 +694,10 @@ device_refuses {A} {T} old new slot n what response wanted r pure means many cal
     let says = refuses old new slot (Device n what) response wanted r pure means many call in
     record {
       bad_slot = says.bad_slot;
-      busy = only_paused {A = A} old slot (Device n what) refl says.busy;
+      waits = says.busy;
+      busy = λ free. only_paused {A = A} old slot (Device n what) refl free says.busy;
       bad_device = refused_when wanted response r refusal.BadDevice pure means
-          (bad_exact_at old new slot n what many response (slice_get old.paused slot) refl call.turn call.whole);
+          (device_bad old new slot n what many response call);
     }
 
 -- a service of the slot is paused: the call is busy

@@ -11,11 +11,12 @@ use Rattle.board.specs.declared.reply.Reply.TheVariants as reply
 use Rattle.board.specs.declared.reply.Record.{Record}
 use Rattle.block_device.specs.Flights.{InFlight}
 use Rattle.board.specs.Backing.{HostDisk, tags_in}
-use Rattle.board.specs.Hosting.{LeavesTag, must_wait}
+use Rattle.board.specs.Hosting.{LeavesTag}
 use Rattle.board.specs.Image.{Health}
 use Rattle.board.specs.Outcome.{Outcome, replies}
 use Rattle.board.specs.Slot.{BoardSlot, SlotState}
 use Rattle.board.specs.World.{KeepsOthers, MayGive, MissingStep, SlotStep, World, met_refusal, noted}
+use Rattle.board.specs.Waiting.{may_wait}
 use Rattle.board.proofs.Alone.{get_set}
 use Rattle.board.proofs.Seats.{noted_none}
 use Rattle.board.proofs.Waiting.{busy_stays, outlasts, rested, waited}
@@ -107,7 +108,7 @@ kept_at {A} old new event told (Some state) h here there quiet keeps step =
     }
 
 pub busy_keeps : {A : Type 0} (old new : SessionState) (event : Event A) → IsStep old event reply.Busy new
-    → IsKept old new × (must_wait event.what ≡ true)
+    → IsKept old new × (may_wait event.what ≡ true)
 busy_keeps {A} old new event h = (
   kept_at old new event reply.Busy (slice_get (world_of old).slots event.slot) h refl (λ is. cc (is))
       (λ failures. refl) (λ state before after outcome given is.
@@ -119,7 +120,7 @@ busy_keeps {A} old new event h = (
     waits : (o : Option SlotState)
         → MatchOption o (MissingStep (world_of old) event.slot h.answers.written (world_of new))
         (λ state. SlotStep (world_of old) event.slot state event.what h.answers.written (world_of new))
-        → must_wait event.what ≡ true
+        → may_wait event.what ≡ true
     waits None step =
         let no : reply.BadSlot ≡ reply.Busy =
         sym (ap (λ (w : Record A). w.reply) step.recorded) ∙ h.answers.replied in absurd (cc (no))

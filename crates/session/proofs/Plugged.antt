@@ -8,12 +8,13 @@ use Rattle.std.proofs.lemmas.Option.{same_Some, slice_get_within}
 use Rattle.device_list.specs.declared.spec.DeviceSpec.{DeviceSpec}
 use Rattle.device_list.specs.Device.{DeviceState, fresh_device}
 use Rattle.device_list.specs.List.{refusal_of}
-use Rattle.device_list.specs.Model.{has_bad_mtu}
+use Rattle.device_list.specs.Model.{has_bad_disk, has_bad_mtu}
 use Rattle.board.specs.Lent.{made_over, opened_over}
 use Rattle.board.specs.Slot.{BoardSlot, opened}
 use Rattle.board.proofs.Lists.{get_set, set_same}
 use Rattle.session.specs.declared.guest.GuestSpec.{GuestSpec}
 use Rattle.session.specs.Plugging.{AreBare, GetsDevice, GetsDevices}
+use Rattle.session.specs.Refusing.{is_bad_device}
 use Rattle.session.specs.Session.{before_none, devices_of, plugged, slots_of, with_fresh}
 
 -- ---- the slots of a new board have no further device
@@ -147,11 +148,11 @@ both_false false b is = (refl, is)
 
 -- a device of it isn't bad, and those behind it aren't, where none is
 pub good_place : (places rest : List (Option DeviceSpec)) (spec : DeviceSpec) → places ≡ Some spec ∷ rest
-    → list_any has_bad_mtu (before_none places) ≡ false
-    → (has_bad_mtu spec ≡ false) × (list_any has_bad_mtu (before_none rest) ≡ false)
+    → list_any is_bad_device (before_none places) ≡ false
+    → (is_bad_device spec ≡ false) × (list_any is_bad_device (before_none rest) ≡ false)
 good_place places rest spec next good =
-    both_false (has_bad_mtu spec) (list_any has_bad_mtu (before_none rest))
-    (sym (ap (λ some. list_any has_bad_mtu (before_none some)) next) ∙ good)
+    both_false (is_bad_device spec) (list_any is_bad_device (before_none rest))
+    (sym (ap (λ some. list_any is_bad_device (before_none some)) next) ∙ good)
 
 -- ---- the devices of one slot
 
@@ -190,12 +191,13 @@ module _ (places : List (Option DeviceSpec)) (slot k : ℕ) (old new : List Boar
   here = ap (λ some. slice_get some slot) h.is ∙ get_set old slot h.before (with_fresh h.done h.before) h.there
 
   -- the slot takes another
-  pub takes : (spec : DeviceSpec) → k < 6 → has_bad_mtu spec ≡ false
+  pub takes : (spec : DeviceSpec) → k < 6 → is_bad_device spec ≡ false
       → IsSomeAnd (slice_get new slot) (λ found. refusal_of found.devices spec ≡ None)
   takes spec few good =
       let many : length (map fresh_device h.done) ≡ k = length-map h.done fresh_device ∙ h.count in
       let test : nat_le 6 (length (map fresh_device h.done)) ≡ false = grind (arith, nat_tests, many) in
-      rw here (rw (test, good) refl)
+      let both = both_false (has_bad_mtu spec) (has_bad_disk spec) good in
+      rw here (rw (test, both.0, both.1) refl)
 
   pub one_plugged : (spec : DeviceSpec) (last : List BoardSlot)
       → drop k places ≡ Some spec ∷ drop (k + 1) places → GetsDevice slot spec new last

@@ -11,4 +11,5 @@ pub mod Course
 pub mod Alone
 pub mod Operations
 pub mod Devices
+pub mod Disks
 pub mod Plugging

@@ -1,15 +1,16 @@
 -- What the host is asked to do for a slot, which events wait for it, and when an operation began.
-use Rattle.std.specs.Prelude.{◌≡◌, ◌≢◌, ◌⊎◌, ℕ, ◌+◌, ◌^◌, Bool, true, false, List, Option, None, IsSomeAnd, IsTrue, get_or}
+use Rattle.std.specs.Prelude.{◌≡◌, ◌≢◌, ◌⊎◌, ℕ, ◌+◌, ◌^◌, ◌||◌, Bool, true, false, List, Option, None, IsSomeAnd, IsTrue, get_or}
 use Rattle.std.specs.List.{slice_get}
 use Rattle.std.specs.Option.{option_and_then, option_map}
 use Rattle.block_device.specs.declared.operation.Operation.{Operation}
 use Rattle.block_device.specs.Flights.{InFlight, is_any, operation_in, taken_bits}
 use Rattle.board.specs.declared.event.EventKind.{EventKind}
-use Rattle.board.specs.declared.event.HostEvent.{HostEvent}
-use Rattle.board.specs.declared.event.HostEvent.TheVariants.{Complete, Drop, Hold, Release}
+use Rattle.block_device.specs.declared.operation.HostEvent.{HostEvent}
+use Rattle.block_device.specs.declared.operation.HostEvent.TheVariants.{Complete, Drop, Hold, Release}
 use Rattle.board.specs.Backing.{HostDisk, tags_in}
 use Rattle.board.specs.Hosting.{waits_now}
-use Rattle.board.specs.Slot.{BoardSlot}
+use Rattle.board.specs.Slot.{BoardSlot, is_at_work, state_of}
+use Rattle.board.specs.Waiting.{waits_beside}
 use Rattle.session.specs.Session.{SessionState}
 
 -- what is in flight of a slot with this tag: nothing where its disk is of the image
@@ -42,9 +43,9 @@ AskedBy Drop before after = ⊥
 AskedBy Hold before after = ⊥
 AskedBy Release before after = after ≢ before
 
--- the slot is there, and something of it is in flight
+-- the slot is there, and something of one of its disks is in flight
 abbrev pub HasFlight : ℕ → List BoardSlot → Type 0
-HasFlight slot slots = IsSomeAnd (slice_get slots slot) (λ found. IsTrue (is_any (tags_in found.host)))
+HasFlight slot slots = IsSomeAnd (slice_get slots slot) (λ found. IsTrue (is_at_work found))
 
 -- or nothing is with this tag
 abbrev pub HasFree : ℕ → ℕ → List BoardSlot → Type 0
@@ -63,7 +64,8 @@ IsSpare Release host on_hold = (host ≡ None) ⊎ (on_hold ≡ false)
 abbrev pub HasNothing : ℕ → HostEvent → List BoardSlot → Type 0
 HasNothing slot told slots = IsSomeAnd (slice_get slots slot) (λ found. IsSpare told found.host found.on_hold)
 
--- the slot is there, and an event of it waits for what is in flight
-abbrev pub HoldsUp : {A : Type 0} → ℕ → EventKind A → List BoardSlot → Type 0
-HoldsUp slot what slots =
-    IsSomeAnd (slice_get slots slot) (λ found. IsTrue (waits_now what found.host))
+-- the slot is there, and an event of it waits for what is in flight of one of its disks
+abbrev pub HoldsUp : {A : Type 0} → ℕ → EventKind A → SessionState → Type 0
+HoldsUp slot what session =
+    IsSomeAnd (slice_get session.slots slot)
+    (λ found. IsTrue (waits_now what found.host || waits_beside what (state_of session.image found)))

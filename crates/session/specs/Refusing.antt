@@ -1,9 +1,10 @@
 -- Why there is no session.
-use Rattle.std.specs.Prelude.{◌≡◌, ◌≢◌, ℕ, ◌^◌, ◌≤◌, ◌/◌, ◌%◌, Bool, false, List, All, length}
+use Rattle.std.specs.Prelude.{◌≡◌, ◌≢◌, ℕ, ◌^◌, ◌≤◌, ◌/◌, ◌%◌, ◌||◌, Bool, false, List, All, length}
 use Rattle.std.specs.List.{list_any}
 use Rattle.chain.specs.declared.budget.Budget.{Budget}
 use Rattle.chain.specs.Budget.{IsSpent}
-use Rattle.device_list.specs.Model.{has_bad_mtu}
+use Rattle.device_list.specs.declared.spec.DeviceSpec.{DeviceSpec}
+use Rattle.device_list.specs.Model.{has_bad_disk, has_bad_mtu}
 use Rattle.board.specs.declared.fault.BoardFault.{BoardFault}
 use Rattle.board.specs.Fault.{Refuses}
 use Rattle.board.specs.Lent.{AreBytesOf}
@@ -16,9 +17,14 @@ use Rattle.session.specs.Session.{devices_of, slots_of}
 abbrev pub AreOutlets : List GuestSpec → Type 0
 AreOutlets guests = All (λ guest. guest.outlet ≤ 2 ^ 24) guests
 
--- whether a guest is to have a network card whose MTU is below 68 (5.1.4.1)
+-- whether no slot takes a device: a network card whose MTU is below 68 (5.1.4.1), and a disk of 2^55 sectors or more, or of
+-- another depth than 1 to 64
+abbrev pub is_bad_device : DeviceSpec → Bool
+is_bad_device spec = has_bad_mtu spec || has_bad_disk spec
+
+-- whether a guest is to have one
 abbrev pub has_bad_device : GuestSpec → Bool
-has_bad_device guest = list_any has_bad_mtu (devices_of guest)
+has_bad_device guest = list_any is_bad_device (devices_of guest)
 
 -- no guest is
 abbrev pub AreDevices : List GuestSpec → Type 0

@@ -9,10 +9,11 @@ ghost use Rattle.board.specs.declared.event.EventKind.{EventKind};
 ghost use Rattle.board.specs.declared.reply.Reply.{Reply};
 ghost use Rattle.block_device.specs.Flights.{InFlight};
 ghost use Rattle.board.specs.Fault.{IsAccepted};
-ghost use Rattle.board.specs.Hosting.{LeavesTag, must_wait};
+ghost use Rattle.board.specs.Hosting.{LeavesTag};
 ghost use Rattle.board.specs.Pausing.{HasLimit};
 ghost use Rattle.board.specs.Slot.{BoardSlot, SlotState, state_of};
 ghost use Rattle.board.specs.Untouched.{touches_memory};
+ghost use Rattle.board.specs.Waiting.{may_wait};
 ghost use Rattle.board.specs.Within.{Seat};
 ghost use Rattle.session.specs.Line.{IsIdle};
 ghost use Rattle.session.specs.Pacing.{Call, Handle, IfEvent};
@@ -137,11 +138,11 @@ pub fn a_flight_outlasts_own_events<A: Allocator>()
         flight_at slot tag old.slots ≡ Some here → flight_at slot tag new.slots ≡ Some here }
 {}
 
-/// An event that waits for what is in flight changes nothing, and only two writes and a restore may wait; nor does what the
-/// host says where there is nothing to do.
+/// An event that waits for what is in flight changes nothing, and only writes that may stop a disk's queue and a restore may
+/// wait; nor does what the host says where there is nothing to do.
 pub fn what_waits_changes_nothing<A: Allocator>()
     ensures busy { (old new : SessionState) (event : Event A) →
-        IsStep old event Reply.Busy new → IsKept old new × (must_wait event.what ≡ true) }
+        IsStep old event Reply.Busy new → IsKept old new × (may_wait event.what ≡ true) }
     ensures idle { (old new : SessionState) (event : Event A) →
         IsStep old event Reply.Idle new → IsKept old new }
 {}

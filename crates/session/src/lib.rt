@@ -2,7 +2,7 @@
 //! another language stands on them.
 //!
 //! `session` is a board over an image in memory, where each guest's disk is of the image or one that the host serves, a
-//! module for each kind of call: `registers`, `disk`, `memory`, `console`, `devices`, `image` and `saved`.
+//! module for each kind of call: `registers`, `disk`, `memory`, `console`, `devices`, `disks`, `image` and `saved`.
 //!
 //! Each call serves within the session's budget. A service pauses where the budget is spent, before its next chain, and goes
 //! on when it is told to. `turn_kind` says what a slot is asked to do in a call, `response` what comes of it, and `progress`
@@ -30,9 +30,9 @@ mod typed;
 pub use block_device::{Operation, OperationKind, Verdict};
 pub use board::{
     Backing, Board, BoardFault, Budget, CacheFault, Counters, DeviceSpec, Event, EventKind, Extent,
-    Fault, FaultNote, GuestMemory, HostEvent, MOST_DEVICES, MemoryFault, Outlet, Pause, RegionSpec,
-    Regions, Reply, RestoreFault, RestoreRefusal, SaveRefusal, Service, SlotFault, SlotSpec,
-    SlotWindow,
+    Fault, FaultNote, GuestMemory, HostEvent, HostedDisk, MOST_DEVICES, MemoryFault, Outlet, Pause,
+    RegionSpec, Regions, Reply, RestoreFault, RestoreRefusal, SaveRefusal, Service, SlotFault,
+    SlotSpec, SlotWindow,
 };
 pub use chain::Segment;
 pub use fault::SessionFault;

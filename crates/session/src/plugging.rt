@@ -3,10 +3,9 @@
 ghost use Rattle.std.specs.Prelude.{◌≡◌, ◌≤◌, None, false, IfErr, OnOk, IsSomeAnd, length};
 ghost use Rattle.std.specs.List.{list_any, slice_get};
 ghost use Rattle.device_list.specs.List.{refusal_of};
-ghost use Rattle.device_list.specs.Model.{has_bad_mtu};
 ghost use Rattle.session.specs.declared.fault.SessionFault.{SessionFault};
 ghost use Rattle.session.specs.Plugging.{AreBare, GetsDevice, GetsDevices};
-ghost use Rattle.session.specs.Refusing.{AreDevices};
+ghost use Rattle.session.specs.Refusing.{AreDevices, is_bad_device};
 ghost use Rattle.session.specs.Session.{before_none, plugged};
 
 use crate::fault::SessionFault;
@@ -40,7 +39,7 @@ fn plug_all<A: Allocator + Copy>(
 ) -> Result<(), SessionFault>
     requires bare { IsSomeAnd (slice_get board.old.slots slot) (λ found. length found.devices ≡ 0) }
     requires few { length devices.now ≤ 6 }
-    requires judged { list_any has_bad_mtu (before_none devices.now) ≡ false }
+    requires judged { list_any is_bad_device (before_none devices.now) ≡ false }
     ensures plugged { OnOk result (GetsDevices slot (before_none devices.now) board.old.slots board.new.slots) }
     ensures fault { IfErr result (λ why. why ≡ SessionFault.NoMemory) }
     ensures image { board.new.image ≡ board.old.image }

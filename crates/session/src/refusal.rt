@@ -25,10 +25,10 @@ pub enum Refusal {
     #[error("the guest's output has no room until some of it is taken")]
     NoRoom,
     /// A service of the slot is paused, or the event waits for what is in flight of it. Nothing has changed.
-    #[error("a service of the guest is paused, or its disk is at work")]
+    #[error("a service of the guest is paused, or one of its disks is at work")]
     Busy,
-    /// There was nothing to do for what the host says of the slot's disk: nothing is in flight, or not with this tag, the slot
-    /// is on hold already, or isn't, or the disk is of the image. Nothing has changed.
+    /// There was nothing to do for what the host says of a disk of the slot: nothing is in flight, or not with this tag, the disk
+    /// is on hold already, or isn't, or it is of the image. Nothing has changed.
     #[error("there was nothing to do for what the host says of the guest's disk")]
     Idle,
 }

@@ -27,6 +27,8 @@ pub struct DeviceWaits {
     pub starved: bool,
     /// How many bytes the oldest frame has that its driver sent and the host hasn't taken, where one waits.
     pub sent: Option<usize>,
+    /// What is in flight of a disk: bit n is set where tag n is. It is 0 of another device.
+    pub tags: u64,
 }
 
 /// What a call of a slot is answered, and what then waits for the slot. Of a slot that isn't there nothing waits.

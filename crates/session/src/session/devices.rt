@@ -1,17 +1,21 @@
 //! What is done to a guest's further devices: its driver's registers, and what its host hands in and takes. Nothing here
 //! takes memory.
 
-ghost use Rattle.std.specs.Prelude.{◌≡◌, ◌↔◌, ◌≤◌, ◌++◌, length, IfOk, IsErrOf, IsSome, IsTrue, ◌⊎◌, IfErr};
+ghost use Rattle.std.specs.Prelude.{◌≡◌, ◌≢◌, ◌↔◌, ◌≤◌, ◌++◌, length, IfOk, IsErrOf, IsSome, IsTrue, ◌⊎◌, IfErr};
 ghost use Rattle.std.specs.Option.{option_map};
 ghost use Rattle.board.specs.declared.event.DeviceEvent.{DeviceEvent};
 ghost use Rattle.board.specs.declared.event.EventKind.{EventKind};
+ghost use Rattle.session.specs.declared.progress.Progress.{Progress};
 ghost use Rattle.session.specs.declared.refusal.Refusal.{Refusal};
 ghost use Rattle.session.specs.declared.response.Response.{Response};
-ghost use Rattle.session.specs.Answering.{IsReading, IsTakenWhole, IsTaking, Means, SuitsCall, done_response, frame_response, taken_response, took_response, value_response};
+ghost use Rattle.session.specs.Answering.{IsReading, IsTakenWhole, IsTaking, Means, SuitsCall, done_response, frame_response, served_response, taken_response, took_response, value_response};
 ghost use Rattle.session.specs.Devices.{TakesNothing, device_waits_at, sent_at};
+ghost use Rattle.session.specs.Disks.{DiskHasAsked};
+ghost use Rattle.session.specs.Operations.{HoldsUp};
 ghost use Rattle.session.specs.Pausing.{IsEventCall, IsToldCall};
 ghost use Rattle.session.specs.Session.{AnswersInPlace, IsIdle};
 
+use crate::progress::{Progress, has_asked, served};
 use crate::refusal::Refusal;
 use crate::response::{Response, Turned};
 use crate::session::Session;
@@ -41,8 +45,9 @@ impl<A: Allocator + Copy> Session<A> {
         gave(self.device_event(slot, device, read))
     }
 
-    /// A guest's write of a further device's window (4.2.2). A queue that it notifies is served to its end. It is refused for a
-    /// bad slot or device, and while a service of the slot is paused.
+    /// A guest's write of a further device's window (4.2.2). A queue that it notifies is served to its end, and operations of a
+    /// disk may begin. It is refused for a bad slot or device, while a service of the slot is paused, and where it is one of a
+    /// disk's Status or QueueReady while something of that is in flight.
     pub fn write_device(
         &mut self,
         slot: u8,
@@ -50,11 +55,16 @@ impl<A: Allocator + Copy> Session<A> {
         offset: u16,
         width: u8,
         value: u32,
-    ) -> Result<(), Refusal>
+    ) -> Result<Progress, Refusal>
         ensures call { IsToldCall {A = A} self.old slot (EventKind.Device device (DeviceEvent.Write offset width value))
-            (Means done_response result) self.new }
+            (Means served_response result) self.new }
+        ensures asks { IfOk result (λ progress.
+            (progress ≡ Progress.Asks) ↔ DiskHasAsked slot device self.old self.new) }
+        ensures at_once { IfOk result (λ progress. progress ≢ Progress.More) }
         ensures bad_slot { IsErrOf result Refusal.BadSlot ↔ (length self.old.slots ≤ slot) }
-        ensures busy { IsErrOf result Refusal.Busy ↔ ¬ IsIdle slot self.old }
+        ensures busy { IsErrOf result Refusal.Busy ↔
+            ((¬ IsIdle slot self.old)
+            ⊎ HoldsUp {A = A} slot (EventKind.Device device (DeviceEvent.Write offset width value)) self.old) }
         ensures bad_device { IsErrOf result Refusal.BadDevice ↔
             (IsIdle slot self.old × TakesNothing {A = A} slot device (DeviceEvent.Write offset width value) self.old) }
     {
@@ -63,7 +73,11 @@ impl<A: Allocator + Copy> Session<A> {
             width,
             value,
         };
-        done(self.device_event(slot, device, write))
+        let before = self.disk_in_flight(slot, device);
+        let response = self.device_event(slot, device, write);
+        let after = self.disk_in_flight(slot, device);
+        let asks = has_asked(before, after);
+        served(response, asks)
     }
 
     /// Sets whether a network card's link is up, and tells its driver (5.1.4). It is refused for a bad slot, for a device that is no
@@ -80,7 +94,7 @@ impl<A: Allocator + Copy> Session<A> {
     }
 
     // Does this to a further device, whose answer takes no memory.
-    fn device_event(&mut self, slot: u8, device: u8, what: DeviceEvent<A>) -> Response<A>
+    pub(crate) fn device_event(&mut self, slot: u8, device: u8, what: DeviceEvent<A>) -> Response<A>
         requires { AnswersInPlace (EventKind.Device device what) }
         ensures call { IsEventCall self.old slot (EventKind.Device device what) result self.new }
         ensures suits { SuitsCall (EventKind.Device device what) result }
@@ -167,6 +181,7 @@ impl<A: Allocator> Session<A> {
             irq: found.interrupts(),
             starved,
             sent: len_of(self.board.sent(slot, device)),
+            tags: self.disk_in_flight(slot, device).unwrap_or(0),
         })
     }
 }

@@ -5,7 +5,7 @@ ghost use Rattle.std.specs.List.{slice_get};
 ghost use Rattle.block_device.specs.Flights.{runs_in};
 ghost use Rattle.block_device.specs.Operation.{LiesInside};
 ghost use Rattle.board.specs.declared.event.EventKind.{EventKind};
-ghost use Rattle.board.specs.declared.event.HostEvent.{HostEvent};
+ghost use Rattle.block_device.specs.declared.operation.HostEvent.{HostEvent};
 ghost use Rattle.board.specs.Backing.{tags_in};
 ghost use Rattle.board.specs.Slot.{sectors_in};
 ghost use Rattle.session.specs.declared.progress.Progress.{Progress};
@@ -89,9 +89,9 @@ impl<A: Allocator + Copy> Session<A> {
         self.say(slot, HostEvent::Release)
     }
 
-    // The host says this of the disk that it serves a slot.
+    /// The host says this of a slot's disk: `completed`, `dropped`, `hold` or `release`.
     #[inline(always)]
-    fn say(&mut self, slot: u8, told: HostEvent) -> Told<Progress>
+    pub fn say(&mut self, slot: u8, told: HostEvent) -> Told<Progress>
         ensures call { IsToldCall {A = A} self.old slot (EventKind.Host told)
             (Means served_response result.answer) self.new }
         ensures asks { IfOk result.answer (λ progress. (progress ≡ Progress.Asks) ↔

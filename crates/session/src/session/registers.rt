@@ -65,7 +65,7 @@ impl<A: Allocator + Copy> Session<A> {
             (progress ≡ Progress.Asks) ↔ HasAsked slot self.old self.new) }
         ensures bad_slot { IsErrOf result.answer Refusal.BadSlot ↔ (length self.old.slots ≤ slot) }
         ensures busy { IsErrOf result.answer Refusal.Busy ↔ ((¬ IsIdle slot self.old)
-            ⊎ HoldsUp {A = A} slot (EventKind.Write window offset width value) self.old.slots) }
+            ⊎ HoldsUp {A = A} slot (EventKind.Write window offset width value) self.old) }
         ensures no_room { IsErrOf result.answer Refusal.NoRoom → IsSomeAnd (slice_get self.old.slots slot)
             (λ found. MayPutOut {A = A} (state_of self.old.image found) (EventKind.Write window offset width value)) }
         ensures waits { result.waits ≡ waits_at slot self.new }

@@ -6,10 +6,8 @@ ghost use Rattle.board.specs.declared.event.EventKind.{EventKind};
 ghost use Rattle.board.specs.declared.saved.RestoreFault.{RestoreFault};
 ghost use Rattle.board.specs.declared.saved.RestoreRefusal.{RestoreRefusal};
 ghost use Rattle.board.specs.declared.saved.SaveRefusal.{SaveRefusal};
-ghost use Rattle.block_device.specs.Flights.{is_any};
-ghost use Rattle.board.specs.Backing.{tags_in};
 ghost use Rattle.board.specs.Saved.{IsAs, IsCauseOf, IsLike, IsSavedTo, IsSnapshotOf, snapshot_of};
-ghost use Rattle.board.specs.Slot.{BoardSlot};
+ghost use Rattle.board.specs.Slot.{BoardSlot, is_at_work};
 ghost use Rattle.session.specs.Operations.{HasFlight};
 ghost use Rattle.session.specs.Pacing.{paused_at};
 ghost use Rattle.session.specs.Pausing.{IsEventCall};
@@ -66,7 +64,7 @@ impl<A: Allocator> Session<A> {
         // what was saved of a slot is taken by every slot of its description at rest, and brings it to its state
         ensures taken { (saved old new : BoardSlot) → IsSnapshotOf from.now saved →
             slice_get self.old.slots slot ≡ Some old → slice_get self.new.slots slot ≡ Some new → IsLike saved old →
-            IsIdle slot self.old → is_any (tags_in old.host) ≡ false → IsOk result × IsAs saved old new }
+            IsIdle slot self.old → is_at_work old ≡ false → IsOk result × IsAs saved old new }
         ensures kept { OnErr result (self.new ≡ self.old) }
         ensures missing { IsErrOf result RestoreRefusal.BadSlot ↔ (length self.old.slots ≤ slot) }
         ensures busy { IsErrOf result RestoreRefusal.Busy ↔

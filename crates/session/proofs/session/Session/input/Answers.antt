@@ -17,4 +17,4 @@ returns-clause-bad_slot g c = (says g c).bad_slot
 
 pub returns-clause-busy : goal.returns-clause-busy
 returns-clause-busy g c =
-    only_paused {A = g.row.A.Denot} c.args.self.now c.args.slot (Input c.args.bytes.now) refl (says g c).busy
+    only_paused {A = g.row.A.Denot} c.args.self.now c.args.slot (Input c.args.bytes.now) refl (λ state. refl) (says g c).busy

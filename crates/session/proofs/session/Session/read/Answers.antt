@@ -34,7 +34,7 @@ returns-then-is_paused g c =
       call = record { response = Busy; call = call; told = inl refl };
       bad_slot = says.bad_slot;
       busy = only_paused {A = g.row.A.Denot} c.args.self.now c.args.slot
-          (Read c.args.window c.args.offset c.args.width) refl says.busy;
+          (Read c.args.window c.args.offset c.args.width) refl (λ state. refl) says.busy;
     }
 
 was_read : (g : _) (c : goal.Joined-read g) (value : ℕ) → c.read.result ≡ Some value
@@ -91,7 +91,7 @@ returns g c =
             call = record { response = _; call = as_call g c _ step; told = refl };
             bad_slot = why.bad_slot;
             busy = only_paused {A = g.row.A.Denot} c.args.self.now c.args.slot
-                (Read c.args.window c.args.offset c.args.width) refl why.busy;
+                (Read c.args.window c.args.offset c.args.width) refl (λ state. refl) why.busy;
           })
       | in-None w ↦ rw (w.result-is)
           (let step = is_missing g c w.in-None.is in
@@ -100,6 +100,6 @@ returns g c =
             call = record { response = _; call = as_call g c _ step; told = refl };
             bad_slot = why.bad_slot;
             busy = only_paused {A = g.row.A.Denot} c.args.self.now c.args.slot
-                (Read c.args.window c.args.offset c.args.width) refl why.busy;
+                (Read c.args.window c.args.offset c.args.width) refl (λ state. refl) why.busy;
           })
     ]

@@ -21,7 +21,7 @@ pub returns-clause-bad_slot : goal.returns-clause-bad_slot
 returns-clause-bad_slot g c = (says g c).bad_slot
 
 pub returns-clause-busy : goal.returns-clause-busy
-returns-clause-busy g c = (says g c).busy
+returns-clause-busy g c = (says g c).busy (λ state. refl)
 
 pub returns-clause-bad_device : goal.returns-clause-bad_device
 returns-clause-bad_device g c = (says g c).bad_device

@@ -39,7 +39,7 @@ pub returns-then-is_paused-clause-bad_slot : goal.returns-then-is_paused-clause-
 returns-then-is_paused-clause-bad_slot g c = (refused g c).1.bad_slot
 
 pub returns-then-is_paused-clause-busy : goal.returns-then-is_paused-clause-busy
-returns-then-is_paused-clause-busy g c = (refused g c).1.busy
+returns-then-is_paused-clause-busy g c = (refused g c).1.busy (λ state. refl)
 
 pub returns-then-is_paused-clause-bad_device : goal.returns-then-is_paused-clause-bad_device
 returns-then-is_paused-clause-bad_device g c = (refused g c).1.bad_device
@@ -67,7 +67,7 @@ pub returns-clause-bad_slot : goal.returns-clause-bad_slot
 returns-clause-bad_slot g c = (says g c).1.bad_slot
 
 pub returns-clause-busy : goal.returns-clause-busy
-returns-clause-busy g c = (says g c).1.busy
+returns-clause-busy g c = (says g c).1.busy (λ state. refl)
 
 pub returns-clause-bad_device : goal.returns-clause-bad_device
 returns-clause-bad_device g c = (says g c).1.bad_device

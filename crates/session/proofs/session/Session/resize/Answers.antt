@@ -18,5 +18,5 @@ returns-clause-bad_slot g c = (says g c).bad_slot
 
 pub returns-clause-busy : goal.returns-clause-busy
 returns-clause-busy g c =
-    only_paused {A = g.row.A.Denot} c.args.self.now c.args.slot (Resize c.args.cols c.args.rows) refl
+    only_paused {A = g.row.A.Denot} c.args.self.now c.args.slot (Resize c.args.cols c.args.rows) refl (λ state. refl)
     (says g c).busy

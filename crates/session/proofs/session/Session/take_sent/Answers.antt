@@ -29,7 +29,7 @@ pub returns-then-is_paused-clause-bad_slot : goal.returns-then-is_paused-clause-
 returns-then-is_paused-clause-bad_slot g c = (refused g c).1.bad_slot
 
 pub returns-then-is_paused-clause-busy : goal.returns-then-is_paused-clause-busy
-returns-then-is_paused-clause-busy g c = (refused g c).1.busy
+returns-then-is_paused-clause-busy g c = (refused g c).1.busy (λ state. refl)
 
 pub returns-then-is_paused-clause-bad_device : goal.returns-then-is_paused-clause-bad_device
 returns-then-is_paused-clause-bad_device g c = (refused g c).1.bad_device
@@ -67,7 +67,7 @@ returns-in_default-clause-bad_slot g c =
 pub returns-in_default-clause-busy : goal.returns-in_default-clause-busy
 returns-in_default-clause-busy g c =
     rw (c.of_device.ensures, c.slots.ensures, c.take_sent.ensures.kept c.in_default.is, ← c.self.view_is)
-    (rw (← c.self.view_is) at (missed g c).1.busy)
+    (rw (← c.self.view_is) at ((missed g c).1.busy (λ state. refl)))
 
 pub returns-in_default-clause-bad_device : goal.returns-in_default-clause-bad_device
 returns-in_default-clause-bad_device g c =
@@ -96,7 +96,7 @@ pub returns-clause-bad_slot : goal.returns-clause-bad_slot
 returns-clause-bad_slot g c = (says g c).refuses.bad_slot
 
 pub returns-clause-busy : goal.returns-clause-busy
-returns-clause-busy g c = (says g c).refuses.busy
+returns-clause-busy g c = (says g c).refuses.busy (λ state. refl)
 
 pub returns-clause-bad_device : goal.returns-clause-bad_device
 returns-clause-bad_device g c = (says g c).refuses.bad_device
