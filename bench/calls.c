@@ -124,8 +124,8 @@ static void ask_and_complete(void)
     memcpy(memory + (AVAIL - MEMORY) + 2, &idx, 2);
     if (kalyubos_write(&board, guest, KALYUBOS_BLOCK, 0x50, 4, 0, &pending) != KALYUBOS_IO)
         must(KALYUBOS_BAD_SLOT);
-    must(kalyubos_operation(&board, guest, 0, &operation, runs, KALYUBOS_RUNS));
-    must(kalyubos_completed(&board, guest, 0, false, &pending));
+    must(kalyubos_operation(&board, guest, KALYUBOS_BLOCK, 0, &operation, runs, KALYUBOS_RUNS));
+    must(kalyubos_completed(&board, guest, KALYUBOS_BLOCK, 0, false, &pending));
     if (operation.len != LEN || memory[HEADER - MEMORY + 16] != 0 || pending.block != 1)
         must(KALYUBOS_BAD_SLOT);
 }

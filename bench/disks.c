@@ -120,7 +120,7 @@ static void *read_as_guest(void *user)
         uint8_t tag;
         bool failed, more = false;
         while (file_disk_go_on(&guest->disk, &tag, &failed))
-            if (kalyubos_completed(&guest->board, 0, tag, failed, &pending) == KALYUBOS_IO)
+            if (kalyubos_completed(&guest->board, 0, KALYUBOS_BLOCK, tag, failed, &pending) == KALYUBOS_IO)
                 need(file_disk_begin(&guest->disk), "a step");
         if ((uint16_t)done == used(guest))
             continue;
@@ -148,7 +148,7 @@ static void power_on(struct guest *guest, const char *path, uint32_t block, uint
     size_t len;
     need(kalyubos_create(&guest->board, &config) == KALYUBOS_DONE, "create");
     need(kalyubos_memory(&guest->board, 0, MEMORY, &guest->memory, &len) == KALYUBOS_DONE, "memory");
-    const char *wrong = file_disk_open(&guest->disk, &guest->board, 0, depth, path, slot.count * SECTOR, true, way);
+    const char *wrong = file_disk_open(&guest->disk, &guest->board, 0, KALYUBOS_BLOCK, depth, path, slot.count * SECTOR, true, way);
     need(wrong == NULL, wrong);
     need(guest->disk.way == way, "no io_uring");
 }

@@ -132,12 +132,13 @@ static void ask_for(struct guest *guest, uint32_t depth)
     uint64_t tags = 0;
     need(notify(guest, depth, &pending) == KALYUBOS_IO, "a notify");
     if (depth > 1)
-        need(kalyubos_in_flight(&guest->board, 0, &tags) == KALYUBOS_DONE && tags == ((uint64_t)1 << depth) - 1, "what began");
+        need(kalyubos_in_flight(&guest->board, 0, KALYUBOS_BLOCK, &tags) == KALYUBOS_DONE && tags == ((uint64_t)1 << depth) - 1,
+             "what began");
     for (uint32_t tag = 0; tag < depth; tag++)
-        need(kalyubos_operation(&guest->board, 0, (uint8_t)tag, &operation, runs, KALYUBOS_RUNS) == KALYUBOS_DONE &&
+        need(kalyubos_operation(&guest->board, 0, KALYUBOS_BLOCK, (uint8_t)tag, &operation, runs, KALYUBOS_RUNS) == KALYUBOS_DONE &&
              operation.len == LEN, "an operation");
     for (uint32_t left = depth; left > 0; left--)
-        need(kalyubos_completed(&guest->board, 0, (uint8_t)(left - 1), false, &pending) == KALYUBOS_DONE &&
+        need(kalyubos_completed(&guest->board, 0, KALYUBOS_BLOCK, (uint8_t)(left - 1), false, &pending) == KALYUBOS_DONE &&
              pending.block == 1 && guest->memory[HEADER + 16] == 0, "a completion");
 }
 

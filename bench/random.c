@@ -165,7 +165,7 @@ static void open_guest(void)
     size_t len;
     need(kalyubos_create(&board, &config) == KALYUBOS_DONE, "create");
     need(kalyubos_memory(&board, 0, MEMORY, &memory, &len) == KALYUBOS_DONE, "memory");
-    const char *wrong = file_disk_open(&disk, &board, 0, depth, path, blocks * BLOCK, true, &file_ring);
+    const char *wrong = file_disk_open(&disk, &board, 0, KALYUBOS_BLOCK, depth, path, blocks * BLOCK, true, &file_ring);
     need(wrong == NULL, wrong);
     need(disk.way == &file_ring, "no io_uring");
     need(fcntl(disk.file, F_SETFL, O_DIRECT) == 0, "the file can't be read past the page cache");
@@ -204,7 +204,7 @@ static bool serve_disk(void)
     for (int i = 0; i < TURN; i++) {
         if (!file_disk_go_on(&disk, &tag, &failed))
             return false;
-        uint32_t answer = kalyubos_completed(&board, 0, tag, failed, &pending);
+        uint32_t answer = kalyubos_completed(&board, 0, KALYUBOS_BLOCK, tag, failed, &pending);
         need(answer == KALYUBOS_DONE || answer == KALYUBOS_IO, "a completion");
         if (answer == KALYUBOS_IO)
             need(file_disk_begin(&disk), "a step");

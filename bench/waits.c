@@ -164,7 +164,7 @@ static void ask(uint8_t guest, uint8_t tag, uint32_t len)
 {
     static struct kalyubos_run runs[KALYUBOS_RUNS];
     struct kalyubos_operation operation;
-    must(kalyubos_operation(&board, guest, tag, &operation, runs, KALYUBOS_RUNS));
+    must(kalyubos_operation(&board, guest, KALYUBOS_BLOCK, tag, &operation, runs, KALYUBOS_RUNS));
     if (operation.len != len)
         must(KALYUBOS_IDLE);
 }
@@ -198,16 +198,16 @@ static uint32_t call_disk(const struct hostile *it, uint32_t answer)
 {
     struct kalyubos_pending pending;
     uint64_t before = 0, after = 0;
-    must(kalyubos_in_flight(&board, 0, &before));
+    must(kalyubos_in_flight(&board, 0, KALYUBOS_BLOCK, &before));
     if (before == 0) {
         answer = notify(0, RING);
     } else {
         uint8_t tag = (uint8_t)__builtin_ctzll(before);
         before &= before - 1;
-        answer = kalyubos_completed(&board, 0, tag, false, &pending);
+        answer = kalyubos_completed(&board, 0, KALYUBOS_BLOCK, tag, false, &pending);
     }
     must(answer == KALYUBOS_IO ? KALYUBOS_DONE : answer);
-    must(kalyubos_in_flight(&board, 0, &after));
+    must(kalyubos_in_flight(&board, 0, KALYUBOS_BLOCK, &after));
     for (uint64_t fresh = after & ~before; fresh != 0; fresh &= fresh - 1)
         ask(0, (uint8_t)__builtin_ctzll(fresh), it->len);
     return answer;
@@ -304,7 +304,7 @@ static void run_hosted(const struct hostile *it, int run)
         for (uint8_t guest = 1; guest < GUESTS; guest++) {
             must(notify(guest, 1) == KALYUBOS_IO ? KALYUBOS_DONE : KALYUBOS_IDLE);
             ask(guest, 0, LEN);
-            must(kalyubos_completed(&board, guest, 0, false, &pending));
+            must(kalyubos_completed(&board, guest, KALYUBOS_BLOCK, 0, false, &pending));
             keep_best(&wait_took[calls][guest], now() - start, run);
         }
     }

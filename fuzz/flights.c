@@ -82,7 +82,7 @@ static void ask_again(struct seat *seat, uint8_t tag, size_t room)
     struct kalyubos_operation operation = { 0 };
     struct kalyubos_run runs[KALYUBOS_RUNS];
     memset(runs, 0xaa, sizeof runs);
-    uint32_t answer = kalyubos_operation(seat->board, seat->slot, tag, &operation, runs, room);
+    uint32_t answer = kalyubos_operation(seat->board, seat->slot, KALYUBOS_BLOCK, tag, &operation, runs, room);
     if (!is_begun(seat->disk, tag)) {
         need(answer == KALYUBOS_IDLE, "something is in flight", tag);
         return;
@@ -100,7 +100,7 @@ static void ask_again(struct seat *seat, uint8_t tag, size_t room)
 static void ask_all(struct seat *seat, size_t room)
 {
     uint64_t tags = 0, begun = seat->disk->begun;
-    need(kalyubos_in_flight(seat->board, seat->slot, &tags) == KALYUBOS_DONE && tags == begun, "other tags", tags ^ begun);
+    need(kalyubos_in_flight(seat->board, seat->slot, KALYUBOS_BLOCK, &tags) == KALYUBOS_DONE && tags == begun, "other tags", tags ^ begun);
     for (uint64_t rest = begun; rest != 0; rest &= rest - 1)
         ask_again(seat, (uint8_t)__builtin_ctzll(rest), room);
     ask_again(seat, (uint8_t)(~begun == 0 ? KALYUBOS_TAGS : __builtin_ctzll(~begun)), room);
@@ -111,7 +111,7 @@ static void begin(struct seat *seat, uint8_t tag)
 {
     struct flight *flight = &seat->disk->flights[tag];
     need(tag < seat->disk->depth, "a tag beyond the depth", tag);
-    need(kalyubos_operation(seat->board, seat->slot, tag, &flight->asked, flight->runs, KALYUBOS_RUNS) == KALYUBOS_DONE,
+    need(kalyubos_operation(seat->board, seat->slot, KALYUBOS_BLOCK, tag, &flight->asked, flight->runs, KALYUBOS_RUNS) == KALYUBOS_DONE,
          "nothing is in flight", tag);
     seat->disk->begun |= (uint64_t)1 << tag;
     seat->counts.operations++;
@@ -127,7 +127,7 @@ void take_answer(struct seat *seat, uint32_t answer)
 {
     uint64_t tags = 0, before = seat->disk->begun;
     if (answer == KALYUBOS_IO) {
-        need(kalyubos_in_flight(seat->board, seat->slot, &tags) == KALYUBOS_DONE, "in_flight", answer);
+        need(kalyubos_in_flight(seat->board, seat->slot, KALYUBOS_BLOCK, &tags) == KALYUBOS_DONE, "in_flight", answer);
         need((before & ~tags) == 0 && tags != before, "nothing began", tags);
         need(!seat->disk->held, "an operation of a held slot", tags);
         for (uint64_t rest = tags & ~before; rest != 0; rest &= rest - 1)
@@ -168,7 +168,7 @@ static void complete_tag(struct seat *seat, uint8_t tag, bool failed)
     struct disk *disk = seat->disk;
     struct kalyubos_pending pending = { 0 };
     bool begun = is_begun(disk, tag);
-    uint32_t answer = kalyubos_completed(seat->board, seat->slot, tag, failed, &pending);
+    uint32_t answer = kalyubos_completed(seat->board, seat->slot, KALYUBOS_BLOCK, tag, failed, &pending);
     need((answer == KALYUBOS_IDLE) == !begun, "a completion", answer);
     need(answer == KALYUBOS_DONE || answer == KALYUBOS_IO || answer == KALYUBOS_IDLE, "an answer to a completion", answer);
     if (begun)
@@ -195,10 +195,10 @@ void complete(struct seat *seat)
 }
 
 /* What the host says of the disk beside completions: `is_due` where there is something to do. */
-static bool say(struct seat *seat, uint32_t (*call)(struct kalyubos *, uint8_t, struct kalyubos_pending *), bool is_due)
+static bool say(struct seat *seat, uint32_t (*call)(struct kalyubos *, uint8_t, uint8_t, struct kalyubos_pending *), bool is_due)
 {
     struct kalyubos_pending pending = { 0 };
-    uint32_t answer = call(seat->board, seat->slot, &pending);
+    uint32_t answer = call(seat->board, seat->slot, KALYUBOS_BLOCK, &pending);
     need((answer == KALYUBOS_IDLE) == !is_due, "what the host says is idle", answer);
     need(answer == KALYUBOS_IDLE || answer == KALYUBOS_DONE || (answer == KALYUBOS_IO && call == kalyubos_release),
          "an answer to what the host says", answer);

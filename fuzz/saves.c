@@ -57,7 +57,7 @@ static void use_as_a_stranger(const struct seat *seat)
     memset(typed, 's', sizeof typed);
     need(kalyubos_input(seat->board, seat->slot, typed, thrown(sizeof typed), &took, &pending) == KALYUBOS_DONE, "an input", seat->slot);
     kalyubos_resize(seat->board, seat->slot, (uint16_t)thrown(300), (uint16_t)thrown(300), &pending);
-    uint32_t answer = (thrown(2) ? kalyubos_hold : kalyubos_release)(seat->board, seat->slot, &pending);
+    uint32_t answer = (thrown(2) ? kalyubos_hold : kalyubos_release)(seat->board, seat->slot, KALYUBOS_BLOCK, &pending);
     need(answer == KALYUBOS_IDLE || (answer == KALYUBOS_DONE && seat->disk != NULL), "a hold or a release", answer);
 }
 

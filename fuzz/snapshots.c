@@ -142,12 +142,13 @@ static bool complete_one(struct guest *guest)
 {
     struct kalyubos_pending pending;
     uint64_t tags = 0;
-    need(kalyubos_in_flight(guest->board, guest->slot, &tags) == KALYUBOS_DONE, "in_flight", tried);
+    need(kalyubos_in_flight(guest->board, guest->slot, KALYUBOS_BLOCK, &tags) == KALYUBOS_DONE, "in_flight", tried);
     if (tags == 0)
         return false;
     for (uint64_t others = chance((uint64_t)__builtin_popcountll(tags)); others > 0; others--)
         tags &= tags - 1;
-    uint32_t answer = kalyubos_completed(guest->board, guest->slot, (uint8_t)__builtin_ctzll(tags), chance(4) == 0, &pending);
+    uint8_t tag = (uint8_t)__builtin_ctzll(tags);
+    uint32_t answer = kalyubos_completed(guest->board, guest->slot, KALYUBOS_BLOCK, tag, chance(4) == 0, &pending);
     need(answer == KALYUBOS_DONE || answer == KALYUBOS_IO, "completed", answer);
     return true;
 }
@@ -155,15 +156,16 @@ static bool complete_one(struct guest *guest)
 /* The host gives up what is in flight, or holds the slot or releases it. Over an image there is nothing to do. */
 static void say_of_disk(struct guest *guest)
 {
-    static uint32_t (*const calls[])(struct kalyubos *, uint8_t, struct kalyubos_pending *) = {
+    static uint32_t (*const calls[])(struct kalyubos *, uint8_t, uint8_t, struct kalyubos_pending *) = {
         kalyubos_drop, kalyubos_hold, kalyubos_release,
     };
     struct kalyubos_pending pending;
     uint64_t which = chance(3), tags = 0;
-    uint32_t answer = calls[which](guest->board, guest->slot, &pending);
+    uint32_t answer = calls[which](guest->board, guest->slot, KALYUBOS_BLOCK, &pending);
     need(answer == KALYUBOS_IDLE || answer == (guest->is_hosted ? KALYUBOS_DONE : KALYUBOS_BUSY) ||
          (guest->is_hosted && which == 2 && answer == KALYUBOS_IO), "an answer to what the host says", answer);
-    need(kalyubos_in_flight(guest->board, guest->slot, &tags) == KALYUBOS_DONE && (which != 0 || tags == 0), "a drop", tags);
+    need(kalyubos_in_flight(guest->board, guest->slot, KALYUBOS_BLOCK, &tags) == KALYUBOS_DONE && (which != 0 || tags == 0),
+         "a drop", tags);
 }
 
 /* Brings what is paused or in flight to its end. An IN leaves the guest's memory as it is, and some operations fail. */

@@ -1,6 +1,6 @@
 /*
- * kalyubos.h: up to sixty-four guests, each with a block device, a console and up to six entropy devices and network
- * cards over virtio-mmio, behind a CPU loop of your own. docs/model.md says what the devices do, and docs/EMBEDDING.md
+ * kalyubos.h: up to sixty-four guests, each with a block device, a console and up to six further devices (disks, network
+ * cards, entropy devices) over virtio-mmio, behind a CPU loop of your own. docs/model.md says what the devices do, and docs/EMBEDDING.md
  * how an exit of a guest becomes a call.
  *
  * `make install` installs it, and `pkg-config --cflags --libs kalyubos` says how to link it. Its heap is malloc's,
@@ -52,7 +52,8 @@
  *
  * Slot by slot a disk is of one of two kinds. It is an extent of an image in the library's memory, or the host serves
  * it. Then the board says what it wants of the disk, one to sixty-four operations at a time; the host does them as it
- * likes and says of each that it is done, in any order; meanwhile the guest runs on. A board may have disks of both.
+ * likes and says of each that it is done, in any order; meanwhile the guest runs on. A board may have disks of both. The
+ * host serves each further disk of a slot too.
  *
  * kalyubos_create takes all memory that a board needs, and kalyubos_destroy gives it back. kalyubos_judge takes some,
  * and gives it back before it answers. No other call takes or gives any, so no guest can be refused memory for what
@@ -106,7 +107,7 @@ enum {
     KALYUBOS_BAD_OUTLET = 16,       /* an outlet keeps 2^24 bytes at most */
     KALYUBOS_BAD_SIZE = 17,         /* a struct says another size than this version's */
     KALYUBOS_MORE = 18,             /* the slot's service pauses; see kalyubos_go_on */
-    KALYUBOS_BUSY = 19,             /* the slot's service is paused, or this call waits for its disk; nothing changed */
+    KALYUBOS_BUSY = 19,             /* the slot's service is paused, or one of its disks is at work; nothing changed */
     KALYUBOS_IO = 20,               /* done, and operations began; see kalyubos_in_flight */
     KALYUBOS_IDLE = 21,             /* there is nothing to complete, drop, hold or release; nothing changed */
     KALYUBOS_NO_IMAGE = 22,         /* the image has no bytes; nothing changed */
@@ -119,7 +120,8 @@ enum {
     KALYUBOS_BAD_LOAN = 29,         /* the loans have another number or length than the regions */
     KALYUBOS_BAD_DEPTH = 30,        /* a disk that the host serves has a depth above 64 */
     KALYUBOS_OTHER_DEVICES = 31,    /* the snapshot has other further devices than the slot; nothing changed */
-    KALYUBOS_BAD_DEVICE = 32        /* a further device's kind isn't known, or a network card's MTU is below 68 */
+    KALYUBOS_BAD_DEVICE = 32        /* a further device's kind isn't known, a network card's MTU is below 68, or a disk has
+                                       2^55 sectors or more or a depth above 64 */
 };
 
 /* What an answer says, as a sentence for a person. It is never null: a number of a later version has a sentence too. */
@@ -171,21 +173,27 @@ struct kalyubos_region {
 enum {
     KALYUBOS_NO_DEVICE = 0,
     KALYUBOS_NETWORK = 1, /* a network card (5.1) */
+    KALYUBOS_DISK = 2,    /* a disk that the host serves (5.2) */
     KALYUBOS_ENTROPY = 4  /* an entropy device (5.4) */
 };
 
 /* How many further devices a slot has at most. */
 enum { KALYUBOS_DEVICES = 6 };
 
-/* A further device. */
-struct kalyubos_device {
-    uint32_t kind;  /* KALYUBOS_NO_DEVICE, _NETWORK or _ENTROPY */
-    uint16_t mtu;   /* of a network card: how many bytes a frame has behind its header of Ethernet at most, 68 or more */
-    uint8_t mac[6]; /* and its address */
-};
-
-/* How many operations of a guest's disk are in flight at most, where the host serves it. */
+/* How many operations of a disk that the host serves are in flight at most. */
 enum { KALYUBOS_TAGS = 64 };
+
+/* A further device. Of a field that is for another kind of device nothing is read. */
+struct kalyubos_device {
+    uint32_t kind;        /* KALYUBOS_NO_DEVICE, _NETWORK, _DISK or _ENTROPY */
+    uint16_t mtu;         /* of a network card: how many bytes a frame has behind its header of Ethernet at most, 68 or
+                             more */
+    uint8_t mac[6];       /* and its address */
+    uint32_t depth;       /* of a disk: how many operations may be in flight, 1 to KALYUBOS_TAGS; 0 is 1 */
+    uint64_t sectors;     /* how many sectors it has, fewer than 2^55 */
+    uint8_t identity[20]; /* what it answers to GET_ID, as of a slot's disk */
+    bool read_only;       /* and whether it refuses writes */
+};
 
 /*
  * One guest. Its regions stand in ascending order, with a gap between each two: what follows a region without a gap is
@@ -218,17 +226,17 @@ enum {
 /* How many runs an operation has at most. */
 enum { KALYUBOS_RUNS = 256 };
 
-/* `len` bytes from `at` on: an address of guest memory, or of a ZEROES a byte of the guest's disk. */
+/* `len` bytes from `at` on: an address of guest memory, or of a ZEROES a byte of the disk. */
 struct kalyubos_run {
     uint64_t at;
     uint64_t len;
 };
 
-/* One operation on a guest's disk, which the library fills. It never changes, as struct kalyubos_pending doesn't. */
+/* One operation on a disk, which the library fills. It never changes, as struct kalyubos_pending doesn't. */
 struct kalyubos_operation {
     uint32_t kind;  /* KALYUBOS_IN, _OUT, _FLUSH or _ZEROES */
     uint32_t runs;  /* how many runs it has: 0 of FLUSH, KALYUBOS_RUNS at most */
-    uint64_t start; /* the first byte on this guest's disk; 0 of FLUSH and ZEROES */
+    uint64_t start; /* the first byte on the disk; 0 of FLUSH and ZEROES */
     uint64_t len;   /* how many bytes the runs of an IN or OUT have together; 0 of FLUSH and ZEROES */
     bool stable;    /* what it writes is to be on the medium before it is completed: the driver can't flush (5.2.6.2) */
 };
@@ -328,13 +336,13 @@ uint32_t kalyubos_read(const struct kalyubos *board, uint8_t slot, uint8_t windo
  * is put out. Take the output and make the same write again, as long as it is answered NO_ROOM and there was output to
  * take. A driver that waits for its buffer doesn't notify again, and Linux's console spins for ever on it.
  *
- * Of a disk that the host serves: IO says that the write is done, and that operations began with it, one at least; no
- * other answer says so. BUSY: the write, to Status (0x070) or QueueReady (0x044) of the block window, waits for all
- * that is in flight. The CPU that made it waits with it; make the same write again once all is completed or dropped.
+ * Of the window of a disk that the host serves: IO says that the write is done, and that operations began with it, one
+ * at least; no other answer says so. BUSY: the write, to Status (0x070) or QueueReady (0x044), waits for all that is in
+ * flight of this disk. The CPU that made it waits with it; make the same write again once all is completed or dropped.
  * All else goes on meanwhile.
  *
- * A write of a further device's window is DONE, BUSY in a pause, or BAD_WINDOW where the slot has no such window. What
- * it notifies is served to its end. kalyubos_device_pending tells its line.
+ * A write of a further device's window never pauses: what it notifies is served to its end. It is BUSY in a pause of
+ * the slot, and BAD_WINDOW where the slot has no such window. kalyubos_device_pending tells its line.
  */
 KALYUBOS_LOOK_AT_IT
 uint32_t kalyubos_write(struct kalyubos *board, uint8_t slot, uint8_t window, uint16_t offset, uint8_t width,
@@ -355,7 +363,11 @@ KALYUBOS_LOOK_AT_IT
 uint32_t kalyubos_go_on(struct kalyubos *board, uint8_t slot, struct kalyubos_pending *pending);
 
 /*
- * Tells which operations of the slot's disk are in flight. Each has a tag, a number below the slot's `depth`: bit n of
+ * The following six calls are for a disk that the host serves: with the `window` KALYUBOS_BLOCK for the slot's own disk,
+ * and from KALYUBOS_DEVICE on for the further device whose window it is. BAD_WINDOW where that is no disk. `pending` tells
+ * what then waits of the slot's disk and console; for a further disk kalyubos_device_pending tells the line.
+ *
+ * This one tells which operations of the disk are in flight. Each has a tag, a number below the disk's `depth`: bit n of
  * `tags` is set where the operation of tag n is in flight. It is 0 for a slot whose disk is of the image.
  *
  * An operation keeps its tag until it is completed or dropped; then the tag is free for another. Several may begin with
@@ -363,14 +375,14 @@ uint32_t kalyubos_go_on(struct kalyubos *board, uint8_t slot, struct kalyubos_pe
  * kalyubos_operation for each tag that is in flight and not begun, and begins it. It forgets a tag before it calls
  * kalyubos_completed, which may use it again.
  */
-uint32_t kalyubos_in_flight(const struct kalyubos *board, uint8_t slot, uint64_t *tags);
+uint32_t kalyubos_in_flight(const struct kalyubos *board, uint8_t slot, uint8_t window, uint64_t *tags);
 
 /*
- * Tells what the slot's disk is asked for with a tag: the operation, and its first runs, as many as find room in
+ * Tells what the disk is asked for with a tag: the operation, and its first runs, as many as find room in
  * `runs`. There is room for all in KALYUBOS_RUNS. It tells the same until kalyubos_completed of this tag, or
  * kalyubos_drop, whatever else begins and is completed. IDLE where nothing is in flight with this tag.
  *
- * Each run lies inside the guest's memory, or of a ZEROES inside its disk, and none is empty; `start` and `len` lie
+ * Each run lies inside the guest's memory, or of a ZEROES inside the disk, and none is empty; `start` and `len` lie
  * inside the disk. They were judged when the operation began, and nothing is read again from guest memory: a guest that
  * rewrites its rings or its request meanwhile changes nothing of it. The runs of an IN may overlap. Operations in flight
  * may overlap too, in memory and on the disk. The host does them in any order: a driver that needs one waits for the
@@ -386,13 +398,13 @@ uint32_t kalyubos_in_flight(const struct kalyubos *board, uint8_t slot, uint64_t
  * the memory while a call that touches it runs for this guest. examples/embed/file_disk.c has buffers of its own, so
  * that the guest's calls go on during its transfers.
  */
-uint32_t kalyubos_operation(const struct kalyubos *board, uint8_t slot, uint8_t tag,
+uint32_t kalyubos_operation(const struct kalyubos *board, uint8_t slot, uint8_t window, uint8_t tag,
                             struct kalyubos_operation *operation, struct kalyubos_run *runs, size_t runs_len);
 
 /*
- * Says that the slot's operation of a tag is done, or that it failed: then the guest is told IOERR, and what it asked
+ * Says that the disk's operation of a tag is done, or that it failed: then the guest is told IOERR, and what it asked
  * to be read may stand in its memory in part. Operations are completed in any order. The guest's request is completed,
- * the tag is free, and the queue is looked at again, as after a notification, unless the slot is on hold: the answer is
+ * the tag is free, and the queue is looked at again, as after a notification, unless the disk is on hold: the answer is
  * IO where operations began with that, else DONE. `pending` is what then waits. IDLE where nothing is in flight with
  * this tag.
  *
@@ -400,37 +412,37 @@ uint32_t kalyubos_operation(const struct kalyubos *board, uint8_t slot, uint8_t 
  * guest's memory, and nothing begins. The answer is DONE.
  */
 KALYUBOS_LOOK_AT_IT
-uint32_t kalyubos_completed(struct kalyubos *board, uint8_t slot, uint8_t tag, bool failed,
+uint32_t kalyubos_completed(struct kalyubos *board, uint8_t slot, uint8_t window, uint8_t tag, bool failed,
                             struct kalyubos_pending *pending);
 
 /*
- * Gives up all that is in flight of the slot, where the host can't complete it. All tags are free, none of the requests
- * is completed, and nothing is written into the guest's memory. The block window asks for a reset, as after a fault,
- * though kalyubos_last_fault stays; nothing begins until the driver has reset it. A write or a restore that was BUSY
+ * Gives up all that is in flight of the disk, where the host can't complete it. All tags are free, none of the requests
+ * is completed, and nothing is written into the guest's memory. The disk's window asks for a reset, as after a fault,
+ * though kalyubos_last_fault stays; nothing begins until the driver has reset it. A write of the window that was BUSY
  * passes when it is made again. `pending` is what then waits. IDLE where nothing is in flight.
  *
- * By this call the host promises that no transfer touches the slot's memory any more, neither to write nor to read it:
- * before it, the host has cancelled each, or waited for its end. What was to be written may stand on the disk in part.
+ * By this call the host promises that no transfer of this disk touches the slot's memory any more, neither to write nor
+ * to read it: before it, the host has cancelled each, or waited for its end. What was to be written may stand on the disk in part.
  * A write that reaches the disk later would overwrite what the guest writes behind its reset.
  */
 KALYUBOS_LOOK_AT_IT
-uint32_t kalyubos_drop(struct kalyubos *board, uint8_t slot, struct kalyubos_pending *pending);
+uint32_t kalyubos_drop(struct kalyubos *board, uint8_t slot, uint8_t window, struct kalyubos_pending *pending);
 
 /*
- * Puts the slot on hold: no further chain of its disk's queue is taken, until kalyubos_release. All else goes on:
- * the guest runs, its notifications are DONE, and what is in flight is completed as ever. So a host that saves the
- * guest waits for that alone, and the requests behind it stay on offer. Neither a reset nor kalyubos_drop ends a hold.
- * `pending` is what then waits. IDLE where the slot is on hold already, or its disk is of the image.
+ * Puts the disk on hold: no further chain of its queue is taken, until kalyubos_release. All else goes on: the guest
+ * runs, its notifications are DONE, and what is in flight is completed as ever. So a host that saves the guest waits for
+ * that alone, and the requests behind it stay on offer. Neither a reset nor kalyubos_drop ends a hold. `pending` is what
+ * then waits. IDLE where the disk is on hold already, or is of the image.
  */
 KALYUBOS_LOOK_AT_IT
-uint32_t kalyubos_hold(struct kalyubos *board, uint8_t slot, struct kalyubos_pending *pending);
+uint32_t kalyubos_hold(struct kalyubos *board, uint8_t slot, uint8_t window, struct kalyubos_pending *pending);
 
 /*
  * Ends a hold: the queue is looked at, as after a notification, and the answer is IO where operations began with that,
- * else DONE. `pending` is what then waits. IDLE where the slot isn't on hold.
+ * else DONE. `pending` is what then waits. IDLE where the disk isn't on hold.
  */
 KALYUBOS_LOOK_AT_IT
-uint32_t kalyubos_release(struct kalyubos *board, uint8_t slot, struct kalyubos_pending *pending);
+uint32_t kalyubos_release(struct kalyubos *board, uint8_t slot, uint8_t window, struct kalyubos_pending *pending);
 
 /*
  * Lends the slot's memory in place, from address `addr` to the end of the region that holds it: `bytes` is where the
@@ -494,6 +506,7 @@ struct kalyubos_device_pending {
     bool starved;       /* whether its driver waits for the host: a chain is on offer for bytes or for a frame */
     uint8_t padding[3]; /* zeros */
     uint64_t frame;     /* how many bytes the oldest frame has that its driver sent; 0 where none waits */
+    uint64_t tags;      /* of a disk: what is in flight, as kalyubos_in_flight has it */
 };
 
 /*
@@ -584,8 +597,9 @@ uint32_t kalyubos_last_fault(const struct kalyubos *board, uint8_t slot, uint8_t
 const char *kalyubos_fault_text(uint32_t kind);
 
 /*
- * How many bytes the slot's snapshot has: some 300, some 120 for each further device, and its pending input. It stays
- * so until the next call for the slot. BUSY while a service of the slot is paused, or an operation of it is in flight.
+ * How many bytes the slot's snapshot has: some 300, some 150 for each further device, and its pending input. It stays
+ * so until the next call for the slot. BUSY while a service of the slot is paused, or an operation of one of its disks
+ * is in flight.
  */
 uint32_t kalyubos_saved_len(const struct kalyubos *board, uint8_t slot, size_t *len);
 
@@ -597,7 +611,7 @@ uint32_t kalyubos_saved_len(const struct kalyubos *board, uint8_t slot, size_t *
  * A snapshot has neither memory nor disk, nor the output that waits. Before it the host
  *  - stops the guest's CPUs, and keeps a write that was answered NO_ROOM: its CPU makes it again behind the restore;
  *  - brings a paused service to its end by kalyubos_go_on;
- *  - puts the slot on hold by kalyubos_hold, and completes all that is in flight by kalyubos_completed;
+ *  - puts each disk that it serves on hold by kalyubos_hold, and completes all that is in flight by kalyubos_completed;
  *  - takes the output.
  * Then, with no call for the slot between, it saves the devices, and copies the memory and the disk.
  */
@@ -611,8 +625,10 @@ uint32_t kalyubos_save(const struct kalyubos *board, uint8_t slot, uint8_t *into
  * OTHER_DEVICES. That its regions are the same is the host's to see. The console's size is the snapshot's. `pending` is
  * what then waits.
  *
- * A slot that was on hold when it was saved is on hold behind this call, and kalyubos_release begins there what stayed
- * on offer. Only a slot whose disk the host serves takes such a snapshot; for another it is OTHER_SLOT.
+ * A slot whose own disk was on hold when it was saved is on hold behind this call, and kalyubos_release begins there what
+ * stayed on offer. Only a slot whose disk the host serves takes such a snapshot; for another it is OTHER_SLOT. A hold
+ * of a further disk isn't in a snapshot, and stays as it is: so that what stayed on offer begins, hold the disk before
+ * this call, and release it behind it.
  *
  * Each snapshot that kalyubos_save wrote of such a slot is taken. Of other bytes the first of BAD_SNAPSHOT,
  * OTHER_SLOT, OTHER_DEVICES and BAD_STATE that holds is answered, or they are taken as they spell: there is no

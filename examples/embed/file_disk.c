@@ -169,11 +169,11 @@ static const char *open_all(struct file_disk *disk, const char *path, uint64_t l
     return disk->flights != NULL && disk->way->open(disk) ? NULL : strerror(errno);
 }
 
-const char *file_disk_open(struct file_disk *disk, struct kalyubos *board, uint8_t slot, uint32_t depth, const char *path,
-                           uint64_t len, bool read_only, const struct file_way *way)
+const char *file_disk_open(struct file_disk *disk, struct kalyubos *board, uint8_t slot, uint8_t window, uint32_t depth,
+                           const char *path, uint64_t len, bool read_only, const struct file_way *way)
 {
     *disk = (struct file_disk){
-        .board = board, .slot = slot, .depth = (uint8_t)MAX(depth, 1), .way = way, .file = -1, .ready = -1,
+        .board = board, .slot = slot, .window = window, .depth = (uint8_t)MAX(depth, 1), .way = way, .file = -1, .ready = -1,
     };
     const char *wrong = open_all(disk, path, len, read_only);
     if (wrong != NULL)
@@ -194,7 +194,7 @@ void file_disk_close(struct file_disk *disk)
 static void begin(struct file_disk *disk, uint8_t tag)
 {
     struct file_flight *flight = &disk->flights[tag];
-    kalyubos_operation(disk->board, disk->slot, tag, &flight->asked, flight->runs, KALYUBOS_RUNS);
+    kalyubos_operation(disk->board, disk->slot, disk->window, tag, &flight->asked, flight->runs, KALYUBOS_RUNS);
     flight->len = flight->done = 0;
     for (uint32_t i = 0; i < flight->asked.runs; i++)
         flight->len += flight->runs[i].len;
@@ -207,7 +207,7 @@ static void begin(struct file_disk *disk, uint8_t tag)
 bool file_disk_begin(struct file_disk *disk)
 {
     uint64_t in_flight = 0;
-    kalyubos_in_flight(disk->board, disk->slot, &in_flight);
+    kalyubos_in_flight(disk->board, disk->slot, disk->window, &in_flight);
     for (uint8_t tag = 0; tag < disk->depth; tag++)
         if ((in_flight & ~disk->begun) >> tag & 1)
             begin(disk, tag);

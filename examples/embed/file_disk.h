@@ -2,7 +2,7 @@
  * file_disk: guests' disks on files, for boards whose disks the host serves. To copy, with file_disk.c; file_ring.c beside
  * it has io_uring in the place of threads.
  *
- * Each disk has as many threads as its slot's depth, and a thread calls the kernel for one operation at a time. Disks share
+ * Each disk has as many threads as its depth, and a thread calls the kernel for one operation at a time. Disks share
  * nothing, and no call here waits for a file.
  *
  * What orders the calls on a guest's handle orders those of its disk too, and during them no CPU of the guest runs. Each
@@ -37,7 +37,7 @@ struct file_disk {
     int ready; /* can be read, as poll tells, once a step has ended */
     int file;
     struct kalyubos *board;
-    uint8_t slot, depth;
+    uint8_t slot, window, depth;
     uint64_t begun;              /* bit n: the operation of tag n is begun, and hasn't ended */
     uint64_t refused;            /* those of them that the kernel hasn't taken */
     struct file_flight *flights; /* one for each tag */
@@ -59,10 +59,11 @@ extern const struct file_way file_thread; /* of file_disk.c */
 extern const struct file_way file_ring;   /* of file_ring.c: io_uring, or threads where that isn't to be had. A thread that
                                            * begins steps lives until their end. */
 
-/* Serves a slot's disk from a file of at least `len` bytes, which is opened for reading alone for a slot that is read-only.
- * `depth` is the slot's, of which 0 is 1. Answers NULL, or what is wrong; then nothing is left open. */
-const char *file_disk_open(struct file_disk *disk, struct kalyubos *board, uint8_t slot, uint32_t depth, const char *path,
-                           uint64_t len, bool read_only, const struct file_way *way);
+/* Serves a disk of a slot, its own (KALYUBOS_BLOCK) or a further device's, from a file of at least `len` bytes, which is opened
+ * for reading alone for a disk that is read-only. `depth` is the disk's, of which 0 is 1. Answers NULL, or what is wrong; then
+ * nothing is left open. */
+const char *file_disk_open(struct file_disk *disk, struct kalyubos *board, uint8_t slot, uint8_t window, uint32_t depth,
+                           const char *path, uint64_t len, bool read_only, const struct file_way *way);
 
 /* Closes what was opened. It waits for the steps that the kernel works on; their operations are never completed. A host that
  * gives up its disk's operations calls kalyubos_drop behind it, and opens the disk anew. */

@@ -10,9 +10,9 @@
 #include "kalyubos.h"
 
 enum { MEMORY_LEN = 0x10000, SECTORS = 2, MTU = 68, POOL = 4096, FRAMES = 64, ROOM = 65536, UNTOLD = 0x77 };
-enum { NOTIFY = 0x050, STATUS = 0x070, DEVICE_ID = 0x008, NEXT = 1, WRITE = 2 };
+enum { QUEUE_READY = 0x044, NOTIFY = 0x050, STATUS = 0x070, DEVICE_ID = 0x008, NEXT = 1, WRITE = 2 };
 /* the windows of guest 0's devices, and of one that it doesn't have */
-enum { ENTROPY = KALYUBOS_DEVICE, CARD = KALYUBOS_DEVICE + 1, LARGE_CARD = KALYUBOS_DEVICE + 2, NO_WINDOW = KALYUBOS_DEVICE + 3 };
+enum { ENTROPY = KALYUBOS_DEVICE, CARD, LARGE_CARD, DISK, NO_WINDOW };
 static const uint64_t MEMORY = 0x80000000;
 
 static struct kalyubos board;
@@ -97,6 +97,63 @@ static void all_answer(uint8_t slot, uint8_t window, uint32_t answer, uint32_t p
     need(wait(slot, window, &pending) == pending_answer, "device_pending", window);
 }
 
+/* ---- what the calls for a disk answer */
+
+static uint32_t in_flight(uint8_t slot, uint8_t window, uint64_t *tags)
+{
+    *tags = UNTOLD;
+    uint32_t answer = kalyubos_in_flight(&board, slot, window, tags);
+    need(answer == KALYUBOS_DONE || *tags == UNTOLD, "a refused question tells tags", answer);
+    return answer;
+}
+
+static uint32_t operation(uint8_t slot, uint8_t window, uint8_t tag, struct kalyubos_operation *asked)
+{
+    struct kalyubos_run runs[2], before[2];
+    struct kalyubos_operation untold;
+    memset(asked, UNTOLD, sizeof *asked);
+    memset(runs, UNTOLD, sizeof runs);
+    memcpy(&untold, asked, sizeof untold);
+    memcpy(before, runs, sizeof before);
+    uint32_t answer = kalyubos_operation(&board, slot, window, tag, asked, runs, 2);
+    need(answer == KALYUBOS_DONE || (memcmp(asked, &untold, sizeof untold) == 0 && memcmp(runs, before, sizeof runs) == 0),
+         "a refused question tells an operation", answer);
+    return answer;
+}
+
+/* What the host says: a call's answer, and that what waits is told where there is such a slot. */
+static uint32_t say(uint32_t (*call)(struct kalyubos *, uint8_t, uint8_t, struct kalyubos_pending *), uint8_t slot, uint8_t window)
+{
+    struct kalyubos_pending pending = { UNTOLD, UNTOLD, UNTOLD };
+    uint32_t answer = call(&board, slot, window, &pending);
+    need((pending.output == UNTOLD) == (answer == KALYUBOS_BAD_SLOT || answer == KALYUBOS_NO_BOARD), "what it tells", answer);
+    return answer;
+}
+
+static uint32_t complete(uint8_t slot, uint8_t window, uint8_t tag)
+{
+    struct kalyubos_pending pending = { UNTOLD, UNTOLD, UNTOLD };
+    uint32_t answer = kalyubos_completed(&board, slot, window, tag, false, &pending);
+    need((pending.output == UNTOLD) == (answer == KALYUBOS_BAD_SLOT || answer == KALYUBOS_NO_BOARD), "what a completion tells", answer);
+    return answer;
+}
+
+/* The answers of a disk of which nothing is in flight, or of no disk: which tags there are, what one of them is, and what the host
+ * says. */
+static void disk_answers(uint8_t slot, uint8_t window, uint32_t tags_answer, uint32_t tag_answer, uint32_t answer)
+{
+    struct kalyubos_operation asked;
+    uint64_t tags;
+    need(in_flight(slot, window, &tags) == tags_answer && tags == (tags_answer == KALYUBOS_DONE ? 0 : UNTOLD), "in_flight", window);
+    for (unsigned tag = 0; tag < 256; tag++)
+        need(operation(slot, window, (uint8_t)tag, &asked) == tag_answer && complete(slot, window, (uint8_t)tag) == tag_answer,
+             "a free tag", tag);
+    need(say(kalyubos_drop, slot, window) == answer, "drop", window);
+    need(say(kalyubos_release, slot, window) == answer, "release", window);
+    if (window != DISK || answer != KALYUBOS_IDLE)
+        need(say(kalyubos_hold, slot, window) == answer, "hold", window);
+}
+
 /* ---- what there isn't */
 
 static void check_no_board(void)
@@ -107,12 +164,13 @@ static void check_no_board(void)
         need(load(0, (uint8_t)window, &value) == KALYUBOS_NO_BOARD && store(0, (uint8_t)window, STATUS, 0) == KALYUBOS_NO_BOARD,
              "a register without a board", window);
         all_answer(0, (uint8_t)window, answer, answer);
+        disk_answers(0, (uint8_t)window, KALYUBOS_NO_BOARD, KALYUBOS_NO_BOARD, KALYUBOS_NO_BOARD);
     }
 }
 
 static void check_windows(void)
 {
-    static const uint32_t ids[] = { 2, 3, 4, 1, 1 }; /* (5): a disk, a console, an entropy device and two network cards */
+    static const uint32_t ids[] = { 2, 3, 4, 1, 1, 2 }; /* (5): a disk, a console, an entropy device, two network cards, a disk */
     uint32_t value;
     for (unsigned window = 0; window < 256; window++) {
         uint32_t own = window < NO_WINDOW ? KALYUBOS_DONE : KALYUBOS_BAD_WINDOW;
@@ -130,6 +188,21 @@ static void check_windows(void)
     }
 }
 
+/* Which windows are a disk's: guest 0's own, which is of the image, and its last further device; guest 1's own alone. */
+static void check_disk_windows(void)
+{
+    for (unsigned window = 0; window < 256; window++) {
+        bool own = window == KALYUBOS_BLOCK, further = window == DISK;
+        uint32_t tags = own || further ? KALYUBOS_DONE : KALYUBOS_BAD_WINDOW, idle = own || further ? KALYUBOS_IDLE : KALYUBOS_BAD_WINDOW;
+        disk_answers(0, (uint8_t)window, tags, idle, idle);
+        disk_answers(1, (uint8_t)window, own ? KALYUBOS_DONE : KALYUBOS_BAD_WINDOW, own ? KALYUBOS_IDLE : KALYUBOS_BAD_WINDOW,
+                     own ? KALYUBOS_IDLE : KALYUBOS_BAD_WINDOW);
+        disk_answers(2, (uint8_t)window, KALYUBOS_BAD_SLOT, KALYUBOS_BAD_SLOT, KALYUBOS_BAD_SLOT);
+    }
+    need(say(kalyubos_hold, 0, DISK) == KALYUBOS_DONE && say(kalyubos_hold, 0, DISK) == KALYUBOS_IDLE, "two holds", 0);
+    need(say(kalyubos_release, 0, DISK) == KALYUBOS_DONE && say(kalyubos_release, 0, DISK) == KALYUBOS_IDLE, "two releases", 0);
+}
+
 /* A device of the other kind takes no such thing. */
 static void check_kinds(void)
 {
@@ -140,6 +213,7 @@ static void check_kinds(void)
     need(receive(0, ENTROPY, 64, &taken) == KALYUBOS_BAD_WINDOW, "a frame for an entropy device", taken);
     need(take(0, ENTROPY, into, sizeof into, &count) == KALYUBOS_BAD_WINDOW, "a frame of an entropy device", count);
     need(kalyubos_set_link(&board, 0, ENTROPY, true) == KALYUBOS_BAD_WINDOW, "the link of an entropy device", 0);
+    all_answer(0, DISK, KALYUBOS_BAD_WINDOW, KALYUBOS_DONE);
 }
 
 /* ---- what finds room */
@@ -234,23 +308,70 @@ static void check_full_card(void)
     need(take(0, LARGE_CARD, into, sizeof into, &len) == KALYUBOS_DONE && len == 0, "a fourth frame", len);
 }
 
-/* While the disk's service is paused all calls but one wait. */
+/* ---- a disk at work */
+
+static const struct descriptor request[] = { { 0x80000000 + DATA, 16, NEXT, 1 }, { 0x80000000 + DATA + 0x200, 512, NEXT | WRITE, 2 },
+                                             { 0x80000000 + END, 1, WRITE, 0 } };
+
+/* Of two chains on offer one is in flight, as the disk's depth is 1: what waits for it, and what doesn't. */
+static void check_disk_at_work(void)
+{
+    static const uint16_t OFFSETS[] = { STATUS, QUEUE_READY };
+    struct kalyubos_device_pending waits;
+    struct kalyubos_operation asked;
+    uint8_t saved[4096];
+    size_t len = UNTOLD;
+    uint64_t tags;
+    memset(memory + DATA, 0, 16);
+    need(offer(DISK, 0, request, sizeof request, 2) == KALYUBOS_IO, "a notification", 0);
+    need(in_flight(0, DISK, &tags) == KALYUBOS_DONE && tags == 1, "what is in flight", tags);
+    need(in_flight(0, KALYUBOS_BLOCK, &tags) == KALYUBOS_DONE && tags == 0, "what is in flight of the other disk", tags);
+    need(wait(0, DISK, &waits) == KALYUBOS_DONE && waits.tags == 1 && waits.interrupt == 0 && !waits.starved, "what waits", waits.tags);
+    need(operation(0, DISK, 0, &asked) == KALYUBOS_DONE && asked.kind == KALYUBOS_IN && asked.len == 512, "an operation", asked.kind);
+    need(operation(0, DISK, 1, &asked) == KALYUBOS_IDLE && complete(0, DISK, 1) == KALYUBOS_IDLE, "a free tag", 1);
+    for (size_t i = 0; i < 2; i++) {
+        need(store(0, DISK, OFFSETS[i], 0) == KALYUBOS_BUSY, "a write that waits", i);
+        need(store(0, KALYUBOS_BLOCK, OFFSETS[i], 0) == KALYUBOS_DONE, "one of the other disk", i);
+    }
+    need(store(0, DISK, NOTIFY, 0) == KALYUBOS_DONE, "a second notification", 0);
+    need(kalyubos_saved_len(&board, 0, &len) == KALYUBOS_BUSY && len == UNTOLD, "a snapshot's length", len);
+    need(kalyubos_save(&board, 0, saved, sizeof saved, &len) == KALYUBOS_BUSY && len == UNTOLD, "a snapshot", len);
+    struct kalyubos_pending pending;
+    need(kalyubos_restore(&board, 0, saved, 1, &pending) == KALYUBOS_BUSY, "a restore", 0);
+    need(complete(0, DISK, 0) == KALYUBOS_IO && used() == 1, "a completion with which the next begins", used());
+    need(say(kalyubos_hold, 0, DISK) == KALYUBOS_DONE && complete(0, DISK, 0) == KALYUBOS_DONE && used() == 2, "the last one", used());
+    need(complete(0, DISK, 0) == KALYUBOS_IDLE, "a second completion", 0);
+    need(wait(0, DISK, &waits) == KALYUBOS_DONE && waits.tags == 0 && waits.interrupt == 1, "what waits at the end", waits.tags);
+    need(store(0, DISK, STATUS, 0) == KALYUBOS_DONE && say(kalyubos_release, 0, DISK) == KALYUBOS_DONE, "a reset and a release", 0);
+}
+
+/* While the service of the slot's own disk is paused all calls but those that only tell wait. */
 static void check_pause(void)
 {
-    const struct descriptor request[] = { { MEMORY + DATA, 16, NEXT, 1 }, { MEMORY + DATA + 0x200, 512, NEXT | WRITE, 2 },
-                                          { MEMORY + END, 1, WRITE, 0 } };
     struct kalyubos_pending pending;
+    struct kalyubos_operation asked;
+    uint64_t tags;
     uint32_t value;
     memset(memory + DATA, 0, 16);
+    need(offer(DISK, 0, request, sizeof request, 1) == KALYUBOS_IO, "an operation that stays in flight", 0);
     need(offer(KALYUBOS_BLOCK, 0, request, sizeof request, 2) == KALYUBOS_MORE, "a service that pauses", 0);
     for (uint8_t window = ENTROPY; window < NO_WINDOW; window++) {
         need(load(0, window, &value) == KALYUBOS_BUSY && store(0, window, STATUS, 0) == KALYUBOS_BUSY, "a register in a pause", window);
         all_answer(0, window, KALYUBOS_BUSY, KALYUBOS_DONE);
+        if (window != DISK)
+            disk_answers(0, window, KALYUBOS_BAD_WINDOW, KALYUBOS_BAD_WINDOW, KALYUBOS_BUSY);
     }
     all_answer(0, NO_WINDOW, KALYUBOS_BUSY, KALYUBOS_BAD_WINDOW);
+    disk_answers(0, NO_WINDOW, KALYUBOS_BAD_WINDOW, KALYUBOS_BAD_WINDOW, KALYUBOS_BUSY);
+    disk_answers(0, KALYUBOS_CONSOLE, KALYUBOS_BAD_WINDOW, KALYUBOS_BAD_WINDOW, KALYUBOS_BAD_WINDOW);
+    need(in_flight(0, DISK, &tags) == KALYUBOS_DONE && tags == 1, "what is in flight in a pause", tags);
+    need(operation(0, DISK, 0, &asked) == KALYUBOS_DONE && complete(0, DISK, 0) == KALYUBOS_BUSY, "a completion in a pause", 0);
+    need(operation(0, DISK, 1, &asked) == KALYUBOS_IDLE && complete(0, DISK, 1) == KALYUBOS_IDLE, "a free tag in a pause", 0);
+    need(say(kalyubos_drop, 0, DISK) == KALYUBOS_BUSY && say(kalyubos_hold, 0, DISK) == KALYUBOS_BUSY, "a drop in a pause", 0);
     need(load(1, KALYUBOS_BLOCK, &value) == KALYUBOS_DONE, "another guest in a pause", 0);
     need(kalyubos_go_on(&board, 0, &pending) == KALYUBOS_DONE, "go_on", 0);
     need(load(0, ENTROPY, &value) == KALYUBOS_DONE && value == 4, "a register behind it", value);
+    need(say(kalyubos_drop, 0, DISK) == KALYUBOS_DONE && say(kalyubos_drop, 0, DISK) == KALYUBOS_IDLE, "two drops", 0);
 }
 
 int main(void)
@@ -259,7 +380,7 @@ int main(void)
     struct kalyubos_slot slots[2] = {
         { .size = sizeof *slots, .regions = { { MEMORY, MEMORY_LEN } }, .count = SECTORS, .outlet = 64,
           .devices = { { .kind = KALYUBOS_ENTROPY }, { .kind = KALYUBOS_NETWORK, .mtu = MTU },
-                       { .kind = KALYUBOS_NETWORK, .mtu = UINT16_MAX } } },
+                       { .kind = KALYUBOS_NETWORK, .mtu = UINT16_MAX }, { .kind = KALYUBOS_DISK, .sectors = SECTORS } } },
         { .size = sizeof *slots, .regions = { { MEMORY, MEMORY_LEN } }, .outlet = 64 },
     };
     struct kalyubos_config config = kalyubos_config(slots, 2);
@@ -271,13 +392,15 @@ int main(void)
     need(kalyubos_create(&board, &config) == KALYUBOS_DONE, "create", 0);
     need(kalyubos_memory(&board, 0, MEMORY, &memory, &len) == KALYUBOS_DONE, "memory", len);
     check_windows();
+    check_disk_windows();
     check_kinds();
     check_pool();
     check_frames();
     check_short_buffer();
     check_full_card();
+    check_disk_at_work();
     check_pause();
     need(kalyubos_destroy(&board) == KALYUBOS_DONE, "destroy", 0);
-    puts("further: 256 windows of a guest with three further devices and one with none; what finds room; a pause");
+    puts("further: 256 windows of a guest with four further devices and one with none; what finds room; a disk at work; a pause");
     return 0;
 }

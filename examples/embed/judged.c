@@ -8,7 +8,7 @@
 
 #include "shut_heap.h"
 
-enum { CONFIG = 72, SIZE = 264, PAGE = 0x1000, TOO_LARGE = (1 << 24) + 1, SECTORS = 4, IMAGE = SECTORS * 512 };
+enum { CONFIG = 72, SIZE = 480, PAGE = 0x1000, TOO_LARGE = (1 << 24) + 1, SECTORS = 4, IMAGE = SECTORS * 512 };
 enum { UNTOLD = 99 };
 
 _Static_assert(sizeof(struct kalyubos_config) == CONFIG, "a config of this version has 72 bytes");
@@ -156,6 +156,7 @@ static void check_before_depth(void)
 /* ---- further devices: a kind that is known and an MTU of 68 or more, up to the first of no kind */
 
 #define CARD_OF(mtu_of_it) { .kind = KALYUBOS_NETWORK, .mtu = mtu_of_it, .mac = { 2, 0, 0, 0, 0, 1 } }
+#define DISK_OF(its_sectors, its_depth) { .kind = KALYUBOS_DISK, .sectors = its_sectors, .depth = its_depth }
 #define ONLY_ENTROPY { .kind = KALYUBOS_ENTROPY }
 
 static const struct {
@@ -167,7 +168,16 @@ static const struct {
     { { { CARD_OF(67) }, { ONLY_ENTROPY } }, KALYUBOS_BAD_DEVICE, 0 },
     { { { CARD_OF(UINT16_MAX) }, { CARD_OF(0) } }, KALYUBOS_BAD_DEVICE, 1 },
     { { { ONLY_ENTROPY, CARD_OF(67) }, { CARD_OF(67) } }, KALYUBOS_BAD_DEVICE, 0 },
-    { { { { .kind = 2, .mtu = 1500 } }, { ONLY_ENTROPY } }, KALYUBOS_BAD_DEVICE, 0 }, /* a slot has its disk already */
+    { { { DISK_OF(0, 0), DISK_OF((1ull << 55) - 1, 64) }, { DISK_OF(1, 1), ONLY_ENTROPY } }, KALYUBOS_DONE, UNTOLD },
+    { { { DISK_OF(1ull << 55, 1) }, { ONLY_ENTROPY } }, KALYUBOS_BAD_DEVICE, 0 },
+    { { { ONLY_ENTROPY }, { DISK_OF(1, 1), DISK_OF(UINT64_MAX, 1) } }, KALYUBOS_BAD_DEVICE, 1 },
+    { { { ONLY_ENTROPY }, { DISK_OF(1, 65) } }, KALYUBOS_BAD_DEVICE, 1 },
+    { { { DISK_OF(1, 256) }, { CARD_OF(67) } }, KALYUBOS_BAD_DEVICE, 0 },
+    { { { DISK_OF(1, 0x10001) }, { ONLY_ENTROPY } }, KALYUBOS_BAD_DEVICE, 0 },
+    { { { DISK_OF(1, UINT32_MAX) }, { ONLY_ENTROPY } }, KALYUBOS_BAD_DEVICE, 0 },
+    /* what is of another kind of device isn't read */
+    { { { { .kind = KALYUBOS_ENTROPY, .sectors = UINT64_MAX, .depth = 65 } },
+        { { .kind = KALYUBOS_NETWORK, .mtu = 68, .sectors = UINT64_MAX, .depth = 65 } } }, KALYUBOS_DONE, UNTOLD },
     { { { ONLY_ENTROPY }, { ONLY_ENTROPY, { .kind = 3, .mtu = 1500 } } }, KALYUBOS_BAD_DEVICE, 1 },
     { { { { .kind = 5, .mtu = 1500 } }, { { .kind = 5 } } }, KALYUBOS_BAD_DEVICE, 0 },
     { { { { .kind = 0x101, .mtu = 1500 } }, { ONLY_ENTROPY } }, KALYUBOS_BAD_DEVICE, 0 },

@@ -24,7 +24,7 @@ enum { TABLE = 0x100, AVAILABLE = 0x200, USED = 0x300, HEADER = 0x400, DATA = 0x
 enum { NOTIFY = 0x050, QUEUE_SEL = 0x030, STATUS = 0x070, EMERGENCY = 0x108, CONFIG_END = 0x140 };
 
 /* The windows of the guest's further devices, and how many windows it has. */
-enum { ENTROPY = KALYUBOS_DEVICE, CARD = KALYUBOS_DEVICE + 1, WINDOWS = KALYUBOS_DEVICE + 2 };
+enum { ENTROPY = KALYUBOS_DEVICE, CARD, DISK, WINDOWS };
 
 static struct kalyubos board;
 static struct kalyubos_pending pending;
@@ -66,7 +66,8 @@ static void make(enum kind kind)
     struct kalyubos_slot slot = {
         .size = sizeof slot, .regions = { { MEMORY, LEN } }, .count = SECTORS, .cols = 80, .rows = 25, .outlet = OUTLET,
         .hosted = kind == HOSTED, .depth = 2,
-        .devices = { { .kind = KALYUBOS_ENTROPY }, { .kind = KALYUBOS_NETWORK, .mtu = 1500 } },
+        .devices = { { .kind = KALYUBOS_ENTROPY }, { .kind = KALYUBOS_NETWORK, .mtu = 1500 },
+                     { .kind = KALYUBOS_DISK, .sectors = SECTORS, .depth = 2 } },
     };
     struct kalyubos_loan loan = { memory, LEN };
     struct kalyubos_config config = kalyubos_config(&slot, 1);
@@ -112,7 +113,7 @@ static void offer(uint8_t window, uint16_t count)
                                           { MEMORY + END, 1, WRITE, 0 } };
     const struct descriptor room = { MEMORY + DATA, 512, WRITE, 0 };
     memset(memory, 0, LEN);
-    if (window == KALYUBOS_BLOCK)
+    if (window == KALYUBOS_BLOCK || window == DISK)
         memcpy(memory + TABLE, request, sizeof request);
     else
         memcpy(memory + TABLE, &room, sizeof room);
@@ -143,26 +144,27 @@ static void ask_always(void)
     done(kalyubos_disturbed(&board, 0, &disturbed), "disturbed");
     done(kalyubos_counters(&board, 0, &counters), "counters");
     done(kalyubos_last_fault(&board, 0, KALYUBOS_BLOCK, &fault), "last_fault");
-    done(kalyubos_in_flight(&board, 0, &tags), "in_flight");
+    done(kalyubos_in_flight(&board, 0, KALYUBOS_BLOCK, &tags), "in_flight");
+    done(kalyubos_in_flight(&board, 0, DISK, &tags), "in_flight of the further disk");
     done(kalyubos_take_output(&board, 0, out, sizeof out, &len), "take_output");
     kalyubos_memory(&board, 0, MEMORY, &bytes, &len);
 }
 
 /* What the host says of a disk, where there is nothing to say, or in a pause. */
-static void say_of_disk(uint32_t answer)
+static void say_of_disk(uint8_t window, uint32_t answer)
 {
-    need(kalyubos_drop(&board, 0, &pending) == answer, "drop");
-    need(kalyubos_hold(&board, 0, &pending) == answer, "hold");
-    need(kalyubos_release(&board, 0, &pending) == answer, "release");
+    need(kalyubos_drop(&board, 0, window, &pending) == answer, "drop");
+    need(kalyubos_hold(&board, 0, window, &pending) == answer, "hold");
+    need(kalyubos_release(&board, 0, window, &pending) == answer, "release");
 }
 
 /* The operations that are in flight: both, or none. */
-static void ask_operations(uint32_t answer)
+static void ask_operations(uint8_t window, uint32_t answer)
 {
     struct kalyubos_operation operation;
     struct kalyubos_run runs[KALYUBOS_RUNS];
     for (uint8_t tag = 0; tag < 2; tag++)
-        need(kalyubos_operation(&board, 0, tag, &operation, runs, KALYUBOS_RUNS) == answer, "operation");
+        need(kalyubos_operation(&board, 0, window, tag, &operation, runs, KALYUBOS_RUNS) == answer, "operation");
 }
 
 static void ask_image(uint32_t answer)
@@ -214,7 +216,8 @@ static void write_behind(uint8_t window, uint32_t queue, int ring, int steps)
 static const struct {
     uint8_t window;
     uint32_t queue;
-} QUEUES[] = { { KALYUBOS_CONSOLE, 0 }, { KALYUBOS_CONSOLE, 1 }, { KALYUBOS_BLOCK, 0 }, { ENTROPY, 0 }, { CARD, 0 }, { CARD, 1 } };
+} QUEUES[] = { { KALYUBOS_CONSOLE, 0 }, { KALYUBOS_CONSOLE, 1 }, { KALYUBOS_BLOCK, 0 }, { ENTROPY, 0 }, { CARD, 0 }, { CARD, 1 },
+             { DISK, 0 } };
 enum { QUEUES_LEN = sizeof QUEUES / sizeof *QUEUES };
 
 static void write_all(void)
@@ -259,9 +262,10 @@ static void while_drivers_begin(enum kind kind)
     write_on();
     read_all(KALYUBOS_DONE);
     ask_always();
-    ask_operations(KALYUBOS_IDLE);
+    ask_operations(KALYUBOS_BLOCK, KALYUBOS_IDLE);
+    ask_operations(DISK, KALYUBOS_IDLE);
     if (kind == OF_IMAGE)
-        say_of_disk(KALYUBOS_IDLE);
+        say_of_disk(KALYUBOS_BLOCK, KALYUBOS_IDLE);
     ask_image(kind == HOSTED ? KALYUBOS_NO_IMAGE : KALYUBOS_DONE);
     done(kalyubos_destroy(&board), "destroy");
     say(kind == HOSTED ? "hosted board, bring-up" : "image board, bring-up");
@@ -269,43 +273,45 @@ static void while_drivers_begin(enum kind kind)
 }
 
 /* Two requests are on offer. Leaves both in flight, or over an image a service paused, since a call serves one. */
-static void notify_disk(enum kind kind)
+static void notify_disk(enum kind kind, uint8_t window)
 {
+    bool asks = kind == HOSTED || window == DISK;
     make(kind);
-    bring_up(KALYUBOS_BLOCK, 0, 0, STEPS);
-    offer(KALYUBOS_BLOCK, 2);
-    need(set(KALYUBOS_BLOCK, NOTIFY, 4, 0) == (kind == HOSTED ? KALYUBOS_IO : KALYUBOS_MORE), "a notify");
+    bring_up(window, 0, 0, STEPS);
+    offer(window, 2);
+    need(set(window, NOTIFY, 4, 0) == (asks ? KALYUBOS_IO : KALYUBOS_MORE), "a notify");
 }
 
-static void while_a_disk_works(void)
+static void while_a_disk_works(uint8_t window, const char *when)
 {
-    notify_disk(HOSTED);
+    notify_disk(HOSTED, window);
     forbid(true);
     read_all(KALYUBOS_DONE);
     write_on();
     ask_always();
-    ask_operations(KALYUBOS_DONE);
-    need(set(KALYUBOS_BLOCK, STATUS, 4, 0) == KALYUBOS_BUSY, "a reset in flight");
+    ask_operations(window, KALYUBOS_DONE);
+    need(set(window, STATUS, 4, 0) == KALYUBOS_BUSY, "a reset in flight");
     done(kalyubos_resize(&board, 0, 80, 25, &pending), "resize");
-    done(kalyubos_hold(&board, 0, &pending), "hold");
-    need(kalyubos_hold(&board, 0, &pending) == KALYUBOS_IDLE, "a hold of a held slot");
-    done(kalyubos_drop(&board, 0, &pending), "drop");
-    need(kalyubos_drop(&board, 0, &pending) == KALYUBOS_IDLE, "a drop of nothing");
-    ask_operations(KALYUBOS_IDLE);
+    done(kalyubos_hold(&board, 0, window, &pending), "hold");
+    need(kalyubos_hold(&board, 0, window, &pending) == KALYUBOS_IDLE, "a hold of a held disk");
+    done(kalyubos_drop(&board, 0, window, &pending), "drop");
+    need(kalyubos_drop(&board, 0, window, &pending) == KALYUBOS_IDLE, "a drop of nothing");
+    ask_operations(window, KALYUBOS_IDLE);
     save_and_restore();
     done(kalyubos_destroy(&board), "destroy");
-    say("hosted board, a disk at work");
+    say(when);
     forbid(false);
 }
 
 static void in_a_pause(void)
 {
-    notify_disk(OF_IMAGE);
+    notify_disk(OF_IMAGE, KALYUBOS_BLOCK);
     forbid(true);
     read_all(KALYUBOS_BUSY);
     write_on();
     ask_always();
-    say_of_disk(KALYUBOS_BUSY);
+    say_of_disk(KALYUBOS_BLOCK, KALYUBOS_BUSY);
+    say_of_disk(DISK, KALYUBOS_BUSY);
     done(kalyubos_destroy(&board), "destroy");
     say("image board, a paused service");
     forbid(false);
@@ -331,12 +337,22 @@ static void go_on(void)
 
 static void complete(void)
 {
-    (void)!kalyubos_completed(&board, 0, 0, false, &pending);
+    (void)!kalyubos_completed(&board, 0, KALYUBOS_BLOCK, 0, false, &pending);
 }
 
 static void release(void)
 {
-    (void)!kalyubos_release(&board, 0, &pending);
+    (void)!kalyubos_release(&board, 0, KALYUBOS_BLOCK, &pending);
+}
+
+static void complete_further(void)
+{
+    (void)!kalyubos_completed(&board, 0, DISK, 0, false, &pending);
+}
+
+static void release_further(void)
+{
+    (void)!kalyubos_release(&board, 0, DISK, &pending);
 }
 
 static void copy_out(void)
@@ -403,14 +419,20 @@ static void control(void)
     faults("read_memory", copy_out);
     faults("write_memory", copy_in);
     done(kalyubos_destroy(&board), "destroy");
-    notify_disk(OF_IMAGE);
+    notify_disk(OF_IMAGE, KALYUBOS_BLOCK);
     faults("go_on", go_on);
     done(kalyubos_destroy(&board), "destroy");
-    notify_disk(HOSTED);
+    notify_disk(HOSTED, KALYUBOS_BLOCK);
     faults("completed", complete);
-    done(kalyubos_hold(&board, 0, &pending), "hold");
-    done(kalyubos_completed(&board, 0, 0, false, &pending), "completed");
+    done(kalyubos_hold(&board, 0, KALYUBOS_BLOCK, &pending), "hold");
+    done(kalyubos_completed(&board, 0, KALYUBOS_BLOCK, 0, false, &pending), "completed");
     faults("release", release);
+    done(kalyubos_destroy(&board), "destroy");
+    notify_disk(OF_IMAGE, DISK);
+    faults("completed, of a further disk", complete_further);
+    done(kalyubos_hold(&board, 0, DISK, &pending), "hold");
+    done(kalyubos_completed(&board, 0, DISK, 0, false, &pending), "completed");
+    faults("release, of a further disk", release_further);
     done(kalyubos_destroy(&board), "destroy");
 }
 
@@ -441,7 +463,8 @@ int main(void)
     setvbuf(stdout, NULL, _IOLBF, BUFSIZ);
     while_drivers_begin(OF_IMAGE);
     while_drivers_begin(HOSTED);
-    while_a_disk_works();
+    while_a_disk_works(KALYUBOS_BLOCK, "hosted board, a disk at work");
+    while_a_disk_works(DISK, "hosted board, a further disk at work");
     in_a_pause();
     control();
     control_devices();

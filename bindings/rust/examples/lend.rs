@@ -146,8 +146,8 @@ impl<M: GuestMemory> Machine<M> {
     /// Serves what the guest asks of its disk, from bytes straight into its memory; answers whether its line is high.
     fn serve(&mut self, disk: &[u8]) -> Result<bool, Error> {
         let mut is_high = self.board.interrupts(0)?.block != 0;
-        while let Some(tag) = self.board.in_flight(0)?.first() {
-            let Some(asked) = self.board.operation(0, tag)? else {
+        while let Some(tag) = self.board.in_flight(0, Window::Block)?.first() {
+            let Some(asked) = self.board.operation(0, Window::Block, tag)? else {
                 continue;
             };
             let mut rest = &disk[asked.start as usize..];
@@ -166,7 +166,12 @@ impl<M: GuestMemory> Machine<M> {
             } else {
                 Outcome::Failed
             };
-            is_high = self.board.complete(0, tag, outcome)?.interrupts.block != 0;
+            is_high = self
+                .board
+                .complete(0, Window::Block, tag, outcome)?
+                .interrupts
+                .block
+                != 0;
         }
         Ok(is_high)
     }

@@ -68,7 +68,7 @@ pub struct Pending {
     pub output: u64,
     /// Whether the slot's service pauses: [`Board::go_on`] goes on with it.
     pub more: bool,
-    /// Whether operations of the slot's disk began, which wait for the host: [`Board::in_flight`] says which.
+    /// Whether operations of the disk began that the call was for, which wait for the host: [`Board::in_flight`] says which.
     pub io: bool,
 }
 
@@ -256,8 +256,8 @@ impl Board {
     /// waits, by which the lines move. Take the output and make the same write again, as long as it is answered so and
     /// there was output to take.
     ///
-    /// [`Error::Busy`]: a service of the slot is paused. Or the write, to Status or QueueReady of the block window,
-    /// waits for all that is in flight of a disk that the host serves. The guest's CPU waits with it; make the same write
+    /// [`Error::Busy`]: a service of the slot is paused. Or the write, to Status or QueueReady of a disk's window,
+    /// waits for all that is in flight of that disk, which the host serves. The guest's CPU waits with it; make the same write
     /// again once all is completed or [dropped](Board::drop_operations).
     ///
     /// Of a further device [`device_pending`](Board::device_pending) tells what then waits, and all that the guest notified is served.

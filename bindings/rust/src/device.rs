@@ -1,8 +1,10 @@
-//! A slot's further devices: entropy devices and network cards.
+//! A slot's further devices: entropy devices, network cards and disks.
 
 use crate::board::{Board, Window};
 use crate::error::Error;
 use crate::ffi;
+use crate::identity::Identity;
+use crate::tags::Tags;
 
 /// A further device, as a slot is made with it.
 #[derive(Clone, Copy, Debug, PartialEq, Eq, Hash)]
@@ -17,6 +19,17 @@ pub enum Device {
         /// How many bytes a frame has behind its header of Ethernet at most, 68 or more.
         mtu: u16,
     },
+    /// A disk that the host serves.
+    Disk {
+        /// How many sectors it has: fewer than 2^55.
+        sectors: u64,
+        /// Whether it refuses writes.
+        read_only: bool,
+        /// What it answers to GET_ID.
+        identity: Identity,
+        /// How many operations may be in flight, 1 to 64; 0 is 1.
+        depth: u32,
+    },
 }
 
 impl Device {
@@ -27,7 +40,25 @@ impl Device {
                 kind: 4,
                 ..ffi::Device::default()
             },
-            Device::Network { mac, mtu } => ffi::Device { kind: 1, mtu, mac },
+            Device::Network { mac, mtu } => ffi::Device {
+                kind: 1,
+                mtu,
+                mac,
+                ..ffi::Device::default()
+            },
+            Device::Disk {
+                sectors,
+                read_only,
+                identity,
+                depth,
+            } => ffi::Device {
+                kind: 2,
+                depth,
+                sectors,
+                identity: *identity.bytes(),
+                read_only,
+                ..ffi::Device::default()
+            },
         }
     }
 }
@@ -42,6 +73,8 @@ pub struct DevicePending {
     pub starved: bool,
     /// How many bytes the oldest frame has that its driver sent, where one waits.
     pub frame: Option<usize>,
+    /// What is in flight of a disk; of another device nothing is.
+    pub tags: Tags,
 }
 
 // In C a device is named by its window.
@@ -63,6 +96,7 @@ impl Board {
             interrupt: told.interrupt,
             starved: told.starved,
             frame: (told.frame != 0).then_some(told.frame as usize),
+            tags: Tags::of(told.tags),
         })
     }
 

@@ -1,20 +1,24 @@
 //! A disk that the host serves: what is asked of it, and what came of that.
 
-use crate::board::{Board, Pending};
+use crate::board::{Board, Pending, Window};
 use crate::error::Error;
 use crate::ffi;
 use crate::operation::{Operation, Outcome, Run};
 use crate::tags::Tags;
 
+/// The calls of a disk that the host serves: with [`Window::Block`] of a slot's own, and with [`Window::Device`] of a further
+/// one. [`Error::BadDevice`]: the window is no disk's. What a further disk's call tells of interrupts is of the slot's own disk and
+/// console; [`device_pending`](Board::device_pending) tells the line of the further one.
 impl Board {
-    /// Which operations of a slot's disk are in flight, by their tags: numbers below the slot's [`depth`](crate::Slot::depth).
+    /// Which operations of a disk are in flight, by their tags: numbers below its depth ([`Slot::with_depth`](crate::Slot::with_depth),
+    /// [`Device::Disk`](crate::Device::Disk)).
     ///
     /// An operation keeps its tag until it is completed or dropped; then the tag is free for another. A host remembers
     /// those that it has begun, begins the others after each call that tells [`Pending::io`], and forgets a tag before it
     /// completes it:
     ///
     /// ```
-    /// use kalyubos::{Board, Config, Error, Kind, Operation, Outcome, Slot, Tags};
+    /// use kalyubos::{Board, Config, Error, Kind, Operation, Outcome, Slot, Tags, Window};
     ///
     /// /// A read of a disk that is a list of bytes.
     /// fn read(board: &mut Board, asked: &Operation, disk: &[u8]) -> Result<(), Error> {
@@ -30,36 +34,39 @@ impl Board {
     /// let slot = Slot::hosted(0x8000_0000, 0x1_0000, 8).with_depth(16);
     /// let mut board = Board::create(&Config::new(&[slot]))?;
     /// let mut begun = Tags::default();
-    /// for tag in board.in_flight(0)?.without(begun) {
+    /// for tag in board.in_flight(0, Window::Block)?.without(begun) {
     ///     begun.insert(tag);
-    ///     match board.operation(0, tag)? {
+    ///     match board.operation(0, Window::Block, tag)? {
     ///         Some(asked) if asked.kind == Kind::In => read(&mut board, &asked, &[0; 8 * 512])?,
     ///         asked => println!("{asked:?}"),
     ///     }
     /// }
     /// while let Some(tag) = begun.first() {
     ///     begun.remove(tag);
-    ///     println!("{:?}", board.complete(0, tag, Outcome::Done)?);
+    ///     println!("{:?}", board.complete(0, Window::Block, tag, Outcome::Done)?);
     /// }
     /// # Ok::<(), Box<dyn std::error::Error>>(())
     /// ```
-    pub fn in_flight(&self, slot: u8) -> Result<Tags, Error> {
+    pub fn in_flight(&self, slot: u8, window: Window) -> Result<Tags, Error> {
         let mut bits = 0;
-        Error::check(unsafe { ffi::kalyubos_in_flight(self.handle(), slot, &mut bits) })?;
+        Error::check(unsafe {
+            ffi::kalyubos_in_flight(self.handle(), slot, window.number(), &mut bits)
+        })?;
         Ok(Tags::of(bits))
     }
 
-    /// What a slot's disk is asked for with a tag, or nothing where nothing of it is in flight with this tag. It may be
+    /// What a disk is asked for with a tag, or nothing where nothing of it is in flight with this tag. It may be
     /// asked for again and again, and stays the same until [`complete`](Board::complete) or
     /// [`drop_operations`](Board::drop_operations). The operation borrows no board, so its runs are read while guest memory
     /// is lent.
-    pub fn operation(&self, slot: u8, tag: u8) -> Result<Option<Operation>, Error> {
+    pub fn operation(&self, slot: u8, window: Window, tag: u8) -> Result<Option<Operation>, Error> {
         let mut told = ffi::Operation::default();
         let mut runs = [Run::default(); ffi::RUNS];
         let number = unsafe {
             ffi::kalyubos_operation(
                 self.handle(),
                 slot,
+                window.number(),
                 tag,
                 &mut told,
                 runs.as_mut_ptr(),
@@ -73,18 +80,25 @@ impl Board {
         }
     }
 
-    /// Says what came of the slot's operation with a tag. The guest's request is completed, the tag is free, and the queue
-    /// is looked at again, unless the slot is [on hold](Board::hold). Operations are completed in any order.
+    /// Says what came of a disk's operation with a tag. The guest's request is completed, the tag is free, and the queue
+    /// is looked at again, unless the disk is [on hold](Board::hold). Operations are completed in any order.
     ///
     /// Of [`Outcome::Done`] the bytes of an IN stand in the runs, those of an OUT are found by each later IN, and after
     /// a flush, or where the operation is `stable`, they are on the medium. In a window that asks for a reset a completion
     /// only frees its tag. [`Error::Idle`]: nothing was in flight with this tag.
-    pub fn complete(&mut self, slot: u8, tag: u8, outcome: Outcome) -> Result<Pending, Error> {
+    pub fn complete(
+        &mut self,
+        slot: u8,
+        window: Window,
+        tag: u8,
+        outcome: Outcome,
+    ) -> Result<Pending, Error> {
         let mut told = ffi::Pending::default();
         let number = unsafe {
             ffi::kalyubos_completed(
                 self.handle_mut(),
                 slot,
+                window.number(),
                 tag,
                 outcome == Outcome::Failed,
                 &mut told,
@@ -93,34 +107,37 @@ impl Board {
         Pending::told(number, told)
     }
 
-    /// Gives up all that is in flight of a slot, where the host can't complete it. All tags are free, none of the requests is
-    /// completed, and nothing is written into the guest's memory. The block window asks for a reset, as after a fault; nothing
-    /// begins until the driver has reset it. A write or a restore that was [`Error::Busy`] passes when it is made again.
+    /// Gives up all that is in flight of a disk, where the host can't complete it. All tags are free, none of the requests is
+    /// completed, and nothing is written into the guest's memory. The disk's window asks for a reset, as after a fault; nothing
+    /// begins until the driver has reset it. A write of the window that was [`Error::Busy`] passes when it is made again.
     /// [`Error::Idle`]: nothing is in flight.
     ///
-    /// Before this call the host has cancelled each transfer, or waited for its end: none touches the guest's memory any
+    /// Before this call the host has cancelled each transfer of the disk, or waited for its end: none touches the guest's memory any
     /// more. One that reached the disk later would overwrite what the guest writes behind its reset.
-    pub fn drop_operations(&mut self, slot: u8) -> Result<Pending, Error> {
+    pub fn drop_operations(&mut self, slot: u8, window: Window) -> Result<Pending, Error> {
         let mut told = ffi::Pending::default();
-        let number = unsafe { ffi::kalyubos_drop(self.handle_mut(), slot, &mut told) };
+        let number =
+            unsafe { ffi::kalyubos_drop(self.handle_mut(), slot, window.number(), &mut told) };
         Pending::told(number, told)
     }
 
-    /// Puts a slot on hold: no further chain of its disk's queue is taken until [`release`](Board::release). What is in flight is
+    /// Puts a disk on hold: no further chain of its queue is taken until [`release`](Board::release). What is in flight is
     /// completed as ever, and the guest runs on. So a guest is [saved](Board::save) with requests on offer. Neither a reset
-    /// nor [`drop_operations`](Board::drop_operations) ends a hold. [`Error::Idle`]: the slot is on hold already, or its
-    /// disk is of the image.
-    pub fn hold(&mut self, slot: u8) -> Result<Pending, Error> {
+    /// nor [`drop_operations`](Board::drop_operations) ends a hold. [`Error::Idle`]: the disk is on hold already, or
+    /// is of the image.
+    pub fn hold(&mut self, slot: u8, window: Window) -> Result<Pending, Error> {
         let mut told = ffi::Pending::default();
-        let number = unsafe { ffi::kalyubos_hold(self.handle_mut(), slot, &mut told) };
+        let number =
+            unsafe { ffi::kalyubos_hold(self.handle_mut(), slot, window.number(), &mut told) };
         Pending::told(number, told)
     }
 
     /// Ends a [hold](Board::hold): the queue is looked at, as after a notification, and operations may begin with that
-    /// ([`Pending::io`]). [`Error::Idle`]: the slot isn't on hold.
-    pub fn release(&mut self, slot: u8) -> Result<Pending, Error> {
+    /// ([`Pending::io`]). [`Error::Idle`]: the disk isn't on hold.
+    pub fn release(&mut self, slot: u8, window: Window) -> Result<Pending, Error> {
         let mut told = ffi::Pending::default();
-        let number = unsafe { ffi::kalyubos_release(self.handle_mut(), slot, &mut told) };
+        let number =
+            unsafe { ffi::kalyubos_release(self.handle_mut(), slot, window.number(), &mut told) };
         Pending::told(number, told)
     }
 }

@@ -84,7 +84,7 @@ pub enum CreateError {
     BadOutlet,
     /// A disk that the host serves has a depth above 64.
     BadDepth,
-    /// A network card has an MTU below 68.
+    /// A network card has an MTU below 68, or a disk 2^55 sectors or more or a depth above 64.
     BadDevice,
     /// A slot has more than six further devices.
     TooManyDevices,
@@ -191,7 +191,9 @@ impl fmt::Display for Error {
             Error::NoRoom(_) => {
                 f.write_str("the console's next output does not fit behind what waits")
             }
-            Error::Busy => f.write_str("a service of the slot is paused, or its disk is at work"),
+            Error::Busy => {
+                f.write_str("a service of the slot is paused, or one of its disks is at work")
+            }
             Error::Idle => f.write_str("there is nothing to complete, drop, hold or release"),
             Error::NoImage => f.write_str("the board has no image, or one of no bytes"),
             Error::ShortBuffer => {
@@ -207,7 +209,7 @@ impl fmt::Display for RestoreError {
         use RestoreError::*;
         f.write_str(match self {
             BadSlot => "the board has no such slot",
-            Busy => "a service of the slot is paused, or its disk is at work",
+            Busy => "a service of the slot is paused, or one of its disks is at work",
             BadSnapshot => "the bytes are no snapshot",
             OtherSlot => "the slot has another memory, another disk or other features",
             OtherDevices => "the snapshot has other devices",
@@ -236,7 +238,9 @@ impl fmt::Display for CreateError {
             BadCache => "a cache keeps 1 to 65536 sectors",
             BadOutlet => "an outlet keeps 2^24 bytes at most",
             BadDepth => "a disk that the host serves has 1 to 64 operations in flight",
-            BadDevice => "a network card has an MTU of 68 or more",
+            BadDevice => {
+                "a network card has an MTU of 68 or more, and a disk fewer than 2^55 sectors and a depth of 1 to 64"
+            }
             TooManyDevices => "a slot has six further devices at most",
             BadLoan => "each region of each slot needs lent bytes of its length",
             BadSize => "the library's config or slot has another size than the crate's",

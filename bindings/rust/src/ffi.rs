@@ -33,6 +33,10 @@ pub struct Device {
     pub kind: u32,
     pub mtu: u16,
     pub mac: [u8; 6],
+    pub depth: u32,
+    pub sectors: u64,
+    pub identity: [u8; 20],
+    pub read_only: bool,
 }
 
 /// One guest.
@@ -69,9 +73,10 @@ pub struct DevicePending {
     pub starved: bool,
     pub padding: [u8; 3],
     pub frame: u64,
+    pub tags: u64,
 }
 
-/// One operation on a guest's disk.
+/// One operation on a disk.
 #[derive(Default)]
 #[repr(C)]
 pub struct Operation {
@@ -142,10 +147,11 @@ unsafe extern "C" {
         value: u32,
         pending: *mut Pending,
     ) -> u32;
-    pub fn kalyubos_in_flight(board: *const Handle, slot: u8, tags: *mut u64) -> u32;
+    pub fn kalyubos_in_flight(board: *const Handle, slot: u8, window: u8, tags: *mut u64) -> u32;
     pub fn kalyubos_operation(
         board: *const Handle,
         slot: u8,
+        window: u8,
         tag: u8,
         operation: *mut Operation,
         runs: *mut Run,
@@ -154,13 +160,15 @@ unsafe extern "C" {
     pub fn kalyubos_completed(
         board: *mut Handle,
         slot: u8,
+        window: u8,
         tag: u8,
         failed: bool,
         pending: *mut Pending,
     ) -> u32;
-    pub fn kalyubos_drop(board: *mut Handle, slot: u8, pending: *mut Pending) -> u32;
-    pub fn kalyubos_hold(board: *mut Handle, slot: u8, pending: *mut Pending) -> u32;
-    pub fn kalyubos_release(board: *mut Handle, slot: u8, pending: *mut Pending) -> u32;
+    pub fn kalyubos_drop(board: *mut Handle, slot: u8, window: u8, pending: *mut Pending) -> u32;
+    pub fn kalyubos_hold(board: *mut Handle, slot: u8, window: u8, pending: *mut Pending) -> u32;
+    pub fn kalyubos_release(board: *mut Handle, slot: u8, window: u8, pending: *mut Pending)
+        -> u32;
     pub fn kalyubos_go_on(board: *mut Handle, slot: u8, pending: *mut Pending) -> u32;
     pub fn kalyubos_memory(
         board: *mut Handle,

@@ -328,7 +328,7 @@ fn a_hosted_read_is_counted_once_it_is_completed() {
         ..Counters::default()
     };
     assert_eq!(board.counters(0), Ok(asked));
-    let _ = board.complete(0, 0, Outcome::Done).unwrap();
+    let _ = board.complete(0, Window::Block, 0, Outcome::Done).unwrap();
     let done = Counters {
         chains: 1,
         bytes_in: 512 + 1,
@@ -343,7 +343,9 @@ fn a_hosted_read_is_counted_once_it_is_completed() {
 #[test]
 fn a_failure_of_the_host_is_a_refusal() {
     let mut board = hosted(&REQUEST, &[0]);
-    let _ = board.complete(0, 0, Outcome::Failed).unwrap();
+    let _ = board
+        .complete(0, Window::Block, 0, Outcome::Failed)
+        .unwrap();
     let failed = Counters {
         notifies: 1,
         chains: 1,
@@ -363,9 +365,19 @@ fn requests_of_a_disk_are_counted_one_by_one() {
     board.write_memory(0, MEMORY + 0x500, &[4]).unwrap();
     let _ = board.write(0, Window::Console, 0x108, 1, 0x21).unwrap();
     assert_eq!(board.counters(0).map(|it| it.chains), Ok(0));
-    assert!(board.complete(0, 0, Outcome::Done).unwrap().io);
+    assert!(
+        board
+            .complete(0, Window::Block, 0, Outcome::Done)
+            .unwrap()
+            .io
+    );
     assert_eq!(board.counters(0).map(|it| it.chains), Ok(1));
-    assert!(!board.complete(0, 0, Outcome::Done).unwrap().io);
+    assert!(
+        !board
+            .complete(0, Window::Block, 0, Outcome::Done)
+            .unwrap()
+            .io
+    );
     let counted = Counters {
         notifies: 1,
         chains: 2,

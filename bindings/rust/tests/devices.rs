@@ -1,6 +1,9 @@
-//! Further devices: an entropy device and a network card, from their making to what their drivers get.
+//! Further devices: an entropy device, a network card and a disk, from their making to what their drivers get.
 
-use kalyubos::{Board, Config, CreateError, Device, DevicePending, Error, Slot, Window};
+use kalyubos::{
+    Board, Config, CreateError, Device, DevicePending, Error, Kind, Outcome, Run, Slot, Tags,
+    Window,
+};
 
 const MEMORY: u64 = 0x8000_0000;
 const LEN: u64 = 0x1_0000;
@@ -93,6 +96,126 @@ fn what_no_slot_has_is_refused() {
     let many = (0..7).fold(slot(), |slot, _| slot.with_device(Device::Entropy));
     assert_eq!(refused(slot().with_device(short)), CreateError::BadDevice);
     assert_eq!(refused(many), CreateError::TooManyDevices);
+    for (sectors, depth) in [(1 << 55, 1), (1, 65), (1, 256)] {
+        let disk = disk_of(sectors, depth);
+        assert_eq!(refused(slot().with_device(disk)), CreateError::BadDevice);
+    }
+}
+
+fn disk_of(sectors: u64, depth: u32) -> Device {
+    Device::Disk {
+        sectors,
+        read_only: false,
+        identity: "data".parse().expect("an identity"),
+        depth,
+    }
+}
+
+/// A driver brings a disk's queue of four up, and asks for its sector 3.
+fn ask(board: &mut Board, device: u8) {
+    let memory = board.memory(0, MEMORY).expect("a memory");
+    memory[..0x600].fill(0);
+    for (i, (at, len, flags)) in [(0x400u64, 16u32, 1u8), (0x1000, 512, 3), (0x500, 1, 2)]
+        .into_iter()
+        .enumerate()
+    {
+        let descriptor = &mut memory[0x100 + 16 * i..][..16];
+        descriptor[..8].copy_from_slice(&(MEMORY + at).to_le_bytes());
+        descriptor[8..12].copy_from_slice(&len.to_le_bytes());
+        descriptor[12] = flags;
+        descriptor[14] = i as u8 + 1;
+    }
+    memory[0x408] = 3;
+    memory[0x202] = 1;
+    memory[0x500] = 0xff;
+    let at = MEMORY as u32;
+    for (offset, value) in [
+        (STATUS, 0),
+        (STATUS, 1),
+        (STATUS, 3),
+        (0x024, 1),
+        (0x020, 1),
+        (STATUS, 11),
+        (0x030, 0),
+        (0x038, 4),
+        (0x080, at + 0x100),
+        (0x090, at + 0x200),
+        (0x0a0, at + 0x300),
+        (0x044, 1),
+        (STATUS, 15),
+        (NOTIFY, 0),
+    ] {
+        let window = Window::Device(device);
+        let pending = board.write(0, window, offset, 4, value).expect("a store");
+        assert_eq!((pending.more, pending.io), (false, offset == NOTIFY));
+    }
+}
+
+#[test]
+fn a_disk_is_asked_by_its_window() {
+    let mut board = board_of(&[Device::Entropy, disk_of(4, 0)]);
+    let window = Window::Device(1);
+    ask(&mut board, 1);
+    let tags = board.in_flight(0, window).unwrap();
+    assert_eq!((tags.len(), tags.first()), (1, Some(0)));
+    assert_eq!(board.device_pending(0, 1).unwrap().tags, tags);
+    assert!(board.in_flight(0, Window::Block).unwrap().is_empty());
+    assert!(board.device_pending(0, 0).unwrap().tags.is_empty());
+    let asked = board
+        .operation(0, window, 0)
+        .unwrap()
+        .expect("an operation");
+    assert_eq!((asked.kind, asked.start, asked.len), (Kind::In, 1536, 512));
+    let run = Run {
+        at: MEMORY + 0x1000,
+        len: 512,
+    };
+    assert_eq!(*asked.runs, [run]);
+    assert_eq!(board.write(0, window, STATUS, 4, 0), Err(Error::Busy));
+    board.memory(0, run.at).unwrap()[..512].fill(7);
+    assert!(!board.complete(0, window, 0, Outcome::Done).unwrap().io);
+    assert_eq!(board.device_pending(0, 1).unwrap().interrupt, 1);
+    assert_eq!(board.memory(0, MEMORY + 0x500).unwrap()[0], 0);
+    assert_eq!(used(&mut board), (1, 1)); // 513 bytes
+    assert_eq!(board.operation(0, window, 0), Ok(None));
+    let completed = board.complete(0, window, 0, Outcome::Done);
+    assert_eq!(completed, Err(Error::Idle));
+}
+
+#[test]
+fn a_disk_is_held_and_given_up_by_its_window() {
+    let mut board = board_of(&[disk_of(4, 64), disk_of(4, 1)]);
+    ask(&mut board, 1);
+    let (first, second) = (Window::Device(0), Window::Device(1));
+    assert_eq!(board.drop_operations(0, first), Err(Error::Idle));
+    let _ = board.drop_operations(0, second).unwrap();
+    assert_eq!(board.device_pending(0, 1).unwrap().interrupt, 2);
+    assert_eq!(board.device_pending(0, 0).unwrap().interrupt, 0);
+    assert_eq!(board.release(0, second), Err(Error::Idle));
+    assert!(!board.hold(0, second).unwrap().io);
+    assert_eq!(board.hold(0, second), Err(Error::Idle));
+    assert!(!board.release(0, second).unwrap().io);
+    assert!(!board.hold(0, first).unwrap().io);
+}
+
+#[test]
+fn a_window_of_no_disk_is_refused() {
+    let mut board = board_of(&[Device::Entropy, CARD]);
+    for window in [
+        Window::Console,
+        Window::Device(0),
+        Window::Device(1),
+        Window::Device(2),
+        Window::Device(255),
+    ] {
+        assert_eq!(board.in_flight(0, window), Err(Error::BadDevice));
+        assert_eq!(board.operation(0, window, 0), Err(Error::BadDevice));
+        let completed = board.complete(0, window, 0, Outcome::Done);
+        assert_eq!(completed, Err(Error::BadDevice));
+        assert_eq!(board.drop_operations(0, window), Err(Error::BadDevice));
+        assert_eq!(board.hold(0, window), Err(Error::BadDevice));
+        assert_eq!(board.release(0, window), Err(Error::BadDevice));
+    }
 }
 
 #[test]
@@ -129,6 +252,7 @@ fn frames_go_both_ways() {
         interrupt: 1,
         starved: false,
         frame: Some(64),
+        tags: Tags::default(),
     };
     let mut into = [0; 100];
     assert_eq!(board.device_pending(0, 1), Ok(sent));

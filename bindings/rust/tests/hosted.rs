@@ -68,14 +68,17 @@ fn one_read_on_offer() -> Board {
 #[test]
 fn a_request_waits_for_the_host() {
     let mut board = one_read_on_offer();
-    assert_eq!(board.complete(0, 0, Outcome::Done), Err(Error::Idle));
+    assert_eq!(
+        board.complete(0, Window::Block, 0, Outcome::Done),
+        Err(Error::Idle)
+    );
     let served = board
         .write(0, Window::Block, NOTIFY, 4, 0)
         .expect("a store");
     assert!(served.io && served.interrupts.block == 0);
 
     let asked = board
-        .operation(0, 0)
+        .operation(0, Window::Block, 0)
         .expect("a slot")
         .expect("an operation");
     assert_eq!(
@@ -95,16 +98,18 @@ fn a_request_waits_for_the_host() {
         Err(Error::Busy)
     );
     board.memory(0, MEMORY).expect("a memory")[0x101] = 0xff;
-    assert_eq!(board.operation(0, 0), Ok(Some(asked)));
+    assert_eq!(board.operation(0, Window::Block, 0), Ok(Some(asked)));
 
     board
         .write_memory(0, runs[1].at, &[7; 0x100])
         .expect("a run");
-    let served = board.complete(0, 0, Outcome::Done).expect("a completion");
+    let served = board
+        .complete(0, Window::Block, 0, Outcome::Done)
+        .expect("a completion");
     assert!(!served.io && served.interrupts.block == 1);
     let memory = board.memory(0, MEMORY).expect("a memory");
     assert_eq!((memory[0], memory[0x6ff], memory[0x302]), (0, 7, 1));
-    assert_eq!(board.operation(0, 0), Ok(None));
+    assert_eq!(board.operation(0, Window::Block, 0), Ok(None));
 }
 
 /// The runs are read while the memory is lent, and on another thread while the guest's calls go on.
@@ -112,7 +117,10 @@ fn a_request_waits_for_the_host() {
 fn an_operation_borrows_no_board() {
     let mut board = one_read_on_offer();
     assert!(board.write(0, Window::Block, NOTIFY, 4, 0).unwrap().io);
-    let asked = board.operation(0, 0).unwrap().expect("an operation");
+    let asked = board
+        .operation(0, Window::Block, 0)
+        .unwrap()
+        .expect("an operation");
     for run in &asked.runs {
         board.memory(0, run.at).unwrap()[..run.len as usize].fill(7);
     }
@@ -124,7 +132,7 @@ fn an_operation_borrows_no_board() {
     let length = std::thread::spawn(move || asked.runs.iter().map(|run| run.len).sum::<u64>());
     assert_eq!(board.read(0, Window::Block, 0x008, 4), Ok(2));
     assert_eq!(length.join().unwrap(), 512);
-    let served = board.complete(0, 0, Outcome::Done).unwrap();
+    let served = board.complete(0, Window::Block, 0, Outcome::Done).unwrap();
     assert!(!served.io && served.interrupts.block == 1);
 }
 
@@ -135,7 +143,10 @@ fn a_flush_has_no_runs() {
     board.memory(0, MEMORY).unwrap()[0x10] = 4; // the request's type, and then no data
     board.memory(0, MEMORY).unwrap()[0x10e] = 3;
     assert!(board.write(0, Window::Block, NOTIFY, 4, 0).unwrap().io);
-    let asked = board.operation(0, 0).unwrap().expect("an operation");
+    let asked = board
+        .operation(0, Window::Block, 0)
+        .unwrap()
+        .expect("an operation");
     assert_eq!((asked.kind, asked.start, asked.len), (Kind::Flush, 0, 0));
     assert!(asked.runs.is_empty() && asked.runs == asked.clone().runs);
     assert_eq!(format!("{:?}", asked.runs), "[]");
@@ -153,7 +164,7 @@ fn asking_changes_nothing() {
     assert_eq!(first.interrupts(0).unwrap().block, 0);
     assert_eq!(second.counters(0).unwrap().notifies, 0);
     assert_eq!(first.save(0).unwrap().len(), second.saved_len(0).unwrap());
-    assert_eq!(first.operation(0, 0), Ok(None));
+    assert_eq!(first.operation(0, Window::Block, 0), Ok(None));
 }
 
 /// A board of one guest of this depth with the read on offer so many times.
@@ -169,27 +180,48 @@ fn reads_on_offer(depth: u32, count: u8) -> Board {
 #[test]
 fn operations_end_in_any_order() {
     let mut board = reads_on_offer(2, 3);
-    assert_eq!(board.in_flight(0), Ok(Tags::default()));
+    assert_eq!(board.in_flight(0, Window::Block), Ok(Tags::default()));
     assert!(board.write(0, Window::Block, NOTIFY, 4, 0).unwrap().io);
-    let tags = board.in_flight(0).unwrap();
+    let tags = board.in_flight(0, Window::Block).unwrap();
     assert_eq!(tags.into_iter().collect::<Vec<_>>(), [0, 1]);
     assert_eq!(format!("{tags:?} {}", tags.len()), "{0, 1} 2");
-    assert_eq!(board.operation(0, 2), Ok(None));
-    assert_eq!(board.complete(0, 2, Outcome::Done), Err(Error::Idle));
-    assert_eq!(board.complete(0, 255, Outcome::Done), Err(Error::Idle));
+    assert_eq!(board.operation(0, Window::Block, 2), Ok(None));
+    assert_eq!(
+        board.complete(0, Window::Block, 2, Outcome::Done),
+        Err(Error::Idle)
+    );
+    assert_eq!(
+        board.complete(0, Window::Block, 255, Outcome::Done),
+        Err(Error::Idle)
+    );
 
-    let first = board.operation(0, 0).unwrap();
-    assert!(board.complete(0, 1, Outcome::Done).unwrap().io); // the third begins
-    assert_eq!(board.in_flight(0), Ok(tags));
-    assert_eq!(board.operation(0, 0).unwrap(), first);
-    assert!(!board.complete(0, 1, Outcome::Failed).unwrap().io);
-    assert_eq!(board.in_flight(0).unwrap().first(), Some(0));
+    let first = board.operation(0, Window::Block, 0).unwrap();
+    assert!(
+        board
+            .complete(0, Window::Block, 1, Outcome::Done)
+            .unwrap()
+            .io
+    ); // the third begins
+    assert_eq!(board.in_flight(0, Window::Block), Ok(tags));
+    assert_eq!(board.operation(0, Window::Block, 0).unwrap(), first);
+    assert!(
+        !board
+            .complete(0, Window::Block, 1, Outcome::Failed)
+            .unwrap()
+            .io
+    );
+    assert_eq!(board.in_flight(0, Window::Block).unwrap().first(), Some(0));
     assert_eq!(
         board.write(0, Window::Block, STATUS, 4, 0),
         Err(Error::Busy)
     );
-    assert!(!board.complete(0, 0, Outcome::Done).unwrap().io);
-    assert!(board.in_flight(0).unwrap().is_empty());
+    assert!(
+        !board
+            .complete(0, Window::Block, 0, Outcome::Done)
+            .unwrap()
+            .io
+    );
+    assert!(board.in_flight(0, Window::Block).unwrap().is_empty());
     assert_eq!(board.memory(0, MEMORY).unwrap()[0x302], 3); // the used idx
     let reset = board.write(0, Window::Block, STATUS, 4, 0).unwrap();
     assert_eq!(reset.interrupts.block, 0);
@@ -203,9 +235,9 @@ fn a_completion_behind_a_fault_frees_its_tag() {
     let pending = board.write(0, Window::Block, NOTIFY, 4, 0).unwrap();
     assert!(pending.io && pending.interrupts.block & 2 != 0);
     let before = board.memory(0, MEMORY).unwrap().to_vec();
-    let pending = board.complete(0, 0, Outcome::Done).unwrap();
+    let pending = board.complete(0, Window::Block, 0, Outcome::Done).unwrap();
     assert!(!pending.io && pending.interrupts.block & 2 != 0);
-    assert!(board.in_flight(0).unwrap().is_empty());
+    assert!(board.in_flight(0, Window::Block).unwrap().is_empty());
     assert_eq!(board.memory(0, MEMORY).unwrap(), before);
 }
 
@@ -214,18 +246,21 @@ fn a_completion_behind_a_fault_frees_its_tag() {
 #[test]
 fn a_drop_gives_up_all_that_is_in_flight() {
     let mut board = reads_on_offer(2, 3);
-    assert_eq!(board.drop_operations(0), Err(Error::Idle));
+    assert_eq!(board.drop_operations(0, Window::Block), Err(Error::Idle));
     assert!(board.write(0, Window::Block, NOTIFY, 4, 0).unwrap().io);
     let before = board.memory(0, MEMORY).unwrap().to_vec();
     assert_eq!(
         board.write(0, Window::Block, STATUS, 4, 0),
         Err(Error::Busy)
     );
-    let pending = board.drop_operations(0).unwrap();
+    let pending = board.drop_operations(0, Window::Block).unwrap();
     assert!(!pending.io && pending.interrupts.block == 2);
-    assert!(board.in_flight(0).unwrap().is_empty());
-    assert_eq!(board.complete(0, 1, Outcome::Done), Err(Error::Idle));
-    assert_eq!(board.drop_operations(0), Err(Error::Idle));
+    assert!(board.in_flight(0, Window::Block).unwrap().is_empty());
+    assert_eq!(
+        board.complete(0, Window::Block, 1, Outcome::Done),
+        Err(Error::Idle)
+    );
+    assert_eq!(board.drop_operations(0, Window::Block), Err(Error::Idle));
     assert_eq!(board.read(0, Window::Block, STATUS, 4), Ok(15 | 64));
     assert_eq!(board.last_fault(0, Window::Block), Ok(None));
     assert!(!board.write(0, Window::Block, NOTIFY, 4, 0).unwrap().io);
@@ -235,7 +270,12 @@ fn a_drop_gives_up_all_that_is_in_flight() {
     assert_eq!(reset.interrupts.block, 0);
     offer_read(&mut board, 0);
     assert!(board.write(0, Window::Block, NOTIFY, 4, 0).unwrap().io);
-    assert!(!board.complete(0, 0, Outcome::Done).unwrap().io);
+    assert!(
+        !board
+            .complete(0, Window::Block, 0, Outcome::Done)
+            .unwrap()
+            .io
+    );
     assert_eq!(board.memory(0, MEMORY).unwrap()[0x302], 1); // the used idx
 }
 
@@ -243,22 +283,32 @@ fn a_drop_gives_up_all_that_is_in_flight() {
 #[test]
 fn a_held_slot_takes_no_request() {
     let mut board = reads_on_offer(2, 3);
-    assert_eq!(board.release(0), Err(Error::Idle));
-    assert!(!board.hold(0).unwrap().io);
-    assert_eq!(board.hold(0), Err(Error::Idle));
+    assert_eq!(board.release(0, Window::Block), Err(Error::Idle));
+    assert!(!board.hold(0, Window::Block).unwrap().io);
+    assert_eq!(board.hold(0, Window::Block), Err(Error::Idle));
     assert!(!board.write(0, Window::Block, NOTIFY, 4, 0).unwrap().io);
-    assert!(board.in_flight(0).unwrap().is_empty());
-    assert!(board.release(0).unwrap().io);
-    assert_eq!(board.in_flight(0).unwrap().len(), 2);
+    assert!(board.in_flight(0, Window::Block).unwrap().is_empty());
+    assert!(board.release(0, Window::Block).unwrap().io);
+    assert_eq!(board.in_flight(0, Window::Block).unwrap().len(), 2);
 
-    assert!(!board.hold(0).unwrap().io);
-    assert!(!board.complete(0, 1, Outcome::Done).unwrap().io);
-    assert!(!board.complete(0, 0, Outcome::Done).unwrap().io);
+    assert!(!board.hold(0, Window::Block).unwrap().io);
+    assert!(
+        !board
+            .complete(0, Window::Block, 1, Outcome::Done)
+            .unwrap()
+            .io
+    );
+    assert!(
+        !board
+            .complete(0, Window::Block, 0, Outcome::Done)
+            .unwrap()
+            .io
+    );
     assert_eq!(board.memory(0, MEMORY).unwrap()[0x302], 2); // the used idx
-    assert!(board.in_flight(0).unwrap().is_empty());
-    assert!(board.release(0).unwrap().io);
-    assert_eq!(board.in_flight(0).unwrap().first(), Some(0));
-    assert_eq!(board.release(0), Err(Error::Idle));
+    assert!(board.in_flight(0, Window::Block).unwrap().is_empty());
+    assert!(board.release(0, Window::Block).unwrap().io);
+    assert_eq!(board.in_flight(0, Window::Block).unwrap().first(), Some(0));
+    assert_eq!(board.release(0, Window::Block), Err(Error::Idle));
 }
 
 /// A reset and a drop leave a held slot held.
@@ -266,12 +316,12 @@ fn a_held_slot_takes_no_request() {
 fn a_hold_ends_with_its_release_alone() {
     let mut board = reads_on_offer(1, 2);
     assert!(board.write(0, Window::Block, NOTIFY, 4, 0).unwrap().io);
-    assert!(!board.hold(0).unwrap().io);
-    assert!(!board.drop_operations(0).unwrap().io);
+    assert!(!board.hold(0, Window::Block).unwrap().io);
+    assert!(!board.drop_operations(0, Window::Block).unwrap().io);
     assert!(!board.write(0, Window::Block, STATUS, 4, 0).unwrap().io);
     offer_read(&mut board, 0);
     assert!(!board.write(0, Window::Block, NOTIFY, 4, 0).unwrap().io);
-    assert!(board.release(0).unwrap().io);
+    assert!(board.release(0, Window::Block).unwrap().io);
 }
 
 #[test]
@@ -283,7 +333,9 @@ fn a_failure_is_an_error_of_the_request() {
             .expect("a store")
             .io
     );
-    let served = board.complete(0, 0, Outcome::Failed).expect("a completion");
+    let served = board
+        .complete(0, Window::Block, 0, Outcome::Failed)
+        .expect("a completion");
     assert!(!served.io && served.interrupts.block == 1);
     assert_eq!(board.memory(0, MEMORY).expect("a memory")[0], 1);
 }
@@ -291,14 +343,17 @@ fn a_failure_is_an_error_of_the_request() {
 #[test]
 fn refusals_are_told() {
     let mut board = one_read_on_offer();
-    assert_eq!(board.operation(1, 0), Err(Error::BadSlot));
-    assert_eq!(board.complete(1, 0, Outcome::Done), Err(Error::BadSlot));
-    assert_eq!(board.drop_operations(1), Err(Error::BadSlot));
-    assert_eq!(board.hold(1), Err(Error::BadSlot));
-    assert_eq!(board.release(1), Err(Error::BadSlot));
+    assert_eq!(board.operation(1, Window::Block, 0), Err(Error::BadSlot));
+    assert_eq!(
+        board.complete(1, Window::Block, 0, Outcome::Done),
+        Err(Error::BadSlot)
+    );
+    assert_eq!(board.drop_operations(1, Window::Block), Err(Error::BadSlot));
+    assert_eq!(board.hold(1, Window::Block), Err(Error::BadSlot));
+    assert_eq!(board.release(1, Window::Block), Err(Error::BadSlot));
     assert_eq!(board.image_len(), Err(Error::NoImage));
     assert_eq!(board.image().unwrap_err(), Error::NoImage);
-    assert_eq!(board.in_flight(1), Err(Error::BadSlot));
+    assert_eq!(board.in_flight(1, Window::Block), Err(Error::BadSlot));
     let deep = [hosted().with_depth(65)];
     let fault = Config::new(&deep).judge().unwrap_err();
     assert_eq!((fault.why, fault.slot), (CreateError::BadDepth, Some(0)));
@@ -323,16 +378,22 @@ fn a_board_has_both_kinds_of_disk() {
     assert!(board.write(1, Window::Block, NOTIFY, 4, 0).unwrap().io);
     let pending = board.write(0, Window::Block, NOTIFY, 4, 0).unwrap();
     assert!(!pending.io && pending.interrupts.block == 1);
-    assert_eq!(board.operation(0, 0), Ok(None));
-    assert_eq!(board.complete(0, 0, Outcome::Done), Err(Error::Idle));
-    assert_eq!(board.drop_operations(0), Err(Error::Idle));
-    assert_eq!(board.hold(0), Err(Error::Idle));
-    assert_eq!(board.release(0), Err(Error::Idle));
+    assert_eq!(board.operation(0, Window::Block, 0), Ok(None));
+    assert_eq!(
+        board.complete(0, Window::Block, 0, Outcome::Done),
+        Err(Error::Idle)
+    );
+    assert_eq!(board.drop_operations(0, Window::Block), Err(Error::Idle));
+    assert_eq!(board.hold(0, Window::Block), Err(Error::Idle));
+    assert_eq!(board.release(0, Window::Block), Err(Error::Idle));
     assert_eq!(board.memory(0, MEMORY + 0x400).unwrap()[0], 7);
 
-    let asked = board.operation(1, 0).unwrap().expect("an operation");
+    let asked = board
+        .operation(1, Window::Block, 0)
+        .unwrap()
+        .expect("an operation");
     board.memory(1, asked.runs[0].at).unwrap()[0] = 9;
-    let pending = board.complete(1, 0, Outcome::Done).unwrap();
+    let pending = board.complete(1, Window::Block, 0, Outcome::Done).unwrap();
     assert!(!pending.io && pending.interrupts.block == 1);
     assert_eq!(board.memory(1, MEMORY).unwrap()[..1], [0]);
     assert_eq!(board.memory(1, MEMORY + 0x400).unwrap()[0], 9);
@@ -358,12 +419,20 @@ fn a_console_pauses_beside_a_disk_at_work() {
     memory[0x202] = 2; // on offer two times
     let pending = board.write(0, Window::Console, NOTIFY, 4, 1).unwrap();
     assert!(pending.more && !pending.io && pending.output == 1);
-    assert!(board.operation(0, 0).unwrap().is_some());
-    assert_eq!(board.complete(0, 0, Outcome::Done), Err(Error::Busy));
-    assert_eq!(board.drop_operations(0), Err(Error::Busy));
-    assert_eq!(board.hold(0), Err(Error::Busy));
-    assert_eq!(board.release(0), Err(Error::Busy));
+    assert!(board.operation(0, Window::Block, 0).unwrap().is_some());
+    assert_eq!(
+        board.complete(0, Window::Block, 0, Outcome::Done),
+        Err(Error::Busy)
+    );
+    assert_eq!(board.drop_operations(0, Window::Block), Err(Error::Busy));
+    assert_eq!(board.hold(0, Window::Block), Err(Error::Busy));
+    assert_eq!(board.release(0, Window::Block), Err(Error::Busy));
     let pending = board.go_on(0).unwrap();
     assert!(!pending.more && pending.output == 2);
-    assert!(!board.complete(0, 0, Outcome::Done).unwrap().io);
+    assert!(
+        !board
+            .complete(0, Window::Block, 0, Outcome::Done)
+            .unwrap()
+            .io
+    );
 }

@@ -192,7 +192,9 @@ fn a_disk_at_work_is_busy() {
     assert_eq!(board.saved_len(0), Err(Error::Busy));
     assert_eq!(board.save_into(0, &mut [0; 1024]), Err(Error::Busy));
     assert_eq!(board.restore(0, &fresh), Err(RestoreError::Busy));
-    let _ = board.complete(0, 0, Outcome::Done).expect("a completion");
+    let _ = board
+        .complete(0, Window::Block, 0, Outcome::Done)
+        .expect("a completion");
 
     // a slot over an image takes it
     let devices = board.save(0).expect("a snapshot");
@@ -216,9 +218,14 @@ fn a_held_guest_goes_on_elsewhere() {
     offer(memory, &request, 1);
     memory[0x202] = 2;
     assert!(first.write(0, Window::Block, NOTIFY, 4, 0).unwrap().io);
-    assert!(!first.hold(0).unwrap().io);
+    assert!(!first.hold(0, Window::Block).unwrap().io);
     assert_eq!(first.save(0), Err(Error::Busy));
-    assert!(!first.complete(0, 0, Outcome::Done).unwrap().io);
+    assert!(
+        !first
+            .complete(0, Window::Block, 0, Outcome::Done)
+            .unwrap()
+            .io
+    );
     let devices = first.save(0).expect("a snapshot");
     assert_eq!(devices[61], 1);
     assert_eq!(
@@ -231,8 +238,13 @@ fn a_held_guest_goes_on_elsewhere() {
     memory.copy_from_slice(first.memory(0, MEMORY).expect("a memory"));
     assert!(!second.restore(0, &devices).expect("a restore").io);
     assert!(!second.write(0, Window::Block, NOTIFY, 4, 0).unwrap().io);
-    assert!(second.release(0).unwrap().io);
-    assert!(!second.complete(0, 0, Outcome::Done).unwrap().io);
-    assert_eq!(second.release(0), Err(Error::Idle));
+    assert!(second.release(0, Window::Block).unwrap().io);
+    assert!(
+        !second
+            .complete(0, Window::Block, 0, Outcome::Done)
+            .unwrap()
+            .io
+    );
+    assert_eq!(second.release(0, Window::Block), Err(Error::Idle));
     assert_eq!(second.memory(0, MEMORY).expect("a memory")[0x302], 2); // the used idx
 }

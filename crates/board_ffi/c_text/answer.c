@@ -43,9 +43,9 @@ const char *kalyubos_answer(uint32_t number)
     case KALYUBOS_MORE:
         return "the service pauses: kalyubos_go_on goes on with it";
     case KALYUBOS_BUSY:
-        return "a service of the slot is paused, or its disk is at work: make the call again later";
+        return "a service of the slot is paused, or one of its disks is at work: make the call again later";
     case KALYUBOS_IO:
-        return "done, and operations of the slot's disk began: kalyubos_in_flight says which";
+        return "done, and operations of the disk began: kalyubos_in_flight says which";
     case KALYUBOS_IDLE:
         return "there is nothing to complete, drop, hold or release";
     case KALYUBOS_NO_IMAGE:
@@ -69,7 +69,7 @@ const char *kalyubos_answer(uint32_t number)
     case KALYUBOS_OTHER_DEVICES:
         return "the snapshot has other devices";
     case KALYUBOS_BAD_DEVICE:
-        return "a further device is a network card, of an MTU of 68 or more, or an entropy device";
+        return "a further device is an entropy device, a card of an MTU of 68 or more, or a disk below 2^55 sectors and depth 65";
     default:
         return "a number that this version of kalyubos.h doesn't know";
     }

@@ -1,10 +1,9 @@
 pub mod AsBox
 pub mod Configs
-pub mod FurtherWrites
 pub mod HandleSteps
 pub mod Lengths
-pub mod Numbers
 pub mod OneByOne
 pub mod Outlets
 pub mod Runs
 pub mod Telling
+pub mod Windows

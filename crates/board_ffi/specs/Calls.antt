@@ -2,7 +2,7 @@
 use Rattle.std.specs.Prelude.{◌≡◌, ℕ, ◌-◌, ◌==◌, nat_lt, if◌then◌else◌, List, Option, Some, None, MatchOption, IsSomeAnd, length}
 use Rattle.std.specs.Global.{Global}
 use Rattle.std.specs.List.{slice_get}
-use Rattle.std.specs.Option.{option_map_or}
+use Rattle.std.specs.Option.{option_map, option_map_or}
 use Rattle.board.specs.declared.event.DeviceEvent.{DeviceEvent}
 use Rattle.board.specs.declared.event.SlotWindow.{SlotWindow}
 use Rattle.board.specs.declared.event.SlotWindow.TheVariants.{Block, Console}
@@ -11,13 +11,16 @@ use Rattle.session.specs.Session.{SessionState, output_of}
 use Rattle.session.specs.declared.told.Waits.{Waits}
 use Rattle.board_ffi.specs.declared.handle.Handle.{Handle}
 use Rattle.board_ffi.specs.declared.pending.Pending.{Pending}
+use Rattle.board_ffi.specs.declared.window.DiskWindow.{DiskWindow}
+use Rattle.board_ffi.specs.declared.window.DiskWindow.TheVariants.{Own, Further}
+use Rattle.board_ffi.specs.Codes.{code_at}
 use Rattle.board_ffi.specs.Handle.{Held}
 pub use Rattle.board.specs.declared.event.EventKind.{EventKind}
 pub use Rattle.board.specs.declared.reply.Reply.{Reply}
 pub use Rattle.board_ffi.specs.Devices.{HasDevicePending, IsNoDevice, IsTooShort, TakesFrame}
-pub use Rattle.board_ffi.specs.Disk.{IsAskedFor, IsAtRest}
-pub use Rattle.board_ffi.specs.Events.{Completes, CopiesImage, Drops, GoesOn, HasImage, HasMemory, HasNoRegion, Holds, IsBusy, IsOutside, KeepsPages, MovesOutput, PausesBehind, Releases, Restores, Takes, Writes}
-pub use Rattle.board_ffi.specs.Kept.{HasInFlight, HasSavedLen, HasWords, IsMissing, IsThere, IsUndisturbed, Saves}
+pub use Rattle.board_ffi.specs.Disk.{HasInFlight, IsAskedFor, IsAtRest, IsNoDisk}
+pub use Rattle.board_ffi.specs.Events.{Completes, CopiesImage, GoesOn, HasImage, HasMemory, HasNoRegion, IsBusy, IsOutside, KeepsPages, MovesOutput, PausesBehind, Restores, Says, Takes, Writes}
+pub use Rattle.board_ffi.specs.Kept.{HasSavedLen, HasWords, IsMissing, IsThere, IsUndisturbed, Saves}
 
 -- A call on a handle: where it holds no board it answers 1 and goes on holding none; a board does this, and
 -- is still there.
@@ -55,6 +58,18 @@ abbrev pub AtDevice : ℕ → Handle → Handle → ℕ → (ℕ → SessionStat
 AtDevice number before after code step =
     MatchOption (device_at number) ((code ≡ 6) × (after ≡ before))
     (λ device. Calls before.session after.session code (step device))
+
+-- whose disk a window's number may name: the slot's own, or that of a further device
+abbrev pub disk_window : ℕ → Option DiskWindow
+disk_window number = if number == 0 then Some Own else option_map Further (device_at number)
+
+-- A call for the disk of a window does this, where the window may be a disk's. Of the console's it answers 6, or 3 where there
+-- is no such slot, and changes nothing.
+abbrev pub AtDisk : ℕ → ℕ → ℕ → (DiskWindow → SessionState → SessionState → Type 0) → SessionState → SessionState
+    → Type 0
+AtDisk number slot code step old new =
+    MatchOption (disk_window number) ((code ≡ code_at slot (length old.slots) 6) × (new ≡ old))
+    (λ disk. step disk old new)
 
 -- ---- what waits
 

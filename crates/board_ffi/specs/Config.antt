@@ -23,16 +23,25 @@ use Rattle.board_ffi.specs.Codes.{fault_code}
 abbrev pub regions_of : List RegionSpec → List RegionSpec
 regions_of = take_while (λ region. nat_lt 0 region.len)
 
--- Who has the disk of a slot. A depth of 0 is 1; one that is too large for the board is so as it is told, too.
-abbrev pub backing_of : Bool → ℕ → Backing
-backing_of hosted depth = if hosted then Backing.Host (min (max depth 1) 255) else Backing.Image
+-- How many operations of a disk may be in flight. 0 is 1; a depth that is too large for the board is so as it is told, too.
+abbrev pub depth_of : ℕ → ℕ
+depth_of depth = min (max depth 1) 255
 
--- A further device, if it is one, by its type (VIRTIO 1.2, 5): 1 is a network card, and 4 an entropy device. One of a
--- type that isn't known is a card whose MTU no slot takes.
+-- who has the disk of a slot
+abbrev pub backing_of : Bool → ℕ → Backing
+backing_of hosted depth = if hosted then Backing.Host (depth_of depth) else Backing.Image
+
+-- a further disk that the host serves
+abbrev pub disk_of : Device → DeviceSpec
+disk_of device = DeviceSpec.Block device.sectors device.read_only device.identity (depth_of device.depth)
+
+-- A further device, if it is one, by its type (VIRTIO 1.2, 5): 1 is a network card, 2 a disk, and 4 an entropy device. One
+-- of a type that isn't known is a card whose MTU no slot takes.
 abbrev pub device_of : Device → Option DeviceSpec
 device_of device =
     if device.kind == 0 then None
     else if device.kind == 4 then Some DeviceSpec.Entropy
+    else if device.kind == 2 then Some (disk_of device)
     else Some (DeviceSpec.Network device.mac (if device.kind == 1 then device.mtu else 0))
 
 -- the guest of a slot that C describes
@@ -53,7 +62,7 @@ guest_of slot = record {
 
 -- how many bytes a slot and a config have that this version describes
 abbrev pub slot_size : ℕ
-slot_size = 264
+slot_size = 480
 
 abbrev pub config_size : ℕ
 config_size = 72

@@ -55,6 +55,7 @@ pending_of_device waits = record {
   starved = waits.starved;
   padding = replicate 3 0;
   frame = unwrap_or waits.sent 0;
+  tags = waits.tags;
 }
 
 -- there is such a device of the slot, this waits for it, and nothing changes

@@ -1,19 +1,47 @@
--- What a disk that the host serves is asked for.
-use Rattle.std.specs.Prelude.{◌≡◌, ℕ, List, [], ◌∷◌, Some, None, get_or, length}
+-- What a disk that the host serves is asked for: a slot's own, or one of its further devices.
+use Rattle.std.specs.Prelude.{◌≡◌, ℕ, List, [], ◌∷◌, Option, Some, None, get_or, if◌then◌else◌, is_some, length}
 use Rattle.std.specs.List.{slice_get}
+use Rattle.std.specs.Option.{option_and_then, option_map_or}
 use Rattle.chain.specs.declared.segment.Segment.{Segment}
-use Rattle.block_device.specs.declared.operation.Operation as disk
+use Rattle.block_device.specs.declared.operation.Operation as asked
 use Rattle.block_device.specs.declared.operation.OperationKind.{OperationKind}
 use Rattle.block_device.specs.declared.operation.OperationKind.TheVariants as kind
 use Rattle.block_device.specs.Operation.{LiesInside}
 use Rattle.block_device.specs.Flights.{InFlight}
-use Rattle.board.specs.Backing.{tags_in}
+use Rattle.device_list.specs.List.{disk_at}
 use Rattle.board.specs.Slot.{BoardSlot, sectors_in}
-use Rattle.session.specs.Operations.{operation_at}
+use Rattle.session.specs.Disks.{disk_in_flight_at, hosted_disk_at}
+use Rattle.session.specs.Operations.{flight_at, in_flight_at}
 use Rattle.session.specs.Session.{SessionState}
 use Rattle.board_ffi.specs.declared.operation.Operation.{Operation}
 use Rattle.board_ffi.specs.declared.operation.Run.{Run}
+use Rattle.board_ffi.specs.declared.window.DiskWindow.{DiskWindow}
+use Rattle.board_ffi.specs.declared.window.DiskWindow.TheVariants.{Own, Further}
 use Rattle.board_ffi.specs.Codes.{code_at}
+
+-- ---- whose disk it is
+
+-- how many sectors it has
+abbrev pub sectors_of : DiskWindow → BoardSlot → ℕ
+sectors_of Own found = sectors_in found
+sectors_of (Further n) found = option_map_or (λ disk. disk.device.extent.count) (disk_at n found.devices) 0
+
+-- the tags that are in flight of it, as a set of bits, if the slot is there and has this disk: of one of the image none is
+abbrev pub in_flight_of : ℕ → DiskWindow → List BoardSlot → Option ℕ
+in_flight_of slot Own slots = in_flight_at slot slots
+in_flight_of slot (Further n) slots = disk_in_flight_at slot n slots
+
+-- what is in flight of it with this tag
+abbrev pub flight_of : ℕ → DiskWindow → ℕ → List BoardSlot → Option InFlight
+flight_of slot Own tag slots = flight_at slot tag slots
+flight_of slot (Further n) tag slots =
+    option_and_then (λ disk. get_or disk.tags tag None) (hosted_disk_at slot n slots)
+
+-- what is answered of a slot of which nothing is in flight with a tag: it has no such disk, or there is nothing to do
+abbrev pub rest_code : ℕ → DiskWindow → List BoardSlot → ℕ
+rest_code slot disk slots = code_at slot (length slots) (if is_some (in_flight_of slot disk slots) then 21 else 6)
+
+-- ---- what it is asked for
 
 abbrev pub kind_code : OperationKind → ℕ
 kind_code kind.In = 0
@@ -22,7 +50,7 @@ kind_code kind.Flush = 2
 kind_code kind.Zeroes = 3
 
 -- an operation with its runs, as C has it
-abbrev pub told_operation : disk.Operation → List Segment → Operation
+abbrev pub told_operation : asked.Operation → List Segment → Operation
 told_operation operation runs = record {
   kind = kind_code operation.kind;
   runs = length runs;
@@ -40,21 +68,41 @@ told_runs [] room = room
 told_runs (run ∷ runs) [] = []
 told_runs (run ∷ runs) (place ∷ room) = told_run run ∷ told_runs runs room
 
--- What is in flight of a slot with this tag is told. None of it lies outside the guest's memory or its disk. Nothing
--- changes.
-pub record IsAskedFor (slot tag : ℕ) (operation : Operation) (room runs : List Run)
-    (old new : SessionState) : Type 0 where
-  pub found : BoardSlot
-  pub here : InFlight
-  pub there : slice_get old.slots slot ≡ Some found
-  pub flight : get_or (tags_in found.host) tag None ≡ Some here
-  pub told : operation ≡ told_operation here.flight.operation here.runs
-  pub runs_are : runs ≡ told_runs here.runs room
-  pub inside : LiesInside (sectors_in found) found.memory here.flight.operation here.runs
+-- these tags are in flight of a slot's disk, and nothing changes
+pub record HasInFlight (slot tags : ℕ) (disk : DiskWindow) (old new : SessionState) : Type 0 where
+  pub taken : in_flight_of slot disk old.slots ≡ Some tags
   pub kept : new ≡ old
 
--- nothing of the slot is in flight with this tag, if there is such a slot, and nothing changes
-pub record IsAtRest (slot tag code : ℕ) (old new : SessionState) : Type 0 where
-  pub rests : operation_at slot tag old.slots ≡ None
-  pub code_is : code ≡ code_at slot (length old.slots) 21
+-- there is no such slot, or no such disk of it, and nothing changes
+pub record IsNoDisk (slot code : ℕ) (disk : DiskWindow) (old new : SessionState) : Type 0 where
+  pub none : in_flight_of slot disk old.slots ≡ None
+  pub code_is : code ≡ code_at slot (length old.slots) 6
+  pub kept : new ≡ old
+
+-- What is in flight of a slot's disk with this tag: this operation, and these runs. Nothing of it lies outside the guest's
+-- memory or the disk.
+pub record IsInFlight (slot tag : ℕ) (disk : DiskWindow) (wanted : asked.Operation) (runs : List Segment)
+    (session : SessionState) : Type 0 where
+  pub found : BoardSlot
+  pub here : InFlight
+  pub there : slice_get session.slots slot ≡ Some found
+  pub flight : flight_of slot disk tag session.slots ≡ Some here
+  pub operation : wanted ≡ here.flight.operation
+  pub runs_are : runs ≡ here.runs
+  pub inside : LiesInside (sectors_of disk found) found.memory here.flight.operation here.runs
+
+-- It is told, and nothing changes.
+pub record IsAskedFor (slot tag : ℕ) (operation : Operation) (room runs : List Run) (disk : DiskWindow)
+    (old new : SessionState) : Type 0 where
+  pub wanted : asked.Operation
+  pub all : List Segment
+  pub is : IsInFlight slot tag disk wanted all old
+  pub told : operation ≡ told_operation wanted all
+  pub runs_are : runs ≡ told_runs all room
+  pub kept : new ≡ old
+
+-- nothing of the disk is in flight with this tag, if there is such a disk, and nothing changes
+pub record IsAtRest (slot tag code : ℕ) (disk : DiskWindow) (old new : SessionState) : Type 0 where
+  pub rests : flight_of slot disk tag old.slots ≡ None
+  pub code_is : code ≡ rest_code slot disk old.slots
   pub kept : new ≡ old

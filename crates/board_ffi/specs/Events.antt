@@ -1,34 +1,37 @@
 -- What a call does to a board.
-use Rattle.std.specs.Prelude.{◌≡◌, ◌⊎◌, ℕ, ◌==◌, ◌||◌, ◌<◌, ◌≤◌, ◌+◌, ◌++◌, ◌↔◌, Bool, false, List, [], None, Some, IsTrue, IsErrOf, IsSome, IsSomeAnd, if◌then◌else◌, length, min, take, drop, Result}
+use Rattle.std.specs.Prelude.{◌≡◌, ◌⊎◌, ℕ, ◌==◌, ◌||◌, ◌<◌, ◌≤◌, ◌+◌, ◌++◌, ◌↔◌, Bool, false, List, [], Option, None, Some, IsTrue, IsErrOf, IsSome, IsSomeAnd, if◌then◌else◌, length, min, take, drop, Result}
 use Rattle.std.specs.List.{slice_get}
 use Rattle.std.specs.Global.{Global}
 use Rattle.guest_memory.specs.Memory.{Inside, Memory}
 use Rattle.guest_memory.specs.Pages.{bits_of}
 use Rattle.block_device.specs.declared.operation.Verdict.{Verdict}
 use Rattle.block_device.specs.declared.operation.Verdict.TheVariants as verdict
+use Rattle.board.specs.declared.event.DeviceEvent.{DeviceEvent}
 use Rattle.board.specs.declared.event.EventKind.{EventKind}
-use Rattle.board.specs.declared.event.HostEvent.{HostEvent}
-use Rattle.board.specs.declared.event.HostEvent.TheVariants as host
+use Rattle.block_device.specs.declared.operation.HostEvent.{HostEvent}
+use Rattle.block_device.specs.declared.operation.HostEvent.TheVariants as host
 use Rattle.board.specs.declared.reply.Reply.{Reply}
 use Rattle.board.specs.declared.reply.Reply.TheVariants as reply
 use Rattle.board.specs.declared.saved.RestoreFault.{RestoreFault}
 use Rattle.board.specs.declared.saved.RestoreRefusal.{RestoreRefusal}
 use Rattle.board.specs.declared.saved.RestoreRefusal.TheVariants.{Fault}
-use Rattle.block_device.specs.Flights.{is_any}
-use Rattle.board.specs.Backing.{tags_in}
 use Rattle.board.specs.Lending.{bits_in}
 use Rattle.board.specs.Saved.{IsAs, IsCauseOf, IsLike, IsSnapshotOf}
-use Rattle.board.specs.Slot.{BoardSlot}
+use Rattle.board.specs.Slot.{BoardSlot, is_at_work}
 use Rattle.session.specs.Course.{IsTaken}
 use Rattle.session.specs.declared.progress.Progress.{Progress}
 use Rattle.session.specs.declared.refusal.Refusal.{Refusal}
 use Rattle.session.specs.declared.response.Response.{Response}
-use Rattle.session.specs.Operations.{HasAsked, HasAskedBeside, HasFlight, HasNothing, operation_at}
+use Rattle.session.specs.Disks.{DiskHasAsked, DiskHasNothing}
+use Rattle.session.specs.Operations.{AskedBy, HasAsked, HasFlight, HasNothing}
 use Rattle.session.specs.Pausing.{IsCall, IsWhole, WentOn, taken_at}
 use Rattle.session.specs.Session.{IsIdle, SessionState, output_of}
 use Rattle.session.specs.Pacing.{Handle, paused_at}
 use Rattle.session.specs.Restoring.{restore_response}
-use Rattle.board_ffi.specs.Codes.{StandsFor, code_at, image_code, is_response, restore_code, went_on_code}
+use Rattle.board_ffi.specs.declared.window.DiskWindow.{DiskWindow}
+use Rattle.board_ffi.specs.declared.window.DiskWindow.TheVariants.{Own, Further}
+use Rattle.board_ffi.specs.Codes.{StandsFor, image_code, is_response, restore_code, went_on_code}
+use Rattle.board_ffi.specs.Disk.{flight_of, in_flight_of, rest_code}
 
 -- The board takes a call for this event of a slot, and its response is one that the number stands for:
 -- where the call is done it is this reply, and a step of the board.
@@ -55,38 +58,48 @@ pub record MayAsk (slot : ℕ) (what : EventKind Global) (Asks : Type 0) (code :
   pub code_is : IsTrue ((code == 20) || is_response code)
   pub asks : IsTrue (is_served code) → ((code ≡ 20) ↔ Asks)
 
--- a guest's write: the disk is asked for something where operations began with it
-abbrev pub Writes : ℕ → EventKind Global → ℕ → SessionState → SessionState → Type 0
-Writes slot what code old new = MayAsk slot what (HasAsked slot old new) code old new
+-- operations began with a write of a window: of the slot's own disk, or of the further one whose window it is
+abbrev pub HasAskedBehind : ℕ → Option ℕ → SessionState → SessionState → Type 0
+HasAskedBehind slot None old new = HasAsked slot old new
+HasAskedBehind slot (Some n) old new = DiskHasAsked slot n old new
+
+-- a guest's write, of the window of the further device of this number if it is one's: its disk is asked for something where
+-- operations began with it
+abbrev pub Writes : ℕ → Option ℕ → EventKind Global → ℕ → SessionState → SessionState → Type 0
+Writes slot device what code old new = MayAsk slot what (HasAskedBehind slot device old new) code old new
+
+-- the event of what the host says of a disk
+abbrev pub said_event : DiskWindow → HostEvent → EventKind Global
+said_event Own said = EventKind.Host said
+said_event (Further n) said = EventKind.Device n (DeviceEvent.Host said)
+
+-- operations began with it
+abbrev pub HasAskedBy : HostEvent → ℕ → DiskWindow → SessionState → SessionState → Type 0
+HasAskedBy said slot disk old new =
+    AskedBy said (in_flight_of slot disk old.slots) (in_flight_of slot disk new.slots)
+
+-- the disk is there, and there is nothing to do for it
+abbrev pub HasNothingFor : HostEvent → ℕ → DiskWindow → List BoardSlot → Type 0
+HasNothingFor said slot Own slots = HasNothing slot said slots
+HasNothingFor said slot (Further n) slots = DiskHasNothing slot n said slots
 
 -- what came of an operation
 abbrev pub verdict_of : Bool → Verdict
 verdict_of failed = if failed then verdict.Failed else verdict.Done
 
--- What is in flight of a slot with this tag is completed. Where nothing is, nothing changes.
-pub record Completes (slot tag : ℕ) (failed : Bool) (code : ℕ) (old new : SessionState) : Type 0 where
+-- What is in flight of a slot's disk with this tag is completed. Where nothing is, nothing changes.
+pub record Completes (slot tag : ℕ) (failed : Bool) (code : ℕ) (disk : DiskWindow) (old new : SessionState) : Type 0 where
   pub completed :
-      IsSome (operation_at slot tag old.slots) →
-      MayAsk slot (EventKind.Host (host.Complete tag (verdict_of failed))) (HasAskedBeside slot tag old new) code old new
-  pub code_is : operation_at slot tag old.slots ≡ None → code ≡ code_at slot (length old.slots) 21
-  pub kept : operation_at slot tag old.slots ≡ None → new ≡ old
+      IsSome (flight_of slot disk tag old.slots) →
+      MayAsk slot (said_event disk (host.Complete tag (verdict_of failed)))
+      (HasAskedBy (host.Complete tag (verdict_of failed)) slot disk old new) code old new
+  pub code_is : flight_of slot disk tag old.slots ≡ None → code ≡ rest_code slot disk old.slots
+  pub kept : flight_of slot disk tag old.slots ≡ None → new ≡ old
 
 -- The board takes a call for what the host says of a slot's disk: it is idle exactly where there is nothing to do.
-pub record Says (slot : ℕ) (told : HostEvent) (Asks : Type 0) (code : ℕ) (old new : SessionState) : Type 0 where
-  pub taken : MayAsk slot (EventKind.Host told) Asks code old new
-  pub idle : (code ≡ 21) ↔ (IsIdle slot old × HasNothing slot told old.slots)
-
--- what is in flight is given up, with which nothing begins
-abbrev pub Drops : ℕ → ℕ → SessionState → SessionState → Type 0
-Drops slot code old new = Says slot host.Drop ⊥ code old new
-
--- no further chain is taken
-abbrev pub Holds : ℕ → ℕ → SessionState → SessionState → Type 0
-Holds slot code old new = Says slot host.Hold ⊥ code old new
-
--- and chains are taken again
-abbrev pub Releases : ℕ → ℕ → SessionState → SessionState → Type 0
-Releases slot code old new = Says slot host.Release (HasAsked slot old new) code old new
+pub record Says (slot : ℕ) (said : HostEvent) (code : ℕ) (disk : DiskWindow) (old new : SessionState) : Type 0 where
+  pub taken : MayAsk slot (said_event disk said) (HasAskedBy said slot disk old new) code old new
+  pub idle : (code ≡ 21) ↔ (IsIdle slot old × HasNothingFor said slot disk old.slots)
 
 -- The service of a slot goes on, and this is told of it.
 pub record GoesOn (slot code : ℕ) (old new : SessionState) : Type 0 where
@@ -157,7 +170,7 @@ pub record IsOutside (start len code : ℕ) (old new : SessionState) : Type 0 wh
   pub no_image : (code ≡ 22) ↔ (old.image ≡ [])
   pub kept : new ≡ old
 
--- a service of the slot is paused, or something of it is in flight
+-- a service of the slot is paused, or something of one of its disks is in flight
 abbrev pub IsAtWork : ℕ → SessionState → Type 0
 IsAtWork slot session = (¬ IsIdle slot session) ⊎ HasFlight slot session.slots
 
@@ -176,7 +189,7 @@ pub record Restores (slot : ℕ) (bytes : List ℕ) (code : ℕ) (old new : Sess
   pub taken :
       (saved before after : BoardSlot) → IsSnapshotOf bytes saved → slice_get old.slots slot ≡ Some before →
       slice_get new.slots slot ≡ Some after → IsLike saved before → IsIdle slot old →
-      is_any (tags_in before.host) ≡ false →
+      is_at_work before ≡ false →
       (code ≡ 0) × IsAs saved before after
   pub missing : (code ≡ 3) ↔ (length old.slots ≤ slot)
   pub busy : (code ≡ 19) ↔ IsAtWork slot old

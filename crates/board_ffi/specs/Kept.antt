@@ -4,7 +4,6 @@ use Rattle.std.specs.List.{slice_get}
 use Rattle.std.specs.Option.{option_map}
 use Rattle.board.specs.Saved.{IsSavedTo, snapshot_of}
 use Rattle.board.specs.Slot.{BoardSlot, interrupt_words}
-use Rattle.session.specs.Operations.{in_flight_at}
 use Rattle.session.specs.Session.{SessionState}
 use Rattle.board_ffi.specs.Codes.{is_saving}
 use Rattle.board_ffi.specs.Events.{IsAtWork}
@@ -30,11 +29,6 @@ pub record IsMissing (slot code : ℕ) (old new : SessionState) : Type 0 where
 -- these are the interrupt words of a slot
 pub record HasWords (slot block console : ℕ) (old new : SessionState) : Type 0 where
   pub words : words_at slot old ≡ Some (block, console)
-  pub kept : new ≡ old
-
--- these tags are in flight of a slot
-pub record HasInFlight (slot tags : ℕ) (old new : SessionState) : Type 0 where
-  pub taken : in_flight_at slot old.slots ≡ Some tags
   pub kept : new ≡ old
 
 -- there is such a slot, and no call of its image failed

@@ -1,7 +1,7 @@
 //! A further device of a slot, as C describes it.
 
 ghost use Rattle.std.specs.Prelude.{◌≡◌};
-ghost use Rattle.board_ffi.specs.Config.{device_of};
+ghost use Rattle.board_ffi.specs.Config.{depth_of, device_of, disk_of};
 
 use session::DeviceSpec;
 
@@ -9,6 +9,8 @@ use session::DeviceSpec;
 const NO_DEVICE: u32 = 0;
 
 const NETWORK: u32 = 1;
+
+const DISK: u32 = 2;
 
 const ENTROPY: u32 = 4;
 
@@ -22,6 +24,14 @@ pub struct Device {
     pub mtu: u16,
     /// The address of a network card.
     pub mac: [u8; 6],
+    /// How many operations of a disk may be in flight at once; 0 is 1.
+    pub depth: u32,
+    /// How many sectors a disk has.
+    pub sectors: u64,
+    /// What it answers to GET_ID.
+    pub identity: [u8; 20],
+    /// Whether it refuses writes.
+    pub read_only: bool,
 }
 
 impl Device {
@@ -33,8 +43,29 @@ impl Device {
         match self.kind {
             NO_DEVICE => None,
             ENTROPY => Some(DeviceSpec::Entropy),
+            DISK => Some(self.disk()),
             NETWORK => Some(DeviceSpec::Network { mac, mtu: self.mtu }),
             _ => Some(DeviceSpec::Network { mac, mtu: 0 }),
         }
     }
+
+    // A disk that the host serves.
+    fn disk(self) -> DeviceSpec
+        ensures { result ≡ disk_of self }
+    {
+        let identity = self.identity;
+        DeviceSpec::Block {
+            sectors: self.sectors,
+            read_only: self.read_only,
+            identity,
+            depth: depth(self.depth),
+        }
+    }
+}
+
+/// How many operations of a disk may be in flight. A depth that is too large stays so.
+pub(crate) fn depth(depth: u32) -> u8
+    ensures { result ≡ depth_of depth }
+{
+    depth.clamp(1, 255) as u8
 }

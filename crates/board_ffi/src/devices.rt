@@ -22,6 +22,8 @@ pub struct DevicePending {
     pub padding: [u8; 3],
     /// How many bytes the oldest frame has that waits for the host, and 0 where none waits.
     pub frame: u64,
+    /// What is in flight of a disk: bit n is set where tag n is. It is 0 of another device.
+    pub tags: u64,
 }
 
 /// Supplies an entropy device with bytes, and tells how many it took, the first ones.

@@ -1,7 +1,7 @@
 //! A guest's reads and writes of its devices' registers, and the words that stand for its interrupt lines.
 
 ghost use Rattle.std.specs.Prelude.{◌≡◌, ◌≢◌, ◌≤◌};
-ghost use Rattle.board_ffi.specs.Calls.{Calls, GoesOn, HasWords, IsMissing, IsUndisturbed, Reply, Takes, Tells, Writes, read_event, write_event};
+ghost use Rattle.board_ffi.specs.Calls.{Calls, GoesOn, HasWords, IsMissing, IsUndisturbed, Reply, Takes, Tells, Writes, device_at, read_event, write_event};
 
 use crate::answers::{devices, registers};
 use crate::handle::{Handle, session_of};
@@ -45,9 +45,9 @@ pub extern "C" fn kalyubos_write(
     pending: &mut Pending,
 ) -> u32
     ensures step { Calls board.old.session board.new.session result
-        (Writes slot (write_event window offset width value) result) }
-    // of a further device it never pauses, and asks its host for nothing
-    ensures at_once { 2 ≤ window → (result ≢ 18) × (result ≢ 20) }
+        (Writes slot (device_at window) (write_event window offset width value) result) }
+    // of a further device it never pauses
+    ensures at_once { 2 ≤ window → result ≢ 18 }
     ensures pending { Tells slot board.new.session pending.old pending.new }
 {
     let session = session_of!(board);

@@ -5,7 +5,7 @@ ghost use Rattle.session.specs.Refusing.{AreDevices, AreOutlets, has_bad_device}
 ghost use Rattle.board_ffi.specs.Judging.{first_of_bad_device, first_of_large_outlet, first_of_other_size};
 ghost use Rattle.board_ffi.specs.Config.{AreSized, backing_of, guest_of, guests_of};
 
-use crate::device::Device;
+use crate::device::{Device, depth};
 use crate::region::regions;
 use guest_memory::{MOST_REGIONS, RegionSpec};
 use session::{Backing, Extent, GuestSpec, MOST_DEVICES, SlotSpec, has_bad_device};
@@ -41,7 +41,7 @@ pub struct Slot {
 }
 
 impl Slot {
-    // Who has its disk. A depth that is too large stays so.
+    // Who has its disk.
     fn backing(&self) -> Backing
         ensures { result ≡ backing_of self.now.hosted self.now.depth }
     {
@@ -49,7 +49,7 @@ impl Slot {
             return Backing::Image;
         }
         Backing::Host {
-            depth: self.depth.clamp(1, 255) as u8,
+            depth: depth(self.depth),
         }
     }
 

@@ -1,12 +1,14 @@
 //! A guest's further devices: its driver's registers, and what its host hands in, takes and is told.
 
-ghost use Rattle.std.specs.Prelude.{◌≡◌, ◌≢◌, ◌++◌, IfErr, IfOk, length};
+ghost use Rattle.std.specs.Prelude.{◌≡◌, ◌≢◌, ◌++◌, Some, IfErr, IfOk, length};
 ghost use Rattle.board.specs.declared.event.DeviceEvent.{DeviceEvent};
 ghost use Rattle.board_ffi.specs.Calls.{EventKind, HasDevicePending, IsNoDevice, IsTooShort, Reply, Takes, TakesFrame, TellsOf, Writes};
 ghost use Rattle.board_ffi.specs.Codes.{code_at, code_by};
 ghost use Rattle.board_ffi.specs.Devices.{IsCopied, IsLonger, count_of, frame_now, pending_of_device};
 
-use crate::codes::{BAD_SLOT, BAD_WINDOW, DONE, SHORT_BUFFER, of_done, of_refusal, told};
+use crate::codes::{
+    BAD_SLOT, BAD_WINDOW, DONE, SHORT_BUFFER, of_done, of_refusal, of_served, told,
+};
 use crate::devices::DevicePending;
 use crate::pending::Pending;
 use session::{DeviceWaits, Refusal, Session};
@@ -37,12 +39,12 @@ pub(crate) fn write(
     value: u32,
     pending: &mut Pending,
 ) -> u32
-    ensures writes { Writes slot (EventKind.Device device (DeviceEvent.Write offset width value)) result
+    ensures writes { Writes slot (Some device) (EventKind.Device device (DeviceEvent.Write offset width value)) result
         session.old session.new }
-    ensures at_once { (result ≢ 18) × (result ≢ 20) }
+    ensures at_once { result ≢ 18 }
     ensures pending { TellsOf slot session.new pending.old pending.new }
 {
-    let answer = of_done(session.write_device(slot, device, offset, width, value));
+    let answer = of_served(session.write_device(slot, device, offset, width, value));
     pending.tell(session, slot);
     answer
 }
@@ -178,6 +180,7 @@ impl DevicePending {
             starved: waits.starved,
             padding: [0; 3],
             frame: waits.sent.unwrap_or(0) as u64,
+            tags: waits.tags,
         }
     }
 }

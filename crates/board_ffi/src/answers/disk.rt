@@ -1,111 +1,171 @@
 //! What a guest's disk is asked for, and what came of it.
 
-ghost use Rattle.std.specs.Prelude.{◌≡◌, ◌≢◌};
-ghost use Rattle.board_ffi.specs.Calls.{Completes, Drops, HasInFlight, Holds, IsAskedFor, IsAtRest, IsMissing, Releases, TellsOf};
+ghost use Rattle.std.specs.Prelude.{◌≡◌, ◌≢◌, None, IfNone, IfSome, length};
+ghost use Rattle.board_ffi.specs.Calls.{Completes, HasInFlight, IsAskedFor, IsAtRest, IsNoDisk, Says, TellsOf};
 ghost use Rattle.board_ffi.specs.Codes.{code_at};
+ghost use Rattle.board_ffi.specs.Disk.{IsInFlight, flight_of, in_flight_of, rest_code};
 ghost use Rattle.board_ffi.specs.Events.{verdict_of};
 
-use crate::codes::{BAD_SLOT, DONE, IDLE, of_served};
+use crate::codes::{BAD_SLOT, BAD_WINDOW, DONE, IDLE, of_served};
 use crate::operation::{Operation, Run, tell_runs};
 use crate::pending::Pending;
-use session::{Session, Told, Verdict};
+use crate::window::DiskWindow;
+use session::{HostEvent, Segment, Session, Told, Verdict};
 
-/// Tells which tags of a slot are in flight.
-pub(crate) fn in_flight(session: &Session, slot: u8, tags: &mut u64) -> u32
-    ensures told { result ≡ 0 → HasInFlight slot tags.new session.now session.now }
-    ensures missing { result ≢ 0 → IsMissing slot result session.now session.now }
+/// Tells which tags of a disk are in flight.
+pub(crate) fn in_flight(session: &Session, slot: u8, disk: DiskWindow, tags: &mut u64) -> u32
+    ensures told { result ≡ 0 → HasInFlight slot tags.new disk session.now session.now }
+    ensures missing { result ≢ 0 → IsNoDisk slot result disk session.now session.now }
     ensures kept { result ≢ 0 → tags.new ≡ tags.old }
 {
-    let Some(taken) = session.in_flight(slot) else {
-        return BAD_SLOT;
+    let Some(taken) = tags_of(session, slot, disk) else {
+        return no_disk(slot, session.slots());
     };
     *tags = taken;
     DONE
 }
 
-/// Tells what is in flight of a slot with this tag: the operation, and the first of its runs, as many as find room.
+// Which tags of a disk are in flight, if there is such a disk.
+fn tags_of(session: &Session, slot: u8, disk: DiskWindow) -> Option<u64>
+    ensures { result ≡ in_flight_of slot disk session.now.slots }
+{
+    match disk {
+        DiskWindow::Own => session.in_flight(slot),
+        DiskWindow::Further(device) => {
+            let disk = session.disk(slot, device)?;
+            Some(disk.taken())
+        }
+    }
+}
+
+/// Tells what is in flight of a disk with this tag: the operation, and the first of its runs, as many as find room.
 pub(crate) fn operation(
     session: &Session,
     slot: u8,
+    disk: DiskWindow,
     tag: u8,
     operation: &mut Operation,
     runs: &mut [Run],
 ) -> u32
-    ensures told { result ≡ 0 → IsAskedFor slot tag operation.new runs.old runs.new session.now session.now }
-    ensures rests { result ≢ 0 → IsAtRest slot tag result session.now session.now }
+    ensures told { result ≡ 0 → IsAskedFor slot tag operation.new runs.old runs.new disk session.now session.now }
+    ensures rests { result ≢ 0 → IsAtRest slot tag result disk session.now session.now }
     ensures kept { result ≢ 0 → (operation.new ≡ operation.old) × (runs.new ≡ runs.old) }
 {
-    let (Some(asked), Some(found)) = (session.operation(slot, tag), session.runs(slot, tag)) else {
-        return idle(slot, session.slots());
+    let Some((asked, found)) = asked_of(session, slot, disk, tag) else {
+        return at_rest(session, slot, disk);
     };
     *operation = Operation::of(asked, found);
     tell_runs(found, runs);
     DONE
 }
 
-/// Completes what is in flight of a slot with this tag, which was done or failed.
+// What a disk is asked for with this tag, and where its bytes lie.
+fn asked_of(
+    session: &Session,
+    slot: u8,
+    disk: DiskWindow,
+    tag: u8,
+) -> Option<(session::Operation, &[Segment])>
+    ensures asked { IfSome result (λ asked. IsInFlight slot tag disk asked.0 asked.1.now session.now) }
+    ensures rests { IfNone result (flight_of slot disk tag session.now.slots ≡ None) }
+{
+    match disk {
+        DiskWindow::Own => {
+            let asked = session.operation(slot, tag)?;
+            Some((asked, session.runs(slot, tag)?))
+        }
+        DiskWindow::Further(device) => {
+            let disk = session.disk(slot, device)?;
+            let asked = disk.operation(tag)?;
+            Some((asked, disk.runs(tag)))
+        }
+    }
+}
+
+// What is answered of a slot of which nothing is in flight with a tag.
+fn at_rest(session: &Session, slot: u8, disk: DiskWindow) -> u32
+    ensures { result ≡ rest_code slot disk session.now.slots }
+{
+    if usize::from(slot) >= session.slots() {
+        return BAD_SLOT;
+    }
+    match tags_of(session, slot, disk) {
+        Some(_) => IDLE,
+        None => BAD_WINDOW,
+    }
+}
+
+/// Completes what is in flight of a disk with this tag, which was done or failed.
 #[tactic(auto, using(crate::proofs::Telling::tells))]
 pub(crate) fn completed(
     session: &mut Session,
     slot: u8,
+    disk: DiskWindow,
     tag: u8,
     failed: bool,
     pending: &mut Pending,
 ) -> u32
-    ensures completes { Completes slot tag failed result session.old session.new }
+    ensures completes { Completes slot tag failed result disk session.old session.new }
     ensures pending { TellsOf slot session.new pending.old pending.new }
 {
-    if session.operation(slot, tag).is_none() {
+    if asked_of(session, slot, disk, tag).is_none() {
         pending.tell(session, slot);
-        return idle(slot, session.slots());
+        return at_rest(session, slot, disk);
     }
-    let Told { answer, waits } = session.completed(slot, tag, verdict(failed));
-    pending.tell_waits(waits);
-    of_served(answer)
+    let verdict = verdict(failed);
+    told(
+        session,
+        slot,
+        disk,
+        HostEvent::Complete { tag, verdict },
+        pending,
+    )
 }
 
-/// Gives up all that is in flight of a slot.
+/// The host says this of a disk. What then waits is told.
 #[tactic(auto, using(crate::proofs::Telling::tells))]
-pub(crate) fn dropped(session: &mut Session, slot: u8, pending: &mut Pending) -> u32
-    ensures drops { Drops slot result session.old session.new }
+pub(crate) fn told(
+    session: &mut Session,
+    slot: u8,
+    disk: DiskWindow,
+    said: HostEvent,
+    pending: &mut Pending,
+) -> u32
+    ensures says { Says slot said result disk session.old session.new }
     ensures pending { TellsOf slot session.new pending.old pending.new }
 {
-    let Told { answer, waits } = session.dropped(slot);
-    pending.tell_waits(waits);
-    of_served(answer)
+    match disk {
+        DiskWindow::Own => {
+            let Told { answer, waits } = session.say(slot, said);
+            pending.tell_waits(waits);
+            of_served(answer)
+        }
+        DiskWindow::Further(device) => {
+            let answer = session.tell(slot, device, said);
+            pending.tell(session, slot);
+            of_served(answer)
+        }
+    }
 }
 
-/// Takes no further chain of a slot's disk.
-#[tactic(auto, using(crate::proofs::Telling::tells))]
-pub(crate) fn hold(session: &mut Session, slot: u8, pending: &mut Pending) -> u32
-    ensures holds { Holds slot result session.old session.new }
-    ensures pending { TellsOf slot session.new pending.old pending.new }
-{
-    let Told { answer, waits } = session.hold(slot);
-    pending.tell_waits(waits);
-    of_served(answer)
-}
-
-/// Takes chains of a slot's disk again.
-#[tactic(auto, using(crate::proofs::Telling::tells))]
-pub(crate) fn release(session: &mut Session, slot: u8, pending: &mut Pending) -> u32
-    ensures releases { Releases slot result session.old session.new }
-    ensures pending { TellsOf slot session.new pending.old pending.new }
-{
-    let Told { answer, waits } = session.release(slot);
-    pending.tell_waits(waits);
-    of_served(answer)
-}
-
-// What is answered of a slot, of so many, of which nothing is in flight with a tag.
-fn idle(slot: u8, slots: usize) -> u32
-    ensures { result ≡ code_at slot slots 21 }
+/// What is answered of a slot, of so many, that has no such disk.
+pub(crate) fn no_disk(slot: u8, slots: usize) -> u32
+    ensures { result ≡ code_at slot slots 6 }
 {
     if usize::from(slot) < slots {
-        IDLE
+        BAD_WINDOW
     } else {
         BAD_SLOT
     }
+}
+
+/// The same, with what waits.
+pub(crate) fn of_no_disk(session: &Session, slot: u8, pending: &mut Pending) -> u32
+    ensures code { result ≡ code_at slot (length session.now.slots) 6 }
+    ensures pending { TellsOf slot session.now pending.old pending.new }
+{
+    pending.tell(session, slot);
+    no_disk(slot, session.slots())
 }
 
 // What came of an operation.

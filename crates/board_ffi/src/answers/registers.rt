@@ -37,7 +37,7 @@ pub(crate) fn write(
     value: u32,
     pending: &mut Pending,
 ) -> u32
-    ensures writes { Writes slot (EventKind.Write window offset width value) result session.old session.new }
+    ensures writes { Writes slot None (EventKind.Write window offset width value) result session.old session.new }
     ensures pending { TellsOf slot session.new pending.old pending.new }
 {
     let Told { answer, waits } = session.write(slot, window, offset, width, value);
