@@ -14,7 +14,7 @@ use std::fmt::{Display, Formatter};
 use std::{fmt, io};
 use trace::{
     FaultKind, Field, Format, TraceFault, Version, field_at_fault, fields_after, first_word,
-    format_of, line_of,
+    format_of, line_of, names_disk,
 };
 
 /// One line for a person.
@@ -263,7 +263,7 @@ fn words_for(format: Format, number: u64) -> &'static str {
         (_, 2) => "the second line is the cache's, as \"cache 8\"",
         (Format::Plain(_), _) => "a line begins with slot, r, w, mr, mw, in or sz",
         (Format::Extended, _) =>
-            "a line begins with slot, r, w, mr, mw, in, sz, st, io, drop, hold or release",
+            "a line begins with slot, r, w, mr, mw, in, sz, st, io, drop, hold, release, plug, dr, dw, supply, frame, take, link, dio, ddrop, dhold or drelease",
     }
 }
 
@@ -273,8 +273,9 @@ fn write_fields<W: fmt::Write>(f: &mut Formatter<W>, line: &[u8], format: Format
     let Some(word) = first_word(line) else {
         return write!(f, "found {shown}");
     };
-    let count = fields_after(format, word).len();
-    let (word, example) = example_of(format, word);
+    let is_disk = names_disk(line);
+    let count = fields_after(format, word, is_disk).len();
+    let (word, example) = example_of(format, word, is_disk);
     let fields = if count == 1 { "field" } else { "fields" };
     write!(
         f,

@@ -5,8 +5,8 @@ ghost use Rattle.trace.specs.Words.{spelled};
 
 use trace::{Field, Format, Version, Word};
 
-/// A word, and fields after it as they look in a format.
-pub fn example_of(format: Format, word: Word) -> (&'static str, &'static str)
+/// A word, and fields after it as they look in a format, those of a further disk where it `is_disk`.
+pub fn example_of(format: Format, word: Word, is_disk: bool) -> (&'static str, &'static str)
     ensures word { result.0.now ≡ spelled word }
 {
     match word {
@@ -23,6 +23,10 @@ pub fn example_of(format: Format, word: Word) -> (&'static str, &'static str)
         Word::Drop => ("drop", "0"),
         Word::Hold => ("hold", "0"),
         Word::Release => ("release", "0"),
+        Word::Plug if is_disk => (
+            "plug",
+            "0 0 disk 800 rw 6469736b2d310000000000000000000000000000 4",
+        ),
         Word::Plug => ("plug", "0 0 entropy"),
         Word::DeviceRead => ("dr", "0 0 070 4"),
         Word::DeviceWrite => ("dw", "0 0 070 4 0000000f"),
@@ -30,6 +34,10 @@ pub fn example_of(format: Format, word: Word) -> (&'static str, &'static str)
         Word::Receive => ("frame", "0 0 525400123456525400abcdef88b50102"),
         Word::TakeSent => ("take", "0 0"),
         Word::SetLink => ("link", "0 0 up"),
+        Word::DeviceComplete => ("dio", "0 0 0 done"),
+        Word::DeviceDrop => ("ddrop", "0 0"),
+        Word::DeviceHold => ("dhold", "0 0"),
+        Word::DeviceRelease => ("drelease", "0 0"),
     }
 }
 
@@ -71,6 +79,8 @@ pub fn spelling_of(field: Field) -> Spelling {
         Field::Length => Number("a length", 32),
         Field::Tag => Number("an operation's tag", 8),
         Field::Device => Number("a further device", 8),
+        Field::Capacity => Number("a disk's number of sectors", 64),
+        Field::Depth => Number("a number of operations", 8),
         Field::Regions => Other(
             "a memory is one to eight regions by base and length, as 80000000+1000 or 0+1000,80000000+1000",
         ),
@@ -81,10 +91,10 @@ pub fn spelling_of(field: Field) -> Spelling {
         Field::Disk => Other("a slot's disk is image, or host:1 to host:40"),
         Field::Window => Other("a window is b or c"),
         Field::Width => Other("a width is 1, 2 or 4"),
-        Field::Mode => Other("a slot is rw or ro"),
+        Field::Mode => Other("a disk is rw or ro"),
         Field::Verdict => Other("what came of an operation is done or failed"),
         Field::Kind => Other(
-            "a further device is entropy, or network:525400123456:5dc by its address and its MTU",
+            "a further device is entropy, network:525400123456:5dc by its address and its MTU, or disk",
         ),
         Field::Link => Other("a link is up or down"),
         Field::Bytes => {

@@ -33,8 +33,9 @@ use Rattle.board.proofs.Alone.{get_set}
 use Rattle.board.proofs.Seats.{extents_of-set, handles_missing, noted_none, set_same, step_there}
 use Rattle.trace.specs.Asked.{Begun, asked_field, asked_line, none_mark}
 use Rattle.trace.specs.Records.{entry_of, read_line, record_fields, record_line}
-use Rattle.replay.specs.Running.{AnswersEvent, AnswersParsed, IsPart, RunsParsed, tags_of, words_of}
-use Rattle.replay.specs.Telling.{LineTelling, SendsRun, Told, begun_at, begun_between, begun_from, staying, tags_at, tags_of_state, told_line, told_of, told_text}
+use Rattle.replay.specs.Asking.{further_from}
+use Rattle.replay.specs.Running.{AnswersEvent, AnswersParsed, IsPart, RunsParsed, further_tags, tags_of, words_of}
+use Rattle.replay.specs.Telling.{LineTelling, SendsRun, Told, begun_at, begun_between, begun_from, completed_in, device_in, further_begun, staying, tags_at, tags_of_state, told_line, told_of, told_text}
 use Rattle.hexadecimal.specs.Fields.{IsBytesField}
 use Rattle.trace.specs.declared.read.parsed_event.ParsedEvent.{ParsedEvent}
 use Rattle.trace.specs.ParsedEvent.{IsFineParsed, IsFineWhat, IsPlain, what_parsed}
@@ -219,6 +220,8 @@ module _ {A I : Type 0} (disk : I → Disk) (parsed : ParsedEvent A) (old new : 
       printable = tt;
     };
     tag = rw is refl;
+    device = rw is refl;
+    completed = rw is refl;
     answered = answered';
   }
 
@@ -238,6 +241,8 @@ module _ {A I : Type 0} (disk : I → Disk) (parsed : ParsedEvent A) (old new : 
       printable = tt;
     };
     tag = rw is refl;
+    device = rw is refl;
+    completed = rw is refl;
     answered = answered';
   }
 
@@ -267,6 +272,8 @@ said_alone {A} disk parsed old new n what reply out fine is no_supply no_frame a
         printable = rw (is) both.1.printable;
       };
       tag = refl;
+      device = refl;
+      completed = refl;
       answered = answered';
     }
 
@@ -336,21 +343,37 @@ answered_alone {A} {old} {new} {event} {reply} {out = out} none h =
 -- ---- what began
 
 -- what is in flight is seen
-seen_at : (bytes : List ℕ) (o : Option BoardSlot) → tags_of_state (option_map (state_of bytes) o) ≡ tags_of o
-seen_at bytes None = refl
-seen_at bytes (Some slot) = refl
+seen_at : (whose : Option ℕ) (bytes : List ℕ) (o : Option BoardSlot)
+    → tags_of_state whose (option_map (state_of bytes) o) ≡ tags_of whose o
+seen_at whose bytes None = refl
+seen_at None bytes (Some slot) = refl
+seen_at (Some n) bytes (Some slot) = refl
 
-tags_seen : (slots : List BoardSlot) (disk : Disk) (h : ℕ)
-    → tags_at (seen slots disk).slots h ≡ tags_of (slice_get slots h)
-tags_seen slots disk h =
-    ap tags_of_state (slice_get-map (state_of (bytes_of disk)) slots h)
-    ∙ seen_at (bytes_of disk) (slice_get slots h)
+tags_seen : (whose : Option ℕ) (slots : List BoardSlot) (disk : Disk) (h : ℕ)
+    → tags_at whose (seen slots disk).slots h ≡ tags_of whose (slice_get slots h)
+tags_seen whose slots disk h =
+    ap (tags_of_state whose) (slice_get-map (state_of (bytes_of disk)) slots h)
+    ∙ seen_at whose (bytes_of disk) (slice_get slots h)
+
+-- those of the further disk that is named
+abbrev further_on : Option ℕ → Option ℕ → Option BoardSlot → Option BoardSlot → List Begun
+further_on whose completed old new =
+    further_from whose (staying completed (further_tags whose old)) new
+
+further_seen : (whose completed : Option ℕ) (h : ℕ) (old new : List BoardSlot) (disk disk' : Disk)
+    → further_begun whose completed h (seen old disk).slots (seen new disk').slots
+    ≡ further_on whose completed (slice_get old h) (slice_get new h)
+further_seen None completed h old new disk disk' = refl
+further_seen (Some n) completed h old new disk disk' =
+    rw (tags_seen (Some n) old disk h, tags_seen (Some n) new disk' h) refl
 
 -- the operations that began with an event of a board
 abbrev begun_on : {A I : Type 0} → Event A → BoardState I → BoardState I → List Begun
 begun_on event old new =
-    begun_between (tag_in event.what) (tags_of (slice_get old.slots event.slot))
-    (tags_of (slice_get new.slots event.slot))
+    begun_between None (tag_in event.what) (tags_of None (slice_get old.slots event.slot))
+    (tags_of None (slice_get new.slots event.slot))
+    ++ further_on (device_in event.what) (completed_in event.what) (slice_get old.slots event.slot)
+    (slice_get new.slots event.slot)
 
 -- ---- one event
 
@@ -387,8 +410,10 @@ event_run {A} {I} hosted disk old new event reply out words a b s t it is sent =
         let began : begun_on event old new
         ≡ begun_at event.slot event.what (world_of disk old).slots (world_of disk new).slots =
         rw (
-          tags_seen old.slots (disk old.image) event.slot,
-          tags_seen new.slots (disk new.image) event.slot,
+          tags_seen None old.slots (disk old.image) event.slot,
+          tags_seen None new.slots (disk new.image) event.slot,
+          further_seen (device_in event.what) (completed_in event.what) event.slot old.slots new.slots
+              (disk old.image) (disk new.image),
         ) refl in
         record {
           moves = move ∷ [];
@@ -421,20 +446,27 @@ parsed_run disk parsed old new reply out words a b s t it is sent = record {
 
 -- in a hosted one its record and what began go out one after the other
 pub parsed_asking : {A I : Type 0} (disk : I → Disk) (parsed : ParsedEvent A) (old new : BoardState I)
-    (reply : Reply A) (out : List ℕ) (words : ℕ × ℕ) (stayed : ℕ)
+    (reply : Reply A) (out : List ℕ) (words : ℕ × ℕ) (stayed stayed_further : ℕ)
     (a b c s t u : Option (List ℕ)) → AnswersParsed disk parsed old reply out new
     → (Tells (disk old.image) → words ≡ words_of (slice_get new.slots parsed.event.slot))
-    → stayed ≡ taken_bits (staying (tag_in parsed.event.what) (tags_of (slice_get old.slots parsed.event.slot)))
+    → stayed ≡ taken_bits (staying (tag_in parsed.event.what) (tags_of None (slice_get old.slots parsed.event.slot)))
+    → stayed_further ≡ taken_bits (staying (completed_in parsed.event.what)
+    (further_tags (device_in parsed.event.what) (slice_get old.slots parsed.event.slot)))
     → Sends a b s (line (record_fields (entry_of parsed.event.slot reply out words)) ++ 32 ∷ []) t
-    → ((before : List (Option InFlight)) → stayed ≡ taken_bits before → Sends b c t
-    (asked_field (begun_from 0 before (tags_of (slice_get new.slots parsed.event.slot))) ++ 10 ∷ []) u)
+    → ((before further : List (Option InFlight)) → stayed ≡ taken_bits before
+    → stayed_further ≡ taken_bits further → Sends b c t
+    (asked_field (begun_from None 0 before (tags_of None (slice_get new.slots parsed.event.slot))
+    ++ further_from (device_in parsed.event.what) further (slice_get new.slots parsed.event.slot)) ++ 10 ∷ []) u)
     → RunsParsed parsed (λ event. SendsRun true disk old new (event ∷ []) a c s u)
-parsed_asking disk parsed old new reply out words stayed a b c s t u it is test front last =
+parsed_asking disk parsed old new reply out words stayed stayed_further a b c s t u it is test further front last =
     let event = it.event in
-    let began = begun_between (tag_in parsed.event.what) (tags_of (slice_get old.slots parsed.event.slot))
-    (tags_of (slice_get new.slots parsed.event.slot)) in
-    let same : began ≡ begun_on event old new = rw (it.slot, it.tag) refl in
-    let whole = asking_sent (entry_of parsed.event.slot reply out words) began a b c s t u front (last _ test) in
+    let began = begun_between None (tag_in parsed.event.what) (tags_of None (slice_get old.slots parsed.event.slot))
+    (tags_of None (slice_get new.slots parsed.event.slot))
+    ++ further_on (device_in parsed.event.what) (completed_in parsed.event.what)
+    (slice_get old.slots parsed.event.slot) (slice_get new.slots parsed.event.slot) in
+    let same : began ≡ begun_on event old new = rw (it.slot, it.tag, it.device, it.completed) refl in
+    let whole = asking_sent (entry_of parsed.event.slot reply out words) began a b c s t u front
+    (last _ _ test further) in
     record {
       event = event;
       fields = it.fields;
@@ -457,7 +489,7 @@ read_run {A} hosted disk parsed board addr len part words a b s t fine is it sam
     let event : Event A = record { slot = parsed.event.slot; what = MemRead addr len } in
     let plain = rw is at fine.what in
     let none : begun_on event board board ≡ [] =
-    nothing_begins (tags_of (slice_get board.slots parsed.event.slot)) in
+    rw (nothing_begins None (tags_of None (slice_get board.slots parsed.event.slot))) refl in
     record {
       event = event;
       fields = rw is refl;

@@ -9,6 +9,7 @@ use Rattle.board.specs.declared.event.EventKind.{EventKind}
 use Rattle.board.specs.declared.event.EventKind.TheVariants.{Device}
 use Rattle.board.specs.declared.reply.Reply.{Reply}
 use Rattle.block_device.specs.Flights.{InFlight}
+use Rattle.device_list.specs.List.{disk_at}
 use Rattle.board.specs.Backing.{tags_in}
 use Rattle.board.specs.Hosting.{tag_in}
 use Rattle.board.specs.Image.{Tells}
@@ -22,7 +23,7 @@ use Rattle.replay.specs.declared.fault.ReplayFault.TheVariants.{Write, NoMemory}
 use Rattle.trace.specs.Refusals.{IsFine}
 use Rattle.trace.specs.ParsedEvent.{parsed_fields}
 use Rattle.trace.specs.Text.{event_fields}
-use Rattle.replay.specs.Telling.{SendsRun}
+use Rattle.replay.specs.Telling.{SendsRun, completed_in, device_in, disk_tags}
 
 -- these bytes lie in the memory of a slot that is there
 pub record IsPart {I : Type 0} (board : BoardState I) (slot addr len : ℕ) (part : List ℕ) : Type 0 where
@@ -36,10 +37,16 @@ abbrev pub words_of : Option BoardSlot → ℕ × ℕ
 words_of None = (0, 0)
 words_of (Some slot) = interrupt_words slot
 
--- what is in flight of a slot by its tags, where it is there
-abbrev pub tags_of : Option BoardSlot → List (Option InFlight)
-tags_of None = []
-tags_of (Some slot) = tags_in slot.host
+-- what is in flight of a slot's own disk by its tags, or of the further one of a number, where the slot is there
+abbrev pub tags_of : Option ℕ → Option BoardSlot → List (Option InFlight)
+tags_of whose None = []
+tags_of None (Some slot) = tags_in slot.host
+tags_of (Some n) (Some slot) = disk_tags (disk_at n slot.devices)
+
+-- the same of the further disk that is named, if one is
+abbrev pub further_tags : Option ℕ → Option BoardSlot → List (Option InFlight)
+further_tags None slot = []
+further_tags (Some n) slot = tags_of (Some n) slot
 
 -- what goes on of a board and its image while an event is handled
 pub record KeepsTelling {I : Type 0} (disk : I → Disk) (old new : BoardState I) : Type 0 where
@@ -65,6 +72,8 @@ pub record AnswersParsed {A I : Type 0} (disk : I → Disk) (parsed : ParsedEven
   pub fields : event_fields event ≡ parsed_fields parsed
   pub fine : IsFine event
   pub tag : tag_in event.what ≡ tag_in parsed.event.what
+  pub device : device_in event.what ≡ device_in parsed.event.what
+  pub completed : completed_in event.what ≡ completed_in parsed.event.what
   pub answered : AnswersEvent disk old event reply out new
 
 -- the event that was said was run, of which this holds

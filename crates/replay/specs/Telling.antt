@@ -6,10 +6,15 @@ use Rattle.sector_cache.specs.Disk.{Disk}
 use Rattle.block_device.specs.Flights.{InFlight}
 use Rattle.board.specs.declared.event.Event.{Event}
 use Rattle.board.specs.declared.event.EventKind.{EventKind}
+use Rattle.board.specs.declared.event.EventKind.TheVariants as what
+use Rattle.board.specs.declared.event.DeviceEvent.{DeviceEvent}
+use Rattle.board.specs.declared.event.DeviceEvent.TheVariants as device
 use Rattle.board.specs.declared.reply.Record.{Record}
 use Rattle.board.specs.declared.reply.Reply.{Reply}
+use Rattle.device_list.specs.List.{disk_at}
+use Rattle.hosted_disk.specs.Disk.{HostedDisk}
 use Rattle.board.specs.Backing.{tags_in}
-use Rattle.board.specs.Hosting.{tag_in}
+use Rattle.board.specs.Hosting.{tag_in, tag_of}
 use Rattle.board.specs.Image.{Tells}
 use Rattle.board.specs.Line.{IsLine, Move, events_of}
 use Rattle.board.specs.Slot.{SlotState}
@@ -21,43 +26,71 @@ use Rattle.trace.specs.Text.{joined}
 
 -- ---- what began
 
--- what is in flight of a slot by its tags, where it is there
-abbrev pub tags_of_state : Option SlotState → List (Option InFlight)
-tags_of_state None = []
-tags_of_state (Some state) = tags_in state.host
+-- what is in flight of a further disk by its tags, where it is there
+abbrev pub disk_tags : Option HostedDisk → List (Option InFlight)
+disk_tags None = []
+disk_tags (Some disk) = disk.tags
 
-abbrev pub tags_at : List SlotState → ℕ → List (Option InFlight)
-tags_at slots h = tags_of_state (slice_get slots h)
+-- what is in flight of a slot's own disk, or of the further one of a number, where the slot is there
+abbrev pub tags_of_state : Option ℕ → Option SlotState → List (Option InFlight)
+tags_of_state whose None = []
+tags_of_state None (Some state) = tags_in state.host
+tags_of_state (Some n) (Some state) = disk_tags (disk_at n state.devices)
+
+abbrev pub tags_at : Option ℕ → List SlotState → ℕ → List (Option InFlight)
+tags_at whose slots h = tags_of_state whose (slice_get slots h)
 
 -- the tags that stay taken while an event is handled: all but the one that it completes
 abbrev pub staying : Option ℕ → List (Option InFlight) → List (Option InFlight)
 staying None tags = tags
 staying (Some tag) tags = set tags tag None
 
--- what the host is told of what is in a tag
-abbrev pub told_by_tag : ℕ → Option InFlight → List Begun
-told_by_tag tag None = []
-told_by_tag tag (Some here) =
-    record { tag = tag; operation = here.flight.operation; runs = here.runs } ∷ []
+-- what the host is told of what is in a tag, of a slot's own disk or of the further one of a number
+abbrev pub told_by_tag : Option ℕ → ℕ → Option InFlight → List Begun
+told_by_tag whose tag None = []
+told_by_tag whose tag (Some here) =
+    record { device = whose; tag = tag; operation = here.flight.operation; runs = here.runs } ∷ []
 
 -- What is in a tag behind an event began with it where the tag did not stay taken.
-abbrev pub begun_by_tag : ℕ → Option InFlight → Option InFlight → List Begun
-begun_by_tag tag (Some stayed) behind = []
-begun_by_tag tag None behind = told_by_tag tag behind
+abbrev pub begun_by_tag : Option ℕ → ℕ → Option InFlight → Option InFlight → List Begun
+begun_by_tag whose tag (Some stayed) behind = []
+begun_by_tag whose tag None behind = told_by_tag whose tag behind
 
 -- those of the tags from this one on, beside what stayed in all tags
-abbrev pub begun_from : ℕ → List (Option InFlight) → List (Option InFlight) → List Begun
-begun_from tag stayed [] = []
-begun_from tag stayed (behind ∷ others) =
-    begun_by_tag tag (get_or stayed tag None) behind ++ begun_from (suc tag) stayed others
+abbrev pub begun_from : Option ℕ → ℕ → List (Option InFlight) → List (Option InFlight) → List Begun
+begun_from whose tag stayed [] = []
+begun_from whose tag stayed (behind ∷ others) =
+    begun_by_tag whose tag (get_or stayed tag None) behind ++ begun_from whose (suc tag) stayed others
 
 -- what began with an event that completed this tag or none, from what is in flight before it and behind it
-abbrev pub begun_between : Option ℕ → List (Option InFlight) → List (Option InFlight) → List Begun
-begun_between completed before behind = begun_from 0 (staying completed before) behind
+abbrev pub begun_between : Option ℕ → Option ℕ → List (Option InFlight) → List (Option InFlight) → List Begun
+begun_between whose completed before behind = begun_from whose 0 (staying completed before) behind
 
--- the operations that began with an event of slot h, from the states before it and after it
+-- the further device that an event names, and the tag of its operation that it completes
+abbrev pub device_in : {A : Type 0} → EventKind A → Option ℕ
+device_in (what.Device n done) = Some n
+device_in other = None
+
+abbrev pub completed_by : {A : Type 0} → DeviceEvent A → Option ℕ
+completed_by (device.Host said) = tag_of said
+completed_by done = None
+
+abbrev pub completed_in : {A : Type 0} → EventKind A → Option ℕ
+completed_in (what.Device n done) = completed_by done
+completed_in other = None
+
+-- what began of a further disk, where one is named
+abbrev pub further_begun : Option ℕ → Option ℕ → ℕ → List SlotState → List SlotState → List Begun
+further_begun None completed h old new = []
+further_begun (Some n) completed h old new =
+    begun_between (Some n) completed (tags_at (Some n) old h) (tags_at (Some n) new h)
+
+-- The operations that began with an event of slot h, from the states before it and after it: those of the slot's own
+-- disk, and behind them those of the further disk that the event names.
 abbrev pub begun_at : {A : Type 0} → ℕ → EventKind A → List SlotState → List SlotState → List Begun
-begun_at h what old new = begun_between (tag_in what) (tags_at old h) (tags_at new h)
+begun_at h what old new =
+    begun_between None (tag_in what) (tags_at None old h) (tags_at None new h)
+    ++ further_begun (device_in what) (completed_in what) h old new
 
 -- ---- what is told
 

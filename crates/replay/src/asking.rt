@@ -1,19 +1,20 @@
-//! What the host is asked to do with an event: the operations that began with it, in the order of their tags.
+//! What the host is asked to do with an event: the operations that began with it, in the order of their tags; of the slot's own
+//! disk, and behind those of the further disk that the event names.
 //!
-//! They are found by two sets of tags: those that stayed taken while the event was handled, and those that are taken behind
-//! it. Nothing is looked at where these are the same.
+//! They are found by two sets of tags of a disk: those that stayed taken while the event was handled, and those that are taken
+//! behind it. Nothing is looked at where these are the same.
 
-ghost use Rattle.std.specs.Prelude.{◌≡◌, ◌≢◌, ◌++◌, ◌∷◌, [], true, false, List, Option, None, get_or, if◌then◌else◌, is_none, set};
+ghost use Rattle.std.specs.Prelude.{◌≡◌, ◌≢◌, ◌++◌, ◌∷◌, [], true, false, List, Option, None, Some, get_or, if◌then◌else◌, is_none, set};
 ghost use Rattle.std.specs.List.{slice_get};
 ghost use Rattle.block_device.specs.Flights.{InFlight, taken_bits};
 ghost use Rattle.board.specs.Hosting.{tag_in};
-ghost use Rattle.replay.specs.Asking.{TakesOne, begun_text};
-ghost use Rattle.replay.specs.Running.{tags_of};
-ghost use Rattle.replay.specs.Telling.{begun_from, staying, told_by_tag};
+ghost use Rattle.replay.specs.Asking.{PutsBegun, TakesOne, begun_text, further_from};
+ghost use Rattle.replay.specs.Running.{further_tags, tags_of};
+ghost use Rattle.replay.specs.Telling.{begun_from, completed_by, completed_in, device_in, staying, told_by_tag};
 ghost use Rattle.trace.specs.Asked.{asked_field};
 ghost use Rattle.trace.specs.Sends.{Sends, waiting};
 
-use board::{Board, Event, EventKind, HostEvent};
+use board::{Board, DeviceEvent, Event, EventKind, HostEvent};
 use sector_cache::Image;
 use std::alloc::Allocator;
 use std::io::Write;
@@ -31,23 +32,59 @@ pub(crate) fn staying<I: Image, A: Allocator>(
     event: &Event<A>,
 ) -> u64
     ensures { hosted ≡ true → result ≡
-        taken_bits (staying (tag_in event.now.what) (tags_of (slice_get board.now.slots event.now.slot))) }
+        taken_bits (staying (tag_in event.now.what) (tags_of None (slice_get board.now.slots event.now.slot))) }
 {
     match event.what {
         _ if !hosted => 0,
-        EventKind::Host(HostEvent::Complete { tag, .. }) => without(taken(board, event.slot), tag),
-        _ => taken(board, event.slot),
+        EventKind::Host(HostEvent::Complete { tag, .. }) => {
+            without(taken(board, event.slot, None), tag)
+        }
+        _ => taken(board, event.slot, None),
     }
 }
 
-// The tags of a slot that are taken.
+/// The same of the further disk that the event names: no tags where it names none.
 #[inline(always)]
-fn taken<I: Image, A: Allocator>(board: &Board<I, A>, slot: u8) -> u64
-    ensures { result ≡ taken_bits (tags_of (slice_get board.now.slots slot)) }
+pub(crate) fn staying_further<I: Image, A: Allocator>(
+    board: &Board<I, A>,
+    hosted: bool,
+    event: &Event<A>,
+) -> u64
+    ensures { hosted ≡ true → result ≡ taken_bits (staying (completed_in event.now.what)
+        (further_tags (device_in event.now.what) (slice_get board.now.slots event.now.slot))) }
 {
-    match board.in_flight(slot) {
-        Some(taken) => taken,
-        None => 0,
+    match &event.what {
+        EventKind::Device { device, what } if hosted => {
+            staying_by(what, taken(board, event.slot, Some(*device)))
+        }
+        _ => 0,
+    }
+}
+
+// The tags of a set that stay taken while this is done to their device.
+fn staying_by<A: Allocator>(what: &DeviceEvent<A>, tags: u64) -> u64
+    ensures { (all : List (Option InFlight)) → tags ≡ taken_bits all → result ≡ taken_bits (staying (completed_by what.now) all) }
+{
+    match what {
+        DeviceEvent::Host(HostEvent::Complete { tag, .. }) => without(tags, *tag),
+        _ => tags,
+    }
+}
+
+// The tags that are taken of a slot's own disk, or of the further one of a number.
+#[inline(always)]
+fn taken<I: Image, A: Allocator>(board: &Board<I, A>, slot: u8, device: Option<u8>) -> u64
+    ensures { result ≡ taken_bits (tags_of device (slice_get board.now.slots slot)) }
+{
+    match device {
+        None => match board.in_flight(slot) {
+            Some(taken) => taken,
+            None => 0,
+        },
+        Some(number) => match board.disk(slot, number) {
+            Some(disk) => disk.taken(),
+            None => 0,
+        },
     }
 }
 
@@ -62,26 +99,78 @@ fn without(tags: u64, tag: u8) -> u64
     tags & !(1 << tag)
 }
 
-/// Puts the operations of a slot that began with an event, while which these tags stayed taken, and the line's end.
+/// Puts the operations that began with an event, while which these tags stayed taken of its slot's own disk and of the further
+/// disk that it names, and the line's end.
 pub(crate) fn put_asked<W: Write, I: Image, A: Allocator>(
     text: &mut Buffer<A>,
     writer: &mut W,
     board: &Board<I, A>,
-    slot: u8,
+    event: &Event<A>,
     stayed: u64,
+    stayed_further: u64,
 )
-    ensures { (before : List (Option InFlight)) → stayed ≡ taken_bits before →
+    ensures { (before further : List (Option InFlight)) → stayed ≡ taken_bits before → stayed_further ≡ taken_bits further →
         Sends (W.contents writer.old) (W.contents writer.new) (waiting text.old)
-        (asked_field (begun_from 0 before (tags_of (slice_get board.now.slots slot))) ++ 10 ∷ []) (waiting text.new) }
+        (asked_field (begun_from None 0 before (tags_of None (slice_get board.now.slots event.now.slot))
+        ++ further_from (device_in event.now.what) further (slice_get board.now.slots event.now.slot)) ++ 10 ∷ [])
+        (waiting text.new) }
 {
-    let mut left = taken(board, slot) & !stayed;
-    let mut is_none = true;
+    let no_own = put_tags(text, writer, board, event.slot, None, stayed, true);
+    let is_none = put_named(text, writer, board, event, stayed_further, no_own);
+    put_asked_end(text, writer, is_none);
+}
+
+// Puts those of the further disk that an event names, behind others or not. Whether none is put yet is answered.
+fn put_named<W: Write, I: Image, A: Allocator>(
+    text: &mut Buffer<A>,
+    writer: &mut W,
+    board: &Board<I, A>,
+    event: &Event<A>,
+    stayed: u64,
+    is_first: bool,
+) -> bool
+    ensures { (further : List (Option InFlight)) → stayed ≡ taken_bits further →
+        PutsBegun (further_from (device_in event.now.what) further (slice_get board.now.slots event.now.slot)) is_first result
+        (W.contents writer.old) (W.contents writer.new) (waiting text.old) (waiting text.new) }
+{
+    match event.what {
+        EventKind::Device { device, .. } => {
+            put_tags(
+                text,
+                writer,
+                board,
+                event.slot,
+                Some(device),
+                stayed,
+                is_first,
+            )
+        }
+        _ => is_first,
+    }
+}
+
+// Puts those of a disk, the first of all or behind others. Whether none is put yet is answered.
+fn put_tags<W: Write, I: Image, A: Allocator>(
+    text: &mut Buffer<A>,
+    writer: &mut W,
+    board: &Board<I, A>,
+    slot: u8,
+    device: Option<u8>,
+    stayed: u64,
+    is_first: bool,
+) -> bool
+    ensures { (before : List (Option InFlight)) → stayed ≡ taken_bits before →
+        PutsBegun (begun_from device 0 before (tags_of device (slice_get board.now.slots slot))) is_first result
+        (W.contents writer.old) (W.contents writer.new) (waiting text.old) (waiting text.new) }
+{
+    let mut left = taken(board, slot, device) & !stayed;
+    let mut is_none = is_first;
     while left != 0 {
         let (tag, others) = take_one(left);
-        is_none = put_tag(text, writer, board, slot, tag, is_none);
+        is_none = put_tag(text, writer, board, slot, device, tag, is_none);
         left = others;
     }
-    put_asked_end(text, writer, is_none);
+    is_none
 }
 
 // The lowest tag of a set, which has one, and the other tags.
@@ -100,12 +189,32 @@ fn put_tag<W: Write, I: Image, A: Allocator>(
     writer: &mut W,
     board: &Board<I, A>,
     slot: u8,
+    device: Option<u8>,
     tag: u8,
     is_first: bool,
 ) -> bool
     ensures sends { Sends (W.contents writer.old) (W.contents writer.new) (waiting text.old)
-        (begun_text is_first (told_by_tag tag (get_or (tags_of (slice_get board.now.slots slot)) tag None))) (waiting text.new) }
-    ensures none { result ≡ (if is_none (get_or (tags_of (slice_get board.now.slots slot)) tag None) then is_first else false) }
+        (begun_text is_first (told_by_tag device tag (get_or (tags_of device (slice_get board.now.slots slot)) tag None))) (waiting text.new) }
+    ensures none { result ≡ (if is_none (get_or (tags_of device (slice_get board.now.slots slot)) tag None) then is_first else false) }
+{
+    match device {
+        None => put_own(text, writer, board, slot, tag, is_first),
+        Some(number) => put_further(text, writer, board, slot, number, tag, is_first),
+    }
+}
+
+// Puts that of a slot's own disk.
+fn put_own<W: Write, I: Image, A: Allocator>(
+    text: &mut Buffer<A>,
+    writer: &mut W,
+    board: &Board<I, A>,
+    slot: u8,
+    tag: u8,
+    is_first: bool,
+) -> bool
+    ensures sends { Sends (W.contents writer.old) (W.contents writer.new) (waiting text.old)
+        (begun_text is_first (told_by_tag None tag (get_or (tags_of None (slice_get board.now.slots slot)) tag None))) (waiting text.new) }
+    ensures none { result ≡ (if is_none (get_or (tags_of None (slice_get board.now.slots slot)) tag None) then is_first else false) }
 {
     let Some(operation) = board.operation(slot, tag) else {
         return is_first;
@@ -113,6 +222,38 @@ fn put_tag<W: Write, I: Image, A: Allocator>(
     let Some(runs) = board.runs(slot, tag) else {
         return is_first;
     };
-    put_begun(text, writer, is_first, tag, operation, runs);
+    put_begun(text, writer, is_first, None, tag, operation, runs);
+    false
+}
+
+// Puts that of a further disk.
+fn put_further<W: Write, I: Image, A: Allocator>(
+    text: &mut Buffer<A>,
+    writer: &mut W,
+    board: &Board<I, A>,
+    slot: u8,
+    number: u8,
+    tag: u8,
+    is_first: bool,
+) -> bool
+    ensures sends { Sends (W.contents writer.old) (W.contents writer.new) (waiting text.old)
+        (begun_text is_first (told_by_tag (Some number) tag (get_or (tags_of (Some number) (slice_get board.now.slots slot)) tag None))) (waiting text.new) }
+    ensures none { result ≡ (if is_none (get_or (tags_of (Some number) (slice_get board.now.slots slot)) tag None) then is_first else false) }
+{
+    let Some(disk) = board.disk(slot, number) else {
+        return is_first;
+    };
+    let Some(operation) = disk.operation(tag) else {
+        return is_first;
+    };
+    put_begun(
+        text,
+        writer,
+        is_first,
+        Some(number),
+        tag,
+        operation,
+        disk.runs(tag),
+    );
     false
 }

@@ -18,7 +18,7 @@ ghost use Rattle.trace.specs.ParsedEvent.{IsFineParsed};
 ghost use Rattle.hexadecimal.specs.Fields.{IsBytesField};
 ghost use Rattle.trace.specs.Words.{Says, Bytes as ByBytes};
 
-use crate::asking::{put_asked, staying};
+use crate::asking::{put_asked, staying, staying_further};
 use board::{Board, DeviceEvent, Event, EventKind, Handled, Reply, RestoreRefusal, SlotWindow};
 use sector_cache::Image;
 use std::alloc::Allocator;
@@ -52,6 +52,7 @@ pub(crate) fn run_event<W: Write, I: Image, A: Allocator + Copy>(
         }
     }
     let stayed = staying(board, hosted, &parsed.event);
+    let stayed_further = staying_further(board, hosted, &parsed.event);
     let Handled {
         reply,
         block_irq,
@@ -63,7 +64,7 @@ pub(crate) fn run_event<W: Write, I: Image, A: Allocator + Copy>(
         return;
     }
     put_fields(text, writer, slot, &reply, output.as_slice(), words, b' ');
-    put_asked(text, writer, board, slot, stayed);
+    put_asked(text, writer, board, &parsed.event, stayed, stayed_further);
 }
 
 // Puts the line of a read of memory that gave these bytes. No operation begins with one.

@@ -8,12 +8,12 @@ use Rattle.board.specs.declared.event.SlotWindow.TheVariants.{Block, Console}
 use Rattle.board.specs.declared.event.Event.{Event}
 use Rattle.board.specs.declared.event.EventKind.{EventKind}
 use Rattle.board.specs.declared.event.EventKind.TheVariants as what
-use Rattle.board.specs.declared.event.HostEvent.{HostEvent}
-use Rattle.board.specs.declared.event.HostEvent.TheVariants as host
+use Rattle.block_device.specs.declared.operation.HostEvent.{HostEvent}
+use Rattle.block_device.specs.declared.operation.HostEvent.TheVariants as host
 use Rattle.board.specs.declared.event.DeviceEvent.{DeviceEvent}
 use Rattle.board.specs.declared.event.DeviceEvent.TheVariants as device
 use Rattle.device_list.specs.declared.spec.DeviceSpec.{DeviceSpec}
-use Rattle.device_list.specs.declared.spec.DeviceSpec.TheVariants.{Entropy, Network}
+use Rattle.device_list.specs.declared.spec.DeviceSpec.TheVariants as spec
 use Rattle.board.specs.declared.spec.SlotSpec.{SlotSpec}
 use Rattle.board.specs.declared.spec.Backing.{Backing}
 use Rattle.board.specs.declared.spec.Backing.TheVariants.{Image, Host}
@@ -25,13 +25,13 @@ use Rattle.guest_memory.specs.declared.spec.RegionSpec.{RegionSpec}
 use Rattle.trace.specs.declared.table.Field.{Field}
 use Rattle.trace.specs.declared.table.Field.TheVariants.{Identity}
 use Rattle.trace.specs.declared.word.Word.{Word}
-use Rattle.trace.specs.declared.word.Word.TheVariants.{Cache, Slot, Read, Write, MemRead, MemWrite, Input, Resize, Restore, Complete, Drop, Hold, Release, Plug, DeviceRead, DeviceWrite, Supply, Receive, TakeSent, SetLink}
+use Rattle.trace.specs.declared.word.Word.TheVariants.{Cache, Slot, Read, Write, MemRead, MemWrite, Input, Resize, Restore, Complete, Drop, Hold, Release, Plug, DeviceRead, DeviceWrite, Supply, Receive, TakeSent, SetLink, DeviceComplete, DeviceDrop, DeviceHold, DeviceRelease}
 use Rattle.trace.specs.Cuts.{fields_of}
 use Rattle.trace.specs.Faults.{AllSay, AreAsMany, MayStand, order, fault_of}
 use Rattle.trace.specs.Printable.{DoneInRange, HostInRange, KindInRange, IsPrintableDone, IsPrintableKind, IsPrintableMemory, SlotInRange}
 use Rattle.trace.specs.Refusals.{IsFine, IsFineSlot}
 use Rattle.hexadecimal.specs.Spelling.{num, fixed, bytes}
-use Rattle.trace.specs.Spelling.{window, disk, mode, verdict, width_digit, region_text, regions_text, device_kind, link_state}
+use Rattle.trace.specs.Spelling.{window, disk, mode, verdict, width_digit, region_text, regions_text, device_kind, spec_fields, link_state}
 use Rattle.trace.specs.Text.{line, cache_fields, cache_line, disk_fields, memory_fields, slot_fields, slot_line, device_fields, device_word, event_fields, event_line, host_fields, host_word, what_fields, word_for}
 use Rattle.trace.specs.Format.{unless_version_1}
 use Rattle.hexadecimal.specs.Fields.{IsBytesField, IsFixed}
@@ -59,7 +59,9 @@ word_at n = cond (eqb n 99097099) Cache
     (cond (eqb n 100114111) Drop (cond (eqb n 104111108) Hold (cond (eqb n 114101108) Release
     (cond (eqb n 112108117) Plug (cond (eqb n 100114000) DeviceRead (cond (eqb n 100119000) DeviceWrite
     (cond (eqb n 115117112) Supply (cond (eqb n 102114097) Receive (cond (eqb n 116097107) TakeSent
-    (cond (eqb n 108105110) SetLink Resize))))))))))))))))))
+    (cond (eqb n 108105110) SetLink
+    (cond (eqb n 100105111) DeviceComplete (cond (eqb n 100100114) DeviceDrop (cond (eqb n 100104111) DeviceHold
+    (cond (eqb n 100114101) DeviceRelease Resize))))))))))))))))))))))
 
 found : (w : Word) → word_at (key (spelled w)) ≡ w
 found Cache = refl
@@ -179,15 +181,24 @@ a_verdict Done = ((Done, refl), above_tested 32 (verdict Done) refl)
 a_verdict Failed = ((Failed, refl), above_tested 32 (verdict Failed) refl)
 
 a_kind : (spec : DeviceSpec) → SpecInRange spec → Stands Kind (device_kind spec)
-a_kind Entropy fits = (
-  (Entropy, record { fits = tt; spelled = refl }),
-  above_tested 32 (device_kind Entropy) refl,
+a_kind spec.Entropy fits = (
+  (spec.Entropy, record { fits = tt; spelled = refl }),
+  above_tested 32 (device_kind spec.Entropy) refl,
 )
-a_kind (Network mac mtu) fits = (
-  (Network mac mtu, record { fits = fits; spelled = refl }),
+a_kind (spec.Block sectors read_only identity depth) fits = (
+  (spec.Block sectors read_only identity depth, record { fits = fits; spelled = refl }),
+  above_tested 32 (codes "disk") refl,
+)
+a_kind (spec.Network mac mtu) fits = (
+  (spec.Network mac mtu, record { fits = fits; spelled = refl }),
   above_append 32 (codes "network:") (bytes mac ++ 58 ∷ num mtu) (above_tested 32 (codes "network:") refl)
       (above_append 32 (bytes mac) (58 ∷ num mtu) (bytes_digits mac fits.each) (omega arith, above_num mtu)),
 )
+
+an_identity : (bs : List ℕ) → AreBytes bs → length bs ≡ 20 → Stands ByIdentity (bytes bs)
+an_identity bs each twenty =
+    let is : IsBytesField (bytes bs) bs = record { fits = each; spelled = refl } in
+    ((bs, record { bytes_are = is; twenty = twenty }), bytes_digits bs each)
 
 a_link : (up : Bool) → Stands Link (link_state up)
 a_link true = ((true, refl), above_tested 32 (link_state true) refl)
@@ -234,17 +245,12 @@ cut_cache n lt = cut_line Extended Cache (num n ∷ []) (a_number 32 n lt, tt)
 -- ---- the line of a slot
 
 -- the identity, where a format has it
-an_identity : (s : SlotSpec) → SlotInRange s → Stands ByIdentity (bytes s.identity)
-an_identity s h =
-    let is : IsBytesField (bytes s.identity) s.identity = record { fits = h.identity; spelled = refl } in
-    ((s.identity, record { bytes_are = is; twenty = h.twenty }), bytes_digits s.identity h.identity)
-
 last_field : (format : Format) (width : List ℕ) (s : SlotSpec) → SlotInRange s
     → EachStands (map (shape_of width) (unless_version_1 format (Identity ∷ [])))
     (unless_version_1 format (bytes s.identity ∷ []))
 last_field (Plain One) width s h = tt
-last_field (Plain Two) width s h = (an_identity s h, tt)
-last_field Extended width s h = (an_identity s h, tt)
+last_field (Plain Two) width s h = (an_identity s.identity h.identity h.twenty, tt)
+last_field Extended width s h = (an_identity s.identity h.identity h.twenty, tt)
 
 -- its memory: one region by two fields, or all regions by one
 memory_stands : (format : Format) (width : List ℕ) (regions : List RegionSpec) → All RegionInRange regions
@@ -321,7 +327,7 @@ host_late (host.Complete tag came) = omega arith
 host_late said = omega arith
 
 device_late : {A : Type 0} (done : DeviceEvent A) → MayStand 3 (device_word done)
-device_late device.TakeSent = omega arith
+device_late (device.Host host.Drop) = omega arith
 device_late done = omega arith
 
 may_be_late : {A : Type 0} (w : EventKind A) → MayStand 3 (word_for w)
@@ -334,7 +340,7 @@ host_no_slot (host.Complete tag came) e = absurd cc
 host_no_slot said e = absurd cc
 
 device_no_slot : {A : Type 0} (done : DeviceEvent A) → device_word done ≢ Slot
-device_no_slot device.TakeSent e = absurd cc
+device_no_slot (device.Host host.Drop) e = absurd cc
 device_no_slot done e = absurd cc
 
 no_slot : {A : Type 0} (w : EventKind A) → word_for w ≢ Slot
@@ -353,7 +359,7 @@ host_first slot said = refl
 
 device_first : {A : Type 0} (slot n : ℕ) (done : DeviceEvent A)
     → spelled (device_word done) ∷ drop 1 (device_fields slot n done) ≡ device_fields slot n done
-device_first slot n device.TakeSent = refl
+device_first slot n (device.Host host.Drop) = refl
 device_first slot n done = refl
 
 word_first : {A : Type 0} (slot : ℕ) (w : EventKind A)
@@ -370,13 +376,35 @@ host_stands format slot (host.Complete tag came) lt range =
     (a_number 8 slot lt, (a_number 8 tag range.small, (a_verdict came, tt)))
 host_stands format slot said lt range = (a_number 8 slot lt, tt)
 
+-- what a further device is to be
+plug_stands : (format : Format) (slot n : ℕ) (is : DeviceSpec) → slot < 2 ^ 8 → n < 2 ^ 8 → SpecInRange is
+    → EachStands (shapes format Plug (num slot ∷ num n ∷ device_kind is ∷ spec_fields is))
+    (num slot ∷ num n ∷ device_kind is ∷ spec_fields is)
+plug_stands format slot n (spec.Block sectors read_only identity depth) lt of range = (
+  a_number 8 slot lt,
+  (
+    a_number 8 n of,
+    (
+      a_kind (spec.Block sectors read_only identity depth) range,
+      (
+        a_number 64 sectors range.count,
+        (
+          a_mode read_only,
+          (an_identity identity range.each range.twenty, (a_number 8 depth range.deep, tt)),
+        ),
+      ),
+    ),
+  ),
+)
+plug_stands format slot n is lt of range =
+    (a_number 8 slot lt, (a_number 8 n of, (a_kind is range, tt)))
+
 -- what is done to a further device
 device_stands : {A : Type 0} (format : Format) (slot n : ℕ) (done : DeviceEvent A) → slot < 2 ^ 8 → n < 2 ^ 8
     → DoneInRange done → IsPrintableDone done
     → EachStands (shapes format (device_word done) (drop 1 (device_fields slot n done)))
     (drop 1 (device_fields slot n done))
-device_stands format slot n (device.Plug spec) lt of range fine =
-    (a_number 8 slot lt, (a_number 8 n of, (a_kind spec range, tt)))
+device_stands format slot n (device.Plug is) lt of range fine = plug_stands format slot n is lt of range
 device_stands format slot n (device.Read offset width) lt of range fine = (
   a_number 8 slot lt,
   (a_number 8 n of, (an_offset offset fine.three_digits, (a_width width fine.wide, tt))),
@@ -399,6 +427,9 @@ device_stands format slot n (device.Receive bs) lt of range fine =
 device_stands format slot n device.TakeSent lt of range fine = (a_number 8 slot lt, (a_number 8 n of, tt))
 device_stands format slot n (device.SetLink up) lt of range fine =
     (a_number 8 slot lt, (a_number 8 n of, (a_link up, tt)))
+device_stands format slot n (device.Host (host.Complete tag came)) lt of range fine =
+    (a_number 8 slot lt, (a_number 8 n of, (a_number 8 tag range.small, (a_verdict came, tt))))
+device_stands format slot n (device.Host said) lt of range fine = (a_number 8 slot lt, (a_number 8 n of, tt))
 
 event_stands : {A : Type 0} (format : Format) (slot : ℕ) (w : EventKind A) → slot < 2 ^ 8 → KindInRange w
     → IsPrintableKind w → EachStands (shapes format (word_for w) (event_rest slot w)) (event_rest slot w)

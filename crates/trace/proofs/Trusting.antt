@@ -4,7 +4,7 @@ use Rattle.board.specs.declared.event.SlotWindow.{SlotWindow}
 use Rattle.board.specs.declared.event.EventKind.{EventKind}
 use Rattle.board.specs.declared.event.EventKind.TheVariants as what
 use Rattle.board.specs.declared.event.DeviceEvent.TheVariants as device
-use Rattle.board.specs.declared.event.HostEvent.TheVariants as host
+use Rattle.block_device.specs.declared.operation.HostEvent.TheVariants as host
 use Rattle.hexadecimal.specs.Fields.{IsBytesField}
 use Rattle.hexadecimal.specs.Spelling.{bytes, fixed, num}
 use Rattle.trace.specs.declared.read.parsed_event.ParsedEvent.{ParsedEvent}
@@ -90,7 +90,7 @@ by_read A rest slot (what.Read kind offset width) after h = record {
   line = h;
 }
 by_read A rest slot (what.Host host.Release) after h = absurd (omega (arith, ap front h.is))
-by_read A rest slot (what.Device n device.TakeSent) after h = absurd (omega (arith, ap front h.is))
+by_read A rest slot (what.Device n (device.Host host.Release)) after h = absurd (omega (arith, ap front h.is))
 by_read A rest slot w after h = absurd (omega (arith, ap (λ (xs : List ℕ). get_or xs 0 0) h.is))
 
 pub read_parts : (A : Type 0) (rest : List ℕ) → BeginsWithEvent A (spelled Read ++ 32 ∷ rest)
@@ -134,7 +134,7 @@ by_write A rest slot (what.Write kind offset width value) after h =
       line = h;
     }
 by_write A rest slot (what.Host host.Release) after h = absurd (omega (arith, ap front h.is))
-by_write A rest slot (what.Device n device.TakeSent) after h = absurd (omega (arith, ap front h.is))
+by_write A rest slot (what.Device n (device.Host host.Release)) after h = absurd (omega (arith, ap front h.is))
 by_write A rest slot w after h = absurd (omega (arith, ap (λ (xs : List ℕ). get_or xs 0 0) h.is))
 
 pub write_parts : (A : Type 0) (rest : List ℕ) → BeginsWithEvent A (spelled Write ++ 32 ∷ rest)
@@ -176,7 +176,7 @@ by_mem_write A rest slot (what.MemWrite addr bs) after h = record {
   line = h;
 }
 by_mem_write A rest slot (what.Host host.Release) after h = absurd (omega (arith, ap front h.is))
-by_mem_write A rest slot (what.Device n device.TakeSent) after h = absurd (omega (arith, ap front h.is))
+by_mem_write A rest slot (what.Device n (device.Host host.Release)) after h = absurd (omega (arith, ap front h.is))
 by_mem_write A rest slot w after h = absurd (omega (arith, ap front h.is))
 
 pub mem_write_parts : (A : Type 0) (rest : List ℕ) → BeginsWithEvent A (spelled MemWrite ++ 32 ∷ rest)
@@ -210,7 +210,7 @@ by_input A rest slot (what.Input bs) after h = record {
   line = h;
 }
 by_input A rest slot (what.Host host.Release) after h = absurd (omega (arith, ap front h.is))
-by_input A rest slot (what.Device n device.TakeSent) after h = absurd (omega (arith, ap front h.is))
+by_input A rest slot (what.Device n (device.Host host.Release)) after h = absurd (omega (arith, ap front h.is))
 by_input A rest slot w after h = absurd (omega (arith, ap front h.is))
 
 pub input_parts : (A : Type 0) (rest : List ℕ) → BeginsWithEvent A (spelled Input ++ 32 ∷ rest)

@@ -14,12 +14,12 @@ use Rattle.board.specs.declared.event.SlotWindow.TheVariants.{Block, Console}
 use Rattle.board.specs.declared.event.Event.{Event}
 use Rattle.board.specs.declared.event.EventKind.{EventKind}
 use Rattle.board.specs.declared.event.EventKind.TheVariants as what
-use Rattle.board.specs.declared.event.HostEvent.{HostEvent}
-use Rattle.board.specs.declared.event.HostEvent.TheVariants as host
+use Rattle.block_device.specs.declared.operation.HostEvent.{HostEvent}
+use Rattle.block_device.specs.declared.operation.HostEvent.TheVariants as host
 use Rattle.board.specs.declared.event.DeviceEvent.{DeviceEvent}
 use Rattle.board.specs.declared.event.DeviceEvent.TheVariants as device
 use Rattle.device_list.specs.declared.spec.DeviceSpec.{DeviceSpec}
-use Rattle.device_list.specs.declared.spec.DeviceSpec.TheVariants.{Entropy, Network}
+use Rattle.device_list.specs.declared.spec.DeviceSpec.TheVariants as spec
 use Rattle.board.specs.declared.spec.Backing.{Backing}
 use Rattle.board.specs.declared.spec.Backing.TheVariants.{Image, Host}
 use Rattle.board.specs.declared.spec.SlotSpec.{SlotSpec}
@@ -35,7 +35,7 @@ use Rattle.trace.specs.Faults.{IsCleanBefore, IsEnded, IsFault, Passes, line_at,
 use Rattle.trace.specs.Printable.{DoneInRange, IsPrintableDone, IsPrintableKind, IsPrintableMemory, IsWriteAccess, KindInRange}
 use Rattle.trace.specs.Refusals.{IsFine, IsFineSlot}
 use Rattle.hexadecimal.specs.Spelling.{bytes, fixed, num}
-use Rattle.trace.specs.Spelling.{card, device_kind, disk, link_state, mode, region_text, verdict, window}
+use Rattle.trace.specs.Spelling.{card, device_kind, spec_fields, disk, link_state, mode, region_text, verdict, window}
 use Rattle.trace.specs.Text.{Content, cache_line, device_fields, disk_fields, event_fields, event_line, memory_fields, region_fields, slot_fields, slot_line, text, trace_lines, host_fields, what_fields, word_for}
 use Rattle.trace.specs.Words.{CardInRange, SpecInRange, spelled}
 use Rattle.hexadecimal.proofs.ByteFields.{AreBytes, is_bytes}
@@ -234,8 +234,8 @@ same_said m n v w e = absurd (omega (arith, ap sign e))
 said_not_done : {A : Type 0} (m : ℕ) (v : HostEvent) (n d : ℕ) (x : DeviceEvent A)
     → host_fields m v ≡ device_fields n d x → ⊥
 unfolding sign
-said_not_done m host.Drop n d device.TakeSent e = omega (arith, ap sign e)
-said_not_done m v n d device.TakeSent e = omega (arith, ap sign e)
+said_not_done m host.Drop n d (device.Host host.Drop) e = omega (arith, ap sign e)
+said_not_done m v n d (device.Host host.Drop) e = omega (arith, ap sign e)
 said_not_done m host.Drop n d x e = omega (arith, ap sign e)
 said_not_done m v n d x e = omega (arith, ap sign e)
 
@@ -259,12 +259,19 @@ same_card xs ys m n hx hy e =
     sym (drop_at (bytes xs) (58 ∷ num m) 12 lx) ∙ ap (drop 12) e ∙ drop_at (bytes ys) (58 ∷ num n) 12 ly in
     (same_bytes xs ys hx.each hy.each front, same_num m n (ap (drop 1) back))
 
-same_kind_of : (a b : DeviceSpec) → SpecInRange a → SpecInRange b → device_kind a ≡ device_kind b → a ≡ b
-same_kind_of Entropy Entropy ra rb e = refl
-same_kind_of (Network xs m) (Network ys n) ra rb e =
-    let both = same_card xs ys m n ra rb (ap (drop 8) e) in
-    ap (λ (zs : List ℕ). Network zs m) both.0 ∙ ap (Network ys) both.1
-same_kind_of a b ra rb e = absurd (omega (arith, ap (λ (xs : List ℕ). get_or xs 0 0) e))
+same_spec : (a b : DeviceSpec) → SpecInRange a → SpecInRange b
+    → device_kind a ∷ spec_fields a ≡ device_kind b ∷ spec_fields b → a ≡ b
+same_spec spec.Entropy spec.Entropy ra rb e = refl
+same_spec (spec.Network xs m) (spec.Network ys n) ra rb e =
+    let both = same_card xs ys m n ra rb (ap (drop 8) (same_at e 0)) in
+    ap (λ (zs : List ℕ). spec.Network zs m) both.0 ∙ ap (spec.Network ys) both.1
+same_spec (spec.Block s r xs d) (spec.Block t q ys f) ra rb e =
+    let sectors = same_num s t (same_at e 1) in
+    let read_only = same_mode r q (same_at e 2) in
+    let identity = same_bytes xs ys ra.each rb.each (same_at e 3) in
+    let depth = same_num d f (same_at e 4) in
+    cc
+same_spec a b ra rb e = absurd (omega (arith, ap (λ (xs : List ℕ). get_or xs 0 0) (same_at e 0)))
 
 same_link : (a b : Bool) → link_state a ≡ link_state b → a ≡ b
 same_link true true e = refl
@@ -277,7 +284,7 @@ same_done : {A : Type 0} (m n d f : ℕ) (v w : DeviceEvent A) → DoneInRange v
 unfolding sign
 same_done m n d f (device.Plug a) (device.Plug b) rv rw' fv fw e = (
   same_num m n (same_at e 1),
-  (same_num d f (same_at e 2), ap device.Plug (same_kind_of a b rv rw' (same_at e 3))),
+  (same_num d f (same_at e 2), ap device.Plug (same_spec a b rv rw' (ap (drop 3) e))),
 )
 same_done m n d f (device.Read o w) (device.Read p x) rv rw' fv fw e =
     let offset = same_fixed 3 o p fv.three_digits fw.three_digits (same_at e 3) in
@@ -302,6 +309,17 @@ same_done m n d f (device.SetLink a) (device.SetLink b) rv rw' fv fw e = (
   same_num m n (same_at e 1),
   (same_num d f (same_at e 2), ap device.SetLink (same_link a b (same_at e 3))),
 )
+same_done m n d f (device.Host (host.Complete t a)) (device.Host (host.Complete u b)) rv rw' fv fw e =
+    let tag = same_num t u (same_at e 3) in
+    let came = same_verdict a b (same_at e 4) in
+    (same_num m n (same_at e 1), (same_num d f (same_at e 2), cc))
+same_done m n d f (device.Host host.Drop) (device.Host host.Drop) rv rw' fv fw e =
+    (same_num m n (same_at e 1), (same_num d f (same_at e 2), refl))
+same_done m n d f (device.Host host.Hold) (device.Host host.Hold) rv rw' fv fw e =
+    (same_num m n (same_at e 1), (same_num d f (same_at e 2), refl))
+same_done m n d f (device.Host host.Release) (device.Host host.Release) rv rw' fv fw e =
+    (same_num m n (same_at e 1), (same_num d f (same_at e 2), refl))
+same_done m n d f v (device.Host host.Drop) rv rw' fv fw e = absurd (omega (arith, ap sign e))
 same_done m n d f v w rv rw' fv fw e = absurd (omega (arith, ap sign e))
 
 other_done : {A : Type 0} (m d : ℕ) (v : DeviceEvent A) (n : ℕ) (w : EventKind A)
@@ -309,7 +327,7 @@ other_done : {A : Type 0} (m d : ℕ) (v : DeviceEvent A) (n : ℕ) (w : EventKi
 unfolding sign
 other_done m d v n (what.Device f x) none e = none f x refl
 other_done m d v n (what.Host x) none e = other_said n x m (what.Device d v) (λ y is. absurd cc) (sym e)
-other_done m d device.TakeSent n w none e = omega (arith, ap sign e)
+other_done m d (device.Host host.Drop) n w none e = omega (arith, ap sign e)
 other_done m d v n w none e = omega (arith, ap sign e)
 
 same_what : {A : Type 0} (m n : ℕ) (v w : EventKind A) → KindInRange v → KindInRange w → IsPrintableKind v

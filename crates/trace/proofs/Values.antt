@@ -1,5 +1,5 @@
 -- The values of a line's fields, read one after another.
-use Rattle.std.proofs.Common.{◌≡◌, ◌≢◌, ℕ, ◌+◌, ◌^◌, ◌<◌, ◌≤◌, List, [], ◌∷◌, ◌++◌, length, get_or, map, take, drop, slice_index_or, refl, sym, ap, subst, ◌∙◌, arith}
+use Rattle.std.proofs.Common.{◌≡◌, ◌≢◌, ℕ, ◌+◌, ◌^◌, ◌<◌, ◌≤◌, Bool, true, false, List, [], ◌∷◌, ◌++◌, length, get_or, map, take, drop, slice_index_or, refl, sym, ap, subst, ◌∙◌, arith}
 use Rattle.std.proofs.lemmas.List.{append-nil, append_assoc, drop_all, drop_more, length-map, map-append, map_more, take_all}
 use Rattle.board.specs.declared.event.SlotWindow.{SlotWindow}
 use Rattle.trace.specs.declared.format.Format.{Format}
@@ -10,11 +10,13 @@ use Rattle.trace.specs.declared.table.Field.TheVariants.{Sectors}
 use Rattle.trace.specs.declared.value.FieldValue.{FieldValue}
 use Rattle.trace.specs.declared.value.FieldValue.TheVariants as value
 use Rattle.trace.specs.declared.word.Word.{Word}
-use Rattle.trace.specs.declared.word.Word.TheVariants.{Slot, Write, DeviceWrite}
+use Rattle.trace.specs.declared.word.Word.TheVariants.{Slot, Write, Plug, DeviceWrite}
 use Rattle.trace.specs.Printable.{IsWriteAccess}
-use Rattle.trace.specs.Spelling.{value_text}
+use Rattle.device_list.specs.declared.spec.DeviceSpec.{DeviceSpec}
+use Rattle.device_list.specs.declared.spec.DeviceSpec.TheVariants as spec
+use Rattle.trace.specs.Spelling.{device_kind, is_disk, value_text}
 use Rattle.trace.specs.Values.{AreOf, IsOf, SaysValue, SayValues}
-use Rattle.trace.specs.Words.{AllRight, AreRight, HasValueField, Num, Offset, Says, Shape, Value, Width, Window, fields_in, shape_of, shapes, width_among}
+use Rattle.trace.specs.Words.{AllRight, AreRight, HasValueField, Num, Offset, Says, Shape, Value, Width, Window, Kind, SpecInRange, behind_kind, fields_in, is_disk_kind, kind_among, shape_of, shapes, width_among}
 use Rattle.trace.proofs.Widths.{digits_bound, num_width}
 
 -- ---- the values so far
@@ -94,28 +96,40 @@ module _ (f : Field → Shape) (row : List Field) (vs : List FieldValue) (i : �
 -- ---- over the table
 
 -- a slot has at most eight fields
-slot_row_few : (format : Format) → length (fields_in format Slot) ≤ 8
-slot_row_few (Plain One) = omega arith
-slot_row_few (Plain Two) = omega arith
-slot_row_few Extended = omega arith
+slot_row_few : (format : Format) (b : Bool) → length (fields_in format Slot b) ≤ 8
+slot_row_few (Plain One) b = omega arith
+slot_row_few (Plain Two) b = omega arith
+slot_row_few Extended b = omega arith
+
+-- and what is to be plugged in
+plug_row_few : (format : Format) (b : Bool) → length (fields_in format Plug b) ≤ 8
+plug_row_few format true = omega arith
+plug_row_few format false = omega arith
 
 -- none of them is read by a width
-slot_row_alike : (format : Format) (v w : List ℕ)
-    → map (shape_of v) (fields_in format Slot) ≡ map (shape_of w) (fields_in format Slot)
-slot_row_alike (Plain One) v w = refl
-slot_row_alike (Plain Two) v w = refl
-slot_row_alike Extended v w = refl
+slot_row_alike : (format : Format) (b : Bool) (v w : List ℕ)
+    → map (shape_of v) (fields_in format Slot b) ≡ map (shape_of w) (fields_in format Slot b)
+slot_row_alike (Plain One) b v w = refl
+slot_row_alike (Plain Two) b v w = refl
+slot_row_alike Extended b v w = refl
 
-pub at_most_eight : (format : Format) (word : Word) → length (fields_in format word) ≤ 8
-at_most_eight format Slot = slot_row_few format
-at_most_eight format word = omega arith
+pub behind_kind_alike : (b : Bool) (v w : List ℕ) → map (shape_of v) (behind_kind b) ≡ map (shape_of w) (behind_kind b)
+behind_kind_alike true v w = refl
+behind_kind_alike false v w = refl
+
+pub at_most_eight : (format : Format) (word : Word) (b : Bool) → length (fields_in format word b) ≤ 8
+at_most_eight format Slot b = slot_row_few format b
+at_most_eight format Plug b = plug_row_few format b
+at_most_eight format word b = omega arith
 
 -- only a write's shapes depend on a width
 pub shapes_by : (format : Format) (word : Word) (width : List ℕ) (fields : List (List ℕ))
-    → (HasValueField word → width ≡ width_among fields) → map (shape_of width) (fields_in format word)
-    ≡ shapes format word fields
+    → (HasValueField word → width ≡ width_among fields)
+    → map (shape_of width) (fields_in format word (is_disk_kind (kind_among fields))) ≡ shapes format word fields
 shapes_by format Slot width fields same =
-    slot_row_alike format width (width_among fields)
+    slot_row_alike format (is_disk_kind (kind_among fields)) width (width_among fields)
+shapes_by format Plug width fields same = ap (λ (ss : List Shape). Num 8 ∷ Num 8 ∷ Kind ∷ ss)
+    (behind_kind_alike (is_disk_kind (kind_among fields)) width (width_among fields))
 shapes_by format Write width fields same =
     ap (λ (by : List ℕ). Num 8 ∷ Window ∷ Offset ∷ Width ∷ Value by ∷ []) (same tt)
 shapes_by format DeviceWrite width fields same =
@@ -227,4 +241,52 @@ device_written vs h =
         access = record { three_digits = offset.1.1; wide = width.1.1 };
         within = subst (λ (most : ℕ). val.0 < most) (digits_bound width.0 width.1.1) val.1.1;
       };
+    }
+
+-- ---- a plug
+
+-- a kind is that of a disk where it is spelled so
+pub kind_disk : (kind : DeviceSpec) → is_disk_kind (device_kind kind) ≡ is_disk kind
+kind_disk spec.Entropy = refl
+kind_disk (spec.Network mac mtu) = refl
+kind_disk (spec.Block sectors read_only identity depth) = refl
+
+-- its values, of which those behind the kind are a disk's where the kind is one
+pub record IsPlug (vs : List FieldValue) : Type 0 where
+  pub slot : ℕ
+  pub number : ℕ
+  pub kind : DeviceSpec
+  pub behind : List FieldValue
+  pub are : vs ≡ value.Number slot ∷ value.Number number ∷ value.Kind kind ∷ behind
+  pub small : slot < 2 ^ 8
+  pub few : number < 2 ^ 8
+  pub fits : SpecInRange kind
+  pub rest : AreOf (map (shape_of []) (behind_kind (is_disk kind))) behind
+
+pub plugged : (vs : List FieldValue) → AreOf (shapes Extended Plug (map value_text vs)) vs → IsPlug vs
+plugged vs h =
+    let t0 = h.2.1.1 in
+    let t1 = t0.2.1.1 in
+    let slot = h.2.1.0 in
+    let number = t0.2.1.0 in
+    let kind = t1.2.1.0 in
+    let are : vs ≡ value.Number slot.0 ∷ value.Number number.0 ∷ value.Kind kind.0 ∷ t1.1 =
+    h.2.0 ∙ ap (λ (xs : List FieldValue). h.0 ∷ xs) (t0.2.0
+    ∙ ap (λ (xs : List FieldValue). t0.0 ∷ xs) t1.2.0) ∙ rw (slot.1.0, number.1.0, kind.1.0) refl
+    in
+    let disk : is_disk_kind (kind_among (map value_text vs)) ≡ is_disk kind.0 =
+    ap (λ (xs : List FieldValue). is_disk_kind (kind_among (map value_text xs))) are ∙ kind_disk kind.0
+    in
+    record {
+      slot = slot.0;
+      number = number.0;
+      kind = kind.0;
+      behind = t1.1;
+      are = are;
+      small = slot.1.1;
+      few = number.1.1;
+      fits = kind.1.1;
+      rest = subst (λ (ss : List Shape). AreOf ss t1.1)
+          (behind_kind_alike (is_disk_kind (kind_among (map value_text vs))) (width_among (map value_text vs)) []
+          ∙ ap (λ (b : Bool). map (shape_of []) (behind_kind b)) disk) t1.2.1.1;
     }

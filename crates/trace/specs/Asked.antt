@@ -1,5 +1,5 @@
 -- The records of a hosted trace: each has a sixth field, the operations that began with its event.
-use Rattle.std.specs.Prelude.{ℕ, Bool, true, false, List, [], ◌∷◌, ◌++◌, codes}
+use Rattle.std.specs.Prelude.{ℕ, Bool, true, false, List, [], ◌∷◌, ◌++◌, Option, None, Some, codes}
 use Rattle.std.specs.List.{flat_map, list_any}
 use Rattle.chain.specs.declared.segment.Segment.{Segment}
 use Rattle.block_device.specs.declared.operation.Operation.{Operation}
@@ -51,15 +51,21 @@ operation_field o runs =
     kind_field o.kind ++ (stable_mark o.stable
     ++ 58 ∷ (num o.start ++ 58 ∷ (num o.len ++ 58 ∷ runs_field runs)))
 
--- an operation that began, its tag, and where its bytes lie
+-- an operation that began: of a further disk its number, its tag, and where its bytes lie
 pub record Begun : Type 0 where
+  pub device : Option ℕ
   pub tag : ℕ
   pub operation : Operation
   pub runs : List Segment
 
+-- what stands before the tag: of a further disk its number and `/` (47), and nothing of the slot's own
+abbrev pub device_mark : Option ℕ → List ℕ
+device_mark None = []
+device_mark (Some n) = num n ++ 47 ∷ []
+
 -- the tag and the operation, with `=` (61) between them
 abbrev pub begun_field : Begun → List ℕ
-begun_field one = num one.tag ++ 61 ∷ operation_field one.operation one.runs
+begun_field one = device_mark one.device ++ (num one.tag ++ 61 ∷ operation_field one.operation one.runs)
 
 -- what stands before it: behind another one a `;` (59)
 abbrev pub sign_before : Bool → List ℕ

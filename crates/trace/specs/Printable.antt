@@ -3,8 +3,8 @@ use Rattle.std.specs.Prelude.{◌≡◌, ℕ, ◌*◌, ◌^◌, ◌<◌, ◌≤�
 use Rattle.board.specs.declared.event.Event.{Event}
 use Rattle.board.specs.declared.event.EventKind.{EventKind}
 use Rattle.board.specs.declared.event.EventKind.TheVariants.{Read, Write, MemRead, MemWrite, Input, Resize, Restore, Host, Device}
-use Rattle.board.specs.declared.event.HostEvent.{HostEvent}
-use Rattle.board.specs.declared.event.HostEvent.TheVariants.{Complete}
+use Rattle.block_device.specs.declared.operation.HostEvent.{HostEvent}
+use Rattle.block_device.specs.declared.operation.HostEvent.TheVariants.{Complete}
 use Rattle.board.specs.declared.event.DeviceEvent.{DeviceEvent}
 use Rattle.board.specs.declared.event.DeviceEvent.TheVariants as device
 use Rattle.board.specs.declared.spec.SlotSpec.{SlotSpec}
@@ -106,6 +106,7 @@ abbrev pub DoneInRange : {A : Type 0} → DeviceEvent A → Type 0
 DoneInRange (device.Plug spec) = SpecInRange spec
 DoneInRange (device.Supply bs) = EachInRange bs
 DoneInRange (device.Receive bs) = EachInRange bs
+DoneInRange (device.Host said) = HostInRange said
 DoneInRange done = ⊤
 
 pub record DeviceInRange {A : Type 0} (n : ℕ) (done : DeviceEvent A) : Type 0 where

@@ -10,7 +10,7 @@ use Rattle.block_device.specs.declared.operation.Verdict.TheVariants.{Done, Fail
 use Rattle.board.specs.declared.event.SlotWindow.{SlotWindow}
 use Rattle.board.specs.declared.event.SlotWindow.TheVariants.{Block, Console}
 use Rattle.device_list.specs.declared.spec.DeviceSpec.{DeviceSpec}
-use Rattle.device_list.specs.declared.spec.DeviceSpec.TheVariants.{Entropy, Network}
+use Rattle.device_list.specs.declared.spec.DeviceSpec.TheVariants as spec
 use Rattle.trace.specs.declared.print.line.LineFields.{LineFields}
 use Rattle.trace.specs.declared.table.Field.{Field}
 use Rattle.trace.specs.declared.table.Field.TheVariants as field
@@ -49,10 +49,24 @@ verdict Failed = codes "failed"
 abbrev pub card : List ℕ → ℕ → List ℕ
 card mac mtu = bytes mac ++ 58 ∷ num mtu
 
--- what a further device is to be
+-- what a further device is to be, of which a disk's fields stand behind this one
 abbrev pub device_kind : DeviceSpec → List ℕ
-device_kind Entropy = codes "entropy"
-device_kind (Network mac mtu) = codes "network:" ++ card mac mtu
+device_kind spec.Entropy = codes "entropy"
+device_kind (spec.Network mac mtu) = codes "network:" ++ card mac mtu
+device_kind (spec.Block sectors read_only identity depth) = codes "disk"
+
+abbrev pub is_disk : DeviceSpec → Bool
+is_disk spec.Entropy = false
+is_disk (spec.Network mac mtu) = false
+is_disk (spec.Block sectors read_only identity depth) = true
+
+-- those of a disk: how many sectors it has, whether it is read-only, its identity, and how many operations may be in
+-- flight
+abbrev pub spec_fields : DeviceSpec → List (List ℕ)
+spec_fields spec.Entropy = []
+spec_fields (spec.Network mac mtu) = []
+spec_fields (spec.Block sectors read_only identity depth) =
+    num sectors ∷ mode read_only ∷ bytes identity ∷ num depth ∷ []
 
 -- whether the link of a network card is up
 abbrev pub link_state : Bool → List ℕ
@@ -104,3 +118,5 @@ field_text says field.Verdict = verdict says.verdict
 field_text says field.Device = num says.device
 field_text says field.Kind = device_kind says.kind
 field_text says field.Link = link_state says.up
+field_text says field.Capacity = num says.capacity
+field_text says field.Depth = num says.depth

@@ -5,8 +5,8 @@ use Rattle.board.specs.declared.event.SlotWindow.{SlotWindow}
 use Rattle.board.specs.declared.event.Event.{Event}
 use Rattle.board.specs.declared.event.EventKind.{EventKind}
 use Rattle.board.specs.declared.event.EventKind.TheVariants as what
-use Rattle.board.specs.declared.event.HostEvent.{HostEvent}
-use Rattle.board.specs.declared.event.HostEvent.TheVariants as host
+use Rattle.block_device.specs.declared.operation.HostEvent.{HostEvent}
+use Rattle.block_device.specs.declared.operation.HostEvent.TheVariants as host
 use Rattle.board.specs.declared.event.DeviceEvent.{DeviceEvent}
 use Rattle.board.specs.declared.event.DeviceEvent.TheVariants as device
 use Rattle.board.specs.declared.spec.SlotSpec.{SlotSpec}
@@ -17,9 +17,9 @@ use Rattle.trace.specs.declared.format.Format.TheVariants.{Plain, Extended}
 use Rattle.trace.specs.declared.format.Version.TheVariants.{One, Two}
 use Rattle.trace.specs.declared.trace.Trace.{Trace}
 use Rattle.trace.specs.declared.word.Word.{Word}
-use Rattle.trace.specs.declared.word.Word.TheVariants.{Cache, Slot, Read, Write, MemRead, MemWrite, Input, Resize, Restore, Complete, Drop, Hold, Release, Plug, DeviceRead, DeviceWrite, Supply, Receive, TakeSent, SetLink}
+use Rattle.trace.specs.declared.word.Word.TheVariants.{Cache, Slot, Read, Write, MemRead, MemWrite, Input, Resize, Restore, Complete, Drop, Hold, Release, Plug, DeviceRead, DeviceWrite, Supply, Receive, TakeSent, SetLink, DeviceComplete, DeviceDrop, DeviceHold, DeviceRelease}
 use Rattle.hexadecimal.specs.Spelling.{num, fixed, bytes}
-use Rattle.trace.specs.Spelling.{window, width_digit, disk, mode, verdict, regions_text, device_kind, link_state}
+use Rattle.trace.specs.Spelling.{window, width_digit, disk, mode, verdict, regions_text, device_kind, spec_fields, link_state}
 use Rattle.trace.specs.Format.{if_extended, unless_version_1}
 use Rattle.trace.specs.Words.{spelled}
 
@@ -106,8 +106,22 @@ host_fields slot host.Drop = spelled Drop ∷ num slot ∷ []
 host_fields slot host.Hold = spelled Hold ∷ num slot ∷ []
 host_fields slot host.Release = spelled Release ∷ num slot ∷ []
 
+-- the same of a further disk
+abbrev pub device_host_word : HostEvent → Word
+device_host_word (host.Complete tag came) = DeviceComplete
+device_host_word host.Drop = DeviceDrop
+device_host_word host.Hold = DeviceHold
+device_host_word host.Release = DeviceRelease
+
+abbrev pub device_host_fields : ℕ → ℕ → HostEvent → List (List ℕ)
+device_host_fields slot n (host.Complete tag came) =
+    spelled DeviceComplete ∷ num slot ∷ num n ∷ num tag ∷ verdict came ∷ []
+device_host_fields slot n host.Drop = spelled DeviceDrop ∷ num slot ∷ num n ∷ []
+device_host_fields slot n host.Hold = spelled DeviceHold ∷ num slot ∷ num n ∷ []
+device_host_fields slot n host.Release = spelled DeviceRelease ∷ num slot ∷ num n ∷ []
+
 -- what is done to a further device: it is given to the slot; its driver reads or writes its window; the host supplies
--- it with bytes, hands it a frame or takes one, and sets its link
+-- it with bytes, hands it a frame or takes one, sets its link, and says something of a disk that it serves
 abbrev pub device_word : {A : Type 0} → DeviceEvent A → Word
 device_word (device.Plug spec) = Plug
 device_word (device.Read offset width) = DeviceRead
@@ -116,9 +130,10 @@ device_word (device.Supply bs) = Supply
 device_word (device.Receive bs) = Receive
 device_word device.TakeSent = TakeSent
 device_word (device.SetLink up) = SetLink
+device_word (device.Host said) = device_host_word said
 
 abbrev pub device_fields : {A : Type 0} → ℕ → ℕ → DeviceEvent A → List (List ℕ)
-device_fields slot n (device.Plug spec) = spelled Plug ∷ num slot ∷ num n ∷ device_kind spec ∷ []
+device_fields slot n (device.Plug spec) = spelled Plug ∷ num slot ∷ num n ∷ device_kind spec ∷ spec_fields spec
 device_fields slot n (device.Read offset width) =
     spelled DeviceRead ∷ num slot ∷ num n ∷ fixed 3 offset ∷ width_digit width ∷ []
 device_fields slot n (device.Write offset width value) =
@@ -127,6 +142,7 @@ device_fields slot n (device.Supply bs) = spelled Supply ∷ num slot ∷ num n 
 device_fields slot n (device.Receive bs) = spelled Receive ∷ num slot ∷ num n ∷ bytes bs ∷ []
 device_fields slot n device.TakeSent = spelled TakeSent ∷ num slot ∷ num n ∷ []
 device_fields slot n (device.SetLink up) = spelled SetLink ∷ num slot ∷ num n ∷ link_state up ∷ []
+device_fields slot n (device.Host said) = device_host_fields slot n said
 
 -- the word of what a slot does
 abbrev pub word_for : {A : Type 0} → EventKind A → Word

@@ -1,18 +1,18 @@
 -- The table of a trace's lines: the word that each begins with, and what the fields after it say.
-use Rattle.std.specs.Prelude.{◌≡◌, ℕ, ◌*◌, ◌^◌, ◌<◌, ◌≤◌, ◌⊎◌, ⊤, All, Bool, List, [], ◌∷◌, ◌++◌, codes, length, map, slice_index_or}
+use Rattle.std.specs.Prelude.{◌≡◌, ℕ, ◌*◌, ◌^◌, ◌<◌, ◌≤◌, ◌⊎◌, ⊤, All, Bool, true, false, List, [], ◌∷◌, ◌++◌, bytes_eq, codes, length, map, slice_index_or}
 use Rattle.guest_memory.specs.declared.spec.RegionSpec.{RegionSpec}
 use Rattle.board.specs.declared.spec.Backing.{Backing}
 use Rattle.board.specs.declared.spec.Backing.TheVariants.{Image, Host}
 use Rattle.board.specs.declared.event.SlotWindow.{SlotWindow}
 use Rattle.device_list.specs.declared.spec.DeviceSpec.{DeviceSpec}
-use Rattle.device_list.specs.declared.spec.DeviceSpec.TheVariants.{Entropy, Network}
+use Rattle.device_list.specs.declared.spec.DeviceSpec.TheVariants.{Entropy, Network, Block}
 use Rattle.block_device.specs.declared.operation.Verdict as operation
 use Rattle.trace.specs.declared.format.Format.{Format}
 use Rattle.trace.specs.declared.format.Format.TheVariants.{Plain, Extended}
 use Rattle.trace.specs.declared.table.Field.{Field}
 use Rattle.trace.specs.declared.table.Field.TheVariants as field
 use Rattle.trace.specs.declared.word.Word.{Word}
-use Rattle.trace.specs.declared.word.Word.TheVariants.{Cache, Slot, Read, Write, MemRead, MemWrite, Input, Resize, Restore, Complete, Drop, Hold, Release, Plug, DeviceRead, DeviceWrite, Supply, Receive, TakeSent, SetLink}
+use Rattle.trace.specs.declared.word.Word.TheVariants.{Cache, Slot, Read, Write, MemRead, MemWrite, Input, Resize, Restore, Complete, Drop, Hold, Release, Plug, DeviceRead, DeviceWrite, Supply, Receive, TakeSent, SetLink, DeviceComplete, DeviceDrop, DeviceHold, DeviceRelease}
 use Rattle.hexadecimal.specs.Fields.{IsBytesField, IsFixed, SpellsBytes, SpellsNumber}
 use Rattle.trace.specs.Spelling.{window, width_digit, disk, mode, verdict, region_text, regions_text, card, device_kind, link_state}
 use Rattle.trace.specs.Format.{IsExtended, if_extended, unless_version_1}
@@ -64,9 +64,17 @@ pub record CardInRange (mac : List ℕ) (mtu : ℕ) : Type 0 where
   pub six : length mac ≡ 6
   pub wide : mtu < 2 ^ 16
 
+-- how many sectors a further disk has, its identity of 20 bytes (5.2.6), and how many operations may be in flight
+pub record FurtherDiskInRange (sectors : ℕ) (identity : List ℕ) (depth : ℕ) : Type 0 where
+  pub count : sectors < 2 ^ 64
+  pub each : All (λ b. b < 2 ^ 8) identity
+  pub twenty : length identity ≡ 20
+  pub deep : depth < 2 ^ 8
+
 abbrev pub SpecInRange : DeviceSpec → Type 0
 SpecInRange Entropy = ⊤
 SpecInRange (Network mac mtu) = CardInRange mac mtu
+SpecInRange (Block sectors read_only identity depth) = FurtherDiskInRange sectors identity depth
 
 -- the field is the address of a network card (5.1.4): exactly six bytes
 pub record IsAddressField (field mac : List ℕ) : Type 0 where
@@ -78,7 +86,7 @@ pub record IsCardField (field mac : List ℕ) (mtu : ℕ) : Type 0 where
   pub fits : CardInRange mac mtu
   pub spelled : field ≡ card mac mtu
 
--- the field is the kind of a further device
+-- the field is the kind of a further device; of a disk it says nothing else
 pub record IsKindField (field : List ℕ) (spec : DeviceSpec) : Type 0 where
   pub fits : SpecInRange spec
   pub spelled : field ≡ device_kind spec
@@ -139,6 +147,10 @@ spelled Supply = codes "supply"
 spelled Receive = codes "frame"
 spelled TakeSent = codes "take"
 spelled SetLink = codes "link"
+spelled DeviceComplete = codes "dio"
+spelled DeviceDrop = codes "ddrop"
+spelled DeviceHold = codes "dhold"
+spelled DeviceRelease = codes "drelease"
 
 -- the words of a format: the extended one alone has those of restores, of what a host says of its disk and of
 -- further devices, and the others are in each
@@ -155,6 +167,10 @@ IsWordOf format Supply = IsExtended format
 IsWordOf format Receive = IsExtended format
 IsWordOf format TakeSent = IsExtended format
 IsWordOf format SetLink = IsExtended format
+IsWordOf format DeviceComplete = IsExtended format
+IsWordOf format DeviceDrop = IsExtended format
+IsWordOf format DeviceHold = IsExtended format
+IsWordOf format DeviceRelease = IsExtended format
 IsWordOf format _ = ⊤
 
 abbrev pub IsInEach : Word → Type 0
@@ -169,7 +185,19 @@ IsDeviceWord Supply = ⊤
 IsDeviceWord Receive = ⊤
 IsDeviceWord TakeSent = ⊤
 IsDeviceWord SetLink = ⊤
+IsDeviceWord DeviceComplete = ⊤
+IsDeviceWord DeviceDrop = ⊤
+IsDeviceWord DeviceHold = ⊤
+IsDeviceWord DeviceRelease = ⊤
 IsDeviceWord word = ⊥
+
+-- those of what the host says of a further disk
+abbrev pub IsDiskWord : Word → Type 0
+IsDiskWord DeviceComplete = ⊤
+IsDiskWord DeviceDrop = ⊤
+IsDiskWord DeviceHold = ⊤
+IsDiskWord DeviceRelease = ⊤
+IsDiskWord word = ⊥
 
 -- the words whose last field is a value that is written by a width
 abbrev pub HasValueField : Word → Type 0
@@ -192,28 +220,44 @@ behind_disk format =
     field.Start ∷ field.Count ∷ field.Mode ∷ field.Columns ∷ field.Rows
     ∷ unless_version_1 format (field.Identity ∷ [])
 
--- the fields after each word, in a format
-abbrev pub fields_in : Format → Word → List Field
-fields_in format Cache = field.Sectors ∷ []
-fields_in format Slot = memory_in format ++ (disk_in format ++ behind_disk format)
-fields_in format Read = field.Slot ∷ field.Window ∷ field.Offset ∷ field.Width ∷ []
-fields_in format Write = field.Slot ∷ field.Window ∷ field.Offset ∷ field.Width ∷ field.Value ∷ []
-fields_in format MemRead = field.Slot ∷ field.Address ∷ field.Length ∷ []
-fields_in format MemWrite = field.Slot ∷ field.Address ∷ field.Bytes ∷ []
-fields_in format Input = field.Slot ∷ field.Bytes ∷ []
-fields_in format Resize = field.Slot ∷ field.Columns ∷ field.Rows ∷ []
-fields_in format Restore = field.Slot ∷ field.Bytes ∷ []
-fields_in format Complete = field.Slot ∷ field.Tag ∷ field.Verdict ∷ []
-fields_in format Drop = field.Slot ∷ []
-fields_in format Hold = field.Slot ∷ []
-fields_in format Release = field.Slot ∷ []
-fields_in format Plug = field.Slot ∷ field.Device ∷ field.Kind ∷ []
-fields_in format DeviceRead = field.Slot ∷ field.Device ∷ field.Offset ∷ field.Width ∷ []
-fields_in format DeviceWrite = field.Slot ∷ field.Device ∷ field.Offset ∷ field.Width ∷ field.Value ∷ []
-fields_in format Supply = field.Slot ∷ field.Device ∷ field.Bytes ∷ []
-fields_in format Receive = field.Slot ∷ field.Device ∷ field.Bytes ∷ []
-fields_in format TakeSent = field.Slot ∷ field.Device ∷ []
-fields_in format SetLink = field.Slot ∷ field.Device ∷ field.Link ∷ []
+-- what stands behind the kind of a further device, by whether that is a disk
+abbrev pub behind_kind : Bool → List Field
+behind_kind true = field.Capacity ∷ field.Mode ∷ field.Identity ∷ field.Depth ∷ []
+behind_kind false = []
+
+-- the fields after each word, in a format; where a kind is among them, by whether that is a disk
+abbrev pub fields_in : Format → Word → Bool → List Field
+fields_in format Cache is_disk = field.Sectors ∷ []
+fields_in format Slot is_disk = memory_in format ++ (disk_in format ++ behind_disk format)
+fields_in format Read is_disk = field.Slot ∷ field.Window ∷ field.Offset ∷ field.Width ∷ []
+fields_in format Write is_disk = field.Slot ∷ field.Window ∷ field.Offset ∷ field.Width ∷ field.Value ∷ []
+fields_in format MemRead is_disk = field.Slot ∷ field.Address ∷ field.Length ∷ []
+fields_in format MemWrite is_disk = field.Slot ∷ field.Address ∷ field.Bytes ∷ []
+fields_in format Input is_disk = field.Slot ∷ field.Bytes ∷ []
+fields_in format Resize is_disk = field.Slot ∷ field.Columns ∷ field.Rows ∷ []
+fields_in format Restore is_disk = field.Slot ∷ field.Bytes ∷ []
+fields_in format Complete is_disk = field.Slot ∷ field.Tag ∷ field.Verdict ∷ []
+fields_in format Drop is_disk = field.Slot ∷ []
+fields_in format Hold is_disk = field.Slot ∷ []
+fields_in format Release is_disk = field.Slot ∷ []
+fields_in format Plug is_disk = field.Slot ∷ field.Device ∷ field.Kind ∷ behind_kind is_disk
+fields_in format DeviceRead is_disk = field.Slot ∷ field.Device ∷ field.Offset ∷ field.Width ∷ []
+fields_in format DeviceWrite is_disk = field.Slot ∷ field.Device ∷ field.Offset ∷ field.Width ∷ field.Value ∷ []
+fields_in format Supply is_disk = field.Slot ∷ field.Device ∷ field.Bytes ∷ []
+fields_in format Receive is_disk = field.Slot ∷ field.Device ∷ field.Bytes ∷ []
+fields_in format TakeSent is_disk = field.Slot ∷ field.Device ∷ []
+fields_in format SetLink is_disk = field.Slot ∷ field.Device ∷ field.Link ∷ []
+fields_in format DeviceComplete is_disk = field.Slot ∷ field.Device ∷ field.Tag ∷ field.Verdict ∷ []
+fields_in format DeviceDrop is_disk = field.Slot ∷ field.Device ∷ []
+fields_in format DeviceHold is_disk = field.Slot ∷ field.Device ∷ []
+fields_in format DeviceRelease is_disk = field.Slot ∷ field.Device ∷ []
+
+-- of the fields of a line, the one that may be a kind, and whether that is a disk
+abbrev pub kind_among : List (List ℕ) → List ℕ
+kind_among fields = slice_index_or fields 2 []
+
+abbrev pub is_disk_kind : List ℕ → Bool
+is_disk_kind field = bytes_eq field (codes "disk")
 
 -- of the fields of a line, the one by which a value is read
 abbrev pub width_among : List (List ℕ) → List ℕ
@@ -245,10 +289,13 @@ shape_of width field.Verdict = Verdict
 shape_of width field.Device = Num 8
 shape_of width field.Kind = Kind
 shape_of width field.Link = Link
+shape_of width field.Capacity = Num 64
+shape_of width field.Depth = Num 8
 
 -- the shapes of the fields after a word, in a format, where these are the fields
 abbrev pub shapes : Format → Word → List (List ℕ) → List Shape
-shapes format word fields = map (shape_of (width_among fields)) (fields_in format word)
+shapes format word fields =
+    map (shape_of (width_among fields)) (fields_in format word (is_disk_kind (kind_among fields)))
 
 -- the fields are as many as the shapes, and each says a value of its own
 abbrev pub AllRight : List Shape → List (List ℕ) → Type 0

@@ -5,9 +5,9 @@
 
 ghost use Rattle.std.specs.Prelude.{◌≡◌, ◌*◌, ◌^◌, ◌<◌, ◌↔◌, ◌++◌, ◌∷◌, All, IsTrue, IfOk, OnOk, length, map};
 ghost use Rattle.trace.specs.Printable.{InRange, IsAccess, IsPrintable, IsPrintableDisk, IsPrintableDone, IsPrintableKind, IsPrintableMemory, IsPrintableSlot};
-ghost use Rattle.trace.specs.Spelling.{field_text};
+ghost use Rattle.trace.specs.Spelling.{device_kind, field_text, is_disk, spec_fields};
 ghost use Rattle.trace.specs.Text.{content, text as text_of, device_fields, ended, event_fields, event_line, front_text, joined, slot_line, word_for};
-ghost use Rattle.trace.specs.Words.{IsWidth, IsWordOf, fields_in, spelled};
+ghost use Rattle.trace.specs.Words.{IsWidth, IsWordOf, behind_kind, fields_in, spelled};
 
 mod asked;
 mod buffer;
@@ -27,7 +27,7 @@ pub use crate::print::records::{print_records, put_fields, put_line, put_read};
 pub use crate::print::write::write_whole;
 use crate::trace::Trace;
 use crate::word::{Word, is_word_of, word_for};
-use board::{Backing, DeviceEvent, Event, EventKind, HostEvent, SlotSpec};
+use board::{Backing, DeviceEvent, DeviceSpec, Event, EventKind, HostEvent, SlotSpec};
 use guest_memory::RegionSpec;
 use std::alloc::{AllocError, Allocator};
 
@@ -257,7 +257,7 @@ fn push_event<A: Allocator>(out: &mut Vec<u8, A>, event: &Event<A>) -> Result<()
 #[tactic(auto, using(crate::proofs::Widths::num_width))]
 fn event_says<A: Allocator>(event: &Event<A>) -> (Word, LineFields<'_>)
     requires { IsPrintableKind event.now.what }
-    ensures { spelled result.0 ∷ map (field_text result.1) (fields_in Format.Extended result.0) ≡ event_fields event.now }
+    ensures { spelled result.0 ∷ map (field_text result.1) (fields_in Format.Extended result.0 (is_disk result.1.kind)) ≡ event_fields event.now }
 {
     let mut fields = LineFields {
         slot: event.slot,
@@ -323,12 +323,12 @@ fn device_says<'a, A: Allocator>(
     mut fields: LineFields<'a>,
 ) -> (Word, LineFields<'a>)
     requires { IsPrintableDone done.now }
-    ensures { spelled result.0 ∷ map (field_text result.1) (fields_in Format.Extended result.0) ≡
+    ensures { spelled result.0 ∷ map (field_text result.1) (fields_in Format.Extended result.0 (is_disk result.1.kind)) ≡
         device_fields fields.entry.slot fields.entry.device done.now }
 {
     match done {
         DeviceEvent::Plug(spec) => {
-            fields.kind = *spec;
+            plug_says(*spec, &mut fields);
             (Word::Plug, fields)
         }
         DeviceEvent::Read { offset, width } => {
@@ -356,5 +356,32 @@ fn device_says<'a, A: Allocator>(
             fields.up = *up;
             (Word::SetLink, fields)
         }
+        DeviceEvent::Host(HostEvent::Complete { tag, verdict }) => {
+            (fields.tag, fields.verdict) = (*tag, *verdict);
+            (Word::DeviceComplete, fields)
+        }
+        DeviceEvent::Host(HostEvent::Drop) => (Word::DeviceDrop, fields),
+        DeviceEvent::Host(HostEvent::Hold) => (Word::DeviceHold, fields),
+        DeviceEvent::Host(HostEvent::Release) => (Word::DeviceRelease, fields),
+    }
+}
+
+// What the fields behind a further device say of what it is to be.
+fn plug_says(spec: DeviceSpec, fields: &mut LineFields<'_>)
+    ensures fields { device_kind fields.new.kind ∷ map (field_text fields.new) (behind_kind (is_disk fields.new.kind)) ≡
+        device_kind spec ∷ spec_fields spec }
+    ensures slot { fields.new.slot ≡ fields.old.slot }
+    ensures device { fields.new.device ≡ fields.old.device }
+{
+    fields.kind = spec;
+    if let DeviceSpec::Block {
+        sectors,
+        read_only,
+        identity,
+        depth,
+    } = spec
+    {
+        (fields.capacity, fields.depth) = (sectors, depth);
+        (fields.read_only, fields.identity) = (read_only, identity);
     }
 }

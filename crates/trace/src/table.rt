@@ -46,11 +46,16 @@ pub enum Field {
     Kind,
     /// Whether the link of a network card is up.
     Link,
+    /// How many sectors a further disk has.
+    Capacity,
+    /// How many of its operations may be in flight.
+    Depth,
 }
 
-/// The fields after a word in a format, in their order.
-pub fn fields_after(format: Format, word: Word) -> &'static [Field]
-    ensures { result.now ≡ fields_in format word }
+/// The fields after a word in a format, in their order. Where a line is about a further device's kind, these are behind it those of
+/// a disk, if it `is_disk`.
+pub fn fields_after(format: Format, word: Word, is_disk: bool) -> &'static [Field]
+    ensures { result.now ≡ fields_in format word is_disk }
 {
     use Field::*;
     match word {
@@ -71,11 +76,14 @@ pub fn fields_after(format: Format, word: Word) -> &'static [Field]
         Word::Restore => &[Slot, Bytes],
         Word::Complete => &[Slot, Tag, Verdict],
         Word::Drop | Word::Hold | Word::Release => &[Slot],
+        Word::Plug if is_disk => &[Slot, Device, Kind, Capacity, Mode, Identity, Depth],
         Word::Plug => &[Slot, Device, Kind],
         Word::DeviceRead => &[Slot, Device, Offset, Width],
         Word::DeviceWrite => &[Slot, Device, Offset, Width, Value],
         Word::Supply | Word::Receive => &[Slot, Device, Bytes],
         Word::TakeSent => &[Slot, Device],
         Word::SetLink => &[Slot, Device, Link],
+        Word::DeviceComplete => &[Slot, Device, Tag, Verdict],
+        Word::DeviceDrop | Word::DeviceHold | Word::DeviceRelease => &[Slot, Device],
     }
 }

@@ -1,7 +1,7 @@
 //! The words that lines begin with.
 
 ghost use Rattle.std.specs.Prelude.{◌≡◌, ◌≢◌, ◌↔◌, IsTrue, IfSome, IfNone};
-ghost use Rattle.trace.specs.Text.{device_word, host_word, word_for};
+ghost use Rattle.trace.specs.Text.{device_host_word, device_word, host_word, word_for};
 ghost use Rattle.trace.specs.Words.{IsWordOf, spelled};
 ghost use Rattle.trace.specs.declared.word.Word.{Word};
 
@@ -32,6 +32,10 @@ pub enum Word {
     Receive,
     TakeSent,
     SetLink,
+    DeviceComplete,
+    DeviceDrop,
+    DeviceHold,
+    DeviceRelease,
 }
 
 /// The word that a field is in some format.
@@ -58,6 +62,10 @@ pub(crate) fn word_of(field: &[u8]) -> Option<Word>
         b"frame" => Some(Word::Receive),
         b"take" => Some(Word::TakeSent),
         b"link" => Some(Word::SetLink),
+        b"dio" => Some(Word::DeviceComplete),
+        b"ddrop" => Some(Word::DeviceDrop),
+        b"dhold" => Some(Word::DeviceHold),
+        b"drelease" => Some(Word::DeviceRelease),
         b"slot" => Some(Word::Slot),
         b"cache" => Some(Word::Cache),
         _ => None,
@@ -93,7 +101,11 @@ pub(crate) fn is_word_of(format: Format, word: Word) -> bool
         | Word::Supply
         | Word::Receive
         | Word::TakeSent
-        | Word::SetLink => format == Format::Extended,
+        | Word::SetLink
+        | Word::DeviceComplete
+        | Word::DeviceDrop
+        | Word::DeviceHold
+        | Word::DeviceRelease => format == Format::Extended,
         _ => true,
     }
 }
@@ -139,6 +151,19 @@ fn device_word<A: Allocator>(done: &DeviceEvent<A>) -> Word
         DeviceEvent::Receive { .. } => Word::Receive,
         DeviceEvent::TakeSent => Word::TakeSent,
         DeviceEvent::SetLink { .. } => Word::SetLink,
+        DeviceEvent::Host(said) => device_host_word(said),
+    }
+}
+
+// The word of what the host says of a further disk.
+fn device_host_word(said: &HostEvent) -> Word
+    ensures { result ≡ device_host_word said.now }
+{
+    match said {
+        HostEvent::Complete { .. } => Word::DeviceComplete,
+        HostEvent::Drop => Word::DeviceDrop,
+        HostEvent::Hold => Word::DeviceHold,
+        HostEvent::Release => Word::DeviceRelease,
     }
 }
 
@@ -165,6 +190,10 @@ pub(crate) fn spelling_of(word: Word) -> &'static [u8]
         Word::Receive => b"frame",
         Word::TakeSent => b"take",
         Word::SetLink => b"link",
+        Word::DeviceComplete => b"dio",
+        Word::DeviceDrop => b"ddrop",
+        Word::DeviceHold => b"dhold",
+        Word::DeviceRelease => b"drelease",
         Word::Slot => b"slot",
         Word::Cache => b"cache",
     }

@@ -4,7 +4,7 @@
 
 ghost use Rattle.std.specs.Prelude.{◌≡◌, ◌++◌, ◌∷◌, []};
 ghost use Rattle.std.specs.List.{flat_map};
-ghost use Rattle.trace.specs.Asked.{begun_field, kind_field, none_mark, operation_field, other_run, run_field, runs_field, sign_before, stable_mark};
+ghost use Rattle.trace.specs.Asked.{begun_field, device_mark, kind_field, none_mark, operation_field, other_run, run_field, runs_field, sign_before, stable_mark};
 ghost use Rattle.trace.specs.Sends.{Sends, waiting};
 
 use crate::print::buffer::Buffer;
@@ -14,19 +14,22 @@ use chain::Segment;
 use std::alloc::Allocator;
 use std::io::Write;
 
-/// Puts an operation that began with an event, by its tag, with the runs where its bytes lie.
+/// Puts an operation that began with an event, by its tag, with the runs where its bytes lie; of a further disk also by the
+/// disk's number.
 pub fn put_begun<W: Write, B: Allocator>(
     buffer: &mut Buffer<B>,
     out: &mut W,
     is_first: bool,
+    device: Option<u8>,
     tag: u8,
     operation: Operation,
     runs: &[Segment],
 )
     ensures { Sends (W.contents out.old) (W.contents out.new) (waiting buffer.old)
-        (sign_before is_first ++ begun_field (record { tag = tag; operation = operation; runs = runs.now })) (waiting buffer.new) }
+        (sign_before is_first ++ begun_field (record { device = device; tag = tag; operation = operation; runs = runs.now })) (waiting buffer.new) }
 {
     buffer.put(out, sign_before(is_first));
+    put_device(buffer, out, device);
     put_num(buffer, out, u64::from(tag));
     buffer.put(out, b"=");
     put_operation(buffer, out, operation, runs);
@@ -45,6 +48,16 @@ fn sign_before(is_first: bool) -> &'static [u8]
     ensures { result.now ≡ sign_before is_first }
 {
     if is_first { b"" } else { b";" }
+}
+
+// Puts the number of a further disk, and nothing of the slot's own.
+fn put_device<W: Write, B: Allocator>(buffer: &mut Buffer<B>, out: &mut W, device: Option<u8>)
+    ensures { Sends (W.contents out.old) (W.contents out.new) (waiting buffer.old) (device_mark device) (waiting buffer.new) }
+{
+    if let Some(number) = device {
+        put_num(buffer, out, u64::from(number));
+        buffer.put(out, b"/");
+    }
 }
 
 // Puts an operation and its runs.

@@ -1,7 +1,7 @@
 //! The line of a trace: a word, and the fields after it in the table's order.
 
 ghost use Rattle.std.specs.Prelude.{◌≡◌, ◌++◌, ◌∷◌, OnOk, map};
-ghost use Rattle.trace.specs.Spelling.{device_kind, disk, field_text};
+ghost use Rattle.trace.specs.Spelling.{device_kind, disk, field_text, is_disk};
 ghost use Rattle.trace.specs.Text.{ended, line};
 ghost use Rattle.trace.specs.Words.{fields_in, spelled};
 
@@ -42,6 +42,8 @@ pub(crate) struct LineFields<'a> {
     pub device: u8,
     pub kind: DeviceSpec,
     pub up: bool,
+    pub capacity: u64,
+    pub depth: u8,
 }
 
 impl Default for LineFields<'_> {
@@ -71,6 +73,8 @@ impl Default for LineFields<'_> {
             device: 0,
             kind: DeviceSpec::Entropy,
             up: false,
+            capacity: 0,
+            depth: 0,
         }
     }
 }
@@ -82,16 +86,23 @@ pub(crate) fn push_line<A: Allocator>(
     word: Word,
     fields: &LineFields<'_>,
 ) -> Result<(), AllocError>
-    ensures { OnOk result (out.new.items ≡ out.old.items ++ ended (line (spelled word ∷ map (field_text fields.now) (fields_in format word)))) }
+    ensures { OnOk result (out.new.items ≡ out.old.items ++ ended (line (spelled word ∷ map (field_text fields.now) (fields_in format word (is_disk fields.now.kind))))) }
 {
     out.extend_from_slice(spelling_of(word))?;
-    let row = fields_after(format, word);
+    let row = fields_after(format, word, is_disk(fields.kind));
     for field in row {
         out.push(b' ')?;
         push_field(out, *field, fields)?;
     }
     out.push(b'\n')?;
     Ok(())
+}
+
+// Whether a further device is to be a disk.
+fn is_disk(kind: DeviceSpec) -> bool
+    ensures { result ≡ is_disk kind }
+{
+    matches!(kind, DeviceSpec::Block { .. })
 }
 
 // Appends the spelling of a field.
@@ -135,6 +146,8 @@ fn push_field<A: Allocator>(
         Field::Kind => push_kind(out, fields.kind),
         Field::Link if fields.up => out.extend_from_slice(b"up"),
         Field::Link => out.extend_from_slice(b"down"),
+        Field::Capacity => push_num(out, fields.capacity),
+        Field::Depth => push_num(out, u64::from(fields.depth)),
     }
 }
 
@@ -163,5 +176,6 @@ fn push_kind<A: Allocator>(out: &mut Vec<u8, A>, kind: DeviceSpec) -> Result<(),
             out.push(b':')?;
             push_num(out, u64::from(mtu))
         }
+        DeviceSpec::Block { .. } => out.extend_from_slice(b"disk"),
     }
 }

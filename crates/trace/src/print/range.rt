@@ -98,6 +98,9 @@ fn done_in_range<A: Allocator>(done: &DeviceEvent<A>)
         DeviceEvent::Plug(spec) => spec_in_range(*spec),
         DeviceEvent::Supply { bytes } => bytes_in_range(bytes.as_slice()),
         DeviceEvent::Receive { frame } => bytes_in_range(frame.as_slice()),
+        DeviceEvent::Host(HostEvent::Complete { tag, .. }) => {
+            let _tag = *tag;
+        }
         _ => {}
     }
 }
@@ -105,9 +108,22 @@ fn done_in_range<A: Allocator>(done: &DeviceEvent<A>)
 fn spec_in_range(spec: DeviceSpec)
     ensures { SpecInRange spec }
 {
-    if let DeviceSpec::Network { mac, mtu } = spec {
-        bytes_in_range(&mac);
-        let _mtu = mtu;
+    match spec {
+        DeviceSpec::Entropy => {}
+        DeviceSpec::Network { mac, mtu } => {
+            bytes_in_range(&mac);
+            let _mtu = mtu;
+        }
+        DeviceSpec::Block {
+            sectors,
+            identity,
+            depth,
+            ..
+        } => {
+            let _sectors = sectors;
+            bytes_in_range(&identity);
+            let _depth = depth;
+        }
     }
 }
 

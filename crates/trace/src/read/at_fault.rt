@@ -5,13 +5,13 @@ ghost use Rattle.std.specs.Option.{option_copied};
 ghost use Rattle.trace.specs.Cuts.{fields_left};
 ghost use Rattle.trace.specs.Faults.{AllSay, IsAtFault, fault_of, first_field, other_fields};
 ghost use Rattle.trace.specs.Refusals.{RefusesFields};
-ghost use Rattle.trace.specs.Words.{AreRight, shape_of, shapes, spelled, width_among};
+ghost use Rattle.trace.specs.Words.{AreRight, is_disk_kind, kind_among, shape_of, shapes, spelled, width_among};
 ghost use Rattle.trace.specs.declared.word.Word.{Word};
 
 use crate::fault::FaultKind;
 use crate::format::Format;
 use crate::read::cut::{nth_field, take_field};
-use crate::read::values::says;
+use crate::read::values::{disk_is_named, says};
 use crate::table::{Field, fields_after};
 use crate::word::{Word, word_of};
 
@@ -24,7 +24,8 @@ pub fn field_at_fault(format: Format, line: &[u8], kind: FaultKind) -> Option<(F
 {
     let word = first_word(line)?;
     let (_, rest) = take_field(line);
-    first_at_fault(fields_after(format, word), rest, nth_field(rest, 3), kind)
+    let fields = fields_after(format, word, disk_is_named(rest));
+    first_at_fault(fields, rest, nth_field(rest, 3), kind)
 }
 
 /// The word that a line begins with, in some format.
@@ -36,12 +37,20 @@ pub fn first_word(line: &[u8]) -> Option<Word>
     word_of(first)
 }
 
+/// Whether a line names the kind of a further disk, in the place of a kind.
+pub fn names_disk(line: &[u8]) -> bool
+    ensures { result ≡ is_disk_kind (kind_among (other_fields line.now)) }
+{
+    let (_, rest) = take_field(line);
+    disk_is_named(rest)
+}
+
 /// The fault of the fields that are left after a word, in a format.
 pub(crate) fn fault_in(format: Format, word: Word, rest: Option<&[u8]>) -> FaultKind
     requires { ¬ AreRight format word (fields_left (option_copied rest)) }
     ensures { RefusesFields format word (fields_left (option_copied rest.entry)) result }
 {
-    let fields = fields_after(format, word);
+    let fields = fields_after(format, word, disk_is_named(rest));
     let width = nth_field(rest, 3);
     if !are_as_many(fields, rest) {
         FaultKind::Fields

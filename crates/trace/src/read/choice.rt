@@ -1,9 +1,10 @@
 //! Fields that choose one of a few values.
 
-ghost use Rattle.std.specs.Prelude.{◌≡◌, ℕ, IfSome, IfNone, OnSome};
+ghost use Rattle.std.specs.Prelude.{◌≡◌, ℕ, IfSome, IfNone, OnSome, false, replicate};
+ghost use Rattle.device_list.specs.declared.spec.DeviceSpec.{DeviceSpec};
 ghost use Rattle.board.specs.declared.spec.Backing.{Backing};
 ghost use Rattle.trace.specs.Spelling.{link_state, window, mode, verdict};
-ghost use Rattle.trace.specs.Words.{IsDiskField, IsKindField, IsWidthField, Says, Disk, Kind, Link, Window, Width, Mode, Verdict as ByVerdict};
+ghost use Rattle.trace.specs.Words.{IsDiskField, IsKindField, is_disk_kind, IsWidthField, Says, Disk, Kind, Link, Window, Width, Mode, Verdict as ByVerdict};
 
 use crate::read::card::card_of;
 use board::{Backing, DeviceSpec, SlotWindow, Verdict};
@@ -87,7 +88,14 @@ pub(crate) fn verdict_of(field: &[u8]) -> Option<Verdict>
     }
 }
 
-/// What a further device is to be.
+/// Whether a field is the kind of a further disk.
+pub(crate) fn is_disk_kind(field: &[u8]) -> bool
+    ensures { result ≡ is_disk_kind field.now }
+{
+    matches!(field, b"disk")
+}
+
+/// What a further device is to be. What a disk is to be is said by the fields behind this one, and left out here.
 pub(crate) fn kind_of(field: &[u8]) -> Option<DeviceSpec>
     ensures some { IfSome result (λ spec. IsKindField field.now spec) }
     ensures parsed { OnSome result (Says Kind field.now) }
@@ -95,7 +103,20 @@ pub(crate) fn kind_of(field: &[u8]) -> Option<DeviceSpec>
 {
     match field {
         b"entropy" => Some(DeviceSpec::Entropy),
+        b"disk" => Some(blank_disk()),
         _ => card_of(field),
+    }
+}
+
+/// A further disk of which nothing is said yet.
+fn blank_disk() -> DeviceSpec
+    ensures { result ≡ DeviceSpec.Block 0 false (replicate 20 0) 0 }
+{
+    DeviceSpec::Block {
+        sectors: 0,
+        read_only: false,
+        identity: [0; 20],
+        depth: 0,
     }
 }
 

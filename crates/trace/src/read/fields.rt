@@ -125,7 +125,11 @@ fn parsed_of<'a, A: Allocator>(
         | Word::Supply
         | Word::Receive
         | Word::TakeSent
-        | Word::SetLink => device_of(none, word, values),
+        | Word::SetLink
+        | Word::DeviceComplete
+        | Word::DeviceDrop
+        | Word::DeviceHold
+        | Word::DeviceRelease => device_of(none, word, values),
         Word::Cache | Word::Slot => unreachable!(),
     }
 }

@@ -4,10 +4,12 @@ ghost use Rattle.std.specs.Prelude.{◌≡◌, ◌↔◌, ◌≤◌, IfNone, IfS
 ghost use Rattle.std.specs.Option.{option_copied};
 ghost use Rattle.trace.specs.Cuts.{fields_left};
 ghost use Rattle.trace.specs.Values.{SayValues, SaysValue};
-ghost use Rattle.trace.specs.Words.{AllRight, AreRight, HasValueField, Says, Value as ByWidth, shape_of, shapes, width_among};
+ghost use Rattle.trace.specs.Words.{AllRight, AreRight, HasValueField, Says, Value as ByWidth, is_disk_kind, kind_among, shape_of, shapes, width_among};
 
 use crate::format::Format;
-use crate::read::choice::{backing_of, kind_of, link_of, mode_of, verdict_of, width_of, window_of};
+use crate::read::choice::{
+    backing_of, is_disk_kind, kind_of, link_of, mode_of, verdict_of, width_of, window_of,
+};
 use crate::read::cut::{at_end, next_field, nth_field};
 use crate::read::identity::identity_of;
 use crate::read::offset::offset_of;
@@ -30,7 +32,15 @@ pub(crate) fn values_of(format: Format, word: Word, rest: Option<&[u8]>) -> Opti
     ensures some { IfSome result (λ values. SayValues (shapes format word (fields_left (option_copied rest.entry))) (fields_left (option_copied rest.entry)) values.items) }
     ensures none { IfNone result (¬ AreRight format word (fields_left (option_copied rest.entry))) }
 {
-    values_in(fields_after(format, word), width_for(word, rest), rest)
+    let fields = fields_after(format, word, disk_is_named(rest));
+    values_in(fields, width_for(word, rest), rest)
+}
+
+/// Whether the fields after a word name the kind of a further disk, in the place of a kind.
+pub(crate) fn disk_is_named(rest: Option<&[u8]>) -> bool
+    ensures { result ≡ is_disk_kind (kind_among (fields_left (option_copied rest.entry))) }
+{
+    is_disk_kind(nth_field(rest, 2))
 }
 
 // The field by which a value of the word's line is read, where it has one.
@@ -72,12 +82,17 @@ fn value_of<'a>(field: Field, width: &[u8], bytes: &'a [u8]) -> Option<FieldValu
     ensures none { IfNone result (¬ Says (shape_of width.now field) bytes.now) }
 {
     match field {
-        Field::Base | Field::Size | Field::Start | Field::Count | Field::Address => {
-            Some(Number(number(bytes)?))
-        }
+        Field::Base
+        | Field::Size
+        | Field::Start
+        | Field::Count
+        | Field::Address
+        | Field::Capacity => Some(Number(number(bytes)?)),
         Field::Sectors | Field::Length => Some(Number(u64::from(number_u32(bytes)?))),
         Field::Columns | Field::Rows => Some(Number(u64::from(number_u16(bytes)?))),
-        Field::Slot | Field::Tag | Field::Device => Some(Number(u64::from(number_u8(bytes)?))),
+        Field::Slot | Field::Tag | Field::Device | Field::Depth => {
+            Some(Number(u64::from(number_u8(bytes)?)))
+        }
         Field::Offset => Some(Offset(offset_of(bytes)?)),
         Field::Value => written_value(width, bytes),
         Field::Window => Some(Window(window_of(bytes)?)),

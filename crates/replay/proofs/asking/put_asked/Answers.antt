@@ -1,16 +1,9 @@
-use Rattle.std.proofs.Common.{refl, rules}
-use Rattle.replay.proofs.Begun.{put_all, put_none, put_one}
+use Rattle.replay.proofs.Begun.{puts_asked, puts_more}
 use Rattle.replay.proofs.asking.put_asked.Goals as goal
 
-pub loop-left-init : goal.loop-left-init
-loop-left-init g c = rw c.taken.ensures (put_none _ _ _ _)
-
-pub loop-left-preserved : goal.loop-left-preserved
-loop-left-preserved g c =
-    put_one _ _ _ _ _ _ _ _ _ _ _ _ _ c.loop-left.invariant c.take_one-tag.ensures c.put_tag-is_none.ensures.sends
-    c.put_tag-is_none.ensures.none
-
 pub returns : goal.returns
-returns g c before from =
-    put_all _ before _ _ _ _ _ _ _ _ _ _ (search rules) (search rules) refl c.loop-left.invariant (search rules)
-    c.put_asked_end.ensures from
+returns g c before further from from_further =
+    puts_asked _ _ _ _ _ _ _ _
+    (puts_more _ _ _ _ _ _ _ _ _ _ _ (c.put_tags-no_own.ensures before from)
+    (c.put_named-is_none.ensures further from_further))
+    c.put_asked_end.ensures

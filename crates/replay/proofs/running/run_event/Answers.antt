@@ -24,6 +24,6 @@ returns g c =
       c.answer-reply.result.block_irq,
       c.answer-reply.result.console_irq,
     )
-    c.staying-stayed.result _ _ _ _ _ _ c.answer-reply.ensures.answers c.answer-reply.ensures.words
-    (c.staying-stayed.ensures c.if-not-hosted.false)
+    c.staying-stayed.result c.staying_further-stayed_further.result _ _ _ _ _ _ c.answer-reply.ensures.answers c.answer-reply.ensures.words
+    (c.staying-stayed.ensures c.if-not-hosted.false) (c.staying_further-stayed_further.ensures c.if-not-hosted.false)
     (rw c.as_slice-2.ensures.value at c.put_fields.ensures) c.put_asked.ensures)
