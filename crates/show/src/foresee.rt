@@ -8,7 +8,7 @@ use crate::trial::Trial;
 use crate::watched::Watched;
 use crate::weave::Text;
 use crate::wording::{Ahead, ChainSeen, Lookout};
-use board::{EventKind, HostEvent};
+use board::HostEvent;
 use chain::Chain;
 use std::alloc::Global;
 
@@ -51,22 +51,22 @@ impl Steps {
 pub fn foresee(
     board: &mut Watched,
     served: SlotQueue,
-    what: &EventKind,
+    told: Option<HostEvent>,
     landed: Option<ChainSeen>,
     chain: &mut Chain,
     steps: &mut Steps,
 ) -> Ahead {
-    if board.is_on_hold(served) && !matches!(what, EventKind::Host(HostEvent::Release)) {
+    if board.is_on_hold(served) && !matches!(told, Some(HostEvent::Release)) {
         return Ahead::Nothing;
     }
     let Some(mut lookout) = lookout_behind(board, served, landed) else {
         return Ahead::Nothing;
     };
     let mut trial = Trial::new(steps.alloc, board, served);
-    if let (Some(seen), EventKind::Host(HostEvent::Complete { verdict, .. })) = (landed, what) {
-        trial.land(board, &seen, *verdict);
+    if let (Some(seen), Some(HostEvent::Complete { verdict, .. })) = (landed, told) {
+        trial.land(board, &seen, verdict);
     }
-    let end = walk(board, served.slot, &mut lookout, chain, steps, &mut trial);
+    let end = walk(board, served, &mut lookout, chain, steps, &mut trial);
     if !trial.take_back(board) {
         steps.said.give_up();
     }
@@ -76,16 +76,17 @@ pub fn foresee(
 // The same of a queue whose ring is copied.
 fn walk(
     board: &mut Watched,
-    slot: u8,
+    served: SlotQueue,
     lookout: &mut Lookout,
     chain: &mut Chain,
     steps: &mut Steps,
     trial: &mut Trial,
 ) -> Ahead {
-    let mut free = board.free_tags(slot);
+    let mut free = board.free_tags(served);
     let mut opens = true;
     for _ in 0..MOST_CHAINS {
-        let (Some(mem), Some(device)) = (board.memory(slot), board.block_device(slot)) else {
+        let (Some(mem), Some(device)) = (board.memory(served.slot), board.block_device(served))
+        else {
             return Ahead::Nothing;
         };
         if opens {
@@ -94,7 +95,7 @@ fn walk(
             }
             opens = false;
         }
-        match lookout.next(mem, Some(&device), chain, &mut steps.said) {
+        match lookout.next(mem, Some(device), chain, &mut steps.said) {
             Ahead::Chain(seen) if seen.asks_host() => {
                 steps.note(seen);
                 free = free.saturating_sub(1);

@@ -1,29 +1,33 @@
-//! Reaching a slot's windows and queues by the kind of the device.
+//! Reaching a slot's queues.
 
+use crate::device::DeviceName;
 use crate::watched::Watched;
-use board::SlotWindow;
 use guest_memory::GuestMemory;
-use mmio_window::{Queue, QueueRegisters, Window};
+use mmio_window::{Queue, QueueRegisters};
 
 /// A queue of a slot.
 #[derive(Clone, Copy)]
 pub struct SlotQueue {
     pub slot: u8,
-    pub kind: SlotWindow,
+    pub device: DeviceName,
     pub queue: u32,
 }
 
 impl SlotQueue {
     /// A queue of one of a slot's devices.
-    pub fn new(slot: u8, kind: SlotWindow, queue: u32) -> SlotQueue {
-        SlotQueue { slot, kind, queue }
+    pub fn new(slot: u8, device: DeviceName, queue: u32) -> SlotQueue {
+        SlotQueue {
+            slot,
+            device,
+            queue,
+        }
     }
 }
 
 /// The registers of a queue, beside the memory of its slot.
 pub fn queue_of(board: &Watched, at: SlotQueue) -> Option<(&GuestMemory, &QueueRegisters)> {
     let mem = board.memory(at.slot)?;
-    let window = board.window(at.slot, at.kind)?;
+    let window = board.window(at.slot, at.device)?;
     let registers = window.registers(at.queue)?;
     Some((mem, registers))
 }

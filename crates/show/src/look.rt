@@ -2,6 +2,7 @@
 //!
 //! A look takes all its chains at once. Which ones these are is foreseen, and what came of them is said behind it.
 
+use crate::device::told_of;
 use crate::foresee::{Steps, foresee};
 use crate::guest::{SlotQueue, queue_of};
 use crate::served::{Service, needs_reset, opened_at, place_of, reply_of, say_end, say_used_at};
@@ -25,14 +26,15 @@ pub fn look(
     let mut steps = Steps::new(alloc);
     let first = opened_at(board, served);
     let place = place_of(board, served).unwrap_or(0);
-    let landed = match what {
-        EventKind::Host(HostEvent::Complete { tag, .. }) => board.take_flight(served.slot, *tag),
+    let told = told_of(what).map(|(_, told)| told);
+    let landed = match told {
+        Some(HostEvent::Complete { tag, .. }) => board.take_flight(served, tag),
         _ => None,
     };
-    let end = foresee(board, served, what, landed, chain, &mut steps);
+    let end = foresee(board, served, told, landed, chain, &mut steps);
     let turn = board.turn(served.slot, what, None, Budget::UNLIMITED, output);
     let reply = reply_of(turn);
-    let place = say_landed(board, served, what, landed, place, text);
+    let place = say_landed(board, served, told, landed, place, text);
     let mistake = say_steps(board, served, &steps, place, text);
     let fault = match end {
         Ahead::Fault(fault) if needs_reset(board, served) => Some(fault),
@@ -50,16 +52,16 @@ pub fn look(
 fn say_landed(
     board: &Watched,
     served: SlotQueue,
-    what: &EventKind,
+    told: Option<HostEvent>,
     landed: Option<ChainSeen>,
     place: u16,
     text: &mut Text,
 ) -> u16 {
-    let (Some(seen), EventKind::Host(HostEvent::Complete { tag, .. })) = (landed, what) else {
+    let (Some(seen), Some(HostEvent::Complete { tag, .. })) = (landed, told) else {
         return place;
     };
     text.say("  the chain of tag ");
-    text.count(u64::from(*tag));
+    text.count(u64::from(tag));
     text.say(":\n");
     say_given(board, served, &seen, place, text)
 }
@@ -99,11 +101,11 @@ fn say_steps(
         let lines = steps.said.bytes().get(from..step.end).unwrap_or(&[]);
         from = step.end;
         if step.seen.asks_host() {
-            let Some(tag) = board.new_tag(served.slot) else {
+            let Some(tag) = board.new_tag(served) else {
                 break;
             };
             text.put(lines);
-            say_begun(board, served.slot, tag, step.seen, text);
+            say_begun(board, served, tag, step.seen, text);
         } else {
             if place_of(board, served) == Some(place) {
                 break;
@@ -120,9 +122,12 @@ fn say_steps(
 }
 
 // Says what the host is asked by a tag for a chain, and keeps that.
-fn say_begun(board: &mut Watched, slot: u8, tag: u8, seen: ChainSeen, text: &mut Text) {
-    if let (Some(request), Some((operation, runs))) = (&seen.request, board.operation(slot, tag)) {
+fn say_begun(board: &mut Watched, served: SlotQueue, tag: u8, seen: ChainSeen, text: &mut Text) {
+    if let (Some(request), Some((operation, runs))) = (
+        &seen.request,
+        board.operation(served, tag),
+    ) {
         say_asked(text, request, tag, operation, runs);
     }
-    board.keep_flight(slot, tag, seen);
+    board.keep_flight(served, tag, seen);
 }

@@ -61,26 +61,30 @@ const PLACES=["block","console","memory","disk","devices"];
 const FAULTS=/^ {2}ends: (a fault|Jump|Index|Loop|TooMany|Table|Nested|Joined|NoIndirect|Range|TooLong)\b/;
 // ---- the events of the text, by places in it
 const at=[],ends=[],guest=[],place=[],kind=[],number=[],said=new Map(),board=[],mistakes=[];
-// of each event whether anything is in flight of its guest; what is, by guest and tag; and each flight: guest, asking, completion, tag
+// of each event whether anything is in flight of its guest; what is, by guest, disk and tag; and each flight: guest, asking, completion, disk and tag
 const flight=[],asked=new Map(),flights=[];
+// what stands before the tags of an event, where that is one of a further device
+const diskOf=p=>p.startsWith("device ")?p+" ":"";
 const tags=g=>{let m=asked.get(g);if(!m)asked.set(g,m=new Map());return m};
 let guests=0,summary="";
-function keyOf(line){const m=/^ {2}state (\w+) (status|features|generation|hold|queue \d( descriptor \d+| used \d+| on offer)?)/.exec(line);return m?m[1]+" "+m[2]:null}
+function keyOf(line){const m=/^ {2}state (block|console|device \d+) (status|features|generation|hold|queue \d( descriptor \d+| used \d+| on offer)?)/.exec(line);return m?m[1]+" "+m[2]:null}
 function read(){
   let p=0,e=-1,over=false;
   while(p<raw.length){
     let q=raw.indexOf("\n",p);if(q<0)q=raw.length;
     const c=raw.charCodeAt(p);
     if(c>=48&&c<=57){
-      const line=raw.slice(p,Math.min(q,p+96)),m=/^(\d+) guest (\d+) (block|console|memory|disk|devices): (\w+)/.exec(line);
+      const line=raw.slice(p,Math.min(q,p+96)),m=/^(\d+) guest (\d+) (block|console|memory|disk|devices|device \d+): (\w+)/.exec(line);
       if(m){
         e=at.length;at.push(p);ends.push(q);number.push(+m[1]);const g=+m[2];guest.push(g);if(g>=guests)guests=g+1;
+        if(!PLACES.includes(m[3]))PLACES.push(m[3]);
         place.push(PLACES.indexOf(m[3]));flight.push(tags(g).size>0);
-        let k=m[3]==="memory"?2:m[4]==="reads"?0:m[4]==="types"||m[4]==="is"?4:1;
+        let k=m[3]==="memory"?2:m[4]==="reads"?0:/^(types|is|an?|gets|the)$/.test(m[4])?4:1;
         const whole=raw.slice(p,q);
         if(/ -> (outside memory|no |busy|idle)/.test(whole))k=5;
-        else if(m[3]==="disk"){
-          const over=m[4]==="tag"?[/: tag (\d+)/.exec(line)[1]]:m[4]==="drops"?[...tags(g).keys()]:[];
+        else{
+          const disk=diskOf(m[3]),own=t=>t.startsWith(disk+"tag ");
+          const over=m[4]==="tag"?[disk+/: (tag \d+)/.exec(line)[1]]:m[4]==="drops"?[...tags(g).keys()].filter(own):[];
           for(const tag of over){const from=tags(g).get(tag);if(tags(g).delete(tag))flights.push([g,from,e,tag])}
         }
         kind.push(k);
@@ -94,7 +98,7 @@ function read(){
       else if(d===101){
         const line=raw.slice(p,q);kind[e]=Math.max(kind[e],FAULTS.test(line)?7:3);
       }
-      else if(d===32){const m=/: asks the host by tag (\d+) /.exec(raw.slice(p,q));if(m){tags(guest[e]).set(m[1],e);flight[e]=true}}
+      else if(d===32){const m=/: asks the host by (tag \d+) /.exec(raw.slice(p,q));if(m){tags(guest[e]).set(diskOf(PLACES[place[e]])+m[1],e);flight[e]=true}}
     }else if(c===101){summary=raw.slice(p,q);over=true}
     else if(over){const line=raw.slice(p,q),m=/^ {2}line (\d+),/.exec(line);if(m)mistakes.push([+m[1],line.trim()])}
     p=q+1;
@@ -102,7 +106,7 @@ function read(){
 }
 read();
 for(const [g,m] of asked)for(const [tag,e] of m)flights.push([g,e,at.length-1,tag]);
-flights.sort((a,b)=>a[1]-b[1]||a[3]-b[3]);
+flights.sort((a,b)=>a[1]-b[1]||a[3].localeCompare(b[3],"en",{numeric:true}));
 const count=at.length,trouble=e=>kind[e]>=5;
 const lineOf=e=>{let q=raw.indexOf("\n",at[e]);return raw.slice(at[e],q<0?raw.length:q)};
 // ---- what is shown
@@ -148,7 +152,7 @@ function stateAt(g,e){
     out.set(name.slice(name.indexOf(" ")+1),{line:list[i][1].slice(8),e:list[i][0]});
   }
   for(const [key,v] of [...out]){
-    const m=/^(\w+ queue \d)( descriptor| used| on offer)/.exec(key);if(!m)continue;
+    const m=/^(.* queue \d)( descriptor| used| on offer)/.exec(key);if(!m)continue;
     const q=out.get(m[1]);
     if(!q||q.line.includes("not ready")||v.e<madeReady(g,m[1],e))out.delete(key);
   }
@@ -170,7 +174,7 @@ function side(){
   const flown=el("div");flown.id="flight";s.append(flown);
   if(flight[e])for(const [g,a,b,tag] of flights){
     if(g!==guest[e]||a>=e||e>b)continue;
-    const x=el("div","item link","tag "+tag+" in flight since line "+number[a]);x.onclick=()=>pick(a);flown.append(x);
+    const x=el("div","item link",tag+" in flight since line "+number[a]);x.onclick=()=>pick(a);flown.append(x);
   }
   const came=text.slice(1).filter(l=>!l.startsWith("  state"));
   if(came.length){s.append(el("h2","","What came of it"));for(const l of came)s.append(el("pre",/^ {2}(mistake|ends: [A-Z])/.test(l)?"bad":"",l.slice(2)))}
@@ -196,7 +200,7 @@ function ring(st,key,e,took,q){
   wrap.dataset.key=key;
   if(o)for(const h of o.line.slice(o.line.indexOf(":")+1).trim().split(" "))if(h)offer.push(h);
   const rows=entries(st,key+" descriptor "),used=entries(st,key+" used "),packed=q.line.includes("packed");
-  const served=lineOf(e).includes(key.slice(0,key.indexOf(" "))),place=new Map(rows.map((r,i)=>[r[0],i]));
+  const served=lineOf(e).includes(key.slice(0,key.indexOf(" queue "))),place=new Map(rows.map((r,i)=>[r[0],i]));
   const high=Math.max(rows.length,offer.length,used.length)*18+18,table=titled("descriptors"),fresh=new Set(used.filter(u=>u[1].e===e).map(u=>u[0]));
   const chains=drawing(46,high);
   rows.forEach(([i,v],n)=>{

@@ -1,56 +1,136 @@
 //! What is seen of a guest's devices, and said where it changes.
 
+use crate::device::DeviceName;
 use crate::guest::{SlotQueue, queue_of};
 use crate::watched::Watched;
 use crate::weave::Text;
 use crate::wording::{
-    Change, NEW_WINDOW, Table, WindowSeen, say_changes, say_hold_change, say_on_offer, window_seen,
+    Change, Table, WindowSeen, say_changes, say_hold_change, say_on_offer, say_raised, window_seen,
 };
-use board::SlotWindow;
-use std::alloc::Global;
+use mmio_window::DeviceKind;
+use std::alloc::{AllocError, Global};
 
-/// What was said last of a guest's windows, and of its queues' descriptors.
+/// What was said last of a guest's devices: of its block device, its console, and its further ones in their order.
 #[derive(Drop)]
 pub struct Guest {
-    pub block: WindowSeen,
-    pub console: WindowSeen,
-    is_on_hold: bool,
-    requests: Table,
-    receive: Table,
-    transmit: Table,
+    alloc: Global,
+    devices: Vec<Seen>,
+    /// How many of them are further ones.
+    further: u8,
 }
 
 impl Guest {
-    /// A slot's guest, of which nothing was said. This takes no memory.
-    pub fn new(alloc: Global, board: &Watched, slot: u8) -> Guest {
-        Guest {
-            block: seen(board, slot, SlotWindow::Block),
-            console: seen(board, slot, SlotWindow::Console),
-            is_on_hold: false,
-            requests: Table::new(alloc),
-            receive: Table::new(alloc),
-            transmit: Table::new(alloc),
+    /// A slot's guest, of which nothing was said.
+    pub fn new(alloc: Global, board: &Watched, slot: u8) -> Result<Guest, AllocError> {
+        let mut devices = Vec::with_capacity(alloc, 2)?;
+        for name in [DeviceName::Block, DeviceName::Console] {
+            if let Some(seen) = Seen::new(alloc, board, slot, name) {
+                devices.push(seen)?;
+            }
+        }
+        Ok(Guest {
+            alloc,
+            devices,
+            further: 0,
+        })
+    }
+
+    /// What was said last of a device's window.
+    pub fn window(&self, name: DeviceName) -> Option<WindowSeen> {
+        for device in self.devices.iter() {
+            if device.name == name {
+                return Some(device.window);
+            }
+        }
+        None
+    }
+
+    /// Says the reasons of interrupts that are new.
+    pub fn say_raised(&mut self, board: &Watched, slot: u8, text: &mut Text) {
+        for device in self.devices.iter_mut() {
+            device.say_raised(board, slot, text);
         }
     }
 
     /// Says what of the windows and of the queues isn't as it was, and answers whether a descriptor isn't that was available
     /// in a packed ring.
     pub fn say_changes(&mut self, board: &Watched, slot: u8, text: &mut Text) -> bool {
-        let (block, console) = (self.block, self.console);
-        self.block = seen(board, slot, SlotWindow::Block);
-        self.console = seen(board, slot, SlotWindow::Console);
-        say_changes(text, SlotWindow::Block, &block, &self.block);
-        say_changes(text, SlotWindow::Console, &console, &self.console);
-        let at = SlotQueue::new(slot, SlotWindow::Block, 0);
-        let was_on_hold = self.is_on_hold;
+        self.add_new(board, slot, text);
+        let mut is_available = false;
+        for device in self.devices.iter_mut() {
+            if device.say_changes(board, slot, text) {
+                is_available = true;
+            }
+        }
+        is_available
+    }
+
+    // Takes a device in that was plugged in.
+    fn add_new(&mut self, board: &Watched, slot: u8, text: &mut Text) {
+        let name = DeviceName::Further(self.further);
+        let Some(seen) = Seen::new(self.alloc, board, slot, name) else {
+            return;
+        };
+        if self.devices.push(seen).is_err() {
+            text.give_up();
+        }
+        self.further = self.further.wrapping_add(1);
+    }
+}
+
+/// What was said last of a device: its window, and the descriptors of its queues.
+#[derive(Drop)]
+struct Seen {
+    name: DeviceName,
+    kind: DeviceKind,
+    window: WindowSeen,
+    interrupts: u8,
+    is_on_hold: bool,
+    first: Table,
+    second: Table,
+}
+
+impl Seen {
+    // A device of which nothing was said, where there is one. This takes no memory.
+    fn new(alloc: Global, board: &Watched, slot: u8, name: DeviceName) -> Option<Seen> {
+        let window = board.window(slot, name)?;
+        Some(Seen {
+            name,
+            kind: board.kind(slot, name)?,
+            window: window_seen(board.memory(slot)?, window),
+            interrupts: window.interrupts(),
+            is_on_hold: false,
+            first: Table::new(alloc),
+            second: Table::new(alloc),
+        })
+    }
+
+    // Says the reasons of interrupts that are new.
+    fn say_raised(&mut self, board: &Watched, slot: u8, text: &mut Text) {
+        if let Some(window) = board.window(slot, self.name) {
+            let old = self.interrupts;
+            self.interrupts = window.interrupts();
+            say_raised(text, self.name, self.interrupts & !old);
+        }
+    }
+
+    // Says what of the window and of the queues isn't as it was, and answers whether a descriptor isn't that was available in a
+    // packed ring.
+    fn say_changes(&mut self, board: &Watched, slot: u8, text: &mut Text) -> bool {
+        let (Some(mem), Some(window)) = (board.memory(slot), board.window(slot, self.name)) else {
+            return false;
+        };
+        let (old, was_on_hold) = (self.window, self.is_on_hold);
+        self.window = window_seen(mem, window);
+        say_changes(text, self.name, self.kind, &old, &self.window);
+        let at = SlotQueue::new(slot, self.name, 0);
         self.is_on_hold = board.is_on_hold(at);
-        say_hold_change(text, was_on_hold, self.is_on_hold);
-        let requests = say_queue(text, board, at, &mut self.requests, &block, &self.block);
-        let at = SlotQueue::new(slot, SlotWindow::Console, 0);
-        let receive = say_queue(text, board, at, &mut self.receive, &console, &self.console);
-        let at = SlotQueue::new(slot, SlotWindow::Console, 1);
-        let transmit = say_queue(text, board, at, &mut self.transmit, &console, &self.console);
-        requests || receive || transmit
+        say_hold_change(text, self.name, was_on_hold, self.is_on_hold);
+        let ([old_0, old_1], [new_0, new_1]) = (&old.queues, &self.window.queues);
+        let first = say_queue(text, board, at, &mut self.first, old_0 != new_0);
+        let at = SlotQueue::new(slot, self.name, 1);
+        let second = say_queue(text, board, at, &mut self.second, old_1 != new_1);
+        first || second
     }
 }
 
@@ -61,27 +141,20 @@ fn say_queue(
     board: &Watched,
     at: SlotQueue,
     table: &mut Table,
-    old: &WindowSeen,
-    new: &WindowSeen,
+    has_changed: bool,
 ) -> bool {
     let Some((mem, registers)) = queue_of(board, at) else {
         return false;
     };
-    let change = table.say_changes(text, mem, at.kind, at.queue, registers);
-    let ([old_0, old_1], [new_0, new_1]) = (&old.queues, &new.queues);
-    let has_changed = if at.queue == 0 {
-        old_0 != new_0
-    } else {
-        old_1 != new_1
-    };
-    say_on_offer(text, mem, at.kind, at.queue, registers, has_changed, change);
+    let change = table.say_changes(text, mem, at.device, at.queue, registers);
+    say_on_offer(
+        text,
+        mem,
+        at.device,
+        at.queue,
+        registers,
+        has_changed,
+        change,
+    );
     change == Change::Available
-}
-
-// What is seen of a slot's window.
-fn seen(board: &Watched, slot: u8, kind: SlotWindow) -> WindowSeen {
-    match (board.memory(slot), board.window(slot, kind)) {
-        (Some(mem), Some(window)) => window_seen(mem, window),
-        _ => NEW_WINDOW,
-    }
 }

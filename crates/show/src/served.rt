@@ -1,5 +1,6 @@
 //! How far a queue is served, and what is said of its used entries and of the end of its service.
 
+use crate::device::DeviceName;
 use crate::guest::{SlotQueue, queue_of, ring_of};
 use crate::watched::Watched;
 use crate::weave::Text;
@@ -7,7 +8,7 @@ use crate::wording::{
     Mistake, fault_name, next_place, say_notification, say_queue_head, say_site, say_used, size_of,
     used_entry, used_place,
 };
-use board::{Reply, SlotWindow, Turn};
+use board::{Reply, Turn};
 use chain::Fault;
 use mmio_window::Queue;
 use negotiation::{Flags, Status};
@@ -63,7 +64,7 @@ fn closed_at(board: &Watched, served: SlotQueue) -> Option<u16> {
 
 /// Whether the device of a queue asks to be reset.
 pub fn needs_reset(board: &Watched, served: SlotQueue) -> bool {
-    match board.window(served.slot, served.kind) {
+    match board.window(served.slot, served.device) {
         Some(window) => {
             let status = window.negotiation().status();
             status.contains(Status::DEVICE_NEEDS_RESET)
@@ -83,7 +84,7 @@ pub fn say_used_at(board: &Watched, served: SlotQueue, place: u16, text: &mut Te
     text.say("    used: ");
     say_used(text, used);
     let entry = place.checked_rem(size_of(registers)).unwrap_or(0);
-    say_queue_head(text, served.kind, served.queue, " used ");
+    say_queue_head(text, served.device, served.queue, " used ");
     text.count(u64::from(entry));
     text.say(": id ");
     say_used(text, used);
@@ -132,8 +133,8 @@ fn plain_end(board: &Watched, served: SlotQueue) -> &'static str {
     if board.is_full(served) {
         return "no tag is free";
     }
-    match (served.kind, served.queue, board.pending(served.slot)) {
-        (SlotWindow::Console, 0, 0) => "no input is left",
+    match (served.device, served.queue, board.pending(served.slot)) {
+        (DeviceName::Console, 0, 0) => "no input is left",
         _ => "nothing more is on offer",
     }
 }

@@ -1,5 +1,6 @@
 //! Serving a queue chain by chain, and saying of each what was taken and what came of it.
 
+use crate::device::DeviceName;
 use crate::guest::{SlotQueue, queue_of};
 use crate::served::{
     MOST_CHAINS, Service, needs_reset, opened_at, place_of, reply_of, say_end, say_used_at,
@@ -7,7 +8,7 @@ use crate::served::{
 use crate::watched::Watched;
 use crate::weave::Text;
 use crate::wording::{Ahead, ChainSeen, Lookout, SHOWN, say_received, say_request, used_entry};
-use board::{EventKind, SlotWindow, Turn};
+use board::{EventKind, Turn};
 use chain::{Budget, Chain, Fault};
 use std::alloc::Global;
 
@@ -93,10 +94,7 @@ fn ahead_of(
             return Ahead::Fault(fault);
         }
     }
-    match (served.kind, board.block_device(served.slot)) {
-        (SlotWindow::Block, Some(device)) => lookout.next(mem, Some(&device), chain, text),
-        _ => lookout.next(mem, None, chain, text),
-    }
+    lookout.next(mem, board.block_device(served), chain, text)
 }
 
 // The fault that ended a service, where one did: that of what was ahead, or that of the chain behind it. A window that is
@@ -138,9 +136,9 @@ fn say_outcome(
     let Some(used) = used_entry(mem, registers, place) else {
         return;
     };
-    match (served.kind, served.queue, &seen.request) {
-        (SlotWindow::Block, _, Some(request)) => say_request(text, mem, request),
-        (SlotWindow::Console, 0, _) => say_received(text, mem, chain, used.len),
+    match (served.device, served.queue, &seen.request) {
+        (DeviceName::Block, _, Some(request)) => say_request(text, mem, request),
+        (DeviceName::Console, 0, _) => say_received(text, mem, chain, used.len),
         _ => {
             text.say("    transmits ");
             let bytes = put_out.unwrap_or(&[]);

@@ -1,5 +1,6 @@
 //! Going along with a replay: each event is handled by a board of one's own, and said.
 
+use crate::device::{Access, DeviceName, access_of, told_of};
 use crate::guest::{SlotQueue, ring_of};
 use crate::look::look;
 use crate::seen::Guest;
@@ -8,9 +9,9 @@ use crate::service::serve;
 use crate::watched::Watched;
 use crate::weave::Text;
 use crate::wording::{
-    Mistake, SHOWN, read_mistake, say_event, say_interrupts, say_place, say_value, write_mistake,
+    Mistake, SHOWN, read_mistake, say_disk, say_event, say_place, say_value, write_mistake,
 };
-use board::{Backing, Event, EventKind, HostEvent, Reply, SlotSpec, SlotWindow};
+use board::{Event, EventKind, HostEvent, Reply, SlotSpec};
 use chain::{Chain, Fault};
 use guest_memory::RegionSpec;
 use mmio_window::Queue;
@@ -47,7 +48,7 @@ impl Watcher {
     pub fn new(alloc: Global, board: Watched) -> Result<Watcher, AllocError> {
         let mut guests = Vec::with_capacity(alloc, board.slots())?;
         for slot in 0..board.slots().min(64) {
-            guests.push(Guest::new(alloc, &board, slot as u8))?;
+            guests.push(Guest::new(alloc, &board, slot as u8)?)?;
         }
         Ok(Watcher {
             board,
@@ -85,21 +86,32 @@ impl Watcher {
         head.say(" guest ");
         head.count(u64::from(slot));
         say_place(head, &event.what);
-        say_event(head, &event.what);
-        let Some(words) = self.board.interrupts(slot) else {
+        let access = access_of(&event.what);
+        let kind = access.and_then(|access| self.board.kind(slot, access.device));
+        say_event(head, &event.what, kind);
+        if self.board.memory(slot).is_none() {
             head.say(" -> no such guest");
             return;
-        };
-        match &event.what {
-            EventKind::Read { offset, width, .. } => {
-                if let Reply::Value(value) = self.board.step(event, &mut self.output) {
-                    head.say(" -> ");
-                    say_value(head, *offset, *width, value);
-                }
-                self.note(line, slot, read_mistake(*offset, *width), tail);
+        }
+        match (access, &event.what) {
+            (Some(access), _) if access.value.is_none() => {
+                self.read(line, event, access, head, tail);
             }
-            EventKind::MemRead { addr, len } => self.read_memory(slot, *addr, *len, head),
-            _ => self.change(line, event, words, head, tail),
+            (_, EventKind::MemRead { addr, len }) => self.read_memory(slot, *addr, *len, head),
+            _ => self.change(line, event, access, head, tail),
+        }
+    }
+
+    // A read of a register or a field.
+    fn read(&mut self, line: u64, event: &Event, access: Access, head: &mut Text, tail: &mut Text) {
+        match self.board.step(event, &mut self.output) {
+            Reply::Value(value) => {
+                head.say(" -> ");
+                say_value(head, access.offset, access.width, value);
+                let mistake = read_mistake(access.offset, access.width);
+                self.note(line, event.slot, mistake, tail);
+            }
+            reply => say_reply(&reply, head),
         }
     }
 
@@ -117,41 +129,44 @@ impl Watcher {
         &mut self,
         line: u64,
         event: &Event,
-        words: (u8, u8),
+        access: Option<Access>,
         head: &mut Text,
         tail: &mut Text,
     ) {
         self.output.clear();
         let slot = event.slot;
-        let mut fault = None;
-        let mut mistake = None;
-        let mut is_packed = false;
-        let reply = match served_of(&self.board, event) {
-            Some(served) => {
-                let service = self.served(served, &event.what, tail);
-                fault = service.fault;
-                mistake = service.mistake;
-                is_packed = is_packed_queue(&self.board, served);
-                service.reply
-            }
-            None => {
-                say_left(&mut self.board, event, tail);
-                self.board.step(event, &mut self.output)
-            }
-        };
-        if matches!(&reply, Reply::Idle) {
+        let (service, fault_mistake) = self.handled(event, tail);
+        if matches!(&service.reply, Reply::Idle) {
             head.say(idle_words(&self.board, event));
         }
-        self.say_answer(slot, &reply, words, head);
-        if fault.is_some() {
+        say_reply(&service.reply, head);
+        self.say_effects(slot, head);
+        if service.fault.is_some() {
             self.faults = self.faults.saturating_add(1);
         }
         // a busy event is made again, and judged then
-        if !matches!(&reply, Reply::Busy) {
-            self.say_states(slot, event, line, tail);
+        if !matches!(&service.reply, Reply::Busy) {
+            self.say_states(line, event, access, tail);
         }
-        self.note(line, slot, mistake, tail);
-        self.note(line, slot, fault_mistake(fault, is_packed), tail);
+        self.note(line, slot, service.mistake, tail);
+        self.note(line, slot, fault_mistake, tail);
+    }
+
+    // Handles an event, and answers what it came to. Where a fault ended the service of a queue, it is also what that shows.
+    fn handled(&mut self, event: &Event, tail: &mut Text) -> (Service, Option<Mistake>) {
+        let Some(served) = served_of(&self.board, event) else {
+            say_left(&mut self.board, event, tail);
+            let service = Service {
+                reply: self.board.step(event, &mut self.output),
+                fault: None,
+                mistake: None,
+            };
+            return (service, None);
+        };
+        let service = self.served(served, &event.what, tail);
+        let is_packed = is_packed_queue(&self.board, served);
+        let mistake = fault_mistake(service.fault, is_packed);
+        (service, mistake)
     }
 
     // An event that serves a queue.
@@ -165,24 +180,10 @@ impl Watcher {
         }
     }
 
-    // Says the answer of an event, the interrupts that it raised and what the console put out.
-    fn say_answer(&mut self, slot: u8, reply: &Reply, words: (u8, u8), head: &mut Text) {
-        match reply {
-            Reply::Took(count) => {
-                head.say(" -> took ");
-                head.count(*count as u64);
-            }
-            Reply::BadRange => head.say(" -> outside memory"),
-            Reply::BadState => head.say(" -> no such snapshot"),
-            Reply::BadDevice => head.say(" -> no such device, or not for it"),
-            Reply::Busy => head.say(" -> busy, until nothing is in flight"),
-            Reply::NoMemory => head.say(" -> no memory"),
-            Reply::BadSlot => head.say(" -> no such guest"),
-            _ => {}
-        }
-        if let Some((block, console)) = self.board.interrupts(slot) {
-            say_raised(head, "block", words.0, block);
-            say_raised(head, "console", words.1, console);
+    // Says the interrupts that an event raised and what the console put out.
+    fn say_effects(&mut self, slot: u8, head: &mut Text) {
+        if let Some(guest) = self.guests.get_mut(usize::from(slot)) {
+            guest.say_raised(&self.board, slot, head);
         }
         if !self.output.is_empty() {
             head.say("; puts out ");
@@ -191,27 +192,22 @@ impl Watcher {
     }
 
     // Says what of the slot's windows isn't as it was said last, and what was wrong with a write to one.
-    fn say_states(&mut self, slot: u8, event: &Event, line: u64, tail: &mut Text) {
+    fn say_states(&mut self, line: u64, event: &Event, access: Option<Access>, tail: &mut Text) {
+        let slot = event.slot;
         let Some(guest) = self.guests.get_mut(usize::from(slot)) else {
             return;
         };
-        let old = (guest.block, guest.console);
+        let old = access.and_then(|access| guest.window(access.device));
         let has_changed = guest.say_changes(&self.board, slot, tail);
-        let new = (guest.block, guest.console);
+        let new = access.and_then(|access| guest.window(access.device));
         if has_changed && matches!(&event.what, EventKind::MemWrite { .. }) {
             self.note(line, slot, Some(Mistake::AvailableChanged), tail);
         }
-        if let EventKind::Write {
-            window,
-            offset,
-            width,
-            value,
-        } = &event.what
-        {
-            let mistake = match window {
-                SlotWindow::Block => { write_mistake(*offset, *width, *value, &old.0, &new.0) }
-                SlotWindow::Console => { write_mistake(*offset, *width, *value, &old.1, &new.1) }
-            };
+        let (Some(access), Some(old), Some(new)) = (access, old, new) else {
+            return;
+        };
+        if let Some(value) = access.value {
+            let mistake = write_mistake(access.offset, access.width, value, &old, &new);
             self.note(line, slot, mistake, tail);
         }
     }
@@ -258,6 +254,23 @@ impl Watcher {
     }
 }
 
+// Says what an event was answered, but for a value.
+fn say_reply(reply: &Reply, head: &mut Text) {
+    match reply {
+        Reply::Took(count) => {
+            head.say(" -> took ");
+            head.count(*count as u64);
+        }
+        Reply::BadRange => head.say(" -> outside memory"),
+        Reply::BadState => head.say(" -> no such snapshot"),
+        Reply::BadDevice => head.say(" -> no such device, or not for it"),
+        Reply::Busy => head.say(" -> busy, until nothing is in flight"),
+        Reply::NoMemory => head.say(" -> no memory"),
+        Reply::BadSlot => head.say(" -> no such guest"),
+        _ => {}
+    }
+}
+
 // Says a slot of a trace.
 fn say_slot(text: &mut Text, number: u64, slot: &SlotSpec) {
     text.count(number.wrapping_add(3));
@@ -266,22 +279,7 @@ fn say_slot(text: &mut Text, number: u64, slot: &SlotSpec) {
     text.say(": memory ");
     say_regions(text, slot.regions.as_slice());
     text.say(", ");
-    text.counted(slot.extent.count, "sector");
-    match slot.backing {
-        Backing::Image => {
-            text.say(" from ");
-            text.count(slot.extent.start);
-        }
-        Backing::Host { depth } => {
-            text.say(" that the host serves by ");
-            text.counted(u64::from(depth), "tag");
-        }
-    }
-    text.say(if slot.read_only {
-        ", read-only"
-    } else {
-        ", writable"
-    });
+    say_disk(text, slot.extent, slot.backing, slot.read_only);
     text.say(", console ");
     text.count(u64::from(slot.cols));
     text.say(" by ");
@@ -301,10 +299,14 @@ fn say_regions(text: &mut Text, regions: &[RegionSpec]) {
     }
 }
 
-// The queue that an event serves, where it serves one.
+// The queue that an event serves, where it serves one whose chains are told: of further devices those of disks.
 fn served_of(board: &Watched, event: &Event) -> Option<SlotQueue> {
     let at = named_by(board, event)?;
-    if is_ready(board, at) && serves(board, at, &event.what) {
+    let is_told = match at.device {
+        DeviceName::Block | DeviceName::Console => true,
+        DeviceName::Further(_) => board.is_hosted(at),
+    };
+    if is_told && is_ready(board, at) && serves(board, at, &event.what) {
         Some(at)
     } else {
         None
@@ -314,16 +316,16 @@ fn served_of(board: &Watched, event: &Event) -> Option<SlotQueue> {
 // Whether an event that names a queue serves it. Where no tag of a disk is free, a completion alone does, and where the queue is
 // on hold a completion and a release.
 fn serves(board: &Watched, at: SlotQueue, what: &EventKind) -> bool {
-    match what {
-        EventKind::Host(HostEvent::Complete { tag, .. }) => board.is_taken(at.slot, *tag),
-        EventKind::Host(_) => board.is_on_hold(at) && !board.is_full(at),
-        _ => !board.is_on_hold(at) && !board.is_full(at),
+    match told_of(what) {
+        Some((_, HostEvent::Complete { tag, .. })) => board.is_taken(at, tag),
+        Some(_) => board.is_on_hold(at) && !board.is_full(at),
+        None => !board.is_on_hold(at) && !board.is_full(at),
     }
 }
 
 // Whether a queue is ready, of a window that is live.
 fn is_ready(board: &Watched, at: SlotQueue) -> bool {
-    let Some(window) = board.window(at.slot, at.kind) else {
+    let Some(window) = board.window(at.slot, at.device) else {
         return false;
     };
     window.negotiation().live() && ring_of(board, at).is_some()
@@ -332,43 +334,46 @@ fn is_ready(board: &Watched, at: SlotQueue) -> bool {
 // The queue that an event names, where it may serve one.
 fn named_by(board: &Watched, event: &Event) -> Option<SlotQueue> {
     let slot = event.slot;
-    let (kind, queue) = match &event.what {
-        EventKind::Write {
-            window,
-            offset: QUEUE_NOTIFY,
-            width: 4,
-            value,
-        } => (*window, queue_named(board, slot, *window, *value)?),
-        EventKind::Input { .. } => (SlotWindow::Console, 0),
-        EventKind::Host(HostEvent::Complete { .. } | HostEvent::Release) => (SlotWindow::Block, 0),
-        _ => return None,
-    };
-    Some(SlotQueue { slot, kind, queue })
+    if let Some(access) = access_of(&event.what) {
+        let queue = queue_notified(board, slot, access)?;
+        return Some(SlotQueue::new(slot, access.device, queue));
+    }
+    match (told_at(event), &event.what) {
+        (Some((at, HostEvent::Complete { .. } | HostEvent::Release)), _) => Some(at),
+        (None, EventKind::Input { .. }) => Some(SlotQueue::new(slot, DeviceName::Console, 0)),
+        _ => None,
+    }
+}
+
+// What the host says by an event, and of which disk's queue, where it is such an event.
+fn told_at(event: &Event) -> Option<(SlotQueue, HostEvent)> {
+    let (device, told) = told_of(&event.what)?;
+    Some((SlotQueue::new(event.slot, device, 0), told))
 }
 
 // Says what an event leaves undone that serves no queue: a chain that isn't given back, or a notify of a queue on hold.
 fn say_left(board: &mut Watched, event: &Event, text: &mut Text) {
-    match &event.what {
-        EventKind::Host(HostEvent::Complete { tag, .. }) => say_lost(board, event.slot, *tag, text),
-        EventKind::Host(HostEvent::Drop) => {
+    match told_at(event) {
+        Some((at, HostEvent::Complete { tag, .. })) => say_lost(board, at, tag, text),
+        Some((at, HostEvent::Drop)) => {
             for tag in 0..MOST_TAGS {
-                say_lost(board, event.slot, tag, text);
+                say_lost(board, at, tag, text);
             }
         }
-        EventKind::Write { .. } => {
+        Some(_) => {}
+        None => {
             if let Some(at) = named_by(board, event) {
                 if board.is_on_hold(at) && is_ready(board, at) {
                     text.say("  no chain is taken: the queue is on hold\n");
                 }
             }
         }
-        _ => {}
     }
 }
 
 // Says that the chain in flight of a tag isn't given back, where there is one.
-fn say_lost(board: &mut Watched, slot: u8, tag: u8, text: &mut Text) {
-    if board.take_flight(slot, tag).is_some() {
+fn say_lost(board: &mut Watched, at: SlotQueue, tag: u8, text: &mut Text) {
+    if board.take_flight(at, tag).is_some() {
         text.say("  the chain of tag ");
         text.count(u64::from(tag));
         text.say(" isn't given back: the device asks to be reset\n");
@@ -377,19 +382,22 @@ fn say_lost(board: &mut Watched, slot: u8, tag: u8, text: &mut Text) {
 
 // Why there was nothing to do of what the host says.
 fn idle_words(board: &Watched, event: &Event) -> &'static str {
-    let at = SlotQueue::new(event.slot, SlotWindow::Block, 0);
-    match &event.what {
-        EventKind::Host(HostEvent::Drop) => " -> idle, nothing is in flight",
-        EventKind::Host(HostEvent::Hold) if board.is_on_hold(at) => " -> idle, it is on hold",
-        EventKind::Host(HostEvent::Hold) => " -> idle, the host doesn't serve this disk",
-        EventKind::Host(HostEvent::Release) => " -> idle, it isn't on hold",
+    match told_at(event) {
+        Some((_, HostEvent::Drop)) => " -> idle, nothing is in flight",
+        Some((at, HostEvent::Hold)) if board.is_on_hold(at) => " -> idle, it is on hold",
+        Some((_, HostEvent::Hold)) => " -> idle, the host doesn't serve this disk",
+        Some((_, HostEvent::Release)) => " -> idle, it isn't on hold",
         _ => " -> idle, no chain has this tag",
     }
 }
 
-// The queue that a value of QueueNotify names (4.2.3.3).
-fn queue_named(board: &Watched, slot: u8, kind: SlotWindow, value: u32) -> Option<u32> {
-    let window = board.window(slot, kind)?;
+// The queue that a write to QueueNotify names (4.2.3.3), where an access is one.
+fn queue_notified(board: &Watched, slot: u8, access: Access) -> Option<u32> {
+    let value = access.value?;
+    if access.offset != QUEUE_NOTIFY || access.width != 4 {
+        return None;
+    }
+    let window = board.window(slot, access.device)?;
     let features = window.negotiation().negotiated();
     if features.contains(Features::NOTIFICATION_DATA) {
         Some(value % 0x1_0000)
@@ -406,15 +414,4 @@ fn is_packed_queue(board: &Watched, served: SlotQueue) -> bool {
 // What a fault shows that the standard forbids a driver.
 fn fault_mistake(fault: Option<Fault>, is_packed: bool) -> Option<Mistake> {
     Mistake::of_fault(fault?, is_packed)
-}
-
-// Says the reasons of interrupts that an event raised.
-fn say_raised(text: &mut Text, device: &str, old: u8, new: u8) {
-    let raised = new & !old;
-    if raised != 0 {
-        text.say("; raises ");
-        text.say(device);
-        text.say(" ");
-        say_interrupts(text, u32::from(raised));
-    }
 }

@@ -1,21 +1,41 @@
 //! The board that goes along with a replay, over a copy of the image.
 
+use crate::device::DeviceName;
 use crate::guest::SlotQueue;
 use crate::wording::ChainSeen;
 use block_device::{BlockDevice, Operation};
 use board::{
-    Backing, Board, Budget, Event, EventKind, GuestMemory, Pause, Reply, SlotSpec, SlotWindow,
-    Turn, Work,
+    Backing, Board, Budget, DeviceEvent, DeviceSpec, Event, EventKind, GuestMemory, HostedDisk,
+    Pause, Reply, SlotSpec, Turn, Work,
 };
-use mmio_window::Window;
+use mmio_window::{DeviceKind, Window};
 use sector_cache::MemoryImage;
 use std::alloc::{AllocError, Global};
 
-/// Such a board, with the chains of each slot that are in flight as they were said, each at its tag.
+/// The chains in flight of a disk that the host serves as they were said, each at its tag.
+#[derive(Drop)]
+struct Flights {
+    device: DeviceName,
+    tags: Vec<Option<ChainSeen>>,
+}
+
+impl Flights {
+    // As many free tags.
+    fn new(alloc: Global, device: DeviceName, depth: u8) -> Result<Flights, AllocError> {
+        let mut tags = Vec::with_capacity(alloc, usize::from(depth))?;
+        for _ in 0..depth {
+            tags.push(None)?;
+        }
+        Ok(Flights { device, tags })
+    }
+}
+
+/// Such a board, with what is in flight of each slot's disks.
 #[derive(Drop)]
 pub struct Watched {
     board: Board<MemoryImage>,
-    flights: Vec<Vec<Option<ChainSeen>>>,
+    alloc: Global,
+    disks: Vec<Vec<Flights>>,
 }
 
 impl Watched {
@@ -27,11 +47,20 @@ impl Watched {
         cache: u32,
     ) -> Option<Watched> {
         let board = Board::new(alloc, slots, before, cache).ok()?;
-        let mut flights = Vec::with_capacity(alloc, slots.len()).ok()?;
+        let mut disks = Vec::with_capacity(alloc, slots.len()).ok()?;
         for slot in slots {
-            flights.push(free_tags_of(alloc, slot.backing).ok()?).ok()?;
+            let mut hosted = Vec::new(alloc);
+            if let Backing::Host { depth } = slot.backing {
+                let own = Flights::new(alloc, DeviceName::Block, depth).ok()?;
+                hosted.push(own).ok()?;
+            }
+            disks.push(hosted).ok()?;
         }
-        Some(Watched { board, flights })
+        Some(Watched {
+            board,
+            alloc,
+            disks,
+        })
     }
 
     /// How many slots there are.
@@ -39,27 +68,36 @@ impl Watched {
         self.board.slots()
     }
 
-    /// The interrupt words of a slot.
-    pub fn interrupts(&self, slot: u8) -> Option<(u8, u8)> {
-        self.board.interrupts(slot)
-    }
-
     /// The memory of a slot.
     pub fn memory(&self, slot: u8) -> Option<&GuestMemory> {
         self.board.memory(slot)
     }
 
-    /// A window of a slot.
-    pub fn window(&self, slot: u8, kind: SlotWindow) -> Option<&Window> {
-        match kind {
-            SlotWindow::Block => self.board.block_window(slot),
-            SlotWindow::Console => self.board.console_window(slot),
+    /// The window of a device.
+    pub fn window(&self, slot: u8, device: DeviceName) -> Option<&Window> {
+        match device {
+            DeviceName::Block => self.board.block_window(slot),
+            DeviceName::Console => self.board.console_window(slot),
+            DeviceName::Further(number) => Some(self.board.device(slot, number)?.window()),
         }
     }
 
-    /// The block device of a slot.
-    pub fn block_device(&self, slot: u8) -> Option<BlockDevice> {
-        self.board.block_device(slot)
+    /// The type of a device.
+    pub fn kind(&self, slot: u8, device: DeviceName) -> Option<DeviceKind> {
+        match device {
+            DeviceName::Block => Some(DeviceKind::Block),
+            DeviceName::Console => Some(DeviceKind::Console),
+            DeviceName::Further(number) => Some(self.board.device(slot, number)?.model().kind()),
+        }
+    }
+
+    /// The block device that a queue is of, if it is of one.
+    pub fn block_device(&self, at: SlotQueue) -> Option<BlockDevice> {
+        match at.device {
+            DeviceName::Block => self.board.block_device(at.slot),
+            DeviceName::Console => None,
+            DeviceName::Further(_) => Some(*self.further_disk(at)?.device()),
+        }
     }
 
     /// How many bytes are typed to a slot's console and not yet taken.
@@ -85,7 +123,13 @@ impl Watched {
 
     /// Handles an event. `output` gets what the console puts out.
     pub fn step(&mut self, event: &Event, output: &mut Vec<u8>) -> Reply {
-        self.board.step(event, output)
+        let reply = self.board.step(event, output);
+        if let (EventKind::Device { device, what }, Reply::Done) = (&event.what, &reply) {
+            if let DeviceEvent::Plug(DeviceSpec::Block { depth, .. }) = what {
+                self.add_disk(event.slot, *device, *depth);
+            }
+        }
+        reply
     }
 
     /// Handles an event, or goes on where it paused.
@@ -104,37 +148,48 @@ impl Watched {
         self.board.turn(slot, work, budget, output).turn
     }
 
-    /// What the host is asked of a slot's disk by a tag, and of how many runs, where the tag is taken.
-    pub fn operation(&self, slot: u8, tag: u8) -> Option<(Operation, usize)> {
-        let operation = self.board.operation(slot, tag)?;
-        let runs = self.board.runs(slot, tag)?;
-        Some((operation, runs.len()))
+    /// What the host is asked of a queue's disk by a tag, and of how many runs, where the tag is taken.
+    pub fn operation(&self, at: SlotQueue, tag: u8) -> Option<(Operation, usize)> {
+        match at.device {
+            DeviceName::Block => {
+                let operation = self.board.operation(at.slot, tag)?;
+                Some((operation, self.board.runs(at.slot, tag)?.len()))
+            }
+            DeviceName::Console => None,
+            DeviceName::Further(_) => {
+                let disk = self.further_disk(at)?;
+                Some((disk.operation(tag)?, disk.runs(tag).len()))
+            }
+        }
     }
 
-    /// Whether a chain has this tag of a slot.
-    pub fn is_taken(&self, slot: u8, tag: u8) -> bool {
-        self.board.operation(slot, tag).is_some()
+    /// Whether a chain has this tag of a queue's disk.
+    pub fn is_taken(&self, at: SlotQueue, tag: u8) -> bool {
+        self.operation(at, tag).is_some()
     }
 
     /// Whether the host serves the disk of a queue's device.
     pub fn is_hosted(&self, at: SlotQueue) -> bool {
-        matches!(at.kind, SlotWindow::Block) && !self.tags(at.slot).is_empty()
+        !self.tags(at).is_empty()
     }
 
     /// Whether the host serves the disk of a queue's device, and all its tags are taken.
     pub fn is_full(&self, at: SlotQueue) -> bool {
-        self.is_hosted(at) && self.free_tags(at.slot) == 0
+        self.is_hosted(at) && self.free_tags(at) == 0
     }
 
     /// Whether the host has the queue of a disk that it serves on hold.
     pub fn is_on_hold(&self, at: SlotQueue) -> bool {
-        self.is_hosted(at) && self.board.on_hold(at.slot) == Some(true)
+        match at.device {
+            DeviceName::Block => self.is_hosted(at) && self.board.on_hold(at.slot) == Some(true),
+            _ => self.further_disk(at).is_some_and(|disk| disk.is_on_hold()),
+        }
     }
 
-    /// How many tags of a slot have no chain that was kept.
-    pub fn free_tags(&self, slot: u8) -> usize {
+    /// How many tags of a queue's disk have no chain that was kept.
+    pub fn free_tags(&self, at: SlotQueue) -> usize {
         let mut free: usize = 0;
-        for flight in self.tags(slot) {
+        for flight in self.tags(at) {
             if flight.is_none() {
                 free = free.saturating_add(1);
             }
@@ -142,11 +197,11 @@ impl Watched {
         free
     }
 
-    /// The lowest tag of a slot that is taken by a chain which wasn't kept yet.
-    pub fn new_tag(&self, slot: u8) -> Option<u8> {
+    /// The lowest tag of a queue's disk that is taken by a chain which wasn't kept yet.
+    pub fn new_tag(&self, at: SlotQueue) -> Option<u8> {
         let mut tag: u8 = 0;
-        for flight in self.tags(slot) {
-            if flight.is_none() && self.is_taken(slot, tag) {
+        for flight in self.tags(at) {
+            if flight.is_none() && self.is_taken(at, tag) {
                 return Some(tag);
             }
             tag = tag.wrapping_add(1);
@@ -154,41 +209,57 @@ impl Watched {
         None
     }
 
-    /// Keeps the chain that has a tag of a slot, as it was said.
-    pub fn keep_flight(&mut self, slot: u8, tag: u8, seen: ChainSeen) {
-        if let Some(tags) = self.flights.get_mut(usize::from(slot)) {
-            if let Some(flight) = tags.get_mut(usize::from(tag)) {
-                *flight = Some(seen);
+    /// Keeps the chain that has a tag of a queue's disk, as it was said.
+    pub fn keep_flight(&mut self, at: SlotQueue, tag: u8, seen: ChainSeen) {
+        if let Some(flight) = self.flight(at, tag) {
+            *flight = Some(seen);
+        }
+    }
+
+    /// Takes the chain that has a tag of a queue's disk, as it was said.
+    pub fn take_flight(&mut self, at: SlotQueue, tag: u8) -> Option<ChainSeen> {
+        self.flight(at, tag)?.take()
+    }
+
+    // The chain of a tag.
+    fn flight(&mut self, at: SlotQueue, tag: u8) -> Option<&mut Option<ChainSeen>> {
+        for disk in self.disks.get_mut(usize::from(at.slot))?.iter_mut() {
+            if disk.device == at.device {
+                return disk.tags.get_mut(usize::from(tag));
             }
         }
+        None
     }
 
-    /// Takes the chain that has a tag of a slot, as it was said.
-    pub fn take_flight(&mut self, slot: u8, tag: u8) -> Option<ChainSeen> {
-        self.flights
-            .get_mut(usize::from(slot))?
-            .get_mut(usize::from(tag))?
-            .take()
+    // The chains in flight of a queue's disk, each at its tag.
+    fn tags(&self, at: SlotQueue) -> &[Option<ChainSeen>] {
+        if let Some(disks) = self.disks.get(usize::from(at.slot)) {
+            for disk in disks.iter() {
+                if disk.device == at.device {
+                    return disk.tags.as_slice();
+                }
+            }
+        }
+        &[]
     }
 
-    // The chains of a slot that are in flight, each at its tag.
-    fn tags(&self, slot: u8) -> &[Option<ChainSeen>] {
-        match self.flights.get(usize::from(slot)) {
-            Some(tags) => tags.as_slice(),
-            None => &[],
+    // The further disk that a queue is of, if it is of one.
+    fn further_disk(&self, at: SlotQueue) -> Option<&HostedDisk> {
+        match at.device {
+            DeviceName::Further(number) => self.board.disk(at.slot, number),
+            _ => None,
         }
     }
-}
 
-// As many free tags as a slot's disk has.
-fn free_tags_of(alloc: Global, backing: Backing) -> Result<Vec<Option<ChainSeen>>, AllocError> {
-    let depth = match backing {
-        Backing::Image => 0,
-        Backing::Host { depth } => depth,
-    };
-    let mut tags = Vec::with_capacity(alloc, usize::from(depth))?;
-    for _ in 0..depth {
-        tags.push(None)?;
+    // Begins to keep what is in flight of a further disk. Without memory nothing is said of it.
+    fn add_disk(&mut self, slot: u8, number: u8, depth: u8) {
+        let device = DeviceName::Further(number);
+        let (Some(disks), Ok(flights)) = (
+            self.disks.get_mut(usize::from(slot)),
+            Flights::new(self.alloc, device, depth),
+        ) else {
+            return;
+        };
+        let _ = disks.push(flights);
     }
-    Ok(tags)
 }

@@ -19,16 +19,15 @@ mod tables;
 mod used;
 
 pub use chains::{Ahead, ChainSeen, Lookout};
-pub use event::{SHOWN, say_event, say_place, say_value};
+pub use event::{SHOWN, say_disk, say_event, say_place, say_value};
 pub use fault_site::say_site;
 pub use mistakes::{Mistake, read_mistake, write_mistake};
-pub use names::{fault_name, say_interrupts};
+pub use names::{fault_name, say_raised};
 pub use notification::say_notification;
 pub use places::{next_place, place_behind, size_of, used_place};
 pub use request::{RequestSeen, say_asked, say_request};
 pub use state::{
-    NEW_WINDOW, QueueSeen, RingSeen, WindowSeen, say_changes, say_hold_change, say_queue_head,
-    window_seen,
+    QueueSeen, RingSeen, WindowSeen, say_changes, say_hold_change, say_queue_head, window_seen,
 };
 pub use tables::{Change, Table, say_on_offer};
 pub use used::{Used, say_received, say_used, used_entry};

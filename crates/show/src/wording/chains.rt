@@ -93,7 +93,7 @@ impl Lookout {
     pub fn next(
         &mut self,
         mem: &GuestMemory,
-        device: Option<&BlockDevice>,
+        device: Option<BlockDevice>,
         chain: &mut Chain,
         text: &mut Text,
     ) -> Ahead {
@@ -104,7 +104,7 @@ impl Lookout {
         match self.ring.take(mem, chain) {
             Ok(Some(token)) => {
                 let request = match device {
-                    Some(device) => Some(request_seen(device, mem, chain)),
+                    Some(device) => Some(request_seen(&device, mem, chain)),
                     None => None,
                 };
                 say_chain(text, mem, &self.ring, &token, chain);

@@ -1,45 +1,44 @@
 //! What an event was, by name.
 
+use crate::device::{Access, DeviceName, access_of, told_of};
 use crate::weave::Text;
-use crate::wording::names::{field_name, register_name, say_interrupts, say_status};
-use board::{DeviceEvent, DeviceSpec, EventKind, HostEvent, SlotWindow, Verdict};
-use mmio_window::{CONFIGURATION_OFFSET, Register};
+use crate::wording::names::{field_name, register_name, say_device, say_interrupts, say_status};
+use board::{Backing, DeviceEvent, DeviceSpec, EventKind, Extent, HostEvent, Verdict};
+use mmio_window::{CONFIGURATION_OFFSET, DeviceKind, Register};
 
 /// How many bytes of a text are shown.
 pub const SHOWN: usize = 64;
 
 /// Says the device or the memory that an event is about, between a guest and what was done.
 pub fn say_place(text: &mut Text, what: &EventKind) {
-    text.say(match what {
-        EventKind::Read { window, .. } | EventKind::Write { window, .. } => match window {
-            SlotWindow::Block => " block: ",
-            SlotWindow::Console => " console: ",
-        },
-        EventKind::MemRead { .. } | EventKind::MemWrite { .. } => " memory: ",
-        EventKind::Input { .. } | EventKind::Resize { .. } => " console: ",
-        EventKind::Restore { .. } => " devices: ",
-        EventKind::Host(_) => " disk: ",
-        EventKind::Device { .. } => " device ",
-    });
+    text.say(" ");
+    match what {
+        EventKind::Read { window, .. } | EventKind::Write { window, .. } => {
+            say_device(text, DeviceName::of_window(*window));
+        }
+        EventKind::MemRead { .. } | EventKind::MemWrite { .. } => text.say("memory"),
+        EventKind::Input { .. } | EventKind::Resize { .. } => text.say("console"),
+        EventKind::Restore { .. } => text.say("devices"),
+        EventKind::Host(_) => text.say("disk"),
+        EventKind::Device { device, .. } => say_device(text, DeviceName::Further(*device)),
+    }
+    text.say(": ");
 }
 
-/// Says what an event was.
-pub fn say_event(text: &mut Text, what: &EventKind) {
+/// Says what an event was. An access is one of a device of this kind.
+pub fn say_event(text: &mut Text, what: &EventKind, kind: Option<DeviceKind>) {
+    if let Some(access) = access_of(what) {
+        say_access(text, access, kind);
+    } else if let Some((_, told)) = told_of(what) {
+        say_told(text, told);
+    } else {
+        say_other(text, what);
+    }
+}
+
+// Says what an event was that is neither an access nor said by the host of a disk.
+fn say_other(text: &mut Text, what: &EventKind) {
     match what {
-        EventKind::Read {
-            window,
-            offset,
-            width,
-        } => {
-            text.say("reads ");
-            say_register(text, *window, *offset, *width);
-        }
-        EventKind::Write {
-            window,
-            offset,
-            width,
-            value,
-        } => say_write(text, *window, *offset, *width, *value),
         EventKind::MemRead { addr, len } => {
             text.say("reads ");
             text.counted(u64::from(*len), "byte");
@@ -66,36 +65,15 @@ pub fn say_event(text: &mut Text, what: &EventKind) {
             text.say("are restored from ");
             text.counted(bytes.as_slice().len() as u64, "byte");
         }
-        EventKind::Host(told) => say_told(text, *told),
-        EventKind::Device { device, what } => {
-            text.count(u64::from(*device));
-            text.say(": ");
-            say_device_event(text, what);
-        }
+        EventKind::Device { what, .. } => say_device_event(text, what),
+        _ => {}
     }
 }
 
-// Says what is done to a further device.
+// Says what is done to a further device, other than an access and what the host says of a disk.
 fn say_device_event(text: &mut Text, what: &DeviceEvent) {
     match what {
-        DeviceEvent::Plug(DeviceSpec::Entropy) => text.say("an entropy device is plugged in"),
-        DeviceEvent::Plug(DeviceSpec::Network { mtu, .. }) => {
-            text.say("a network card is plugged in, MTU ");
-            text.count(u64::from(*mtu));
-        }
-        DeviceEvent::Read { offset, width } => {
-            text.say("reads ");
-            say_device_register(text, *offset, *width);
-        }
-        DeviceEvent::Write {
-            offset,
-            width,
-            value,
-        } => {
-            say_device_register(text, *offset, *width);
-            text.say(" ");
-            say_value(text, *offset, *width, *value);
-        }
+        DeviceEvent::Plug(spec) => say_plug(text, spec),
         DeviceEvent::Supply { bytes } => {
             text.say("is supplied with ");
             text.counted(bytes.as_slice().len() as u64, "byte");
@@ -107,15 +85,52 @@ fn say_device_event(text: &mut Text, what: &DeviceEvent) {
         DeviceEvent::TakeSent => text.say("the host takes a frame"),
         DeviceEvent::SetLink { up: true } => text.say("the link goes up"),
         DeviceEvent::SetLink { up: false } => text.say("the link goes down"),
+        _ => {}
     }
 }
 
-// Says which register or byte of a further device an access is to.
-fn say_device_register(text: &mut Text, offset: u16, width: u8) {
-    match register_of(offset, width) {
-        Some(register) => text.say(register_name(register)),
-        None => say_place_in_window(text, offset, width),
+// Says which device is plugged in.
+fn say_plug(text: &mut Text, spec: &DeviceSpec) {
+    match spec {
+        DeviceSpec::Entropy => text.say("an entropy device is plugged in"),
+        DeviceSpec::Network { mtu, .. } => {
+            text.say("a network card is plugged in, MTU ");
+            text.count(u64::from(*mtu));
+        }
+        DeviceSpec::Block {
+            sectors,
+            read_only,
+            depth,
+            ..
+        } => {
+            let extent = Extent {
+                start: 0,
+                count: *sectors,
+            };
+            text.say("a disk is plugged in, ");
+            say_disk(text, extent, Backing::Host { depth: *depth }, *read_only);
+        }
     }
+}
+
+/// Says a disk: its sectors, who serves them, and whether they may be written.
+pub fn say_disk(text: &mut Text, extent: Extent, backing: Backing, read_only: bool) {
+    text.counted(extent.count, "sector");
+    match backing {
+        Backing::Image => {
+            text.say(" from ");
+            text.count(extent.start);
+        }
+        Backing::Host { depth } => {
+            text.say(" that the host serves by ");
+            text.counted(u64::from(depth), "tag");
+        }
+    }
+    text.say(if read_only {
+        ", read-only"
+    } else {
+        ", writable"
+    });
 }
 
 // Says an offset that no register has.
@@ -157,26 +172,34 @@ pub fn register_of(offset: u16, width: u8) -> Option<Register> {
     }
 }
 
-// Says which register or field an access is to.
-fn say_register(text: &mut Text, window: SlotWindow, offset: u16, width: u8) {
-    if let Some(register) = register_of(offset, width) {
-        text.say(register_name(register));
-        return;
-    }
-    if offset >= CONFIGURATION_OFFSET {
-        if let Some(name) = field_name(window, offset) {
-            text.say(name);
-            return;
+// Says an access.
+fn say_access(text: &mut Text, access: Access, kind: Option<DeviceKind>) {
+    match access.value {
+        None => {
+            text.say("reads ");
+            say_register(text, access, kind);
         }
+        Some(value) => say_write(text, access, kind, value),
     }
-    say_place_in_window(text, offset, width);
+}
+
+// Says which register or field an access is to.
+fn say_register(text: &mut Text, access: Access, kind: Option<DeviceKind>) {
+    let (offset, width) = (access.offset, access.width);
+    match register_of(offset, width) {
+        Some(register) => text.say(register_name(register)),
+        None => match kind.and_then(|kind| field_name(kind, offset)) {
+            Some(name) => text.say(name),
+            None => say_place_in_window(text, offset, width),
+        },
+    }
 }
 
 // Says a write to a register or a field.
-fn say_write(text: &mut Text, window: SlotWindow, offset: u16, width: u8, value: u32) {
-    say_register(text, window, offset, width);
+fn say_write(text: &mut Text, access: Access, kind: Option<DeviceKind>, value: u32) {
+    say_register(text, access, kind);
     text.say(" ");
-    match register_of(offset, width) {
+    match register_of(access.offset, access.width) {
         Some(Register::Status) => {
             say_status(text, value);
             if value == 0 {

@@ -1,9 +1,9 @@
 //! The standard's names: registers, bits of the device status, features, reasons of interrupts, request types.
 
+use crate::device::DeviceName;
 use crate::weave::Text;
-use board::SlotWindow;
 use chain::Fault;
-use mmio_window::Register;
+use mmio_window::{DeviceKind, Register};
 
 /// The name of a register.
 pub fn register_name(register: Register) -> &'static str {
@@ -39,20 +39,23 @@ pub fn register_name(register: Register) -> &'static str {
     }
 }
 
-/// The name of the configuration field that begins at an offset of a window, if one does.
-pub fn field_name(kind: SlotWindow, offset: u16) -> Option<&'static str> {
+/// The name of the configuration field that begins at an offset of such a device's window, if one does.
+pub fn field_name(kind: DeviceKind, offset: u16) -> Option<&'static str> {
     match (kind, offset) {
-        (SlotWindow::Block, 0x100) => Some("capacity"),
-        (SlotWindow::Block, 0x104) => Some("capacity, high half"),
-        (SlotWindow::Block, 0x10c) => Some("seg_max"),
-        (SlotWindow::Block, 0x114) => Some("blk_size"),
-        (SlotWindow::Block, 0x130) => Some("max_write_zeroes_sectors"),
-        (SlotWindow::Block, 0x134) => Some("max_write_zeroes_seg"),
-        (SlotWindow::Block, 0x138) => Some("write_zeroes_may_unmap"),
-        (SlotWindow::Console, 0x100) => Some("cols"),
-        (SlotWindow::Console, 0x102) => Some("rows"),
-        (SlotWindow::Console, 0x104) => Some("max_nr_ports"),
-        (SlotWindow::Console, 0x108) => Some("emerg_wr"),
+        (DeviceKind::Block, 0x100) => Some("capacity"),
+        (DeviceKind::Block, 0x104) => Some("capacity, high half"),
+        (DeviceKind::Block, 0x10c) => Some("seg_max"),
+        (DeviceKind::Block, 0x114) => Some("blk_size"),
+        (DeviceKind::Block, 0x130) => Some("max_write_zeroes_sectors"),
+        (DeviceKind::Block, 0x134) => Some("max_write_zeroes_seg"),
+        (DeviceKind::Block, 0x138) => Some("write_zeroes_may_unmap"),
+        (DeviceKind::Console, 0x100) => Some("cols"),
+        (DeviceKind::Console, 0x102) => Some("rows"),
+        (DeviceKind::Console, 0x104) => Some("max_nr_ports"),
+        (DeviceKind::Console, 0x108) => Some("emerg_wr"),
+        (DeviceKind::Network, 0x100) => Some("mac"),
+        (DeviceKind::Network, 0x106) => Some("status"),
+        (DeviceKind::Network, 0x10a) => Some("mtu"),
         _ => None,
     }
 }
@@ -73,11 +76,15 @@ pub fn fault_name(fault: Fault) -> &'static str {
     }
 }
 
-/// The name of a device.
-pub fn device_name(kind: SlotWindow) -> &'static str {
-    match kind {
-        SlotWindow::Block => "block",
-        SlotWindow::Console => "console",
+/// Says which device of a slot it is.
+pub fn say_device(text: &mut Text, device: DeviceName) {
+    match device {
+        DeviceName::Block => text.say("block"),
+        DeviceName::Console => text.say("console"),
+        DeviceName::Further(number) => {
+            text.say("device ");
+            text.count(u64::from(number));
+        }
     }
 }
 
@@ -120,19 +127,24 @@ static BLOCK_FEATURES: [(u32, &str); 5] = [
     (14, "WRITE_ZEROES"),
 ];
 
+/// The features of a network card by their bits (5.1.3).
+static NETWORK_FEATURES: [(u32, &str); 3] = [(3, "MTU"), (5, "MAC"), (16, "STATUS")];
+
 /// The features of a console by their bits (5.3.3).
 static CONSOLE_FEATURES: [(u32, &str); 2] = [(0, "SIZE"), (2, "EMERG_WRITE")];
 
-/// Says features by name, and those without one by their bits.
-pub fn say_features(text: &mut Text, kind: SlotWindow, features: u64) {
+/// Says features of such a device by name, and those without one by their bits.
+pub fn say_features(text: &mut Text, kind: DeviceKind, features: u64) {
     if features == 0 {
         text.say("none");
         return;
     }
     let left = say_named(text, features, features, &COMMON_FEATURES);
     let left = match kind {
-        SlotWindow::Block => say_named(text, features, left, &BLOCK_FEATURES),
-        SlotWindow::Console => say_named(text, features, left, &CONSOLE_FEATURES),
+        DeviceKind::Network => say_named(text, features, left, &NETWORK_FEATURES),
+        DeviceKind::Block => say_named(text, features, left, &BLOCK_FEATURES),
+        DeviceKind::Console => say_named(text, features, left, &CONSOLE_FEATURES),
+        DeviceKind::Entropy => left,
     };
     say_rest(text, features, left);
 }
@@ -159,6 +171,16 @@ fn say_named(text: &mut Text, all: u64, left: u64, table: &[(u32, &'static str)]
         }
     }
     left
+}
+
+/// Says the reasons of interrupts that a device raised, where it raised any.
+pub fn say_raised(text: &mut Text, device: DeviceName, reasons: u8) {
+    if reasons != 0 {
+        text.say("; raises ");
+        say_device(text, device);
+        text.say(" ");
+        say_interrupts(text, u32::from(reasons));
+    }
 }
 
 /// Says the reasons of interrupts.

@@ -2,12 +2,12 @@
 
 ghost use Rattle.packed_ring.specs.Ring.{LiesIn};
 
+use crate::device::DeviceName;
 use crate::weave::Text;
-use crate::wording::names::{device_name, say_features, say_status};
+use crate::wording::names::{say_device, say_features, say_status};
 use crate::wording::places::{is_available, next_place, size_of};
-use board::SlotWindow;
 use guest_memory::GuestMemory;
-use mmio_window::{Queue, QueueRegisters, Window};
+use mmio_window::{DeviceKind, Queue, QueueRegisters, Window};
 use negotiation::Flags;
 use packed_ring::PackedRing;
 
@@ -26,7 +26,7 @@ pub struct WindowSeen {
     pub generation: u32,
     /// The queue that the queue registers speak of.
     pub queue_sel: u32,
-    /// Its queues: of a block device the first alone.
+    /// Its queues: of a block device and of an entropy device the first alone.
     pub queues: [QueueSeen; 2],
 }
 
@@ -72,17 +72,6 @@ pub const NO_QUEUE: QueueSeen = QueueSeen {
     driver_area: 0,
     device_area: 0,
     ring: None,
-};
-
-/// A window after a reset.
-pub const NEW_WINDOW: WindowSeen = WindowSeen {
-    status: 0,
-    negotiated: 0,
-    accepted: 0,
-    offered: 0,
-    generation: 0,
-    queue_sel: 0,
-    queues: [NO_QUEUE, NO_QUEUE],
 };
 
 /// What is seen of a window over its guest's memory.
@@ -164,37 +153,43 @@ fn available_place(mem: &GuestMemory, ring: &PackedRing, size: u16) -> u16
 }
 
 /// Says what of a window isn't as it was, a line each.
-pub fn say_changes(text: &mut Text, kind: SlotWindow, old: &WindowSeen, new: &WindowSeen) {
+pub fn say_changes(
+    text: &mut Text,
+    device: DeviceName,
+    kind: DeviceKind,
+    old: &WindowSeen,
+    new: &WindowSeen,
+) {
     if old.status != new.status {
-        say_head(text, kind);
+        say_head(text, device);
         text.say(" status ");
         say_status(text, new.status);
         text.say("\n");
     }
     if old.negotiated != new.negotiated {
-        say_head(text, kind);
+        say_head(text, device);
         text.say(" features ");
         say_features(text, kind, new.negotiated);
         text.say("\n");
     }
     if old.generation != new.generation {
-        say_head(text, kind);
+        say_head(text, device);
         text.say(" generation ");
         text.count(u64::from(new.generation));
         text.say("\n");
     }
     let [old_0, old_1] = &old.queues;
     let [new_0, new_1] = &new.queues;
-    say_queue_change(text, kind, 0, old_0, new_0);
-    say_queue_change(text, kind, 1, old_1, new_1);
+    say_queue_change(text, device, 0, old_0, new_0);
+    say_queue_change(text, device, 1, old_1, new_1);
 }
 
-/// Says whether the block device's queue is on hold, where it isn't as it was.
-pub fn say_hold_change(text: &mut Text, old: bool, new: bool) {
+/// Says whether a disk's queue is on hold, where it isn't as it was.
+pub fn say_hold_change(text: &mut Text, device: DeviceName, old: bool, new: bool) {
     if old == new {
         return;
     }
-    say_head(text, SlotWindow::Block);
+    say_head(text, device);
     text.say(if new {
         " hold: no further chain is taken\n"
     } else {
@@ -203,14 +198,14 @@ pub fn say_hold_change(text: &mut Text, old: bool, new: bool) {
 }
 
 // Begins a line on the state of a device.
-fn say_head(text: &mut Text, kind: SlotWindow) {
+fn say_head(text: &mut Text, device: DeviceName) {
     text.say("  state ");
-    text.say(device_name(kind));
+    say_device(text, device);
 }
 
 /// Begins a line on the state of a queue.
-pub fn say_queue_head(text: &mut Text, kind: SlotWindow, index: u32, what: &str) {
-    say_head(text, kind);
+pub fn say_queue_head(text: &mut Text, device: DeviceName, index: u32, what: &str) {
+    say_head(text, device);
     text.say(" queue ");
     text.count(u64::from(index));
     text.say(what);
@@ -219,7 +214,7 @@ pub fn say_queue_head(text: &mut Text, kind: SlotWindow, index: u32, what: &str)
 // Says what a queue holds, where it isn't as it was.
 fn say_queue_change(
     text: &mut Text,
-    kind: SlotWindow,
+    device: DeviceName,
     index: u32,
     old: &QueueSeen,
     new: &QueueSeen,
@@ -227,7 +222,7 @@ fn say_queue_change(
     if old == new {
         return;
     }
-    say_queue_head(text, kind, index, ": size ");
+    say_queue_head(text, device, index, ": size ");
     text.count(u64::from(new.number));
     text.say(", descriptors ");
     text.hex(new.descriptor_area);

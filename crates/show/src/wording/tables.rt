@@ -3,11 +3,11 @@
 ghost use Rattle.split_ring.specs.Ring.{LiesIn};
 ghost use Rattle.packed_ring.specs.Ring.{LiesIn as PackedLiesIn};
 
+use crate::device::DeviceName;
 use crate::weave::Text;
 use crate::wording::chains::say_buffer;
 use crate::wording::places::{AVAIL, USED, is_available, next_place, size_of};
 use crate::wording::state::say_queue_head;
-use board::SlotWindow;
 use guest_memory::GuestMemory;
 use indirect::{INDIRECT, NEXT};
 use mmio_window::{Queue, QueueRegisters};
@@ -50,7 +50,7 @@ impl Table {
         &mut self,
         text: &mut Text,
         mem: &GuestMemory,
-        kind: SlotWindow,
+        device: DeviceName,
         index: u32,
         registers: &QueueRegisters,
     ) -> Change {
@@ -72,7 +72,7 @@ impl Table {
                 if ahead_of(queue, size, number as u16) < available {
                     change = Change::Available;
                 }
-                say_queue_head(text, kind, index, " descriptor ");
+                say_queue_head(text, device, index, " descriptor ");
                 text.count(number as u64);
                 say_descriptor(text, mem, queue, number as u16);
                 text.say("\n");
@@ -181,7 +181,7 @@ static PACKED_FLAGS: [(u16, &str); 4] = [
 pub fn say_on_offer(
     text: &mut Text,
     mem: &GuestMemory,
-    kind: SlotWindow,
+    device: DeviceName,
     index: u32,
     registers: &QueueRegisters,
     has_changed: bool,
@@ -190,12 +190,12 @@ pub fn say_on_offer(
     let size = size_of(registers);
     match &registers.ring {
         Some(Queue::Split(ring)) if has_changed && ring.lies_in(mem) => {
-            say_queue_head(text, kind, index, " on offer:");
+            say_queue_head(text, device, index, " on offer:");
             say_heads(text, mem, ring, registers.driver_area, size);
         }
         Some(Queue::Packed(ring)) if has_changed || change != Change::Nothing => {
             if ring.lies_in(mem) {
-                say_queue_head(text, kind, index, " on offer:");
+                say_queue_head(text, device, index, " on offer:");
                 say_lists(text, mem, ring, size);
             }
         }
