@@ -141,7 +141,7 @@ embed:
 # Boots Linux on the board: two guests, their consoles side by side; examples/linux has more ways. GUEST=0 shows one of them,
 # INTERACTIVE=1 gives a person the console of guest 0, RECORD=FILE writes what the guests did as a trace, DISK=FILE keeps
 # guest 0's disk, IMAGE=FILE has both disks in place, DISKS=hosted has the host serve each from a file, and SAVE_GUEST=FILE
-# saves guest 0, which RESUME_GUEST=FILE goes on with. With DEVICES=1 both have an entropy device and a network card.
+# saves guest 0, which RESUME_GUEST=FILE goes on with. With DEVICES=1 both have an entropy device, a network card and two more disks.
 linux:
 	@examples/linux/run
 
@@ -163,7 +163,7 @@ doors: $(if $(UNPROVED),unproved)
 
 # Runs the test suite on QEMU's devices, and compares the differences with a table; it wants qemu-system-arm.
 peer:
-	@crates/conformance/run-on --quiet --jobs 3 --without devices --adapter --in-place - --table crates/conformance/peers/QEMU.md crates/conformance/peers/qemu
+	@crates/conformance/run-on --quiet --jobs 3 --adapter --in-place - --table crates/conformance/peers/QEMU.md crates/conformance/peers/qemu
 
 # Makes wrong devices out of a small model, and checks that each fails the scenario that is meant for it.
 mutants:
