@@ -6,6 +6,7 @@ one that the driver offered, whole and in order (5.1.6.2), and all that the card
 unless the driver suppresses that (2.7.7, 2.8.10), and of links (2.5), and of nothing else.
 """
 import collections
+import re
 
 from queues import PackedQueue
 
@@ -126,6 +127,16 @@ class Entropy(Device):
         self.counts["bytes of entropy found"] += len(got)
 
 
+class Disk(Device):
+    """A disk, whose driver relies on each answer by itself: operations are counted here."""
+
+    def completed(self, answer):
+        self.counts["operations of further disks"] += 1
+
+    def dropped(self, answer):
+        self.counts["drops of further disks"] += 1
+
+
 class Card(Device):
     """A network card."""
 
@@ -183,9 +194,13 @@ def bytes_of(answer):
     return bytes.fromhex(answer.removeprefix("b:").removeprefix("-"))
 
 
+# By the first word of a kind in a trace.
+KINDS = {"entropy": Entropy, "network": Card, "disk": Disk}
+
+
 def check_arrivals(guest, records, counts):
     """Judges what the events of a sane guest mean by their records. At its end each frame that was sent has been taken."""
-    devices = {driver.window: (Entropy if driver.kind() == "entropy" else Card)(counts) for driver in guest.further}
+    devices = {driver.window: KINDS[re.split("[: ]", driver.kind())[0]](counts) for driver in guest.further}
     for number, (event, record) in enumerate(zip(guest.events, records)):
         if event.meant:
             what, window, *more = event.meant

@@ -1,4 +1,5 @@
-"""Drivers of further devices, entropy devices and network cards, and what the host of a guest does with these.
+"""Drivers of further devices, and what the host of a guest does with these: entropy devices and network cards here, disks in
+further_disks.py.
 
 A sane driver counts what waits in its device, and so knows which chains are used before it sees an answer. What its host gave, and
 what it offered, stands at its events as `meant`, for arrivals.py.
@@ -19,7 +20,10 @@ MTUS = 3 * [68, 576, 1500, 1500] + [9000, 65535]
 SUPPLIES = [0, 1, 7, 64, 300, 1000, 4095, 4096, 5000]
 BURSTS = 6 * [1] + [2, 2, 3, 3, 5, 70]
 # What no device takes that isn't there.
-TO_NONE = ["dr {} 000 4", "dw {} 070 4 00000000", "supply {} 00", "frame {} 00", "take {}", "link {} down"]
+TO_NONE = ["dr {} 000 4", "dw {} 070 4 00000000", "supply {} 00", "frame {} 00", "take {}", "link {} down",
+           "dio {} 0 done", "ddrop {}", "dhold {}", "drelease {}"]
+# And no device takes that is no disk.
+OF_DISKS = ["dio {} 0 failed", "ddrop {}", "dhold {}", "drelease {}"]
 
 # A chain that was offered: by which number the device names it, how many places of the ring it has, its buffers, their length, and
 # what the driver wrote into them, where the device reads it.
@@ -27,7 +31,7 @@ Chain = namedtuple("Chain", "name places pieces length sent")
 
 
 class FurtherDriver(Driver):
-    """What both kinds share: a device that is plugged in first, chains that wait in it, and a look at what became of them."""
+    """What all kinds share: a device that is plugged in first, chains that wait in it, and a look at what became of them."""
 
     def __init__(self, guest, offered, number, at, mtu):
         self.number, self.at, self.mtu, self.is_plugged, self.is_up = number, at, mtu, False, False
@@ -101,6 +105,8 @@ class FurtherDriver(Driver):
         absent = f"{dice.choice([guest.plugged, guest.plugged + 1, 6, 255]):x}"
         lines = [line.format(absent) for line in TO_NONE]
         lines += [f"plug {dice.choice([guest.plugged + 1, 6, 255]):x} entropy", f"plug {absent} network:525400123456:{LEAST_MTU - 1:x}"]
+        lines += [f"plug {absent} disk {dice.choice(['80000000000000 rw', 'ffffffffffffffff ro'])} {bytes(20).hex()} 1",
+                  f"plug {absent} disk 8 rw {bytes(20).hex()} {dice.choice([0, 65, 255]):x}"]
         lines += [line.format(self.window) for line in self.refused()] if self.is_plugged else []
         word, fields = dice.choice(lines).split(" ", 1)
         guest.do(word, fields, "baddevice")
@@ -177,7 +183,7 @@ class EntropyDriver(FurtherDriver):
         return [self.supply, self.supply, self.ask, self.ask, self.ask, self.odd]
 
     def refused(self):
-        return ["frame {} 00", "take {}", "link {} up"]
+        return ["frame {} 00", "take {}", "link {} up", *OF_DISKS]
 
     def supply(self):
         guest = self.guest
@@ -231,7 +237,7 @@ class CardDriver(FurtherDriver):
         return [self.hand_over] * 4 + [self.receive] * 5 + [self.transmit] * 4 + [self.take] * 2 + [self.link, self.odd]
 
     def refused(self):
-        return ["supply {} 00", "frame {} -", "frame {} " + "00" * (self.mtu + ETHERNET + 1)]
+        return ["supply {} 00", "frame {} -", "frame {} " + "00" * (self.mtu + ETHERNET + 1), *OF_DISKS]
 
     def length(self):
         """A frame's length, most times a short one where the card takes long ones."""
@@ -331,9 +337,11 @@ class CardDriver(FurtherDriver):
         self.look(self.TRANSMIT)
 
 
-def give_devices(guest, offered, dice):
-    """Gives a guest some further devices; their drivers keep all that they have in a region of memory above or below the others."""
-    devices = [(CardDriver, dice.choice(MTUS)) if dice.random() < 0.5 else (EntropyDriver, 0) for _ in range(dice.choice(COUNTS))]
+def give_devices(guest, offered, dice, others):
+    """Gives a guest some further devices, `others` are further kinds of drivers; all of these keep what they have in a region of memory
+    above or below the others."""
+    kinds = [CardDriver, EntropyDriver, *others]
+    devices = [(kind, dice.choice(MTUS) if kind is CardDriver else 0) for kind in dice.choices(kinds, k=dice.choice(COUNTS))]
     rooms = [driver.room(mtu) for driver, mtu in devices]
     length = (sum(rooms) + 0xFFF) // 0x1000 * 0x1000
     others = guest.slot.others[:6]

@@ -29,6 +29,10 @@ LINES = {
     "frame": [8, 8, "bytes"],
     "take": [8, 8],
     "link": [8, 8, "link"],
+    "dio": [8, 8, 8, "verdict"],
+    "ddrop": [8, 8],
+    "dhold": [8, 8],
+    "drelease": [8, 8],
 }
 
 # The first line of each kind of trace: the two versions of a plain one, and an extended one.
@@ -38,9 +42,12 @@ FIRST, _, EXTENDED = FIRST_LINES
 # The fields of those that have others in an extended trace.
 IN_EXTENDED = {"slot": ["regions", "disk", 64, 64, "mode", 16, 16]}
 
+# What stands behind the kind of a further device that is a disk.
+OF_DISK = [64, "mode", "identity", 8]
+
 # What stands behind them in all but version 1, and the words that an extended trace has alone.
 ADDED = {"slot": ["identity"]}
-EXTENDED_WORDS = ["st", "io", "drop", "hold", "release", "plug", "dr", "dw", "supply", "frame", "take", "link"]
+EXTENDED_WORDS = ["st", "io", "drop", "hold", "release", "plug", "dr", "dw", "supply", "frame", "take", "link", "dio", "ddrop", "dhold", "drelease"]
 
 CHOICES = {"win": ["b", "c"], "wid": ["1", "2", "4"], "mode": ["rw", "ro"], "verdict": ["done", "failed"], "link": ["up", "down"]}
 
@@ -71,12 +78,24 @@ def fault_in(text, line, had_event, first):
         return "Word"
     if word == "slot" and had_event:
         return "Order"
-    kinds = (IN_EXTENDED.get(word, LINES[word]) if first == EXTENDED else LINES[word]) + (ADDED.get(word, []) if first != FIRST else [])
+    kinds = kinds_of(word, fields, first)
     if len(fields) != len(kinds):
         return "Fields"
     spelled = dict(zip(kinds, fields))
     faults = {fault_of_field(field, kind, spelled.get("wid")) for field, kind in zip(fields, kinds)}
     return min(faults - {None}, key=KINDS.index, default=None)
+
+
+def kinds_of(word, fields, first):
+    """The fields that the word has behind it in a trace with this first line, where these stand there."""
+    kinds = IN_EXTENDED.get(word, LINES[word]) if first == EXTENDED else LINES[word]
+    added = OF_DISK if is_disk(word, fields) else ADDED.get(word, []) if first != FIRST else []
+    return kinds + added
+
+
+def is_disk(word, fields):
+    """Whether the line plugs in a disk."""
+    return word == "plug" and fields[2:3] == ["disk"]
 
 
 def fault_of_field(text, kind, width):
@@ -89,7 +108,7 @@ def fault_of_field(text, kind, width):
         return None if text == "image" or is_hosted else "Choice"
     if kind == "kind":
         card = re.fullmatch("network:[0-9a-f]{12}:(.*)", text)
-        return None if text == "entropy" or card and not fault_of_field(card[1], 16, None) else "Choice"
+        return None if text in ("entropy", "disk") or card and not fault_of_field(card[1], 16, None) else "Choice"
     if kind == "bytes":
         return None if text == "-" or re.fullmatch("([0-9a-f]{2})+", text) else "Bytes"
     if kind == "identity":

@@ -123,7 +123,7 @@ def version():
 EVERY_LINE = "each line ends with a line feed, and the first two are there"
 FIRST_LINE = 'the first line is "vreplay 1", "vreplay 2" or "kalyubos 1"'
 WORDS = "a line begins with slot, r, w, mr, mw, in or sz"
-WORDS_EXTENDED = "a line begins with slot, r, w, mr, mw, in, sz, st, io, drop, hold or release"
+WORDS_EXTENDED = "a line begins with slot, r, w, mr, mw, in, sz, st, io, drop, hold, release, plug, dr, dw, supply, frame, take, link, dio, ddrop, dhold or drelease"
 NUMBER = "is lower case hexadecimal digits without zeros in front, of {} bits at most, as 1f"
 BYTES = "bytes are two lower case hexadecimal digits each, as 4142, or - for none"
 IDENTITY = "an identity is 20 bytes by two lower case hexadecimal digits each, so 40 digits"
@@ -164,7 +164,7 @@ TEXTS = [
      'found "slot 0 1000 0 1 rw 50 19"'),
     (b"vreplay 2\ncache 1\nslot 0 1000 0 1 rw 50 19 -\n", f'line 3: {IDENTITY}; found "-"'),
     (b"vreplay 2\ncache 1\nslot 0 1000 0 1 rw 50 19 6469736b2d30\n", f'line 3: {IDENTITY}; found "6469736b2d30"'),
-    (b"vreplay 2\ncache 1\nslot 0 1000 0 1 wr 50 19 -\n", 'line 3: a slot is rw or ro; found "wr"'),
+    (b"vreplay 2\ncache 1\nslot 0 1000 0 1 wr 50 19 -\n", 'line 3: a disk is rw or ro; found "wr"'),
     (b"vreplay 2\ncache 1\nslot 0 1000 0 1 wr 50 019 -\n", f'line 3: a number of rows {NUMBER.format(16)}; found "019"'),
     (b"vreplay 2\ncache 1\nin 0 6c7\n", f'line 3: {BYTES}; found "6c7"'),
     # a slot line of an extended trace, with regions and who has the disk
@@ -192,6 +192,20 @@ TEXTS = [
     (b"kalyubos 1\ncache 1\nhold\n", 'line 3: hold has 1 field after it, each after one space, as "hold 0"; found "hold"'),
     (b"kalyubos 1\ncache 1\nrelease 100\n", f'line 3: a slot {NUMBER.format(8)}; found "100"'),
     (b"kalyubos 1\ncache 1\nreleases 0\n", f'line 3: {WORDS_EXTENDED}; found "releases 0"'),
+    # further devices, of which a disk has fields of its own
+    (b"kalyubos 1\ncache 1\nplug 0\n", 'line 3: plug has 3 fields after it, each after one space, as "plug 0 0 entropy"; found "plug 0"'),
+    (b"kalyubos 1\ncache 1\nplug 0 0 disk\n",
+     'line 3: plug has 7 fields after it, each after one space, as "plug 0 0 disk 800 rw 6469736b2d310000000000000000000000000000 4"; found "plug 0 0 disk"'),
+    (b"kalyubos 1\ncache 1\nplug 0 0 balloon\n",
+     'line 3: a further device is entropy, network:525400123456:5dc by its address and its MTU, or disk; found "balloon"'),
+    (f"kalyubos 1\ncache 1\nplug 0 0 disk 8 rw {NAMED} 100\n".encode(), f'line 3: a number of operations {NUMBER.format(8)}; found "100"'),
+    (f"kalyubos 1\ncache 1\nplug 0 0 disk 08 rw {NAMED} 1\n".encode(), f'line 3: a disk\'s number of sectors {NUMBER.format(64)}; found "08"'),
+    (f"kalyubos 1\ncache 1\nplug 0 0 disk 8 wr {NAMED} 1\n".encode(), 'line 3: a disk is rw or ro; found "wr"'),
+    (b"kalyubos 1\ncache 1\ndio 0 0 done\n", 'line 3: dio has 4 fields after it, each after one space, as "dio 0 0 0 done"; found "dio 0 0 done"'),
+    (b"kalyubos 1\ncache 1\nddrop 0\n", 'line 3: ddrop has 2 fields after it, each after one space, as "ddrop 0 0"; found "ddrop 0"'),
+    (b"kalyubos 1\ncache 1\ndhold 0 100\n", f'line 3: a further device {NUMBER.format(8)}; found "100"'),
+    (b"kalyubos 1\ncache 1\ndrelease 0\n", 'line 3: drelease has 2 fields after it, each after one space, as "drelease 0 0"; found "drelease 0"'),
+    (b"vreplay 2\ncache 1\ndhold 0 0\n", f'line 3: {WORDS}; found "dhold 0 0"'),
     (b"kalyubos 1\ncache 1\n", "the trace's board: a board needs a slot"),
     (f"vreplay 2\ncache 1\nslot 0 1000 0 9 rw 50 19 {NAMED}\n".encode(),
      "slot 0 (line 3): an extent passes the end of the image"),

@@ -19,12 +19,17 @@ struct region {
     uint64_t base, len;
 };
 
-/* How many further devices a guest has at most, and one of them: an entropy device, or a network card. */
+/* How many further devices a guest has at most, and one of them: an entropy device, a network card, or a disk that the
+ * trace serves, with as many sectors, the identity, and at most so many operations in flight. */
 enum { MOST_DEVICES = 6 };
 struct further_device {
-    bool is_card;
+    bool is_card, is_disk;
     uint8_t mac[6];
     uint16_t mtu;
+    bool read_only;
+    uint8_t depth;
+    uint64_t sectors;
+    uint8_t identity[20];
 };
 
 /* One guest: its memory, the sectors of the image that its disk shows, its console's size, what its disk answers to
@@ -74,7 +79,8 @@ struct setup {
     bool hosted; /* the trace serves a disk, or all */
 };
 
-enum { BLOCK_WINDOW = 0, CONSOLE_WINDOW = 1 };
+/* The windows of a guest; further device n has FURTHER_WINDOW + n. */
+enum { BLOCK_WINDOW = 0, CONSOLE_WINDOW = 1, FURTHER_WINDOW = 2 };
 
 /* An operation on a disk that the host serves, and where its bytes lie (docs/model.md#asking). */
 struct operation {
@@ -87,27 +93,29 @@ struct operation {
     } runs[256];
 };
 
-/* What a device has besides where a trace may serve its disks. The calls are of guests whose disk it serves. */
+/* What a device has besides where a trace may serve its disks. The calls are of guests whose disk it serves, and of further
+ * disks: a disk is named by its window. */
 struct hosting {
-    /* Whether other guests of the same board may have disks on the image. */
-    bool beside_extents;
+    /* Whether other guests of the same board may have disks on the image; whether guests may have further disks. */
+    bool beside_extents, further_disks;
     /* As `write` of a device. False, and nothing changed: it waits for what is in flight. */
     bool (*write)(unsigned guest, unsigned window, unsigned offset, unsigned width, uint32_t value);
-    /* Says of the operation of a tag that it was done or that it failed. False: nothing is in flight of the guest with it. */
-    bool (*complete)(unsigned guest, unsigned tag, bool failed);
+    /* Says of the operation of a tag that it was done or that it failed. False: nothing is in flight of the disk with it. */
+    bool (*complete)(unsigned guest, unsigned window, unsigned tag, bool failed);
     /* The operations that began with the guest's last write, completion or release: bit n is set for the one of tag n. */
     uint64_t (*began)(unsigned guest);
     /* The operation of such a tag. */
-    void (*asked)(unsigned guest, unsigned tag, struct operation *operation);
-    /* Gives up what is in flight of the guest; takes no further chain of its disk; takes them again. False: there is nothing
-     * to do. Null: no trace may say so. */
-    bool (*drop)(unsigned guest);
-    bool (*hold)(unsigned guest);
-    bool (*release)(unsigned guest);
+    void (*asked)(unsigned guest, unsigned window, unsigned tag, struct operation *operation);
+    /* Gives up what is in flight of a disk; takes no further chain of it; takes them again. False: there is nothing to do.
+     * Null: no trace may say so. */
+    bool (*drop)(unsigned guest, unsigned window);
+    bool (*hold)(unsigned guest, unsigned window);
+    bool (*release)(unsigned guest, unsigned window);
 };
 
 /* What a device has besides where guests may have further devices (docs/model.md#further-devices), which are named by their
- * numbers. False, and nothing changed: the guest's device of that number takes no such thing. */
+ * numbers. False, and nothing changed: the guest's device of that number takes no such thing. A disk is written by
+ * `write` of the hosting. */
 struct further {
     bool (*read)(unsigned guest, unsigned number, unsigned offset, unsigned width, uint32_t *value);
     bool (*write)(unsigned guest, unsigned number, unsigned offset, unsigned width, uint32_t value);

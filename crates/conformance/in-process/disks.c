@@ -112,7 +112,7 @@ struct asked {
 
 static void ask(unsigned guest, struct asked *asked)
 {
-    need(kalyubos_operation(board, (uint8_t)guest, 0, &asked->operation, asked->runs, KALYUBOS_RUNS) == KALYUBOS_DONE,
+    need(kalyubos_operation(board, (uint8_t)guest, KALYUBOS_BLOCK, 0, &asked->operation, asked->runs, KALYUBOS_RUNS) == KALYUBOS_DONE,
          "nothing is in flight");
 }
 
@@ -141,7 +141,7 @@ static void check(unsigned guest, const struct asked *asked)
                         : is_in_memory(its, run->at, run->len), "a run lies outside");
         len += is_of_disk ? 0 : run->len;
     }
-    need(kalyubos_in_flight(board, (uint8_t)guest, &tags) == KALYUBOS_DONE && tags == 1, "other tags");
+    need(kalyubos_in_flight(board, (uint8_t)guest, KALYUBOS_BLOCK, &tags) == KALYUBOS_DONE && tags == 1, "other tags");
     need(operation->len == len && is_inside(operation->start, len, 0, its->count * SECTOR), "the bytes lie outside the disk");
 }
 
@@ -207,7 +207,7 @@ uint32_t serve_disk(unsigned guest, uint32_t answer, struct kalyubos_pending *pe
         ask(guest, &asked);
         check(guest, &asked);
         bool done = perform(guest, &asked);
-        answer = kalyubos_completed(board, (uint8_t)guest, 0, !done, pending);
+        answer = kalyubos_completed(board, (uint8_t)guest, KALYUBOS_BLOCK, 0, !done, pending);
     }
     return answer;
 }

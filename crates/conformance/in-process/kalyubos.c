@@ -26,7 +26,7 @@ static uint8_t *image;
 static size_t image_len;
 
 /* The tags of what is in flight of each guest, and of what began with the last write, completion or release. */
-static uint64_t begun[MOST_SLOTS], fresh;
+static uint64_t begun[MOST_SLOTS][FURTHER_WINDOW + MOST_DEVICES], fresh;
 
 /* Ends the program where a call doesn't answer what it must. */
 static void must(uint32_t answer)
@@ -87,9 +87,12 @@ static const char *make(const struct setup *setup)
         memcpy(slots[i].identity, guest->identity, sizeof slots[i].identity);
         for (size_t j = 0; j < guest->devices_len; j++) {
             const struct further_device *device = &guest->devices[j];
-            slots[i].devices[j].kind = device->is_card ? KALYUBOS_NETWORK : KALYUBOS_ENTROPY;
-            slots[i].devices[j].mtu = device->mtu;
+            slots[i].devices[j] = (struct kalyubos_device){
+                .kind = device->is_disk ? KALYUBOS_DISK : device->is_card ? KALYUBOS_NETWORK : KALYUBOS_ENTROPY,
+                .mtu = device->mtu, .sectors = device->sectors, .read_only = device->read_only, .depth = device->depth,
+            };
             memcpy(slots[i].devices[j].mac, device->mac, sizeof device->mac);
+            memcpy(slots[i].devices[j].identity, device->identity, sizeof device->identity);
         }
     }
     memset(begun, 0, sizeof begun);
@@ -181,12 +184,12 @@ static const char *restore(unsigned guest, const uint8_t *bytes, size_t len)
 /* --- a trace that serves the disks */
 
 /* What a write, a completion or a release began. */
-static void note_begun(unsigned guest, uint32_t answer)
+static void note_begun(unsigned guest, unsigned window, uint32_t answer)
 {
     uint64_t tags = 0;
-    must(kalyubos_in_flight(&board, (uint8_t)guest, &tags));
-    fresh = tags & ~begun[guest];
-    begun[guest] = tags;
+    must(kalyubos_in_flight(&board, (uint8_t)guest, (uint8_t)window, &tags));
+    fresh = tags & ~begun[guest][window];
+    begun[guest][window] = tags;
     if ((answer == KALYUBOS_IO) != (fresh != 0)) {
         fprintf(stderr, "the library answers %u, and %llx began\n", (unsigned)answer, (unsigned long long)fresh);
         exit(3);
@@ -202,52 +205,52 @@ static bool write_hosted(unsigned guest, unsigned window, unsigned offset, unsig
     fresh = 0;
     if (answer == KALYUBOS_BUSY)
         return false;
-    note_begun(guest, answer);
+    note_begun(guest, window == CONSOLE_WINDOW ? BLOCK_WINDOW : window, answer);
     return true;
 }
 
-static bool complete(unsigned guest, unsigned tag, bool failed)
+static bool complete(unsigned guest, unsigned window, unsigned tag, bool failed)
 {
     struct kalyubos_pending pending;
-    uint32_t answer = kalyubos_completed(&board, (uint8_t)guest, (uint8_t)tag, failed, &pending);
+    uint32_t answer = kalyubos_completed(&board, (uint8_t)guest, (uint8_t)window, (uint8_t)tag, failed, &pending);
     fresh = 0;
     if (answer == KALYUBOS_IDLE)
         return false;
-    begun[guest] &= ~((uint64_t)1 << tag); /* it may be used again */
-    note_begun(guest, answer);
+    begun[guest][window] &= ~((uint64_t)1 << tag); /* it may be used again */
+    note_begun(guest, window, answer);
     return true;
 }
 
 /* What else the host says of a disk. */
-static bool say(unsigned guest, uint32_t (*call)(struct kalyubos *, uint8_t, struct kalyubos_pending *))
+static bool say(unsigned guest, unsigned window, uint32_t (*call)(struct kalyubos *, uint8_t, uint8_t, struct kalyubos_pending *))
 {
     struct kalyubos_pending pending;
-    uint32_t answer = call(&board, (uint8_t)guest, &pending);
+    uint32_t answer = call(&board, (uint8_t)guest, (uint8_t)window, &pending);
     fresh = 0;
     if (answer == KALYUBOS_IDLE)
         return false;
-    note_begun(guest, answer);
+    note_begun(guest, window, answer);
     return true;
 }
 
-static bool drop(unsigned guest)
+static bool drop(unsigned guest, unsigned window)
 {
-    bool done = say(guest, kalyubos_drop);
-    if (begun[guest] != 0) {
+    bool done = say(guest, window, kalyubos_drop);
+    if (begun[guest][window] != 0) {
         fputs("something is in flight behind a drop\n", stderr);
         exit(3);
     }
     return done;
 }
 
-static bool hold(unsigned guest)
+static bool hold(unsigned guest, unsigned window)
 {
-    return say(guest, kalyubos_hold);
+    return say(guest, window, kalyubos_hold);
 }
 
-static bool release(unsigned guest)
+static bool release(unsigned guest, unsigned window)
 {
-    return say(guest, kalyubos_release);
+    return say(guest, window, kalyubos_release);
 }
 
 static uint64_t began(unsigned guest)
@@ -256,11 +259,11 @@ static uint64_t began(unsigned guest)
     return fresh;
 }
 
-static void asked(unsigned guest, unsigned tag, struct operation *operation)
+static void asked(unsigned guest, unsigned window, unsigned tag, struct operation *operation)
 {
     struct kalyubos_operation found;
     struct kalyubos_run runs[KALYUBOS_RUNS];
-    must(kalyubos_operation(&board, (uint8_t)guest, (uint8_t)tag, &found, runs, KALYUBOS_RUNS));
+    must(kalyubos_operation(&board, (uint8_t)guest, (uint8_t)window, (uint8_t)tag, &found, runs, KALYUBOS_RUNS));
     *operation = (struct operation){.stable = found.stable, .start = found.start, .len = found.len, .runs_len = found.runs};
     operation->kind = found.kind == KALYUBOS_IN ? IN : found.kind == KALYUBOS_OUT ? OUT : found.kind == KALYUBOS_FLUSH ? FLUSH : ZEROES;
     for (size_t i = 0; i < found.runs; i++)
@@ -318,7 +321,7 @@ static bool set_link(unsigned guest, unsigned number, bool up)
 
 static const struct further further = {read_device, write_device, supply, receive, take, set_link};
 
-static const struct hosting hosting = {true, write_hosted, complete, began, asked, drop, hold, release};
+static const struct hosting hosting = {true, true, write_hosted, complete, began, asked, drop, hold, release};
 
 #ifdef OURS
 extern const struct device kalyubos;

@@ -30,6 +30,9 @@ void put_out(unsigned guest, const uint8_t *bytes, size_t len)
 
 /* --- reading */
 
+/* The most fields that an event has. */
+enum { MOST_FIELDS = 8 };
+
 /* A field of a line: up to the next space or the line's end. */
 struct field {
     const char *at;
@@ -155,12 +158,29 @@ static bool read_disk(struct field field, struct guest *guest)
     return guest->hosted;
 }
 
-/* What a further device is. */
-static bool read_kind(struct field field, struct further_device *device)
+/* A disk, of four fields behind its word. */
+static bool read_further_disk(const struct field *fields, struct further_device *device)
 {
+    struct guest its = {0};
+    uint64_t depth;
+    bool good = number(fields[0], UINT64_MAX, &device->sectors) && (is(fields[1], "rw") || is(fields[1], "ro")) &&
+                read_identity(&fields[2], &its) && number(fields[3], 0xff, &depth);
+    device->is_disk = true;
+    device->read_only = is(fields[1], "ro");
+    device->depth = good ? (uint8_t)depth : 0;
+    memcpy(device->identity, its.identity, sizeof device->identity);
+    return good;
+}
+
+/* What a further device is, of the fields behind its number. */
+static bool read_kind(const struct field *fields, size_t count, struct further_device *device)
+{
+    struct field field = fields[0];
     static const char word[] = "network:";
     size_t len = strlen(word), digits = 2 * sizeof device->mac;
     uint64_t mtu;
+    if (is(field, "disk") || count != 1)
+        return is(field, "disk") && count == 5 && read_further_disk(&fields[1], device);
     device->is_card = !is(field, "entropy");
     if (!device->is_card)
         return true;
@@ -181,19 +201,21 @@ static bool read_kind(struct field field, struct further_device *device)
 /* Whether a guest with so many further devices takes this one as its next. */
 static bool may_plug(size_t plugged, unsigned number, const struct further_device *device)
 {
-    enum { LEAST_MTU = 68 };
-    return number == plugged && plugged < MOST_DEVICES && (!device->is_card || device->mtu >= LEAST_MTU);
+    enum { LEAST_MTU = 68, MOST_DEPTH = 64 };
+    return number == plugged && plugged < MOST_DEVICES && (!device->is_card || device->mtu >= LEAST_MTU) &&
+           (!device->is_disk || (device->sectors >> 55 == 0 && device->depth >= 1 && device->depth <= MOST_DEPTH));
 }
 
 /* Gives each guest the devices that the events plug in: those that aren't plugged in yet take no event. */
 static void read_plugs(struct trace *trace)
 {
-    struct field line, fields[4];
+    struct field line, fields[MOST_FIELDS];
     uint64_t guest, which;
     for (const char *at = trace->events; next_line(&at, trace->end, &line);) {
         struct further_device device = {0};
-        if (split(line.at, line.len, fields, 4) != 4 || !is(fields[0], "plug") || !number(fields[1], 0xff, &guest) ||
-            !number(fields[2], 0xff, &which) || !read_kind(fields[3], &device) || guest >= trace->guests_len)
+        size_t count = split(line.at, line.len, fields, MOST_FIELDS);
+        if (count < 4 || !is(fields[0], "plug") || !number(fields[1], 0xff, &guest) || !number(fields[2], 0xff, &which) ||
+            !read_kind(&fields[3], count - 3, &device) || guest >= trace->guests_len)
             continue;
         struct guest *its = &trace->guests[guest];
         if (may_plug(its->devices_len, (unsigned)which, &device))
@@ -295,12 +317,24 @@ static bool read_value(struct field field, struct event *event)
     return true;
 }
 
+/* A tag, and what came of its operation. */
+static bool read_completion(const struct field *fields, struct event *event)
+{
+    uint64_t value;
+    if (!number(fields[0], 0xff, &value))
+        return false;
+    event->tag = (unsigned)value;
+    event->failed = is(fields[1], "failed");
+    return event->failed || is(fields[1], "done");
+}
+
 /* A line for a further device, behind its slot's number. */
 static bool read_device_fields(const struct field *fields, size_t count, struct event *event, struct trace *trace)
 {
     static const struct { const char *word; int kind; size_t count; } lines[] = {
         {"plug", PLUG, 4}, {"dr", DEVICE_READ, 5}, {"dw", DEVICE_WRITE, 6}, {"supply", SUPPLY, 4}, {"frame", RECEIVE, 4},
-        {"take", TAKE, 3}, {"link", SET_LINK, 4},
+        {"take", TAKE, 3}, {"link", SET_LINK, 4}, {"plug", PLUG, 8}, {"dio", DISK_COMPLETE, 5}, {"ddrop", DISK_DROP, 3},
+        {"dhold", DISK_HOLD, 3}, {"drelease", DISK_RELEASE, 3},
     };
     struct further_device device = {0};
     uint64_t value;
@@ -313,10 +347,12 @@ static bool read_device_fields(const struct field *fields, size_t count, struct 
     event->kind = lines[i].kind;
     event->number = (unsigned)value;
     event->is_there = plugged && event->number < *plugged;
+    event->is_disk = event->is_there && trace->guests[event->guest].devices[event->number].is_disk;
     switch (lines[i].kind) {
     case PLUG:
-        if (!read_kind(fields[3], &device))
+        if (!read_kind(&fields[3], count - 3, &device))
             return false;
+        event->is_disk = device.is_disk;
         event->is_there = plugged && may_plug(*plugged, event->number, &device);
         if (event->is_there)
             ++*plugged;
@@ -328,6 +364,7 @@ static bool read_device_fields(const struct field *fields, size_t count, struct 
     case SET_LINK:
         event->up = is(fields[3], "up");
         return event->up || is(fields[3], "down");
+    case DISK_COMPLETE: return read_completion(&fields[3], event);
     default: return true;
     }
 }
@@ -373,11 +410,9 @@ static bool read_fields(const struct field *fields, size_t count, struct event *
         event->kind = RESTORE;
         return read_bytes(fields[2], event);
     }
-    if (is(fields[0], "io") && count == 4 && number(fields[2], 0xff, &value)) {
+    if (is(fields[0], "io") && count == 4) {
         event->kind = COMPLETE;
-        event->tag = (unsigned)value;
-        event->failed = is(fields[3], "failed");
-        return event->failed || is(fields[3], "done");
+        return read_completion(&fields[2], event);
     }
     event->kind = is(fields[0], "drop") ? DROP : is(fields[0], "hold") ? HOLD : RELEASE;
     return count == 2 && (event->kind != RELEASE || is(fields[0], "release"));
@@ -385,11 +420,11 @@ static bool read_fields(const struct field *fields, size_t count, struct event *
 
 bool read_event(struct trace *trace, struct event *event)
 {
-    struct field line, fields[6];
+    struct field line, fields[MOST_FIELDS];
     *event = (struct event){0};
     if (!next_line(&trace->events, trace->end, &line))
         return false;
-    size_t count = split(line.at, line.len, fields, 6);
+    size_t count = split(line.at, line.len, fields, MOST_FIELDS);
     if (count >= 2 && read_fields(fields, count, event, trace))
         return true;
     free(event->bytes);
@@ -429,12 +464,21 @@ static void look(const struct device *device, const struct trace *trace, const s
     free(into);
 }
 
-typedef bool say(unsigned guest);
+typedef bool say(unsigned guest, unsigned window);
 
 /* What a device has for a drop, a hold or a release. */
 static say *call_of(const struct hosting *hosting, const struct event *event)
 {
-    return event->kind == DROP ? hosting->drop : event->kind == HOLD ? hosting->hold : hosting->release;
+    bool is_drop = event->kind == DROP || event->kind == DISK_DROP, is_hold = event->kind == HOLD || event->kind == DISK_HOLD;
+    return is_drop ? hosting->drop : is_hold ? hosting->hold : hosting->release;
+}
+
+/* Whether the device can be asked for a further device, and for what the host says of a disk among these. */
+static bool has_such_devices(const struct device *device, const struct event *event)
+{
+    bool of_host = event->kind == DISK_DROP || event->kind == DISK_HOLD || event->kind == DISK_RELEASE;
+    return device->further && (!event->is_disk || (device->hosting && device->hosting->further_disks)) &&
+           (!event->is_disk || !of_host || call_of(device->hosting, event));
 }
 
 /* Whether a guest is restored before the trace has plugged in all that the device has from the beginning. */
@@ -449,7 +493,27 @@ bool can_be_asked(const struct device *device, const struct trace *trace, const 
     bool of_host = (event->kind == DROP || event->kind == HOLD || event->kind == RELEASE) &&
                    event->guest < trace->guests_len && trace->guests[event->guest].hosted;
     return (event->kind != RESTORE || device->restore) && (!of_host || call_of(device->hosting, event)) &&
-           (event->kind < PLUG || device->further) && !is_early(trace, event);
+           (event->kind < PLUG || has_such_devices(device, event)) && !is_early(trace, event);
+}
+
+/* What an event of a disk is answered whose word no other device has, and a write; false: it is no such event. */
+static bool reply_disk(const struct hosting *hosting, const struct event *event, struct text *record)
+{
+    unsigned window = FURTHER_WINDOW + event->number;
+    switch (event->kind) {
+    case DEVICE_WRITE:
+        append_word(record, hosting->write(event->guest, window, event->offset, event->width, event->value) ? "done" : "busy");
+        return true;
+    case DISK_COMPLETE:
+        append_word(record, hosting->complete(event->guest, window, event->tag, event->failed) ? "done" : "idle");
+        return true;
+    case DISK_DROP:
+    case DISK_HOLD:
+    case DISK_RELEASE:
+        append_word(record, call_of(hosting, event)(event->guest, window) ? "done" : "idle");
+        return true;
+    default: return false;
+    }
 }
 
 /* What an event of a further device is answered that its guest has; false: it takes no such thing. */
@@ -490,7 +554,8 @@ static bool reply_device(const struct further *further, const struct event *even
         if (!further->set_link(event->guest, event->number, event->up))
             return false;
         break;
-    default: break; /* a plug: the device has it from the beginning */
+    case PLUG: break; /* the device has it from the beginning */
+    default: return false;
     }
     append_word(record, word);
     return true;
@@ -501,8 +566,9 @@ static void reply(const struct device *device, const struct trace *trace, const 
 {
     char word[32] = "done";
     if (event->kind >= PLUG) {
-        if (!event->is_there || !reply_device(device->further, event, record))
-            append_word(record, "baddevice");
+        bool is_answered = event->is_there && ((event->is_disk && reply_disk(device->hosting, event, record)) ||
+                                               reply_device(device->further, event, record));
+        append_word(record, is_answered ? "" : "baddevice");
         return;
     }
     switch (event->kind) {
@@ -520,13 +586,13 @@ static void reply(const struct device *device, const struct trace *trace, const 
         strcpy(word, device->restore(event->guest, event->bytes, event->len));
         break;
     case COMPLETE:
-        if (!trace->guests[event->guest].hosted || !device->hosting->complete(event->guest, event->tag, event->failed))
+        if (!trace->guests[event->guest].hosted || !device->hosting->complete(event->guest, BLOCK_WINDOW, event->tag, event->failed))
             strcpy(word, "idle");
         break;
     case DROP:
     case HOLD:
     case RELEASE:
-        if (!trace->guests[event->guest].hosted || !call_of(device->hosting, event)(event->guest))
+        if (!trace->guests[event->guest].hosted || !call_of(device->hosting, event)(event->guest, BLOCK_WINDOW))
             strcpy(word, "idle");
         break;
     case MEMORY_READ:
@@ -547,12 +613,16 @@ static void reply(const struct device *device, const struct trace *trace, const 
     append_word(record, word);
 }
 
-static void append_operation(const struct device *device, unsigned guest, unsigned tag, struct text *record)
+static void append_operation(const struct device *device, unsigned guest, unsigned window, unsigned tag, struct text *record)
 {
     static const char *const kinds[] = {"in", "out", "flush", "zeroes"};
     static struct operation operation;
     char word[64];
-    device->hosting->asked(guest, tag, &operation);
+    device->hosting->asked(guest, window, tag, &operation);
+    if (window >= FURTHER_WINDOW) {
+        snprintf(word, sizeof word, "%x/", window - FURTHER_WINDOW);
+        append_word(record, word);
+    }
     snprintf(word, sizeof word, "%x=%s%s:%llx:%llx:%s", tag, kinds[operation.kind], operation.stable ? "-stable" : "",
              (unsigned long long)operation.start, (unsigned long long)operation.len, operation.runs_len ? "" : "-");
     append_word(record, word);
@@ -566,7 +636,9 @@ static void append_operation(const struct device *device, unsigned guest, unsign
 /* The operations that began with the event, in the order of their tags, or that none did. */
 static void append_asked(const struct device *device, bool hosted, const struct event *event, struct text *record)
 {
-    bool may_ask = hosted && (event->kind == WRITE || event->kind == COMPLETE || event->kind == RELEASE);
+    bool of_disk = event->is_disk && (event->kind == DEVICE_WRITE || event->kind == DISK_COMPLETE || event->kind == DISK_RELEASE);
+    bool may_ask = of_disk || (hosted && (event->kind == WRITE || event->kind == COMPLETE || event->kind == RELEASE));
+    unsigned window = of_disk ? FURTHER_WINDOW + event->number : BLOCK_WINDOW;
     uint64_t began = may_ask ? device->hosting->began(event->guest) : 0;
     const char *before = " ";
     if (!began)
@@ -575,7 +647,7 @@ static void append_asked(const struct device *device, bool hosted, const struct 
         if (!(began >> tag & 1))
             continue;
         append_word(record, before);
-        append_operation(device, event->guest, tag, record);
+        append_operation(device, event->guest, window, tag, record);
         before = ";";
     }
 }

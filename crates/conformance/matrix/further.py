@@ -1,9 +1,11 @@
-"""Entropy devices and network cards on rings of both kinds, with and without event indices, in tables or not.
+"""Entropy devices, network cards and disks on rings of both kinds, with and without event indices, in tables or not.
 
-What a chain gets is worked out here by the sections of the standard and the rules of docs/model.md: a pool is bytes, and what waits in a
-card a list of frames.
+What a chain gets is worked out here by the sections of the standard and the rules of docs/model.md: a pool is bytes, what waits in a
+card a list of frames, and a disk's request is used as its host says, or at once.
 """
 import itertools
+
+from mutants.model import FLUSH, GET_ID, IN, OUT
 
 from .drivers import EVENT_IDX, INDIRECT_DESC, INTERRUPT_ACK, KINDS, NOTIFY, WRITE, Buffer, number
 from .first_rows import first
@@ -11,11 +13,11 @@ from .follows import EXTENDED, Wide
 from .story import BASE, USED, Story, spelled
 
 TITLE = "Further devices"
-HOW = ("Chains of some shapes go round a small ring: of an entropy device, and of both queues of a network card. Bytes and frames come before a "
-       "chain and behind it, fewer, as many and more than it holds; what is sent is taken. The driver names an event 0 to 2 places away, or "
-       "wants none.")
+HOW = ("Chains of some shapes go round a small ring: of an entropy device, of both queues of a network card, and of a disk. Bytes and frames come "
+       "before a chain and behind it, fewer, as many and more than it holds; what is sent is taken; requests are done, fail or ask nothing. "
+       "The driver names an event 0 to 2 places away, or wants none.")
 COLUMNS = ("Device", "Ring")
-FOLDERS = {"further_rings": "Entropy devices and network cards on rings of both kinds, with each feature of a ring on and off."}
+FOLDERS = {"further_rings": "Entropy devices, network cards and disks on rings of both kinds, with each feature of a ring on and off."}
 
 # The one further device, its rings' sizes, and how often a chain is offered.
 DEVICE, SIZES, TURNS = 0, {"split": 4, "packed": 5}, 30
@@ -25,6 +27,11 @@ AREAS, BUFFERS, TABLES = (0x1000, 0x8000), (0x5000, 0xc000), (0x7000, 0xb000)
 OF_ENTROPY = [[(3, WRITE)], [(2, 0), (4, WRITE)], [(1, WRITE), (0, WRITE), (5, WRITE)], [(4, 0)], [(6, WRITE), (1, 0)]]
 RECEIVING = [[(40, WRITE)], [(12, WRITE), (3, WRITE)], [(6, 0), (5, WRITE), (30, WRITE)], [(13, WRITE), (0, WRITE)], [(1, WRITE), (1, WRITE), (50, WRITE)]]
 SENDING = [[(12, 0), (4, 0)], [(30, 0)], [(5, 0), (9, 0), (3, 0)], [(12, 0), (0, 0)], [(20, 0), (6, WRITE)]]
+# Requests of a disk of 8 sectors: type, sector and the buffers behind the header, of which the last is the status. The first three ask its
+# host, a GET_ID is answered with 20 bytes and the status, and a read past the end is refused.
+DISK, IDENTITY = "disk 8 rw", bytes(range(0x41, 0x55))
+REQUESTS = [(IN, 7, [(512, WRITE), (1, WRITE)]), (OUT, 3, [(300, 0), (212, 0), (1, WRITE)]), (FLUSH, 0, [(1, WRITE)]),
+            (GET_ID, 0, [(20, WRITE), (1, WRITE)]), (IN, 8, [(512, WRITE), (1, WRITE)])]
 # Before a frame that is received (5.1.6): all zeros, and num_buffers is 1.
 HEADER = bytes(10) + number(1, 2)
 ROWS = list(itertools.product(KINDS, (False, True), (False, True)))
@@ -35,6 +42,7 @@ def stories():
     for row in ROWS:
         yield entropy(row)
         yield card(row)
+        yield disk(row)
 
 
 def by_hand():
@@ -105,6 +113,9 @@ class Plugged(Story):
 class Ring:
     """A queue of the device, on which one chain is on offer at a time."""
 
+    # How far a chain's buffers are apart.
+    spacing = 0x100
+
     def __init__(self, story, row, index):
         kind, self.has_events, self.has_tables = row
         low = (EVENT_IDX if self.has_events else 0) | (INDIRECT_DESC if self.has_tables else 0)
@@ -114,8 +125,8 @@ class Ring:
     def offer(self, turn, shape):
         """A chain of this shape, whose writable bytes are ff and whose readable ones rise."""
         at = BASE + BUFFERS[self.index]
-        self.chain = [Buffer(at + 0x100 * place, *one) for place, one in enumerate(shape)]
-        self.before = [b"\xff" * one.length if one.flags & WRITE else rising(turn + place, one.length) for place, one in enumerate(self.chain)]
+        self.chain = [Buffer(at + self.spacing * place, *one) for place, one in enumerate(shape)]
+        self.before = [b"\xff" * one.length if one.flags & WRITE else self.written(turn, place, one.length) for place, one in enumerate(self.chain)]
         for one, content in zip(self.chain, self.before):
             self.story.put(one.address, content)
         self.choose_event(turn % 3)
@@ -123,6 +134,10 @@ class Ring:
         self.queue.offer(offered)
         self.places = len(offered) if self.queue.is_packed else 1
         self.story.write(DEVICE, NOTIFY, self.index)
+
+    def written(self, turn, place, length):
+        """What the driver writes into a buffer that the device reads."""
+        return rising(turn + place, length)
 
     def choose_event(self, away):
         """With event indices the driver names the place so far away; without them it wants no notification if that is 2."""
@@ -159,16 +174,43 @@ class Ring:
 
     def is_used(self, given):
         """The chain is used, and these are the first of its writable bytes."""
-        self.queue.place = self.queue.offered
-        if self.queue.is_packed:
-            self.queue.look_at_used(len(given), wrote=given != b"", count=self.places)
-        else:
-            self.queue.look_at_used(len(given))
-        self.story.is_told(self.is_wanted(self.places))
+        self.has_length(len(given), given != b"")
         for one, content in zip(self.chain, self.before):
             part = given[:one.length] if one.flags & WRITE else b""
             self.story.look(one.address, one.length, part + content[len(part):])
             given = given[len(part):]
+
+    def has_length(self, length, wrote):
+        """The chain is used with this len, and told if the driver wants it."""
+        self.queue.place = self.queue.offered
+        if self.queue.is_packed:
+            self.queue.look_at_used(length, wrote=wrote, count=self.places)
+        else:
+            self.queue.look_at_used(length)
+        self.story.is_told(self.is_wanted(self.places))
+
+
+class Requests(Ring):
+    """The queue of a disk."""
+
+    spacing = 0x200
+
+    def request(self, turn):
+        """Offers a request; its type."""
+        kind, sector, behind = REQUESTS[turn % 5]
+        self.header = number(kind, 4) + bytes(4) + number(sector, 8)
+        self.offer(turn, [(len(self.header), 0), *behind])
+        return kind
+
+    def written(self, turn, place, length):
+        return super().written(turn, place, length) if place else self.header
+
+    def is_answered(self, length, status, data):
+        """The request is used with this len and status, and its data are these."""
+        self.has_length(length, True)
+        self.story.look(self.chain[-1].address, 1, bytes([status]))
+        if data:
+            self.story.look(self.chain[1].address, len(data), data)
 
 
 def rising(first_byte, count):
@@ -251,3 +293,30 @@ def sent(story, ring, turn):
     story.tell_device("take", "", f"b:{spelled(frame)}")
     if frame:
         story.tell_device("take", "", "b:-")
+
+
+def disk(row):
+    """One request after another: the host does it, or it fails, where it asks for anything."""
+    story = Plugged("a_disk", row, f"{DISK} {IDENTITY.hex()} {1 + row[1]}")
+    ring = Requests(story, row, 0)
+    ring.queue.bring_up()
+    for turn in range(TURNS):
+        kind = ring.request(turn)
+        if turn % 5 == 3:
+            ring.is_answered(21, 0, IDENTITY)
+        elif turn % 5 == 4:
+            ring.is_answered(0, 1, b"\xff" * 512)
+        else:
+            hosted(story, ring, turn, kind)
+    return story
+
+
+def hosted(story, ring, turn, kind):
+    """The request waits for the host, whose third one fails."""
+    ring.waits()
+    story.tell_device("dio", "1 done", "idle")
+    is_done, data = turn % 3 < 2, rising(turn, 512) if kind == IN else b""
+    if data:
+        story.put(ring.chain[1].address, data)
+    story.tell_device("dio", "0 done" if is_done else "0 failed", "done")
+    ring.is_answered(ring.room if is_done or kind != IN else 0, 0 if is_done else 1, data)

@@ -647,6 +647,8 @@ class Slot:
 
     def restore(self, content):
         """Takes up a snapshot; where it can't, nothing changes."""
+        if any(asked for device in self.devices for asked in device.tags):
+            raise Busy
         snapshot = Snapshot(content)
         snapshot.only(b"KALYUBOS")
         snapshot.only_value(4, 2 if self.devices else 1)
@@ -671,7 +673,7 @@ class Slot:
         self.windows, self.pending, self.cols, self.rows = windows, pending, cols, rows
         self.held = held
         for device, window in zip(self.devices, of_devices):
-            device.windows = {"further": window}
+            device.windows = dict.fromkeys(device.windows, window)
 
     # --- services
 
@@ -957,8 +959,9 @@ class FurtherWindow(Window):
 class Further(Slot):
     """A further device: a slot's registers and services over the memory of its slot, and over one window."""
 
-    # What a snapshot has of one that is no card.
+    # What a snapshot has of one that is no card, and of one that is no disk.
     address, mtu = bytes(6), 0
+    sectors, identity = 0, bytes(20)
 
     def __init__(self, slot, device_id, queues, own=()):
         self.memory = slot.memory
@@ -974,6 +977,8 @@ class Further(Slot):
         snapshot.only_value(4, self.window.device_id)
         snapshot.only(self.address)
         snapshot.only_value(2, self.mtu)
+        snapshot.only_value(8, self.sectors)
+        snapshot.only(self.identity)
         return self.window.restored(snapshot, self.memory)
 
     def serve(self, window, index):
@@ -1107,6 +1112,31 @@ class Card(Further):
         return 0, False
 
 
+class Disk(HostedSlot, Further):
+    """A further disk (5.2), which the host serves as it does a slot's own. Its window is also called as a slot's is."""
+
+    def __init__(self, slot, sectors, mode, identity, depth):
+        if sectors > 2**55 - 1 or not 1 <= depth <= 64:
+            raise BadDevice
+        self.read_only = mode == "ro"
+        super().__init__(slot, 2, 1, ["write_zeroes", "flush", "blk_size", "seg_max"] + ["ro"] * self.read_only)
+        self.windows["b"] = self.window
+        self.sectors = self.count = sectors
+        self.identity, self.tags = identity, depth * [None]
+
+    def configuration(self, window):
+        return super().configuration("b")
+
+    def write(self, window, offset, width, value):
+        return super().write("b", offset, width, value)
+
+    def wants(self, index):
+        return True
+
+    def use(self, index, chain):
+        return self.request(chain)
+
+
 class BadBoard(Exception):
     """A board that is refused, by the fault's name."""
 
@@ -1213,12 +1243,26 @@ def tags_of(slots, fields):
     return [*named[0].tags] if named else []
 
 
+def further_tags_of(slots, fields):
+    """What is in flight of that slot's further disks, by device and tag."""
+    slot_number = int(fields[0], 16)
+    return {f"{number:x}/{tag:x}": asked for slot in slots[slot_number:slot_number + 1] for number, device in enumerate(slot.devices)
+            for tag, asked in enumerate(device.tags) if asked}
+
+
+def joined(*lists):
+    """Lists of operations, one behind another."""
+    return ";".join(filter(None, lists))
+
+
 def hosted_record_of(slots, word, fields):
     """A record, and behind it the operations that began with its event."""
-    before = tags_of(slots, fields)
+    before, further_before = tags_of(slots, fields), further_tags_of(slots, fields)
     record = record_of(slots, word, fields)
     now = tags_of(slots, fields)
     began = ";".join(f"{tag:x}={asked}" for tag, asked in enumerate(now) if asked and asked is not before[tag])
+    further_now = further_tags_of(slots, fields)
+    began = joined(began, *[f"{name}={asked}" for name, asked in further_now.items() if asked is not further_before.get(name)])
     return f"{record} {began or '-'}"
 
 
@@ -1295,12 +1339,19 @@ def device_of(slot, number, kind=Further):
     return named[0]
 
 
-def plugged(slot, number, kind):
+def plugged(slot, number, kind, *disk):
     if int(number, 16) != len(slot.devices) or len(slot.devices) >= 6:
         raise BadDevice
+    if disk:
+        slot.devices.append(disk_of(slot, *disk))
+        return "done"
     _, *card = kind.split(":")
     slot.devices.append(Card(slot, bytes.fromhex(card[0]), int(card[1], 16)) if card else Entropy(slot))
     return "done"
+
+
+def disk_of(slot, sectors, mode, identity, depth):
+    return Disk(slot, int(sectors, 16), mode, bytes.fromhex(identity), int(depth, 16))
 
 
 def device_read(slot, number, offset, width):
@@ -1331,19 +1382,36 @@ def link_set(slot, number, link):
 
 
 def of_device(reply):
-    """A reply of a further device, which puts nothing out, or BadDevice."""
+    """A reply of a further device, which puts nothing out, or why there is none."""
     def told(slot, *fields):
         try:
             return reply(slot, *fields), b""
         except BadDevice:
             return "baddevice", b""
+        except Busy:
+            return "busy", b""
     return told
+
+
+def told_to_disk(does, slot, number, fields):
+    """The reply to what the host says of a further disk."""
+    return told(does(device_of(slot, number, Disk), *fields))[0]
+
+
+def of_disk(does):
+    return of_device(lambda slot, number, *fields: told_to_disk(does, slot, number, fields))
+
+
+def further_completed(disk, tag, verdict):
+    return disk.complete(int(tag, 16), verdict == "done")
 
 
 REPLIES = {"r": read, "w": write, "mr": memory_read, "mw": memory_write, "in": typed, "sz": resized, "st": restored,
            "io": completed, "drop": dropped, "hold": held, "release": released, "plug": of_device(plugged),
            "dr": of_device(device_read), "dw": of_device(device_written), "supply": of_device(supplied),
-           "frame": of_device(frame_handed), "take": of_device(frame_taken), "link": of_device(link_set)}
+           "frame": of_device(frame_handed), "take": of_device(frame_taken), "link": of_device(link_set),
+           "dio": of_disk(further_completed), "ddrop": of_disk(Disk.drop), "dhold": of_disk(Disk.hold),
+           "drelease": of_disk(Disk.release)}
 
 
 def replay(text, content, fails=(), lacks=(), fault_of=None):

@@ -48,7 +48,7 @@ def bit_name(window, bit):
 EXTENDED = "kalyubos 1\n"
 
 # Every name that a scenario's features may have.
-BESIDE_BITS = {"guests", "extended", "hosted", "depth", "held", "devices", "ro", "input", "resize", "size", "restore", "vendor",
+BESIDE_BITS = {"guests", "extended", "hosted", "depth", "held", "devices", "disks", "ro", "input", "resize", "size", "restore", "vendor",
                "offer", "fails", "calls"}
 NAMED = BESIDE_BITS | {feature for fields in FIELDS.values() for _, _, feature in fields} \
     | {bit_name(window, bit) for window in WINDOWS for bit in range(64)}
@@ -110,8 +110,8 @@ class Event:
     def say_release(self):
         return "is released"
 
-    def say_plug(self, device, kind):
-        return f"gets device {device}, {kind}"
+    def say_plug(self, device, kind, *disk):
+        return f"gets device {device}, {' '.join([kind, *disk])}"
 
     def say_dr(self, device, offset, width):
         return f"reads {width} bytes of offset {offset} of its device {device}"
@@ -131,6 +131,18 @@ class Event:
     def say_link(self, device, link):
         return f"has the link of its device {device} {link}"
 
+    def say_dio(self, device, tag, verdict):
+        return f"has the operation of tag {tag} of its device {device} {verdict}"
+
+    def say_ddrop(self, device):
+        return f"has what is in flight of its device {device} dropped"
+
+    def say_dhold(self, device):
+        return f"has its device {device} held"
+
+    def say_drelease(self, device):
+        return f"has its device {device} released"
+
 
 def bytes_in(field):
     return 0 if field == "-" else len(field) // 2
@@ -149,7 +161,9 @@ def place(window, offset):
 
 
 COUNTS = {"r": 5, "w": 6, "mr": 4, "mw": 4, "in": 3, "sz": 4, "st": 3, "io": 4, "drop": 2, "hold": 2, "release": 2,
-          "plug": 4, "dr": 5, "dw": 6, "supply": 4, "frame": 4, "take": 3, "link": 4}
+          "plug": 4, "dr": 5, "dw": 6, "supply": 4, "frame": 4, "take": 3, "link": 4, "dio": 5, "ddrop": 3, "dhold": 3, "drelease": 3}
+# Of a plug of a disk.
+DISK_COUNT = 8
 
 
 def events_of(text):
@@ -158,10 +172,15 @@ def events_of(text):
     for number, line in enumerate(text.split("\n"), 1):
         fields = line.split(" ")
         if fields[0] in COUNTS:
-            if len(fields) != COUNTS[fields[0]]:
+            if len(fields) != (DISK_COUNT if plugs_disk(fields) else COUNTS[fields[0]]):
                 break
             events.append(Event(number, line, fields))
     return events
+
+
+def plugs_disk(fields):
+    """Whether a line's fields are those of a plug of a disk."""
+    return fields[0] == "plug" and fields[3:4] == ["disk"]
 
 
 def slots_of(text):
@@ -183,7 +202,7 @@ def features_of(text, replies):
     answers of DeviceFeatures), and those whose configuration fields are touched. Others are no bits: `offer`, all
     offered features are read; `vendor`, VendorID is; `resize`, `input` and `restore`, the host does that; `hosted`, it
     serves a disk; `depth`, several operations of one may be in flight; `held`, what is in flight is dropped, or a slot is held or released; `devices`,
-    a slot has further devices; `guests`, there are more than one; `ro`, a slot is read-only; `extended`, the trace is of no version that a plain one has.
+    a slot has further devices; `disks`, one of these is a disk; `guests`, there are more than one; `ro`, a slot is read-only; `extended`, the trace is of no version that a plain one has.
     """
     found = {"extended"} if text.startswith(EXTENDED) else set()
     slots = slots_of(text)
@@ -217,6 +236,8 @@ def features_in(event, reply, windows):
         return {"hosted"}
     if event.word in ("drop", "hold", "release"):
         return {"hosted", "held"}
+    if event.word in ("dio", "ddrop", "dhold", "drelease") or plugs_disk(event.fields):
+        return {"devices", "disks"}
     if event.word in ("plug", "dr", "dw", "supply", "frame", "take", "link"):
         return {"devices"}
     if event.word not in ("r", "w") or event.fields[2] not in WINDOWS:
