@@ -123,7 +123,7 @@ def recorder():
 
 def full_outlet():
     """kvm.c of examples/embed, over a stub of the library and over the library where it is built: a guest with 65 emergency
-    writes into an outlet of 64 bytes, beside one that goes on; and a guest of two CPUs."""
+    writes into an outlet of 64 bytes, beside one that goes on; a guest of two CPUs; and over the library two with network cards."""
     if not shutil.which(COMPILER):
         return True, [f"no {COMPILER} to build its host with"]
     if not os.access("/dev/kvm", os.R_OK | os.W_OK):
@@ -132,22 +132,28 @@ def full_outlet():
     if library():
         over["the library"] = library()
     for name, sources in over.items():
-        wrong = flooded(sources)
+        wrong = flooded(sources, CARDS if sources == library() else [])
         if wrong:
             return False, [f"over {name}", *wrong]
-    return True, ["a KVM guest that fills its outlet puts out all, the other goes on, and two CPUs of one stand, over " + " and ".join(over)]
+    return True, ["a KVM guest that fills its outlet puts out all, the other goes on, and two CPUs of one stand, over " + " and ".join(over),
+                  *(["frames come from card to card, over the library"] if library() else [])]
 
 
-def flooded(sources):
+# The words that have kvm.c run guests with network cards: over both rings, with and without EVENT_IDX.
+CARDS = [["cards", "split-event", "split"], ["cards", "packed", "packed-event"]]
+
+
+def flooded(sources, cards):
     """What is wrong with kvm.c over these sources of the library's functions, or nothing."""
     with tempfile.TemporaryDirectory() as folder:
         host = f"{folder}/kvm"
         wrong = compiled(host, [EMBED / "kvm.c", EMBED / "cpus.c", EMBED / "file_disk.c", *sources, "-pthread"])
-        for words, expected in () if wrong else (([], "expected-guests"), (["hosted"], "expected-guests"), (["flood"], "expected-flood"), (["pair"], "expected-pair")):
+        runs = [([], "expected-guests"), (["hosted"], "expected-guests"), (["flood"], "expected-flood"), (["pair"], "expected-pair")]
+        for words, expected in () if wrong else runs + [(words, "expected-cards") for words in cards]:
             ran = subprocess.run([host, *words], capture_output=True, text=True, timeout=60)
             wanted = (EMBED / expected).read_text().splitlines()
             wrong += [line.rstrip() for line in difflib.unified_diff(wanted, ran.stdout.splitlines(), expected, "found", n=0)]
-            wrong += ran.stderr.splitlines()
+            wrong += ran.stderr.splitlines() if ran.returncode else []
     return wrong
 
 

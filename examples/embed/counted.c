@@ -181,7 +181,8 @@ static void read_sectors(uint8_t slot, uint16_t count, bool failed)
     offer(slot, SECTOR, sizeof SECTOR, &ALL_FIRST, count);
     need(set(slot, KALYUBOS_BLOCK, NOTIFY, 0) == KALYUBOS_IO, "a read", slot);
     for (uint16_t i = 1; i <= count; i++)
-        need(kalyubos_completed(&board, slot, 0, failed, &pending) == (i < count ? KALYUBOS_IO : KALYUBOS_DONE), "a completion", i);
+        need(kalyubos_completed(&board, slot, KALYUBOS_BLOCK, 0, failed, &pending) == (i < count ? KALYUBOS_IO : KALYUBOS_DONE),
+             "a completion", i);
 }
 
 static void check_hosted(void)

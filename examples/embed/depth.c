@@ -215,7 +215,7 @@ static void check_operation(uint8_t tag)
     struct kalyubos_run runs[KALYUBOS_RUNS];
     unsigned request = request_of[tag], parts = members_of(request) - 2;
     uint64_t at = MEMORY + data_of(request);
-    need(kalyubos_operation(&board, 0, tag, &it, runs, KALYUBOS_RUNS) == KALYUBOS_DONE, "an operation", tag);
+    need(kalyubos_operation(&board, 0, KALYUBOS_BLOCK, tag, &it, runs, KALYUBOS_RUNS) == KALYUBOS_DONE, "an operation", tag);
     need(it.kind == (type_of(request) == IN ? KALYUBOS_IN : KALYUBOS_OUT) && !it.stable, "its kind", tag);
     need(it.start == request * LEN && it.len == LEN && it.runs == parts, "its bytes", tag);
     for (unsigned i = 0; i < parts; i++)
@@ -227,12 +227,12 @@ static void check_tags(void)
     struct kalyubos_operation it;
     struct kalyubos_run run;
     uint64_t tags = 0;
-    need(kalyubos_in_flight(&board, 0, &tags) == KALYUBOS_DONE && tags == flying, "the tags in flight", tags);
+    need(kalyubos_in_flight(&board, 0, KALYUBOS_BLOCK, &tags) == KALYUBOS_DONE && tags == flying, "the tags in flight", tags);
     for (unsigned tag = 0; tag <= UINT8_MAX; tag++)
         if (tag < depth && (flying >> tag & 1) != 0)
             check_operation((uint8_t)tag);
         else
-            need(kalyubos_operation(&board, 0, (uint8_t)tag, &it, &run, 1) == KALYUBOS_IDLE, "a free tag", tag);
+            need(kalyubos_operation(&board, 0, KALYUBOS_BLOCK, (uint8_t)tag, &it, &run, 1) == KALYUBOS_IDLE, "a free tag", tag);
 }
 
 /* Requests before `end` begin, each with the lowest free tag, as long as there is one; whether any did. */
@@ -302,7 +302,7 @@ static void check_busy(void)
 /* Completes the operation of a tag; `answer` is what that must tell. */
 static void complete(uint8_t tag, bool failed, uint32_t answer)
 {
-    need(kalyubos_completed(&board, 0, tag, failed, &pending) == answer, "a completion", tag);
+    need(kalyubos_completed(&board, 0, KALYUBOS_BLOCK, tag, failed, &pending) == answer, "a completion", tag);
 }
 
 /* Serves one that is in flight, with which requests before `end` may begin. */
@@ -394,9 +394,9 @@ static void free_tags(const uint8_t *order, size_t len)
     need(flying == 0, "a tag is taken behind a fault", flying);
 }
 
-static void tell_host(uint32_t (*call)(struct kalyubos *, uint8_t, struct kalyubos_pending *), uint32_t answer, const char *what)
+static void tell_host(uint32_t (*call)(struct kalyubos *, uint8_t, uint8_t, struct kalyubos_pending *), uint32_t answer, const char *what)
 {
-    uint32_t found = call(&board, 0, &pending);
+    uint32_t found = call(&board, 0, KALYUBOS_BLOCK, &pending);
     need(found == answer, what, found);
 }
 

@@ -55,7 +55,7 @@ static void go_on(struct guest *guest)
     uint8_t tag;
     bool failed;
     while (file_disk_go_on(&guest->disk, &tag, &failed)) {
-        uint32_t answer = kalyubos_completed(&guest->board, 0, tag, failed, &guest->lines);
+        uint32_t answer = kalyubos_completed(&guest->board, 0, KALYUBOS_BLOCK, tag, failed, &guest->lines);
         if (answer == KALYUBOS_IO)
             (void)file_disk_begin(&guest->disk); /* the loop tells what the kernel doesn't take */
         need(answer == KALYUBOS_DONE || answer == KALYUBOS_IO, "a completion");
@@ -64,7 +64,7 @@ static void go_on(struct guest *guest)
 
 static void open_disk(struct guest *guest, const struct file_way *way)
 {
-    const char *wrong = file_disk_open(&guest->disk, &guest->board, 0, DEPTH, guest->path, DISK_LEN, false, way);
+    const char *wrong = file_disk_open(&guest->disk, &guest->board, 0, KALYUBOS_BLOCK, DEPTH, guest->path, DISK_LEN, false, way);
     need(wrong == NULL, wrong);
 }
 
@@ -73,7 +73,7 @@ static void give_up(struct guest *guest)
 {
     const struct file_way *way = guest->disk.way;
     file_disk_close(&guest->disk);
-    need(kalyubos_drop(&guest->board, 0, &guest->lines) == KALYUBOS_DONE, "a drop");
+    need(kalyubos_drop(&guest->board, 0, KALYUBOS_BLOCK, &guest->lines) == KALYUBOS_DONE, "a drop");
     open_disk(guest, way);
 }
 

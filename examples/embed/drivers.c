@@ -111,7 +111,7 @@ static void compare_with_request(struct guest *guest, const struct flight *fligh
 static void ask(struct guest *guest, uint8_t tag)
 {
     struct flight *flight = &guest->flights[tag];
-    need(kalyubos_operation(guest->board, guest->slot, tag, &flight->operation, &flight->run, 1) == KALYUBOS_DONE,
+    need(kalyubos_operation(guest->board, guest->slot, KALYUBOS_BLOCK, tag, &flight->operation, &flight->run, 1) == KALYUBOS_DONE,
          "nothing is in flight", tag);
     compare_with_request(guest, flight);
 }
@@ -143,7 +143,7 @@ static void take_answer(struct guest *guest, uint32_t answer)
         guest->begun |= (uint64_t)1 << tag;
         guest->flights[tag] = (struct flight){ .place = place };
     }
-    need(kalyubos_in_flight(guest->board, guest->slot, &tags) == KALYUBOS_DONE && tags == guest->begun, "other tags", tags);
+    need(kalyubos_in_flight(guest->board, guest->slot, KALYUBOS_BLOCK, &tags) == KALYUBOS_DONE && tags == guest->begun, "other tags", tags);
     need(answer == (before != guest->begun ? KALYUBOS_IO : KALYUBOS_DONE), "an answer", answer);
     for (uint8_t tag = 0; tag < guest->depth && tag < PLACES; tag++)
         if ((guest->begun & ~before) >> tag & 1)
@@ -183,8 +183,8 @@ static void complete_nothing(struct guest *guest)
     uint8_t tag = (uint8_t)chance(guest, 256);
     if (tag < 64 && (guest->begun >> tag & 1) != 0)
         return;
-    need(kalyubos_operation(guest->board, guest->slot, tag, &operation, &run, 1) == KALYUBOS_IDLE, "an operation", tag);
-    need(kalyubos_completed(guest->board, guest->slot, tag, false, &pending) == KALYUBOS_IDLE, "a completion", tag);
+    need(kalyubos_operation(guest->board, guest->slot, KALYUBOS_BLOCK, tag, &operation, &run, 1) == KALYUBOS_IDLE, "an operation", tag);
+    need(kalyubos_completed(guest->board, guest->slot, KALYUBOS_BLOCK, tag, false, &pending) == KALYUBOS_IDLE, "a completion", tag);
 }
 
 /* Ends an operation, which is told as before. What failed may have been done, or not at all. */
@@ -202,7 +202,7 @@ static void complete(struct guest *guest)
     guest->counted.refusals += failed;
     guest->begun &= ~((uint64_t)1 << tag);
     end_request(guest, flight->place);
-    uint32_t answer = kalyubos_completed(guest->board, guest->slot, tag, failed, &pending);
+    uint32_t answer = kalyubos_completed(guest->board, guest->slot, KALYUBOS_BLOCK, tag, failed, &pending);
     need(pending.block & 1, "a completion without a notification", answer);
     take_answer(guest, answer);
 }
@@ -425,7 +425,7 @@ static void drop(struct guest *guest)
     guest->begun = 0;
     if (is_due)
         guest->taken = guest->offered; /* nothing more is taken before a reset */
-    uint32_t answer = kalyubos_drop(guest->board, guest->slot, &pending);
+    uint32_t answer = kalyubos_drop(guest->board, guest->slot, KALYUBOS_BLOCK, &pending);
     need(answer == (is_due ? KALYUBOS_DONE : KALYUBOS_IDLE), "a drop", answer);
     need(!is_due || (pending.block & 2) != 0, "a drop that asks for no reset", pending.block);
     if (is_due)
@@ -435,7 +435,7 @@ static void drop(struct guest *guest)
 static void hold(struct guest *guest)
 {
     struct kalyubos_pending pending;
-    uint32_t answer = kalyubos_hold(guest->board, guest->slot, &pending);
+    uint32_t answer = kalyubos_hold(guest->board, guest->slot, KALYUBOS_BLOCK, &pending);
     need(answer == (guest->held ? KALYUBOS_IDLE : KALYUBOS_DONE), "a hold", answer);
     guest->held = true;
 }
@@ -443,7 +443,7 @@ static void hold(struct guest *guest)
 static void release(struct guest *guest)
 {
     struct kalyubos_pending pending;
-    uint32_t answer = kalyubos_release(guest->board, guest->slot, &pending);
+    uint32_t answer = kalyubos_release(guest->board, guest->slot, KALYUBOS_BLOCK, &pending);
     need((answer == KALYUBOS_IDLE) == !guest->held, "a release", answer);
     guest->held = false;
     if (answer != KALYUBOS_IDLE)

@@ -81,7 +81,7 @@ static void open_disk(struct guest *guest)
     size_t len = strlen(DISKS[guest->slot]);
     const char *wrong = "can't be written";
     if (file >= 0 && ftruncate(file, DISK_LEN) == 0 && write(file, DISKS[guest->slot], len) == (ssize_t)len)
-        wrong = file_disk_open(&guest->disk, &board, guest->slot, DEPTH, path, DISK_LEN, false, &file_thread);
+        wrong = file_disk_open(&guest->disk, &board, guest->slot, KALYUBOS_BLOCK, DEPTH, path, DISK_LEN, false, &file_thread);
     if (wrong != NULL) {
         fprintf(stderr, "%s: %s\n", path, wrong);
         exit(1);
@@ -97,7 +97,7 @@ static void go_on_with_disk(struct guest *guest)
     uint8_t tag;
     bool failed;
     while (file_disk_go_on(&guest->disk, &tag, &failed)) {
-        uint32_t answer = kalyubos_completed(&board, guest->slot, tag, failed, &pending);
+        uint32_t answer = kalyubos_completed(&board, guest->slot, KALYUBOS_BLOCK, tag, failed, &pending);
         if (answer == KALYUBOS_IO)
             (void)file_disk_begin(&guest->disk); /* the loop tells what the kernel doesn't take */
         else

@@ -331,11 +331,11 @@ static void check_hosted(void)
     is_untold(0, "no fault came to what is in flight");
     store(0, AVAILABLE + 6, &outside, sizeof outside);
     offer_split(0, 2);
-    need(kalyubos_completed(&board, 0, 0, false, &pending) == KALYUBOS_DONE, "a completion", 0);
+    need(kalyubos_completed(&board, 0, KALYUBOS_BLOCK, 0, false, &pending) == KALYUBOS_DONE, "a completion", 0);
     tells(0, KALYUBOS_BLOCK, behind, "behind a completion");
     read_sector(0);
     tells(0, KALYUBOS_BLOCK, behind, "in flight");
-    need(kalyubos_completed(&board, 0, 0, false, &pending) == KALYUBOS_DONE, "a completion", 0);
+    need(kalyubos_completed(&board, 0, KALYUBOS_BLOCK, 0, false, &pending) == KALYUBOS_DONE, "a completion", 0);
     end(&board);
 }
 

@@ -38,16 +38,17 @@ static void need(bool holds, const char *what)
 
 /* ---- the library: a slot of which the tags of `in_flight` are asked for */
 
-uint32_t kalyubos_in_flight(const struct kalyubos *board, uint8_t slot, uint64_t *tags)
+uint32_t kalyubos_in_flight(const struct kalyubos *board, uint8_t slot, uint8_t window, uint64_t *tags)
 {
-    (void)board, (void)slot;
+    (void)board, (void)slot, (void)window;
     *tags = in_flight;
     return KALYUBOS_DONE;
 }
 
-uint32_t kalyubos_operation(const struct kalyubos *board, uint8_t slot, uint8_t tag, struct kalyubos_operation *to, struct kalyubos_run *into, size_t most)
+uint32_t kalyubos_operation(const struct kalyubos *board, uint8_t slot, uint8_t window, uint8_t tag,
+                            struct kalyubos_operation *to, struct kalyubos_run *into, size_t most)
 {
-    (void)board, (void)slot, (void)most;
+    (void)board, (void)slot, (void)window, (void)most;
     *to = asked[tag].operation;
     memcpy(into, asked[tag].runs, to->runs * sizeof *into);
     return KALYUBOS_DONE;
@@ -256,7 +257,7 @@ static unsigned long try(const char *path, const struct file_way *way, unsigned 
     struct file_disk disk;
     calls = 0;
     failing = number;
-    const char *wrong = file_disk_open(&disk, NULL, 0, DEPTH, path, DISK_LEN, false, way);
+    const char *wrong = file_disk_open(&disk, NULL, 0, KALYUBOS_BLOCK, DEPTH, path, DISK_LEN, false, way);
     if (wrong == NULL) {
         unsigned failed = use(&disk);
         need(failed <= 1, "one failing call fails two operations");
@@ -274,7 +275,7 @@ static void warm_up(const char *path, const struct file_way *way)
 {
     struct file_disk disk;
     struct left left = look();
-    need(file_disk_open(&disk, NULL, 0, DEPTH, path, DISK_LEN, false, way) == NULL && use(&disk) == 0, "a first disk");
+    need(file_disk_open(&disk, NULL, 0, KALYUBOS_BLOCK, DEPTH, path, DISK_LEN, false, way) == NULL && use(&disk) == 0, "a first disk");
     file_disk_close(&disk);
     is_all_gone(&left);
 }
@@ -284,7 +285,7 @@ static void try_close_in_flight(const char *path, const struct file_way *way)
 {
     struct left before = look();
     struct file_disk disk;
-    need(file_disk_open(&disk, NULL, 0, DEPTH, path, DISK_LEN, false, way) == NULL, "a disk to be closed in flight can't be opened");
+    need(file_disk_open(&disk, NULL, 0, KALYUBOS_BLOCK, DEPTH, path, DISK_LEN, false, way) == NULL, "a disk to be closed in flight can't be opened");
     ask(0, KALYUBOS_OUT, 0, 0, 0x1000);
     ask(1, KALYUBOS_IN, 0x1000, 0x1000, 0x1000);
     in_flight = 3;
@@ -297,7 +298,7 @@ static void try_close_in_flight(const char *path, const struct file_way *way)
 static void try_read_only(const char *path, const struct file_way *way)
 {
     struct file_disk disk;
-    need(file_disk_open(&disk, NULL, 0, DEPTH, path, DISK_LEN, true, way) == NULL, "a file for reading alone can't be opened");
+    need(file_disk_open(&disk, NULL, 0, KALYUBOS_BLOCK, DEPTH, path, DISK_LEN, true, way) == NULL, "a file for reading alone can't be opened");
     need(use(&disk) == 3, "of a file for reading alone, others fail than two writes and a zeroing");
     file_disk_close(&disk);
 }

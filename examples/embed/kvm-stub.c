@@ -173,18 +173,18 @@ uint32_t kalyubos_write(struct kalyubos *board, uint8_t slot, uint8_t window, ui
 }
 
 /* One operation at a time is in flight, with tag 0. */
-uint32_t kalyubos_in_flight(const struct kalyubos *board, uint8_t slot, uint64_t *tags)
+uint32_t kalyubos_in_flight(const struct kalyubos *board, uint8_t slot, uint8_t window, uint64_t *tags)
 {
-    (void)board;
+    (void)board, (void)window;
     *tags = guests[slot].in_flight;
     return KALYUBOS_DONE;
 }
 
-uint32_t kalyubos_operation(const struct kalyubos *board, uint8_t slot, uint8_t tag,
+uint32_t kalyubos_operation(const struct kalyubos *board, uint8_t slot, uint8_t window, uint8_t tag,
                             struct kalyubos_operation *operation, struct kalyubos_run *runs, size_t runs_len)
 {
     const struct slot *guest = &guests[slot];
-    (void)board, (void)runs_len;
+    (void)board, (void)window, (void)runs_len;
     if (!guest->in_flight || tag != 0)
         return KALYUBOS_IDLE;
     runs[0] = (struct kalyubos_run){ number(guest, guest->windows[KALYUBOS_BLOCK].descriptors + 16), SECTOR };
@@ -192,11 +192,11 @@ uint32_t kalyubos_operation(const struct kalyubos *board, uint8_t slot, uint8_t 
     return KALYUBOS_DONE;
 }
 
-uint32_t kalyubos_completed(struct kalyubos *board, uint8_t slot, uint8_t tag, bool failed,
+uint32_t kalyubos_completed(struct kalyubos *board, uint8_t slot, uint8_t window, uint8_t tag, bool failed,
                             struct kalyubos_pending *pending)
 {
     struct slot *guest = &guests[slot];
-    (void)board, (void)failed;
+    (void)board, (void)window, (void)failed;
     if (!guest->in_flight || tag != 0)
         return tell(guest, pending, KALYUBOS_IDLE);
     guest->in_flight = false;
@@ -226,4 +226,25 @@ uint32_t kalyubos_take_output(struct kalyubos *board, uint8_t slot, uint8_t *int
     memmove(guest->output, guest->output + *taken, guest->waiting - *taken);
     guest->waiting -= *taken;
     return KALYUBOS_DONE;
+}
+
+/* It has no network cards. */
+uint32_t kalyubos_receive(struct kalyubos *board, uint8_t slot, uint8_t window, const uint8_t *frame, size_t frame_len,
+                          bool *taken)
+{
+    (void)board, (void)slot, (void)window, (void)frame, (void)frame_len, (void)taken;
+    return KALYUBOS_BAD_WINDOW;
+}
+
+uint32_t kalyubos_take_frame(struct kalyubos *board, uint8_t slot, uint8_t window, uint8_t *into, size_t into_len, size_t *len)
+{
+    (void)board, (void)slot, (void)window, (void)into, (void)into_len, (void)len;
+    return KALYUBOS_BAD_WINDOW;
+}
+
+uint32_t kalyubos_device_pending(const struct kalyubos *board, uint8_t slot, uint8_t window,
+                                 struct kalyubos_device_pending *pending)
+{
+    (void)board, (void)slot, (void)window, (void)pending;
+    return KALYUBOS_BAD_WINDOW;
 }

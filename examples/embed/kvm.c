@@ -8,6 +8,8 @@
  * both CPUs stand, by cpus.c, so the count stays. A load touches no memory of the guest, and stops none.
  * `kvm hosted` has no image: each disk is a file of its own, which file_disk.c reads while the guest runs on.
  * `kvm lent` has the guests' memory in a file of memory, which it maps and lends to the board.
+ * `kvm cards` gives each guest a network card and the program of kvm-card.S, and they send one another frames over a switch.
+ * Two words behind it say what the guests' queues are: `split`, `split-event`, `packed` or `packed-event`.
  * Where /dev/kvm can't be opened the host says so, with status 77.
  */
 #define _GNU_SOURCE
@@ -21,12 +23,14 @@
 #include <stdio.h>
 #include <stdlib.h>
 #include <string.h>
+#include <sys/eventfd.h>
 #include <sys/ioctl.h>
 #include <sys/mman.h>
 #include <unistd.h>
 
 #include "cpus.h"
 #include "file_disk.h"
+#include "kvm-card.h"
 #include "kvm-flood.h"
 #include "kvm-guest.h"
 #include "kvm-second.h"
@@ -41,8 +45,25 @@ static const struct kalyubos_region MEMORY[REGIONS] = { { 0, 0x10000 }, { 0x2000
 /* Where the second CPU's program lies, what it counts, and how many microseconds a call takes in which it mustn't. */
 enum { SECOND = 0x6000, COUNT = 0x7000, CALL_TIME = 200 };
 
-/* The vectors of a guest's two lines. */
-enum { BLOCK_VECTOR = 0x20, CONSOLE_VECTOR = 0x21 };
+/* The vectors of a guest's lines. */
+enum { BLOCK_VECTOR = 0x20, CONSOLE_VECTOR = 0x21, CARD_VECTOR = 0x22 };
+
+/* The window of a network card, how long a frame is, and how many frames wait at a port of the switch. */
+enum { CARD = KALYUBOS_DEVICE, ADDRESS = 6, ETHERNET = 14, MTU = 1500, FRAME = MTU + ETHERNET, ANY_FRAME = 65536, PORT_ROOM = 64 };
+
+/* How many frames a guest sends, and how many milliseconds it waits for one. */
+enum { FRAMES = 256, PATIENCE = 10000 };
+
+/* A port of the switch: the frames that came for its card, and that the card hasn't taken. The board's lock is over it. */
+struct port {
+    uint8_t address[ADDRESS];
+    int ready; /* can be read, as poll tells, once frames came */
+    size_t first, waiting, lost;
+    struct frame {
+        size_t len;
+        uint8_t bytes[FRAME];
+    } frames[PORT_ROOM];
+};
 
 struct guest {
     uint8_t slot;
@@ -57,13 +78,23 @@ struct guest {
     bool ran_on;            /* and whether it went on in a call */
     pthread_t thread;       /* of its first CPU */
     struct file_disk disk;  /* where the host serves it */
+    struct port port;       /* of its card, where it has one */
+    struct kalyubos_device_pending card; /* as it was told last */
 };
 
 static const char *const DISKS[GUESTS] = { "the first half of the image\n", "the second half\n" };
 enum { DISK_LEN = 2 * 512, DEPTH = 4 };
 
+/* What a guest runs, and what it finds in its registers. */
+struct program {
+    const uint8_t *bytes;
+    size_t len;
+    struct kvm_regs registers;
+};
+
 static struct kalyubos board;
-static bool hosted, lent;
+static struct guest guests[GUESTS];
+static bool hosted, lent, cards;
 static pthread_mutex_t lock = PTHREAD_MUTEX_INITIALIZER;
 
 static int must(int result, const char *what)
@@ -98,39 +129,39 @@ static uint8_t *map_region(const struct guest *guest, uint32_t number)
     return bytes;
 }
 
-static void map_memory(struct guest *guest, const uint8_t *program, size_t program_len)
+static void map_memory(struct guest *guest, const struct program *program)
 {
     guest->bytes = map_region(guest, 0);
     map_region(guest, 1);
-    memcpy(guest->bytes + PROGRAM, program, program_len);
+    memcpy(guest->bytes + PROGRAM, program->bytes, program->len);
 }
 
-/* Adds a CPU to a guest, which begins at an address, and answers what it shares with KVM. */
-static struct kvm_run *add_cpu(struct guest *guest, int kvm, uint64_t start)
+/* Adds a CPU to a guest, which begins with such registers at an address, and answers what it shares with KVM. */
+static struct kvm_run *add_cpu(struct guest *guest, int kvm, struct kvm_regs registers, uint64_t start)
 {
     struct kvm_sregs segments;
-    struct kvm_regs registers = { .rip = start, .rflags = 2 };
     int cpu = must(ioctl(guest->machine, KVM_CREATE_VCPU, guest->cpus.len), "KVM_CREATE_VCPU");
     size_t len = (size_t)must(ioctl(kvm, KVM_GET_VCPU_MMAP_SIZE, 0), "KVM_GET_VCPU_MMAP_SIZE");
     struct kvm_run *run = mmap(NULL, len, PROT_READ | PROT_WRITE, MAP_SHARED, cpu, 0);
     must(run == MAP_FAILED ? -1 : 0, "the CPU's exits");
     must(ioctl(cpu, KVM_GET_SREGS, &segments), "KVM_GET_SREGS");
     segments.cs.base = segments.cs.selector = 0;
+    registers.rip = start;
+    registers.rflags = 2;
     must(ioctl(cpu, KVM_SET_SREGS, &segments), "KVM_SET_SREGS");
     must(ioctl(cpu, KVM_SET_REGS, &registers), "KVM_SET_REGS");
     cpus_add(&guest->cpus, cpu, run);
     return run;
 }
 
-static void power_on(struct guest *guest, int kvm, uint8_t slot, bool floods)
+static void power_on(struct guest *guest, int kvm, const struct program *program)
 {
-    guest->slot = slot;
     guest->terminal = tmpfile();
     must(guest->terminal == NULL ? -1 : 0, "a terminal");
     guest->machine = must(ioctl(kvm, KVM_CREATE_VM, 0), "KVM_CREATE_VM");
-    map_memory(guest, floods ? KVM_FLOOD : KVM_GUEST, floods ? sizeof KVM_FLOOD : sizeof KVM_GUEST);
+    map_memory(guest, program);
     cpus_begin(&guest->cpus);
-    guest->run = add_cpu(guest, kvm, PROGRAM);
+    guest->run = add_cpu(guest, kvm, program->registers, PROGRAM);
     guest->cpu = guest->cpus.all[0].file;
 }
 
@@ -138,7 +169,7 @@ static void power_on(struct guest *guest, int kvm, uint8_t slot, bool floods)
 static void power_on_second(struct guest *guest, int kvm)
 {
     memcpy(guest->bytes + SECOND, KVM_SECOND, sizeof KVM_SECOND);
-    guest->second = add_cpu(guest, kvm, SECOND);
+    guest->second = add_cpu(guest, kvm, (struct kvm_regs){ 0 }, SECOND);
 }
 
 /* ---- the calls that may touch a guest's memory, in which its CPUs stand */
@@ -172,7 +203,7 @@ static void open_disk(struct guest *guest)
     int file = must(mkstemp(path), "a disk");
     must(ftruncate(file, DISK_LEN), "a disk");
     must((int)write(file, DISKS[guest->slot], strlen(DISKS[guest->slot])), "a disk");
-    const char *wrong = file_disk_open(&guest->disk, &board, guest->slot, DEPTH, path, DISK_LEN, false,
+    const char *wrong = file_disk_open(&guest->disk, &board, guest->slot, KALYUBOS_BLOCK, DEPTH, path, DISK_LEN, false,
                                        &file_thread);
     if (wrong != NULL) {
         fprintf(stderr, "%s: %s\n", path, wrong);
@@ -194,7 +225,7 @@ static void go_on_with_disk(struct guest *guest)
     uint8_t tag;
     bool failed;
     while (file_disk_go_on(&guest->disk, &tag, &failed)) {
-        uint32_t answer = kalyubos_completed(&board, guest->slot, tag, failed, &guest->lines);
+        uint32_t answer = kalyubos_completed(&board, guest->slot, KALYUBOS_BLOCK, tag, failed, &guest->lines);
         if (answer == KALYUBOS_IO)
             (void)file_disk_begin(&guest->disk); /* the loop tells what the kernel doesn't take */
         else
@@ -202,25 +233,102 @@ static void go_on_with_disk(struct guest *guest)
     }
 }
 
-/* Waits so many milliseconds for the disk, -1 without end, and goes on with it. */
-static void look_at_disk(struct guest *guest, int milliseconds)
+/* ---- network cards, and the switch that they hang on */
+
+static void open_port(struct guest *guest, const uint8_t address[ADDRESS])
 {
-    if (guest->disk.begun == 0 || !disk_can_go_on(guest, milliseconds))
-        return;
+    memcpy(guest->port.address, address, ADDRESS);
+    guest->port.ready = must(eventfd(0, EFD_NONBLOCK | EFD_CLOEXEC), "eventfd");
+}
+
+/* A frame goes to the port of the address that it begins with. Where that has no room it is lost, as on a wire. */
+static void forward(const struct guest *from, const uint8_t *bytes, size_t len)
+{
+    for (struct guest *to = guests; to < guests + GUESTS; to++) {
+        struct port *port = &to->port;
+        if (to == from || len < ETHERNET || len > FRAME || memcmp(bytes, port->address, ADDRESS) != 0)
+            continue;
+        if (port->waiting == PORT_ROOM) {
+            port->lost++;
+            continue;
+        }
+        struct frame *frame = &port->frames[(port->first + port->waiting++) % PORT_ROOM];
+        frame->len = len;
+        memcpy(frame->bytes, bytes, len);
+        must(eventfd_write(port->ready, 1), "a port");
+    }
+}
+
+/* Takes all frames that the guest's card has sent. A driver may send longer ones than the MTU allows. */
+static void take_frames(const struct guest *guest)
+{
+    static uint8_t frame[ANY_FRAME];
+    size_t len;
+    do {
+        must_do(kalyubos_take_frame(&board, guest->slot, CARD, frame, sizeof frame, &len), "take_frame");
+        forward(guest, frame, len);
+    } while (len > 0);
+}
+
+/* Hands in the frames of the guest's port, until the card has no room: the others wait until its driver has taken some. */
+static void hand_in_frames(struct guest *guest)
+{
+    struct port *port = &guest->port;
+    eventfd_t count;
+    bool taken = true;
+    (void)eventfd_read(port->ready, &count); /* there may be none */
+    while (port->waiting > 0 && taken) {
+        const struct frame *frame = &port->frames[port->first];
+        must_do(kalyubos_receive(&board, guest->slot, CARD, frame->bytes, frame->len, &taken), "receive");
+        port->first = (port->first + taken) % PORT_ROOM;
+        port->waiting -= taken;
+    }
+}
+
+/* What there is to do for a card: behind each store to its window, and where frames came. */
+static void serve_card(struct guest *guest)
+{
+    take_frames(guest);
+    hand_in_frames(guest);
+    must_do(kalyubos_device_pending(&board, guest->slot, CARD, &guest->card), "device_pending");
+}
+
+/* ---- what comes from outside while a guest runs on */
+
+/* Waits so many milliseconds, -1 without end, until the disk can go on or frames have come, and tells whether it is so. */
+static bool has_news(const struct guest *guest, int milliseconds)
+{
+    struct pollfd wakes[] = { { .fd = guest->disk.ready, .events = POLLIN }, { .fd = guest->port.ready, .events = POLLIN } };
+    int found;
+    do
+        found = poll(wakes, 2, milliseconds);
+    while (found < 0 && errno == EINTR);
+    return found > 0;
+}
+
+/* Waits so many milliseconds for news, and goes on with what there is: false where there was none. */
+static bool look_around(struct guest *guest, int milliseconds)
+{
+    if ((guest->disk.begun == 0 && !cards) || !has_news(guest, milliseconds))
+        return false;
     begin_calls(guest);
-    go_on_with_disk(guest);
+    if (hosted)
+        go_on_with_disk(guest);
+    if (cards)
+        serve_card(guest);
     end_calls(guest);
+    return true;
 }
 
 /*
- * A signal ends KVM_RUN once the disk can go on. One that comes too early, before KVM_RUN, is lost: so it is sent again,
+ * A signal ends KVM_RUN once there is news. One that comes too early, before KVM_RUN, is lost: so it is sent again,
  * a millisecond later, until the CPU's thread has looked.
  */
 static void *kick(void *user)
 {
     const struct guest *guest = user;
     for (;;) {
-        disk_can_go_on(guest, -1);
+        has_news(guest, -1);
         pthread_kill(guest->thread, SIGUSR1);
         usleep(1000);
     }
@@ -298,7 +406,7 @@ static void access_window(struct guest *guest, struct kvm_run *run)
     uint64_t place = run->mmio.phys_addr - WINDOWS;
     uint8_t window = (uint8_t)(place / PAGE), *data = run->mmio.data, width = (uint8_t)run->mmio.len;
     uint32_t value = 0;
-    if (place >= 2 * PAGE) { /* nobody is there */
+    if (place >= (cards ? 3 : 2) * PAGE) { /* nobody is there */
         memset(data, 0xff, sizeof run->mmio.data);
         return;
     }
@@ -306,6 +414,8 @@ static void access_window(struct guest *guest, struct kvm_run *run)
         memcpy(&value, data, width < 4 ? width : 4);
         begin_calls(guest);
         store(guest, window, place % PAGE, width, value);
+        if (window == CARD)
+            serve_card(guest);
         end_calls(guest);
     } else {
         value = load(guest, window, place % PAGE, width);
@@ -314,21 +424,40 @@ static void access_window(struct guest *guest, struct kvm_run *run)
     }
 }
 
+/* The vector of a line that is high, or 0. */
+static uint32_t vector_of(const struct guest *guest)
+{
+    if (guest->lines.block != 0)
+        return BLOCK_VECTOR;
+    if (guest->lines.console != 0)
+        return CONSOLE_VECTOR;
+    return guest->card.interrupt != 0 ? CARD_VECTOR : 0;
+}
+
 /* A line that is high interrupts the CPU as soon as it can be, and until its driver has acknowledged what it tells. */
 static void set_lines(const struct guest *guest)
 {
-    struct kvm_interrupt line = { guest->lines.block != 0 ? BLOCK_VECTOR : CONSOLE_VECTOR };
-    bool high = guest->lines.block != 0 || guest->lines.console != 0;
+    struct kvm_interrupt line = { vector_of(guest) };
+    bool high = line.irq != 0;
     if (high && guest->run->ready_for_interrupt_injection)
         must(ioctl(guest->cpu, KVM_INTERRUPT, &line), "KVM_INTERRUPT");
     guest->run->request_interrupt_window = high && !guest->run->ready_for_interrupt_injection;
+}
+
+/* A CPU that has halted waits for a line: false where nothing comes that could raise one. */
+static bool wait_for_line(struct guest *guest)
+{
+    while (vector_of(guest) == 0)
+        if (!look_around(guest, cards ? PATIENCE : -1))
+            return false;
+    return true;
 }
 
 /* Runs a guest until it halts with nothing left that could wake it, or makes an exit that this machine has no answer to. */
 static void run_cpu(struct guest *guest)
 {
     for (;;) {
-        look_at_disk(guest, 0);
+        look_around(guest, 0);
         set_lines(guest);
         if (cpus_run(&guest->cpus, 0) < 0) {
             must(errno == EINTR ? 0 : -1, "KVM_RUN"); /* a signal came, as from the other CPU or its disk */
@@ -342,10 +471,8 @@ static void run_cpu(struct guest *guest)
         case KVM_EXIT_IRQ_WINDOW_OPEN:
             break;
         case KVM_EXIT_HLT:
-            if (!guest->run->if_flag || (guest->lines.block == 0 && guest->lines.console == 0 && guest->disk.begun == 0))
+            if (!guest->run->if_flag || !wait_for_line(guest))
                 return;
-            if (guest->lines.block == 0 && guest->lines.console == 0)
-                look_at_disk(guest, -1);
             break;
         default:
             return;
@@ -358,10 +485,10 @@ static void *run(void *user)
     struct guest *guest = user;
     pthread_t kicks;
     guest->thread = pthread_self();
-    if (hosted)
+    if (hosted || cards)
         must(-pthread_create(&kicks, NULL, kick, guest), "a thread");
     run_cpu(guest);
-    if (hosted) {
+    if (hosted || cards) {
         pthread_cancel(kicks);
         pthread_join(kicks, NULL);
     }
@@ -399,6 +526,24 @@ static void *run_both(void *user)
     return NULL;
 }
 
+/* The frames that a guest counted in its registers; and how often it told its card of some, and was told, which varies. */
+static void report_card(const struct guest *guest, const struct kvm_regs *registers)
+{
+    printf("frames: %llu sent, %llu got, %zu lost\n", registers->rbx % 0x10000, registers->rcx % 0x10000, guest->port.lost);
+    fprintf(stderr, "guest %u: %llu notifications, %llu interrupts\n", guest->slot, registers->rdx % 0x10000,
+            registers->rsi % 0x10000);
+}
+
+static void report_console(const struct guest *guest)
+{
+    printf("console: ");
+    while (show(guest))
+        continue;
+    rewind(guest->terminal);
+    for (int byte; (byte = getc(guest->terminal)) != EOF;)
+        putchar(byte);
+}
+
 static void report(const struct guest *guest)
 {
     struct kvm_regs registers;
@@ -417,12 +562,10 @@ static void report(const struct guest *guest)
         printf("its second CPU %s\n", guest->second->exit_reason == KVM_EXIT_HLT ? "halted"
                                       : guest->ran_on                            ? "ran on in a call"
                                                                                  : "stood in each call");
-    printf("console: ");
-    while (show(guest))
-        continue;
-    rewind(guest->terminal);
-    for (int byte; (byte = getc(guest->terminal)) != EOF;)
-        putchar(byte);
+    if (!cards)
+        report_console(guest);
+    else if (!guest->run->if_flag)
+        report_card(guest, &registers);
     printf("interrupts: %u and %u, disturbed: %d\n", guest->lines.block, guest->lines.console, disturbed);
 }
 
@@ -442,8 +585,17 @@ static void lend(struct kalyubos_loan *loans)
     close(file);
 }
 
+/* A network card for a guest, and its port. */
+static void add_card(struct guest *guest, struct kalyubos_slot *slot)
+{
+    const uint8_t address[ADDRESS] = { 2, 0, 0, 0, 0, guest->slot };
+    slot->devices[CARD - KALYUBOS_DEVICE] = (struct kalyubos_device){ .kind = KALYUBOS_NETWORK, .mtu = MTU };
+    memcpy(slot->devices[CARD - KALYUBOS_DEVICE].mac, address, ADDRESS);
+    open_port(guest, address);
+}
+
 /* A board of both guests, over an image of both disks or with a file for each. */
-static void create(struct guest *guests)
+static void create(void)
 {
     static uint8_t image[GUESTS * DISK_LEN];
     struct kalyubos_slot slots[GUESTS] = {
@@ -457,6 +609,9 @@ static void create(struct guest *guests)
     for (uint8_t slot = 0; slot < GUESTS; slot++) {
         memcpy(slots[slot].regions, MEMORY, sizeof MEMORY);
         guests[slot].slot = slot;
+        guests[slot].disk.ready = guests[slot].port.ready = -1;
+        if (cards)
+            add_card(&guests[slot], &slots[slot]);
         strcpy((char *)image + slot * DISK_LEN, DISKS[slot]);
     }
     if (lent) {
@@ -474,23 +629,46 @@ static void create(struct guest *guests)
         open_disk(&guests[i]);
 }
 
+/* The features that the guest of kvm-card.S takes by a word: the card's address, VERSION_1, and by that of its queues. */
+static struct program card_program(const char *word)
+{
+    static const char *const queues[] = { "split", "split-event", "packed", "packed-event" };
+    unsigned number = 0;
+    while (number < 4 && strcmp(word, queues[number]) != 0)
+        number++;
+    must(number < 4 ? 0 : -1, word);
+    return (struct program){ KVM_CARD, sizeof KVM_CARD,
+                             { .rbx = 1 << 5 | (number & 1) << 29, .rcx = 1 | (number & 2) << 1, .rdx = FRAMES } };
+}
+
+/* What each guest runs, by the words. */
+static struct program program_of(uint8_t slot, int words_len, char **words)
+{
+    if (cards)
+        return card_program(slot + 2 < words_len ? words[slot + 2] : "split");
+    if (slot == 0 && words_len == 2 && strcmp(words[1], "flood") == 0)
+        return (struct program){ .bytes = KVM_FLOOD, .len = sizeof KVM_FLOOD };
+    return (struct program){ .bytes = KVM_GUEST, .len = sizeof KVM_GUEST };
+}
+
 int main(int words_len, char **words)
 {
-    bool floods = words_len == 2 && strcmp(words[1], "flood") == 0;
-    hosted = words_len == 2 && strcmp(words[1], "hosted") == 0;
-    lent = words_len == 2 && strcmp(words[1], "lent") == 0;
-    bool pair = words_len == 2 && strcmp(words[1], "pair") == 0;
+    const char *word = words_len >= 2 ? words[1] : "";
+    hosted = strcmp(word, "hosted") == 0;
+    lent = strcmp(word, "lent") == 0;
+    cards = strcmp(word, "cards") == 0;
     int kvm = open("/dev/kvm", O_RDWR | O_CLOEXEC);
     if (kvm < 0) {
         perror("/dev/kvm");
         return NO_KVM;
     }
-    static struct guest guests[GUESTS];
     pthread_t threads[GUESTS];
-    create(guests);
-    for (uint8_t slot = 0; slot < GUESTS; slot++)
-        power_on(&guests[slot], kvm, slot, floods && slot == 0);
-    if (pair)
+    create();
+    for (uint8_t slot = 0; slot < GUESTS; slot++) {
+        struct program program = program_of(slot, words_len, words);
+        power_on(&guests[slot], kvm, &program);
+    }
+    if (strcmp(word, "pair") == 0)
         power_on_second(&guests[0], kvm);
     for (unsigned i = 0; i < GUESTS; i++)
         must(-pthread_create(&threads[i], NULL, guests[i].second != NULL ? run_both : run, &guests[i]), "a thread");

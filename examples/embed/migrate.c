@@ -77,9 +77,9 @@ static unsigned serve(struct machine *machine)
     uint32_t answer = KALYUBOS_IO;
     unsigned served = 0;
     for (; answer == KALYUBOS_IO; served++) {
-        must(kalyubos_operation(&machine->board, 0, 0, &asked, &run, 1), "operation");
+        must(kalyubos_operation(&machine->board, 0, KALYUBOS_BLOCK, 0, &asked, &run, 1), "operation");
         memcpy(machine->memory + (run.at - MEMORY), disk + asked.start, run.len);
-        answer = kalyubos_completed(&machine->board, 0, 0, false, &machine->pending);
+        answer = kalyubos_completed(&machine->board, 0, KALYUBOS_BLOCK, 0, false, &machine->pending);
     }
     must(answer, "completed");
     return served;
@@ -92,7 +92,7 @@ static unsigned serve(struct machine *machine)
 static void save(struct machine *machine, struct saved *saved)
 {
     size_t written;
-    must(kalyubos_hold(&machine->board, 0, &machine->pending), "hold");
+    must(kalyubos_hold(&machine->board, 0, KALYUBOS_BLOCK, &machine->pending), "hold");
     printf("%s is held, and serves %u more\n", machine->name, serve(machine));
     must(kalyubos_saved_len(&machine->board, 0, &saved->devices_len), "saved_len");
     saved->devices = malloc(saved->devices_len);
@@ -113,7 +113,7 @@ static void restore(struct machine *machine, const char *name, struct saved *sav
     free(saved->devices);
     printf("%s has the guest: its disk's line is %s, its console's %s\n", name, machine->pending.block ? "high" : "low",
            machine->pending.console ? "high" : "low");
-    answers(kalyubos_release(&machine->board, 0, &machine->pending), KALYUBOS_IO, "release");
+    answers(kalyubos_release(&machine->board, 0, KALYUBOS_BLOCK, &machine->pending), KALYUBOS_IO, "release");
     printf("%s is released, and serves %u more\n", name, serve(machine));
 }
 

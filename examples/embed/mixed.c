@@ -71,13 +71,13 @@ static void finish(struct guest *guest)
     struct kalyubos_run run;
     struct kalyubos_pending pending;
     uint64_t tags = 0;
-    need(kalyubos_in_flight(guest->board, guest->slot, &tags) == KALYUBOS_DONE && tags == 1, "what is in flight");
-    need(kalyubos_operation(guest->board, guest->slot, 0, &operation, &run, 1) == KALYUBOS_DONE, "an operation");
+    need(kalyubos_in_flight(guest->board, guest->slot, KALYUBOS_BLOCK, &tags) == KALYUBOS_DONE && tags == 1, "what is in flight");
+    need(kalyubos_operation(guest->board, guest->slot, KALYUBOS_BLOCK, 0, &operation, &run, 1) == KALYUBOS_DONE, "an operation");
     need(operation.runs == 1 && operation.len == SECTOR_LEN && run.len == SECTOR_LEN, "a sector's operation");
     uint8_t *at = guest->memory + (run.at - MEMORY), *sector = guest->disk + operation.start;
     memcpy(operation.kind == KALYUBOS_IN ? at : sector, operation.kind == KALYUBOS_IN ? sector : at, SECTOR_LEN);
-    need(kalyubos_completed(guest->board, guest->slot, 0, false, &pending) == KALYUBOS_DONE, "a completion");
-    need(kalyubos_completed(guest->board, guest->slot, 0, false, &pending) == KALYUBOS_IDLE, "a second completion");
+    need(kalyubos_completed(guest->board, guest->slot, KALYUBOS_BLOCK, 0, false, &pending) == KALYUBOS_DONE, "a completion");
+    need(kalyubos_completed(guest->board, guest->slot, KALYUBOS_BLOCK, 0, false, &pending) == KALYUBOS_IDLE, "a second completion");
     fprintf(guest->telling, "completed: interrupts %" PRIu32 " and %" PRIu32 ", status %02x, data %c\n", pending.block,
             pending.console, guest->memory[DONE_BYTE], guest->memory[DATA]);
 }

@@ -159,21 +159,21 @@ static void check_hosted(void)
     need(ask(IN, 0, DATA, SECTOR) == KALYUBOS_IO, "a read", 0);
     marked(0, "a request that is in flight");
     begin();
-    need(kalyubos_completed(&board, 0, 0, false, &pending) == KALYUBOS_DONE, "a completion", 0);
+    need(kalyubos_completed(&board, 0, KALYUBOS_BLOCK, 0, false, &pending) == KALYUBOS_DONE, "a completion", 0);
     marked(pages_of(USED, 1) | pages_of(STATUS_BYTE, 1), "a completion");
     clear();
     begin();
-    need(kalyubos_hold(&board, 0, &pending) == KALYUBOS_DONE, "a hold", 0);
+    need(kalyubos_hold(&board, 0, KALYUBOS_BLOCK, &pending) == KALYUBOS_DONE, "a hold", 0);
     marked(0, "a hold");
     need(ask(UNKNOWN, 0, DATA, SECTOR) == KALYUBOS_DONE, "a request of no type", 0);
     marked(0, "a request of a held slot");
     begin();
-    need(kalyubos_release(&board, 0, &pending) == KALYUBOS_DONE, "a release", 0);
+    need(kalyubos_release(&board, 0, KALYUBOS_BLOCK, &pending) == KALYUBOS_DONE, "a release", 0);
     marked(pages_of(USED, 1) | pages_of(STATUS_BYTE, 1), "a release");
     clear();
     need(ask(IN, 0, DATA, SECTOR) == KALYUBOS_IO, "a read", 0);
     begin();
-    need(kalyubos_drop(&board, 0, &pending) == KALYUBOS_DONE, "a drop", 0);
+    need(kalyubos_drop(&board, 0, KALYUBOS_BLOCK, &pending) == KALYUBOS_DONE, "a drop", 0);
     marked(0, "a drop");
 }
 

@@ -109,9 +109,9 @@ static void check_missing(uint8_t number, uint32_t answer)
     need(kalyubos_saved_len(&board, number, &len) == answer, "saved_len of none", number);
     need(kalyubos_save(&board, number, into, LEN, &len) == answer, "save of none", number);
     need(kalyubos_restore(&board, number, fresh, LEN, &pending) == answer, "restore of none", number);
-    need(kalyubos_drop(&board, number, &pending) == answer, "drop of none", number);
-    need(kalyubos_hold(&board, number, &pending) == answer, "hold of none", number);
-    need(kalyubos_release(&board, number, &pending) == answer, "release of none", number);
+    need(kalyubos_drop(&board, number, KALYUBOS_BLOCK, &pending) == answer, "drop of none", number);
+    need(kalyubos_hold(&board, number, KALYUBOS_BLOCK, &pending) == answer, "hold of none", number);
+    need(kalyubos_release(&board, number, KALYUBOS_BLOCK, &pending) == answer, "release of none", number);
     need(len == HOLD && into[0] == HOLD && memcmp(into, into + 1, LEN - 1) == 0, "what is told", number);
     need(pending.block == HOLD && pending.console == HOLD && pending.output == HOLD, "what waits", number);
 }
@@ -147,7 +147,8 @@ static void check_busy(uint32_t first)
     need(kalyubos_restore(&board, 0, fresh, LEN, &pending) == KALYUBOS_BUSY, "restore", first);
     uint32_t answer = first;
     while (answer == first)
-        answer = first == KALYUBOS_MORE ? kalyubos_go_on(&board, 0, &pending) : kalyubos_completed(&board, 0, 0, false, &pending);
+        answer = first == KALYUBOS_MORE ? kalyubos_go_on(&board, 0, &pending)
+                                        : kalyubos_completed(&board, 0, KALYUBOS_BLOCK, 0, false, &pending);
     need(answer == KALYUBOS_DONE && kalyubos_saved_len(&board, 0, &len) == KALYUBOS_DONE, "the end of the service", answer);
 }
 
@@ -164,13 +165,13 @@ static void check_held(bool hosted)
     }
     need(kalyubos_restore(&board, 0, bytes, sizeof bytes, &pending) == KALYUBOS_DONE, "restore of a held slot", 0);
     is_saved_as(bytes, sizeof bytes);
-    need(kalyubos_hold(&board, 0, &pending) == KALYUBOS_IDLE, "hold", 0);
-    need(kalyubos_release(&board, 0, &pending) == KALYUBOS_DONE, "release", 0);
+    need(kalyubos_hold(&board, 0, KALYUBOS_BLOCK, &pending) == KALYUBOS_IDLE, "hold", 0);
+    need(kalyubos_release(&board, 0, KALYUBOS_BLOCK, &pending) == KALYUBOS_DONE, "release", 0);
     is_saved_as(made_up, sizeof made_up);
-    need(kalyubos_hold(&board, 0, &pending) == KALYUBOS_DONE, "hold", 0);
+    need(kalyubos_hold(&board, 0, KALYUBOS_BLOCK, &pending) == KALYUBOS_DONE, "hold", 0);
     is_saved_as(bytes, sizeof bytes);
     need(kalyubos_restore(&board, 0, made_up, sizeof made_up, &pending) == KALYUBOS_DONE, "restore", 0);
-    need(kalyubos_release(&board, 0, &pending) == KALYUBOS_IDLE, "release", 0);
+    need(kalyubos_release(&board, 0, KALYUBOS_BLOCK, &pending) == KALYUBOS_IDLE, "release", 0);
 }
 
 static void check_board(uint32_t busy)

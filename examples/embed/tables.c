@@ -85,7 +85,7 @@ static uint32_t operation_of(uint8_t slot)
 {
     struct kalyubos_operation operation;
     struct kalyubos_run run;
-    return kalyubos_operation(&board, slot, 0, &operation, &run, 1);
+    return kalyubos_operation(&board, slot, KALYUBOS_BLOCK, 0, &operation, &run, 1);
 }
 
 static void complete(uint8_t slot)
@@ -93,7 +93,7 @@ static void complete(uint8_t slot)
     struct kalyubos_pending pending;
     uint8_t status = 0xff;
     if (slots[slot].hosted)
-        need(kalyubos_completed(&board, slot, 0, false, &pending) == KALYUBOS_DONE, "a completion", slot);
+        need(kalyubos_completed(&board, slot, KALYUBOS_BLOCK, 0, false, &pending) == KALYUBOS_DONE, "a completion", slot);
     need(kalyubos_read_memory(&board, slot, MEMORY + DISK + 0x810, &status, 1) == KALYUBOS_DONE, "a load", slot);
     need(status == 0, "a status", status);
 }
@@ -106,14 +106,15 @@ static void serve_other(void)
     struct kalyubos_pending pending;
     bool hosted = slots[TALKER].hosted;
     uint64_t tags = UINT64_MAX;
-    uint32_t value = 0, told = operation_of(TALKER), ended = kalyubos_completed(&board, TALKER, 0, false, &pending);
-    need(kalyubos_in_flight(&board, TALKER, &tags) == KALYUBOS_DONE && tags == hosted, "what is in flight in a pause", tags);
+    uint32_t value = 0, told = operation_of(TALKER), ended = kalyubos_completed(&board, TALKER, KALYUBOS_BLOCK, 0, false, &pending);
+    need(kalyubos_in_flight(&board, TALKER, KALYUBOS_BLOCK, &tags) == KALYUBOS_DONE && tags == hosted,
+         "what is in flight in a pause", tags);
     need(kalyubos_read(&board, TALKER, KALYUBOS_BLOCK, STATUS, 4, &value) == KALYUBOS_BUSY, "a read in a pause", value);
     need(told == (hosted ? KALYUBOS_DONE : KALYUBOS_IDLE), "an operation in a pause", told);
     need(ended == (hosted ? KALYUBOS_BUSY : KALYUBOS_IDLE), "a completion in a pause", ended);
-    need(kalyubos_drop(&board, TALKER, &pending) == KALYUBOS_BUSY, "a drop in a pause", TALKER);
-    need(kalyubos_hold(&board, TALKER, &pending) == KALYUBOS_BUSY, "a hold in a pause", TALKER);
-    need(kalyubos_release(&board, TALKER, &pending) == KALYUBOS_BUSY, "a release in a pause", TALKER);
+    need(kalyubos_drop(&board, TALKER, KALYUBOS_BLOCK, &pending) == KALYUBOS_BUSY, "a drop in a pause", TALKER);
+    need(kalyubos_hold(&board, TALKER, KALYUBOS_BLOCK, &pending) == KALYUBOS_BUSY, "a hold in a pause", TALKER);
+    need(kalyubos_release(&board, TALKER, KALYUBOS_BLOCK, &pending) == KALYUBOS_BUSY, "a release in a pause", TALKER);
     ask_disk(OTHER);
     complete(OTHER);
 }

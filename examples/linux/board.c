@@ -5,6 +5,7 @@
 #include <stdio.h>
 #include <stdlib.h>
 #include <string.h>
+#include <sys/stat.h>
 #include <unistd.h>
 
 #include "../embed/file_disk.h"
@@ -12,7 +13,7 @@
 #include "record.h"
 #include "watch.h"
 
-enum { GUESTS = 16, COLUMNS = 80, ROWS = 25, QUEUE_NOTIFY = 0x050 };
+enum { GUESTS = 16, COLUMNS = 80, ROWS = 25, QUEUE_NOTIFY = 0x050, PATH = 4096, SECTOR = 512 };
 
 static const struct kalyubos_region SMALL[KALYUBOS_REGIONS] = { { MEMORY_BASE, MEMORY_LEN } };
 static const struct kalyubos_region LARGE[KALYUBOS_REGIONS] = { { MEMORY_BASE, 0x20000000 }, { 0x100000000, 0x20000000 } };
@@ -25,11 +26,11 @@ static struct watch_call served[GUESTS];      /* the last call that a service ca
 static bool paused[GUESTS];                   /* and whether that is paused */
 
 /* Of disks that the host serves: all are slots of one board, whose calls so stand in the middle of each other's flights. */
-static struct file_disk disks[GUESTS];
-static struct board_flights flights[GUESTS];
+static struct file_disk disks[GUESTS][BOARD_DISKS];
+static struct board_flights flights[GUESTS][BOARD_DISKS];
 static struct {
     uint64_t all, failed; /* the tags whose files have ended, and that aren't completed; and those that failed */
-} ended[GUESTS];
+} ended[GUESTS][BOARD_DISKS];
 
 static void must(uint32_t answer, const char *what)
 {
@@ -59,24 +60,70 @@ static void open_memory(uint8_t slot, const struct kalyubos_slot *described)
         memory->regions[memory->count] = region_of(slot, &described->regions[memory->count]);
 }
 
-/* The serial of a guest's disk: the name of its file, as far as it fits. */
-static void name_disk(struct kalyubos_slot *slot, const char *path)
+static uint8_t window_of(uint8_t disk)
+{
+    return disk == BOARD_OWN ? KALYUBOS_BLOCK : BOARD_DEVICES + disk - BOARD_FIXED;
+}
+
+static uint8_t disk_of(uint8_t window)
+{
+    return window == KALYUBOS_BLOCK ? BOARD_OWN : BOARD_FIXED + window - BOARD_DEVICES;
+}
+
+/* Whether the host serves it. */
+static bool is_hosted(uint8_t disk)
+{
+    return disk == BOARD_OWN ? settings.hosted : settings.disks != NULL;
+}
+
+/* The file of a disk; that of a further one ends as the own disk's name, which the card's address has too. */
+static const char *path_of(uint8_t slot, uint8_t disk)
+{
+    static char path[PATH];
+    const char *name = disk == BOARD_FIXED ? "fixed" : "data";
+    if (disk == BOARD_OWN)
+        return settings.names[slot];
+    const uint8_t *address = settings.addresses[slot];
+    if (address[BOARD_ADDRESS - 2] != 0)
+        snprintf(path, sizeof path, "%s/%s-noise", settings.disks, name);
+    else
+        snprintf(path, sizeof path, "%s/%s-%c", settings.disks, name, address[BOARD_ADDRESS - 1]);
+    return path;
+}
+
+_Noreturn static void fail_of(const char *path, const char *wrong)
+{
+    fprintf(stderr, "linux-machine: %s: %s\n", path, wrong);
+    exit(2);
+}
+
+/* The serial of a disk: the name of its file, as far as it fits. */
+static void name_disk(uint8_t identity[20], const char *path)
 {
     const char *slash = strrchr(path, '/');
     const char *name = slash != NULL ? slash + 1 : path;
-    memcpy(slot->identity, name, strnlen(name, sizeof slot->identity));
+    memcpy(identity, name, strnlen(name, 20));
 }
 
-static void open_disk(uint8_t slot)
+static uint64_t sectors_of(uint8_t slot, uint8_t disk)
 {
-    const char *path = settings.names[slot];
-    const char *wrong = file_disk_open(&disks[slot], &board, slot, settings.depth, path, settings.sectors[slot] * 512,
-                                       false, settings.threads ? &file_thread : &file_ring);
-    if (wrong != NULL) {
-        fprintf(stderr, "linux-machine: %s: %s\n", path, wrong);
-        exit(2);
-    }
-    flights[slot].way = disks[slot].way->name;
+    struct stat file;
+    if (disk == BOARD_OWN)
+        return settings.sectors[slot];
+    if (stat(path_of(slot, disk), &file) != 0)
+        fail_of(path_of(slot, disk), "isn't there");
+    return file.st_size / SECTOR;
+}
+
+static void open_disk(uint8_t slot, uint8_t disk)
+{
+    struct file_disk *file = &disks[slot][disk];
+    const char *wrong = file_disk_open(file, &board, slot, window_of(disk), settings.depth, path_of(slot, disk),
+                                       sectors_of(slot, disk) * SECTOR, disk == BOARD_FIXED,
+                                       settings.threads ? &file_thread : &file_ring);
+    if (wrong != NULL)
+        fail_of(path_of(slot, disk), wrong);
+    flights[slot][disk].way = file->way->name;
 }
 
 /* A board of one image, with the budget, or one whose disks the host serves. */
@@ -86,15 +133,17 @@ static void create(const struct kalyubos_slot *slots, uint64_t sectors)
     config.cache = settings.cache;
     if (!settings.hosted) {
         config.image = settings.image;
-        config.image_len = sectors * 512;
+        config.image_len = sectors * SECTOR;
         config.chains = settings.chains;
         config.bytes = settings.bytes;
     }
     must(record_create(&board, &config), "create");
     if (!settings.hosted)
         disk_serve(&board);
-    for (size_t i = 0; i < settings.guests && settings.hosted; i++)
-        open_disk(i);
+    for (size_t i = 0; i < settings.guests; i++)
+        for (uint8_t disk = 0; disk < BOARD_DISKS; disk++)
+            if (is_hosted(disk))
+                open_disk(i, disk);
 }
 
 static void add_devices(struct kalyubos_slot *slot, const uint8_t address[BOARD_ADDRESS])
@@ -102,6 +151,16 @@ static void add_devices(struct kalyubos_slot *slot, const uint8_t address[BOARD_
     slot->devices[BOARD_ENTROPY - KALYUBOS_DEVICE] = (struct kalyubos_device){ .kind = KALYUBOS_ENTROPY };
     slot->devices[BOARD_CARD - KALYUBOS_DEVICE] = (struct kalyubos_device){ .kind = KALYUBOS_NETWORK, .mtu = BOARD_MTU };
     memcpy(slot->devices[BOARD_CARD - KALYUBOS_DEVICE].mac, address, BOARD_ADDRESS);
+}
+
+static void add_disks(struct kalyubos_slot *of, uint8_t slot)
+{
+    for (uint8_t disk = BOARD_FIXED; disk < BOARD_DISKS; disk++) {
+        struct kalyubos_device *device = &of->devices[window_of(disk) - KALYUBOS_DEVICE];
+        *device = (struct kalyubos_device){ .kind = KALYUBOS_DISK, .sectors = sectors_of(slot, disk),
+                                            .read_only = disk == BOARD_FIXED, .depth = settings.depth };
+        name_disk(device->identity, path_of(slot, disk));
+    }
 }
 
 void board_open(const struct board_settings *wanted)
@@ -115,8 +174,10 @@ void board_open(const struct board_settings *wanted)
                                            .hosted = settings.hosted, .depth = settings.depth };
         if (settings.addresses != NULL)
             add_devices(&slots[i], settings.addresses[i]);
+        if (settings.disks != NULL)
+            add_disks(&slots[i], i);
         memcpy(slots[i].regions, settings.large ? LARGE : SMALL, sizeof slots[i].regions);
-        name_disk(&slots[i], settings.names[i]);
+        name_disk(slots[i].identity, settings.names[i]);
         start += settings.sectors[i];
     }
     if (settings.record != NULL && !record_to(settings.record))
@@ -126,17 +187,27 @@ void board_open(const struct board_settings *wanted)
         open_memory(i, &slots[i]);
 }
 
+/* Completes all that is in flight of a disk. */
+static void end_flights(uint8_t slot, uint8_t disk)
+{
+    while (disks[slot][disk].begun != 0)
+        if (board_complete(slot, disk, &(uint8_t){ BOARD_ANY }) == KALYUBOS_MORE)
+            board_wait();
+}
+
 void board_close(void)
 {
     for (size_t i = 0; i < settings.guests; i++)
-        while (disks[i].begun != 0)
-            if (board_complete(i, &(uint8_t){ BOARD_ANY }) == KALYUBOS_MORE)
-                board_wait();
+        for (uint8_t disk = 0; disk < BOARD_DISKS; disk++)
+            if (is_hosted(disk))
+                end_flights(i, disk);
     for (size_t i = 0; i < settings.guests && settings.copies; i++)
         for (size_t j = 0; j < memories[i].count; j++)
             free(memories[i].regions[j].bytes);
-    for (size_t i = 0; i < settings.guests && settings.hosted; i++)
-        file_disk_close(&disks[i]);
+    for (size_t i = 0; i < settings.guests; i++)
+        for (uint8_t disk = 0; disk < BOARD_DISKS; disk++)
+            if (is_hosted(disk))
+                file_disk_close(&disks[i][disk]);
     must(kalyubos_destroy(&board), "destroy");
     disk_close();
     if (!record_end())
@@ -181,7 +252,8 @@ static void after(uint8_t slot)
 static void count_call(uint8_t slot)
 {
     for (size_t i = 0; i < settings.guests; i++)
-        flights[i].calls += disks[i].begun != 0 && i != slot;
+        for (uint8_t disk = 0; disk < BOARD_DISKS; disk++)
+            flights[i][disk].calls += disks[i][disk].begun != 0 && i != slot;
 }
 
 uint32_t board_read(uint8_t slot, uint8_t window, uint16_t offset, uint8_t width)
@@ -201,27 +273,27 @@ static void begin(const struct watch_call *call)
 }
 
 /* Counts an operation that begins. */
-static void count_operation(uint8_t slot, const struct file_flight *flight)
+static void count_operation(const struct memory *memory, struct board_flights *counts, const struct file_flight *flight)
 {
-    const struct memory *memory = &memories[slot];
-    flights[slot].operations++;
+    counts->operations++;
     for (uint32_t i = 0; i < flight->asked.runs && flight->asked.kind != KALYUBOS_ZEROES; i++)
         for (size_t j = 0; j < memory->count; j++)
-            flights[slot].runs[j] += flight->runs[i].at - memory->regions[j].base < memory->regions[j].len;
+            counts->runs[j] += flight->runs[i].at - memory->regions[j].base < memory->regions[j].len;
 }
 
-/* Operations of the slot's disk begin. */
-static void take_off(uint8_t slot)
+/* Operations of a disk begin. */
+static void take_off(uint8_t slot, uint8_t number)
 {
-    struct file_disk *disk = &disks[slot];
+    struct file_disk *disk = &disks[slot][number];
+    struct board_flights *counts = &flights[slot][number];
     uint64_t before = disk->begun;
     (void)file_disk_begin(disk); /* one that the kernel doesn't take has failed: board_wait doesn't wait for it */
     for (uint8_t tag = 0; tag < disk->depth; tag++)
         if ((disk->begun & ~before) >> tag & 1)
-            count_operation(slot, &disk->flights[tag]);
+            count_operation(&memories[slot], counts, &disk->flights[tag]);
     size_t together = (size_t)__builtin_popcountll(disk->begun);
-    if (together > flights[slot].together)
-        flights[slot].together = together;
+    if (together > counts->together)
+        counts->together = together;
 }
 
 /*
@@ -239,7 +311,7 @@ static uint32_t settle(uint8_t slot, uint32_t answer)
     if (call->window == KALYUBOS_BLOCK && call->offset == QUEUE_NOTIFY)
         disk_sync();
     if (answer == KALYUBOS_IO)
-        take_off(slot);
+        take_off(slot, disk_of(call->window));
     else if (answer != KALYUBOS_NO_ROOM)
         must(answer, "a service");
     return answer;
@@ -252,61 +324,71 @@ uint32_t board_write(uint8_t slot, uint8_t window, uint16_t offset, uint8_t widt
     return settle(slot, record_write(&board, slot, window, offset, width, value, &waits[slot]));
 }
 
-uint64_t board_in_flight(uint8_t slot)
+uint64_t board_in_flight(uint8_t slot, uint8_t disk)
 {
-    return disks[slot].begun;
+    return disks[slot][disk].begun;
 }
 
 /* Takes in what has ended. It stays begun until it is completed. */
-static void take_in_ended(uint8_t slot)
+static void take_in_ended(uint8_t slot, uint8_t disk)
 {
     uint8_t tag;
     bool failed;
     before(slot);
-    while (file_disk_go_on(&disks[slot], &tag, &failed)) {
-        disks[slot].begun |= (uint64_t)1 << tag;
-        ended[slot].all |= (uint64_t)1 << tag;
-        ended[slot].failed |= (uint64_t)failed << tag;
+    while (file_disk_go_on(&disks[slot][disk], &tag, &failed)) {
+        disks[slot][disk].begun |= (uint64_t)1 << tag;
+        ended[slot][disk].all |= (uint64_t)1 << tag;
+        ended[slot][disk].failed |= (uint64_t)failed << tag;
     }
     after(slot);
 }
 
-uint32_t board_complete(uint8_t slot, uint8_t *tag)
+/* A trace has the slot's own disk alone. */
+static uint32_t complete(uint8_t slot, uint8_t disk, uint8_t tag, bool failed)
 {
-    if (disks[slot].begun == 0)
+    if (disk == BOARD_OWN)
+        return record_completed(&board, slot, tag, failed, &waits[slot]);
+    return kalyubos_completed(&board, slot, window_of(disk), tag, failed, &waits[slot]);
+}
+
+uint32_t board_complete(uint8_t slot, uint8_t disk, uint8_t *tag)
+{
+    if (disks[slot][disk].begun == 0)
         return KALYUBOS_DONE;
-    take_in_ended(slot);
-    if (ended[slot].all == 0 || (*tag != BOARD_ANY && (ended[slot].all >> *tag & 1) == 0))
+    take_in_ended(slot, disk);
+    uint64_t all = ended[slot][disk].all;
+    if (all == 0 || (*tag != BOARD_ANY && (all >> *tag & 1) == 0))
         return KALYUBOS_MORE;
     if (*tag == BOARD_ANY)
-        *tag = (uint8_t)__builtin_ctzll(ended[slot].all);
+        *tag = (uint8_t)__builtin_ctzll(all);
     uint64_t others = ~((uint64_t)1 << *tag);
-    bool failed = ended[slot].failed >> *tag & 1;
+    bool failed = ended[slot][disk].failed >> *tag & 1;
     before(slot);
-    begin(&(struct watch_call){ .kind = WATCH_COMPLETION, .slot = slot, .window = KALYUBOS_BLOCK, 
+    begin(&(struct watch_call){ .kind = WATCH_COMPLETION, .slot = slot, .window = window_of(disk),
                                 .value = failed, .tag = *tag });
-    disks[slot].begun &= others;
-    ended[slot].all &= others;
-    ended[slot].failed &= others;
-    return settle(slot, record_completed(&board, slot, *tag, failed, &waits[slot]));
+    disks[slot][disk].begun &= others;
+    ended[slot][disk].all &= others;
+    ended[slot][disk].failed &= others;
+    return settle(slot, complete(slot, disk, *tag, failed));
 }
 
 void board_wait(void)
 {
     enum { MILLISECONDS = 10 };
-    struct pollfd ready[GUESTS];
+    struct pollfd ready[GUESTS * BOARD_DISKS];
     bool is_refused = false;
-    for (size_t i = 0; i < settings.guests; i++) {
-        ready[i] = (struct pollfd){ .fd = disks[i].begun != 0 ? disks[i].ready : -1, .events = POLLIN };
-        is_refused = is_refused || disks[i].refused != 0;
+    for (size_t i = 0; i < settings.guests * BOARD_DISKS; i++) {
+        const struct file_disk *disk = &disks[i / BOARD_DISKS][i % BOARD_DISKS];
+        ready[i] = (struct pollfd){ .fd = disk->begun != 0 ? disk->ready : -1, .events = POLLIN };
+        is_refused = is_refused || disk->refused != 0;
     }
     if (!is_refused)
-        poll(ready, settings.guests, MILLISECONDS);
+        poll(ready, settings.guests * BOARD_DISKS, MILLISECONDS);
 }
 
-struct board_flights board_flights(uint8_t slot)
+struct board_flights board_flights(uint8_t slot, uint8_t disk)
 {
-    return flights[slot];
+    return flights[slot][disk];
 }
 
 uint32_t board_go_on(uint8_t slot)
@@ -398,7 +480,7 @@ uint8_t *board_save(uint8_t slot, size_t *len)
     if (devices == NULL)
         must(KALYUBOS_NO_MEMORY, "save");
     must(kalyubos_save(&board, slot, devices, *len, len), "save");
-    if (settings.hosted && fdatasync(disks[slot].file) != 0)
+    if (settings.hosted && fdatasync(disks[slot][BOARD_OWN].file) != 0)
         must(KALYUBOS_BAD_RANGE, settings.names[slot]);
     return devices;
 }
@@ -413,9 +495,9 @@ void board_disk(uint8_t slot, uint8_t *into, size_t len)
 {
     uint64_t start = 0;
     for (size_t i = 0; i < slot; i++)
-        start += settings.sectors[i] * 512;
+        start += settings.sectors[i] * SECTOR;
     if (!settings.hosted)
         must(kalyubos_read_image(&board, start, into, len), "read_image");
-    else if (pread(disks[slot].file, into, len, 0) != (ssize_t)len)
+    else if (pread(disks[slot][BOARD_OWN].file, into, len, 0) != (ssize_t)len)
         must(KALYUBOS_BAD_RANGE, settings.names[slot]);
 }

@@ -14,8 +14,12 @@
 enum { MEMORY_LEN = 0x01000000 };
 static const uint64_t MEMORY_BASE = 0x80000000;
 
-/* The windows of a guest that has further devices, and the MTU of its network card. */
-enum { BOARD_ENTROPY = KALYUBOS_DEVICE, BOARD_CARD, BOARD_WINDOWS, BOARD_MTU = 1500, BOARD_ADDRESS = 6 };
+/* The windows of a guest that has further devices, the last two where it has further disks; and the MTU of its network card. */
+enum { BOARD_ENTROPY = KALYUBOS_DEVICE, BOARD_CARD, BOARD_DEVICES, BOARD_WINDOWS = BOARD_DEVICES + 2 };
+enum { BOARD_MTU = 1500, BOARD_ADDRESS = 6 };
+
+/* A guest's disks: its own, one that it can't write, and one for its data. The host serves the further two. */
+enum { BOARD_OWN, BOARD_FIXED, BOARD_DATA, BOARD_DISKS };
 
 /* The longest frame of a driver that keeps to the MTU, and that of any. */
 enum { BOARD_FRAME = BOARD_MTU + 14, BOARD_ANY_FRAME = 65536 };
@@ -37,6 +41,8 @@ struct board_settings {
     uint32_t depth;     /* how many operations of a disk that the host serves may be in flight */
     const uint8_t (*addresses)[BOARD_ADDRESS]; /* of each guest's network card, which stands behind an entropy device; or NULL:
                                                   there are no further devices */
+    const char *disks; /* the folder with the files of each guest's further disks, or NULL: fixed-0 and data-0 of a guest whose own
+                          disk's file is disk-0 */
 };
 
 void board_open(const struct board_settings *settings);
@@ -65,7 +71,7 @@ uint32_t board_go_on(uint8_t slot);
 bool board_is_paused(uint8_t slot);
 
 /* The tags of what is in flight of a slot's disk that the host serves. */
-uint64_t board_in_flight(uint8_t slot);
+uint64_t board_in_flight(uint8_t slot, uint8_t disk);
 
 /*
  * Completes the operation of a tag once its file has ended, or with BOARD_ANY the first that has, and tells its tag: DONE, or
@@ -73,7 +79,7 @@ uint64_t board_in_flight(uint8_t slot);
  * changed for some slot. Where nothing is in flight it is DONE.
  */
 enum { BOARD_ANY = 0xff };
-uint32_t board_complete(uint8_t slot, uint8_t *tag);
+uint32_t board_complete(uint8_t slot, uint8_t disk, uint8_t *tag);
 void board_wait(void);
 
 /*
@@ -84,7 +90,7 @@ struct board_flights {
     const char *way;
     size_t operations, together, calls, runs[MEMORY_REGIONS];
 };
-struct board_flights board_flights(uint8_t slot);
+struct board_flights board_flights(uint8_t slot, uint8_t disk);
 
 /* How many of the bytes the console took. The service that brings them to the guest may pause. */
 size_t board_type(uint8_t slot, const uint8_t *bytes, size_t len);

@@ -1,13 +1,14 @@
 /*
  * The guest's only program, without a C library (the kernel's nolibc). It writes and reads files and the raw disk
  * behind the file system, says what it found, then answers lines from the console until it is told to go off. Each
- * line that begins with "good" or "bad" is a check. With NETWORK it also has words for further devices.
+ * line that begins with "good" or "bad" is a check. With NETWORK it also has words for further devices and disks.
  */
 #include <linux/fs.h>
 #include <stdbool.h>
 
 #include "pattern.h"
 #ifdef NETWORK
+#include "sum.h"
 #include "talk.h"
 #endif
 
@@ -57,7 +58,7 @@ static void read_text(const char *path, char *into, int room)
 
 static void show_text(const char *what, const char *path)
 {
-    char text[NAME];
+    char text[NAME + 1];
     read_text(path, text, sizeof text);
     printf("%s: %s\n", what, text);
 }
@@ -204,6 +205,86 @@ static void show_features_of_devices(void)
     printf("features of the network card: %s\n", digits);
 }
 
+/* ---- further disks: one with files, which can't be written, and one for data */
+
+enum { COPIES = 4 };
+
+/* Copies a file, and brings it to the disk. */
+static bool copy(const char *from, const char *to)
+{
+    int length, in = open(from, O_RDONLY, 0), out = open(to, O_WRONLY | O_CREAT, 0600);
+    bool done = in >= 0 && out >= 0;
+    while (done && (length = read(in, found, BLOCK)) > 0)
+        done = write(out, found, length) == length;
+    done = done && flush(out);
+    close(in);
+    close(out);
+    return done;
+}
+
+/* The sum of a file's bytes. */
+static void show_sum(const char *path)
+{
+    struct sum sum = { 0, 0 };
+    int length, file = open(path, O_RDONLY, 0);
+    while ((length = read(file, found, BLOCK)) > 0)
+        add(&sum, found, length);
+    close(file);
+    printf("sum of %s: %u %lu\n", path, end_of(&sum), sum.len);
+}
+
+/* Processes copy files from the one disk to the other, while this one writes to the first disk. */
+static bool copy_all(unsigned int seed)
+{
+    char from[] = "/fixed/0", to[] = "/data/0";
+    bool copied = true;
+    int status;
+    for (int i = 0; i < COPIES; i++) {
+        from[7] = to[6] = '0' + i;
+        if (fork() == 0)
+            exit(copy(from, to) ? 0 : 1);
+    }
+    try_files(seed);
+    for (int i = 0; i < COPIES; i++)
+        copied = waitpid(-1, &status, 0) > 0 && status == 0 && copied;
+    return copied;
+}
+
+static void show_sums(void)
+{
+    char path[] = "/fixed/0", of_copy[] = "/data/0";
+    fill_powers();
+    for (int i = 0; i < COPIES; i++) {
+        path[7] = of_copy[6] = '0' + i;
+        show_sum(path);
+        show_sum(of_copy);
+    }
+}
+
+static bool unmount(const char *path)
+{
+    return my_syscall2(__NR_umount2, path, 0) == 0;
+}
+
+static void try_disks(unsigned int seed)
+{
+    mkdir("/fixed", 0700);
+    mkdir("/data", 0700);
+    show_text("serial of the read-only disk", "/sys/block/vdb/serial");
+    show_text("serial of the data disk", "/sys/block/vdc/serial");
+    show_text("features of the read-only disk", "/sys/bus/virtio/devices/virtio4/features");
+    show_text("features of the data disk", "/sys/bus/virtio/devices/virtio5/features");
+    check(mount("/dev/vdb", "/fixed", "ext2", 0, NULL) != 0, "the read-only disk isn't mounted for writing");
+    check(!write_block("/dev/vdb", DIRECT, 0, seed), "the read-only disk isn't written");
+    check(mount("/dev/vdb", "/fixed", "ext2", MS_RDONLY, NULL) == 0, "the read-only disk is mounted");
+    check(mount("/dev/vdc", "/data", "ext2", 0, NULL) == 0, "the data disk is mounted");
+    check(copy_all(seed), "its files are copied to the data disk");
+    bool again = unmount("/data") && mount("/dev/vdc", "/data", "ext2", MS_RDONLY, NULL) == 0;
+    check(again, "the data disk is mounted again");
+    show_sums();
+    check(unmount("/data") && unmount("/fixed"), "both are let go of");
+}
+
 /* The words of further devices; false of another. */
 static bool answer_of_devices(const char *line, unsigned int seed)
 {
@@ -212,6 +293,8 @@ static bool answer_of_devices(const char *line, unsigned int seed)
         show_features_of_devices();
     } else if (strcmp(line, "random") == 0) {
         show_random();
+    } else if (strcmp(line, "disks") == 0) {
+        try_disks(seed);
     } else if (strncmp(line, WORD, strlen(WORD)) == 0) {
         struct talk talk = try_talk(seed, atoi(line + strlen(WORD)));
         check(talk.first == talk.count, "all that was sent has come");
@@ -246,7 +329,8 @@ static void show_help(void)
     printf("size: of the console; serial: of the disk; features: of both; interrupts, version: of the kernel;\n"
            "lines: many of them; sync: all files go to the disk; crowd: many requests at once; off; all else is said again\n");
 #ifdef NETWORK
-    printf("devices: features of the others; random: bytes of the host; talk-1024: 1024 KiB go to another guest, and come from it\n");
+    printf("devices: features of the others; random: bytes of the host; talk-1024: 1024 KiB go to another guest, and come from it\n"
+           "disks: files go from one further disk to another\n");
 #endif
 }
 

@@ -100,16 +100,32 @@ static uint32_t store(const struct machine *machine)
     return board_write(machine->slot, store->window, store->offset, store->width, store->value);
 }
 
-/* ---- a disk that the host serves */
+/* ---- disks that the host serves */
 
-/* The tag that is done first; where files end when they do, whichever has. */
-static uint8_t first_due(const struct machine *machine)
+/* An operation of a disk. */
+struct flight {
+    uint8_t disk, tag;
+};
+
+static bool flies(const struct machine *machine)
 {
-    uint8_t first = BOARD_ANY;
-    for (uint64_t rest = machine->flies; rest != 0; rest &= rest - 1) {
-        uint8_t tag = (uint8_t)__builtin_ctzll(rest);
-        if (machine->dues[tag] != NEVER && (first == BOARD_ANY || machine->dues[tag] < machine->dues[first]))
-            first = tag;
+    return (machine->flights[BOARD_OWN].tags | machine->flights[BOARD_FIXED].tags | machine->flights[BOARD_DATA].tags) != 0;
+}
+
+/* The operation that is done first, and when; where files end when they do its tag is any. */
+static struct flight first_due(const struct machine *machine, uint64_t *due)
+{
+    struct flight first = { BOARD_OWN, BOARD_ANY };
+    *due = NEVER;
+    for (uint8_t disk = 0; disk < BOARD_DISKS; disk++) {
+        const struct machine_flights *flights = &machine->flights[disk];
+        for (uint64_t rest = flights->tags; rest != 0; rest &= rest - 1) {
+            uint8_t tag = (uint8_t)__builtin_ctzll(rest);
+            if (flights->dues[tag] < *due) {
+                first = (struct flight){ disk, tag };
+                *due = flights->dues[tag];
+            }
+        }
     }
     return first;
 }
@@ -117,8 +133,7 @@ static uint8_t first_due(const struct machine *machine)
 /* When the first is done: then the CPU stops. */
 static void note_due(struct machine *machine)
 {
-    uint8_t first = first_due(machine);
-    machine->due = first == BOARD_ANY ? NEVER : machine->dues[first];
+    first_due(machine, &machine->due);
     if (machine->due < machine->cpu.stop_at)
         machine->cpu.stop_at = machine->due;
 }
@@ -136,25 +151,43 @@ static uint64_t due_of(struct machine *machine, bool beside)
 /* Operations begin, and each is done after so many instructions, or once its file is. */
 static void take_off(struct machine *machine)
 {
-    uint64_t all = board_in_flight(machine->slot), fresh = all & ~machine->flies;
-    machine->flies |= fresh;
-    for (; fresh != 0; fresh &= fresh - 1)
-        machine->dues[__builtin_ctzll(fresh)] = due_of(machine, (all & (all - 1)) != 0);
+    for (uint8_t disk = 0; disk < BOARD_DISKS; disk++) {
+        struct machine_flights *flights = &machine->flights[disk];
+        uint64_t all = board_in_flight(machine->slot, disk), fresh = all & ~flights->tags;
+        flights->tags |= fresh;
+        for (; fresh != 0; fresh &= fresh - 1)
+            flights->dues[__builtin_ctzll(fresh)] = due_of(machine, (all & (all - 1)) != 0);
+    }
     note_due(machine);
 }
 
 static void settle(struct machine *machine, uint32_t answer);
 
+/* Completes an operation, or where its tag is any the first of a disk that has ended, and tells which. */
+static uint32_t complete(struct machine *machine, struct flight *flight)
+{
+    uint32_t answer = KALYUBOS_MORE;
+    if (flight->tag != BOARD_ANY)
+        return board_complete(machine->slot, flight->disk, &flight->tag);
+    for (uint8_t disk = 0; disk < BOARD_DISKS && answer == KALYUBOS_MORE; disk++)
+        if (machine->flights[disk].tags != 0) {
+            flight->disk = disk;
+            answer = board_complete(machine->slot, disk, &flight->tag);
+        }
+    return answer;
+}
+
 /* An operation is done, or the guest waits: at its time it goes no further before its file is. */
 static void land(struct machine *machine)
 {
-    uint8_t tag = first_due(machine);
-    uint32_t answer = board_complete(machine->slot, &tag);
+    uint64_t due;
+    struct flight flight = first_due(machine, &due);
+    uint32_t answer = complete(machine, &flight);
     machine->paused = answer == KALYUBOS_MORE && (machine->busy || machine->latency != NEVER);
     if (answer == KALYUBOS_MORE)
         return;
     bool again = machine->busy;
-    machine->flies &= ~((uint64_t)1 << tag);
+    machine->flights[flight.disk].tags &= ~((uint64_t)1 << flight.tag);
     machine->busy = false;
     note_due(machine);
     settle(machine, answer);
@@ -164,7 +197,7 @@ static void land(struct machine *machine)
 
 static bool is_due(const struct machine *machine)
 {
-    return machine->flies != 0 && (machine->busy || machine->latency == NEVER || machine->cpu.cycles >= machine->due);
+    return flies(machine) && (machine->busy || machine->latency == NEVER || machine->cpu.cycles >= machine->due);
 }
 
 /* ---- stores */
@@ -207,10 +240,10 @@ void machine_serve(struct machine *machine)
 
 void machine_go_on(struct machine *machine)
 {
-    if (is_due(machine))
-        land(machine);
-    else if (machine->paused)
+    if (board_is_paused(machine->slot))
         settle(machine, board_go_on(machine->slot));
+    else if (is_due(machine))
+        land(machine);
 }
 
 /* ---- the bus */
@@ -334,7 +367,7 @@ void machine_resume(struct machine *machine, const struct machine *other, const 
     move_lines(machine);
 }
 
-/* The first of the moments ahead: the timer's, the disk's and the end. */
+/* The first of the moments ahead: the timer's, the disks' and the end. */
 static uint64_t next_moment(const struct machine *machine, uint64_t end)
 {
     const uint64_t moments[] = { machine->timer, machine->due };
@@ -356,11 +389,12 @@ void machine_run(struct machine *machine, uint64_t cycles)
         if (!machine->paused)
             cpu_run(cpu);
     } while (!machine->off && !machine->paused && !cpu->waits && cpu->cycles < end);
+    machine->rest = machine->paused && !cpu->waits && cpu->cycles < end ? end - cpu->cycles : 0;
 }
 
 bool machine_stop(struct machine *machine)
 {
-    if (machine->paused || machine->flies)
+    if (machine->paused || flies(machine))
         return false;
     take_output(machine);
     return true;
@@ -368,7 +402,7 @@ bool machine_stop(struct machine *machine)
 
 bool machine_stands(const struct machine *machine)
 {
-    return machine->paused || (machine->cpu.waits && machine->flies && machine->due == NEVER);
+    return machine->paused || (machine->cpu.waits && flies(machine) && machine->due == NEVER);
 }
 
 void machine_pass(struct machine *machine)

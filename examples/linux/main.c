@@ -18,6 +18,10 @@
  *                     switch. What the one was supplied with and the other was handed goes to guest-0.random and guest-0.frames
  *   --frames FILE     hands guest 0's card the frames of such a file, each after as many instructions as then, in place of those
  *                     of the switch
+ *   --disks FOLDER    gives each guest two further disks beside these devices, which the tree has to tell, and serves them from
+ *                     files in place: of a guest whose disk's name ends with 0 FOLDER/fixed-0, which it can't write, and
+ *                     FOLDER/data-0; of noise fixed-noise and data-noise. By threads with `--hosted threads`, else by io_uring,
+ *                     and with the depth and the latency below
  *   --copies          copies each guest's memory into the board and back round each call
  *   --without FEATURE a feature that no driver is shown, as RING_PACKED
  *   --cycles COUNT    leaves a guest that isn't off by then
@@ -90,7 +94,7 @@ static struct winsize size_of_terminal(void)
 
 static unsigned windows(void)
 {
-    return words.devices ? BOARD_WINDOWS : KALYUBOS_DEVICE;
+    return words.disks != NULL ? BOARD_WINDOWS : words.devices ? BOARD_DEVICES : KALYUBOS_DEVICE;
 }
 
 /* The address of a guest's card: by the last character of its disk's name, as its program has it; of noise by its slot. */
@@ -221,7 +225,7 @@ static void open_guests(void)
     board_open(&(struct board_settings){ words.count, sectors, words.guests, served, words.cache, words.outlet,
                                          words.chains, words.bytes, words.record, words.copies, words.hosted,
                                          words.threads, words.large, words.depth,
-                                         words.devices ? (const uint8_t (*)[BOARD_ADDRESS])addresses : NULL });
+                                         words.devices ? (const uint8_t (*)[BOARD_ADDRESS])addresses : NULL, words.disks });
     free(image);
     for (size_t i = 0; i < words.count; i++)
         if (guests[i].is_noise)
@@ -254,15 +258,19 @@ static uint64_t cycles_of_turn(const struct guest *guest)
     return comes_near ? words.save_at - cycles : TURN;
 }
 
-/* A guest whose service is paused waits for it: nothing else is done for it in this turn but a piece of the service. */
+/*
+ * A guest whose service is paused waits for it: nothing else is done for it in this turn but a piece of the service. Behind it the
+ * guest goes on with the turn that the pause cut short: so a wait for a file moves none of the moments at which it is handed frames.
+ */
 static void take_turn(struct guest *guest)
 {
     struct machine *machine = &guest->machine;
     machine_go_on(machine);
-    machine_serve(machine);
+    if (machine->rest == 0)
+        machine_serve(machine);
     if (machine_stands(machine))
         return;
-    machine_run(machine, cycles_of_turn(guest));
+    machine_run(machine, machine->rest != 0 ? machine->rest : cycles_of_turn(guest));
     if (machine->cpu.waits || machine->off)
         machine_talk(machine);
     if (machine->cpu.waits)
@@ -291,7 +299,7 @@ static void turn(void)
         save(&guests[0]);
     for (size_t i = 0; i < words.count; i++)
         stand = stand && (!is_on(&guests[i]) || machine_stands(&guests[i].machine));
-    if (stand && words.hosted)
+    if (stand && (words.hosted || words.disks != NULL))
         board_wait();
 }
 
@@ -359,6 +367,7 @@ static bool report_guests(void)
         const char *kept = words.kept == (int)i && !guests[i].is_noise ? words.guests[i] : NULL;
         report_disk(i, guests[i].sectors * SECTOR, words.to, kept);
         report_card(i);
+        report_further(i);
         if (guests[i].is_noise)
             printf("guest %zu: noise, %llu writes\n", i, (unsigned long long)guests[i].noise.writes);
         else

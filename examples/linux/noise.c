@@ -25,6 +25,15 @@ static uint32_t at_random(struct noise *noise)
     return noise->state * 0x2545f4914f6cdd1d >> 32;
 }
 
+/* Completes an operation of each disk that has ended; whether there was any. */
+static bool complete_some(uint8_t slot)
+{
+    bool any = false;
+    for (uint8_t disk = 0; disk < BOARD_DISKS; disk++)
+        any = (board_in_flight(slot, disk) != 0 && board_complete(slot, disk, &(uint8_t){ BOARD_ANY }) != KALYUBOS_MORE) || any;
+    return any;
+}
+
 static void set(struct noise *noise, unsigned window, uint16_t offset, uint32_t value)
 {
     uint8_t bytes[4096];
@@ -34,7 +43,7 @@ static void set(struct noise *noise, unsigned window, uint16_t offset, uint32_t 
         answer = board_write(noise->slot, window, offset, 4, value);
         while (answer == KALYUBOS_MORE)
             answer = board_go_on(noise->slot);
-        if (answer == KALYUBOS_BUSY && board_complete(noise->slot, &(uint8_t){ BOARD_ANY }) == KALYUBOS_MORE)
+        if (answer == KALYUBOS_BUSY && !complete_some(noise->slot))
             board_wait();
     } while (answer == KALYUBOS_BUSY ||
              (answer == KALYUBOS_NO_ROOM && board_output(noise->slot, bytes, sizeof bytes) > 0));
@@ -89,7 +98,7 @@ void noise_open(struct noise *noise, uint8_t slot, unsigned windows)
 
 void noise_run(struct noise *noise, unsigned count)
 {
-    board_complete(noise->slot, &(uint8_t){ BOARD_ANY });
+    complete_some(noise->slot);
     for (unsigned i = 0; i < count; i++) {
         unsigned window = at_random(noise) % noise->windows, what = at_random(noise) % 16;
         if (what == 0)

@@ -1,4 +1,4 @@
-/* The interrupt controller: four lines, one target (RISC-V Platform-Level Interrupt Controller, 1.0.0). */
+/* The interrupt controller: six lines, one target (RISC-V Platform-Level Interrupt Controller, 1.0.0). */
 #ifndef PLIC_H
 #define PLIC_H
 
@@ -6,7 +6,7 @@
 #include <stdint.h>
 
 /* Source 0 is none; the board's windows are 1 and on. */
-enum { PLIC_SOURCES = 5 };
+enum { PLIC_SOURCES = 7 };
 
 struct plic {
     uint32_t priority[PLIC_SOURCES];

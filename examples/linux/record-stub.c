@@ -131,28 +131,28 @@ static uint32_t ask(struct guest *guest, struct kalyubos_pending *pending)
     return tell(guest, pending, KALYUBOS_IO);
 }
 
-uint32_t kalyubos_in_flight(const struct kalyubos *board, uint8_t slot, uint64_t *tags)
+uint32_t kalyubos_in_flight(const struct kalyubos *board, uint8_t slot, uint8_t window, uint64_t *tags)
 {
-    (void)board;
+    (void)board, (void)window;
     *tags = slot == 0 ? in_flight : 0;
     return KALYUBOS_DONE;
 }
 
-uint32_t kalyubos_operation(const struct kalyubos *board, uint8_t slot, uint8_t tag,
+uint32_t kalyubos_operation(const struct kalyubos *board, uint8_t slot, uint8_t window, uint8_t tag,
                             struct kalyubos_operation *operation, struct kalyubos_run *runs, size_t runs_len)
 {
     const struct asked *asked = asked_with(tag);
-    (void)board, (void)slot, (void)runs_len;
+    (void)board, (void)slot, (void)window, (void)runs_len;
     *operation = asked->operation;
     memcpy(runs, asked->runs, sizeof asked->runs);
     return KALYUBOS_DONE;
 }
 
-uint32_t kalyubos_completed(struct kalyubos *board, uint8_t slot, uint8_t tag, bool failed,
+uint32_t kalyubos_completed(struct kalyubos *board, uint8_t slot, uint8_t window, uint8_t tag, bool failed,
                             struct kalyubos_pending *pending)
 {
     struct guest *guest = &guests[slot];
-    (void)board;
+    (void)board, (void)window;
     if ((in_flight >> tag & 1) == 0)
         return tell(guest, pending, KALYUBOS_IDLE);
     in_flight &= ~((uint64_t)1 << tag);
@@ -160,10 +160,10 @@ uint32_t kalyubos_completed(struct kalyubos *board, uint8_t slot, uint8_t tag, b
     return tell(guest, pending, KALYUBOS_DONE);
 }
 
-uint32_t kalyubos_drop(struct kalyubos *board, uint8_t slot, struct kalyubos_pending *pending)
+uint32_t kalyubos_drop(struct kalyubos *board, uint8_t slot, uint8_t window, struct kalyubos_pending *pending)
 {
     struct guest *guest = &guests[slot];
-    (void)board;
+    (void)board, (void)window;
     if (in_flight == 0)
         return tell(guest, pending, KALYUBOS_IDLE);
     in_flight = 0;
@@ -172,19 +172,19 @@ uint32_t kalyubos_drop(struct kalyubos *board, uint8_t slot, struct kalyubos_pen
     return tell(guest, pending, KALYUBOS_DONE);
 }
 
-uint32_t kalyubos_hold(struct kalyubos *board, uint8_t slot, struct kalyubos_pending *pending)
+uint32_t kalyubos_hold(struct kalyubos *board, uint8_t slot, uint8_t window, struct kalyubos_pending *pending)
 {
     uint32_t answer = held ? KALYUBOS_IDLE : KALYUBOS_DONE;
-    (void)board;
+    (void)board, (void)window;
     held = true;
     return tell(&guests[slot], pending, answer);
 }
 
 /* Nothing was on offer meanwhile. */
-uint32_t kalyubos_release(struct kalyubos *board, uint8_t slot, struct kalyubos_pending *pending)
+uint32_t kalyubos_release(struct kalyubos *board, uint8_t slot, uint8_t window, struct kalyubos_pending *pending)
 {
     uint32_t answer = held ? KALYUBOS_DONE : KALYUBOS_IDLE;
-    (void)board;
+    (void)board, (void)window;
     held = false;
     return tell(&guests[slot], pending, answer);
 }

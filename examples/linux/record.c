@@ -97,7 +97,7 @@ static void put_operation(const struct kalyubos *board, uint8_t slot, uint8_t ta
     };
     struct kalyubos_operation operation;
     struct kalyubos_run runs[KALYUBOS_RUNS];
-    kalyubos_operation(board, slot, tag, &operation, runs, KALYUBOS_RUNS);
+    kalyubos_operation(board, slot, KALYUBOS_BLOCK, tag, &operation, runs, KALYUBOS_RUNS);
     fprintf(records, "%x=%s%s:%llx:%llx:%s", tag, KINDS[operation.kind], operation.stable ? "-stable" : "",
             (unsigned long long)operation.start, (unsigned long long)operation.len, operation.runs == 0 ? "-" : "");
     for (uint32_t i = 0; i < operation.runs; i++)
@@ -362,7 +362,7 @@ static uint32_t settle(struct kalyubos *board, uint8_t slot, uint32_t answer, st
     end_call();
     if (answer == KALYUBOS_IO) {
         uint64_t tags = 0;
-        kalyubos_in_flight(board, slot, &tags);
+        kalyubos_in_flight(board, slot, KALYUBOS_BLOCK, &tags);
         asked = (struct asked){ board, tags & ~of->begun };
         of->begun = tags;
     }
@@ -398,12 +398,12 @@ uint32_t record_completed(struct kalyubos *board, uint8_t slot, uint8_t tag, boo
                           struct kalyubos_pending *pending)
 {
     if (!writes(slot) || !hosted)
-        return kalyubos_completed(board, slot, tag, failed, pending);
+        return kalyubos_completed(board, slot, KALYUBOS_BLOCK, tag, failed, pending);
     put_changes(slot, put_write);
     char line[32];
     ask(slot, line, snprintf(line, sizeof line, "io %x %x %s", slot, tag, failed ? "failed" : "done"));
     strcpy(seen[slot].reply, "done");
-    uint32_t answer = kalyubos_completed(board, slot, tag, failed, pending);
+    uint32_t answer = kalyubos_completed(board, slot, KALYUBOS_BLOCK, tag, failed, pending);
     if (answer == KALYUBOS_DONE || answer == KALYUBOS_IO) /* the tag may be used again */
         seen[slot].begun &= ~((uint64_t)1 << tag);
     return settle(board, slot, answer, pending);
@@ -411,15 +411,15 @@ uint32_t record_completed(struct kalyubos *board, uint8_t slot, uint8_t tag, boo
 
 /* Says of a disk what a word of the trace says. */
 static uint32_t say(struct kalyubos *board, uint8_t slot, struct kalyubos_pending *pending, const char *word,
-                    uint32_t (*call)(struct kalyubos *, uint8_t, struct kalyubos_pending *))
+                    uint32_t (*call)(struct kalyubos *, uint8_t, uint8_t, struct kalyubos_pending *))
 {
     if (!writes(slot) || !hosted || is_paused(slot))
-        return call(board, slot, pending);
+        return call(board, slot, KALYUBOS_BLOCK, pending);
     put_changes(slot, put_write);
     char line[16];
     ask(slot, line, snprintf(line, sizeof line, "%s %x", word, slot));
     strcpy(seen[slot].reply, "done");
-    uint32_t answer = call(board, slot, pending);
+    uint32_t answer = call(board, slot, KALYUBOS_BLOCK, pending);
     if (answer == KALYUBOS_DONE && call == kalyubos_drop)
         seen[slot].begun = 0;
     return settle(board, slot, answer, pending);

@@ -37,10 +37,21 @@ static void report_window(FILE *report, const char *name, const struct machine_c
             (unsigned long long)counts->writes, (unsigned long long)counts->rises);
 }
 
+void report_further(uint8_t slot)
+{
+    static const char *const names[BOARD_DISKS] = { [BOARD_FIXED] = "read-only disk", [BOARD_DATA] = "data disk" };
+    for (uint8_t disk = BOARD_FIXED; disk < BOARD_DISKS; disk++) {
+        struct board_flights flights = board_flights(slot, disk);
+        if (flights.operations > 0)
+            printf("guest %u: its %s was asked %zu times by %s, up to %zu at once, and other guests made %zu calls meanwhile\n",
+                   slot, names[disk], flights.operations, flights.way, flights.together, flights.calls);
+    }
+}
+
 /* Says what else went on while the host served the guest's disk. */
 static void show_flights(uint8_t slot)
 {
-    struct board_flights flights = board_flights(slot);
+    struct board_flights flights = board_flights(slot, BOARD_OWN);
     if (flights.operations > 0)
         printf("guest %u: its disk was asked %zu times by %s, and other guests made %zu calls meanwhile\n", slot,
                flights.operations, flights.way, flights.calls);
@@ -73,6 +84,10 @@ bool report_machine(const struct machine *machine, const char *folder)
     if (machine->windows > KALYUBOS_DEVICE) {
         report_window(report, "entropy", &machine->counts[BOARD_ENTROPY]);
         report_window(report, "network", &machine->counts[BOARD_CARD]);
+    }
+    if (machine->windows > BOARD_DEVICES) {
+        report_window(report, "read-only disk", &machine->counts[BOARD_DEVICES]);
+        report_window(report, "data disk", &machine->counts[BOARD_DEVICES + 1]);
     }
     fprintf(report, "memory: %016llx\n", (unsigned long long)sum_of(board_memory(machine->slot)));
     fclose(report);

@@ -12,4 +12,7 @@ bool report_machine(const struct machine *machine, const char *folder);
 /* Writes a guest's disk to the folder, and to `kept` where that isn't NULL. */
 void report_disk(size_t guest, size_t len, const char *folder, const char *kept);
 
+/* Says of the guest's further disks what was asked of them. */
+void report_further(uint8_t slot);
+
 #endif

@@ -12,6 +12,7 @@
 #include <stdbool.h>
 
 #include "pattern.h"
+#include "sum.h"
 
 enum { RANDOM = 256, LINE = 32 };
 /* What only a C library's headers have: AF_PACKET, SOCK_RAW, SOL_SOCKET, SO_RCVTIMEO, IFF_UP. */
@@ -40,12 +41,6 @@ struct card {
     };
 };
 
-/* The sum of cksum (POSIX), as far as it goes. */
-struct sum {
-    unsigned int word;
-    unsigned long len;
-};
-
 struct talk {
     int socket;
     unsigned int count, seed, peer; /* how many pieces go each way, and by what they are filled */
@@ -68,40 +63,6 @@ static void show_random(void)
     close(file);
     for (int i = 0; i < found; i++)
         printf("%s%x%x%s", i % LINE == 0 ? "bytes: " : "", bytes[i] >> 4, bytes[i] & 15, i % LINE == LINE - 1 ? "\n" : "");
-}
-
-/* ---- sums */
-
-static unsigned int powers[256];
-
-static void fill_powers(void)
-{
-    for (unsigned int i = 0; i < 256; i++) {
-        unsigned int word = i << 24;
-        for (int bit = 0; bit < 8; bit++)
-            word = word << 1 ^ (word >> 31 ? 0x04c11db7 : 0);
-        powers[i] = word;
-    }
-}
-
-static unsigned int with_byte(unsigned int word, unsigned char byte)
-{
-    return word << 8 ^ powers[word >> 24 ^ byte];
-}
-
-static void add(struct sum *sum, const char *bytes)
-{
-    for (int i = 0; i < PIECE; i++)
-        sum->word = with_byte(sum->word, bytes[i]);
-    sum->len += PIECE;
-}
-
-static unsigned int end_of(const struct sum *sum)
-{
-    unsigned int word = sum->word;
-    for (unsigned long rest = sum->len; rest != 0; rest >>= 8)
-        word = with_byte(word, rest);
-    return ~word;
 }
 
 /* ---- the card */
@@ -144,7 +105,7 @@ static void send(struct talk *talk, unsigned int number)
     if (number != NO_PIECE)
         fill_piece(out->bytes, talk->seed, number);
     if (number == talk->fresh) {
-        add(&talk->sent, out->bytes);
+        add(&talk->sent, out->bytes, PIECE);
         talk->fresh++;
     } else if (number != NO_PIECE) {
         talk->again++;
@@ -165,7 +126,7 @@ static void take(struct talk *talk)
         return;
     fill_piece(expected, talk->peer, talk->wanted);
     talk->same = talk->same && memcmp(expected, talk->in.bytes, PIECE) == 0;
-    add(&talk->got, talk->in.bytes);
+    add(&talk->got, talk->in.bytes, PIECE);
     talk->wanted++;
 }
 

@@ -46,7 +46,8 @@ static const struct option OPTIONS[] = {
     { "bytes", required_argument, NULL, 'y' },   { "cache", required_argument, NULL, 'c' },
     { "chains", required_argument, NULL, 'a' },  { "copies", no_argument, NULL, 'p' },
     { "cycles", required_argument, NULL, 'n' },  { "depth", required_argument, NULL, 'f' },
-    { "devices", no_argument, NULL, 'z' },       { "frames", required_argument, NULL, 'F' },
+    { "devices", no_argument, NULL, 'z' },       { "disks", required_argument, NULL, 'D' },
+    { "frames", required_argument, NULL, 'F' },
     { "hosted", required_argument, NULL, 'h' },  { "image", required_argument, NULL, 'm' },
     { "interactive", no_argument, NULL, 'i' },   { "keep", required_argument, NULL, 'b' },
     { "kernel", required_argument, NULL, 'k' },  { "large", no_argument, NULL, 'j' },
@@ -98,6 +99,7 @@ static void take(struct words *words, int option)
     case 'x': words->seed = number(optarg); break;
     case 'y': words->bytes = number(optarg); break;
     case 'z': words->devices = true; break;
+    case 'D': words->disks = optarg; break;
     case 'F': words->frames = optarg; break;
     default: exit(2);
     }
@@ -137,8 +139,8 @@ struct words words_of(int argc, char **argv)
         fail("a saved guest beside --image or --record");
     if (words.devices && (has_saved_guest(&words) || words.record != NULL))
         fail("--devices beside a saved guest or --record");
-    if (words.frames != NULL && !words.devices)
-        fail("--frames without --devices");
+    if ((words.frames != NULL || words.disks != NULL) && !words.devices)
+        fail("--frames or --disks without --devices");
     if (words.hosted && (words.image != NULL || words.kept >= 0))
         fail("--hosted beside --image or --keep");
     if (words.depth == 0 || words.depth > 64)

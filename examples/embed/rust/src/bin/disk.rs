@@ -118,8 +118,8 @@ impl Guest {
 
     /// Hands what began to the disk, with the bytes of an OUT.
     fn begin(&mut self) -> Result<()> {
-        for tag in self.board.in_flight(0)?.without(self.begun) {
-            let Some(asked) = self.board.operation(0, tag)? else {
+        for tag in self.board.in_flight(0, Window::Block)?.without(self.begun) {
+            let Some(asked) = self.board.operation(0, Window::Block, tag)? else {
                 continue;
             };
             let mut bytes = vec![0; asked.len as usize];
@@ -149,7 +149,7 @@ impl Guest {
             }
         }
         self.begun.remove(order.tag);
-        let pending = self.board.complete(0, order.tag, outcome)?;
+        let pending = self.board.complete(0, Window::Block, order.tag, outcome)?;
         self.take_in(pending)
     }
 
@@ -159,7 +159,7 @@ impl Guest {
             let (order, _) = self.ends.recv()?;
             self.begun.remove(order.tag);
         }
-        let pending = self.board.drop_operations(0)?;
+        let pending = self.board.drop_operations(0, Window::Block)?;
         self.take_in(pending)
     }
 
