@@ -2,8 +2,7 @@
 
 ghost use Rattle.std.specs.Prelude.{◌≡◌, ◌<◌, ◌↔◌, IsTrue};
 
-use guest_memory::GuestMemory;
-use std::alloc::Allocator;
+use guest_memory::Ranged;
 
 /// How a virtqueue is set up: by its driver, and by what was negotiated.
 #[derive(Clone, Copy, Debug, PartialEq, Eq)]
@@ -40,10 +39,10 @@ impl Setup {
     ghost use Rattle.chain.specs.Setup.{FitsIn, IsAligned, LiesIn, fits_in, is_aligned, lies_in};
 
     /// Whether the areas are aligned and lie in this memory.
-    pub fn fits_in<A: Allocator>(&self, mem: &GuestMemory<A>, areas: Areas) -> bool
+    pub fn fits_in<M: Ranged>(&self, mem: &M, areas: Areas) -> bool
         requires { 0 < areas.driver_alignment }
-        ensures test { result ≡ fits_in mem.now self.now areas }
-        ensures fits { IsTrue result ↔ FitsIn mem.now self.now areas }
+        ensures test { result ≡ fits_in (M.ranged mem.now) self.now areas }
+        ensures fits { IsTrue result ↔ FitsIn (M.ranged mem.now) self.now areas }
     {
         self.is_aligned(areas) && self.lies_in(mem, areas)
     }
@@ -58,9 +57,9 @@ impl Setup {
     }
 
     /// Whether the areas lie in this memory.
-    pub fn lies_in<A: Allocator>(&self, mem: &GuestMemory<A>, areas: Areas) -> bool
-        ensures test { result ≡ lies_in mem.now self.now areas }
-        ensures lies { IsTrue result ↔ LiesIn mem.now self.now areas }
+    pub fn lies_in<M: Ranged>(&self, mem: &M, areas: Areas) -> bool
+        ensures test { result ≡ lies_in (M.ranged mem.now) self.now areas }
+        ensures lies { IsTrue result ↔ LiesIn (M.ranged mem.now) self.now areas }
     {
         mem.holds(self.desc, areas.desc)
             && mem.holds(self.driver, areas.driver)

@@ -11,11 +11,13 @@ mod lookup;
 mod memory;
 mod numbers;
 mod pages;
+mod ranged;
 mod region;
 mod spec;
 
 pub use fault::{MemoryFault, RegionFault, fault_of, fault_of_regions};
 pub use laws::{a_range_is_tested, a_write_marks_its_pages};
 pub use memory::GuestMemory;
+pub use ranged::Ranged;
 pub use region::Region;
 pub use spec::{MOST_REGIONS, RegionSpec, Regions};

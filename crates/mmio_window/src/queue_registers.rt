@@ -9,11 +9,10 @@ mod saved;
 use crate::queue::Queue;
 use crate::register::Register;
 use chain::Setup;
-use guest_memory::GuestMemory;
+use guest_memory::Ranged;
 use negotiation::{Features, Flags, Negotiation, Status};
 use packed_ring::PackedRing;
 use split_ring::SplitRing;
-use std::alloc::Allocator;
 
 /// The registers of one queue (4.2.2), and its ring while it is ready.
 #[derive(Drop)]
@@ -45,14 +44,14 @@ impl QueueRegisters {
     }
 
     /// Takes a write to one of the queue's registers. While the queue is ready its size and addresses stay.
-    pub fn write<A: Allocator>(
+    pub fn write<M: Ranged>(
         &mut self,
         register: Register,
         value: u32,
         negotiation: &Negotiation,
-        mem: &GuestMemory<A>,
+        mem: &M,
     )
-        ensures { self.new ≡ queue_written register value mem.now negotiation.now self.old }
+        ensures { self.new ≡ queue_written register value (M.ranged mem.now) negotiation.now self.old }
     {
         if register == Register::QueueReady {
             self.write_ready(value, negotiation, mem);
@@ -62,13 +61,8 @@ impl QueueRegisters {
     }
 
     // A write to QueueReady.
-    fn write_ready<A: Allocator>(
-        &mut self,
-        value: u32,
-        negotiation: &Negotiation,
-        mem: &GuestMemory<A>,
-    )
-        ensures { self.new ≡ with_ready_written value mem.now negotiation.now self.old }
+    fn write_ready<M: Ranged>(&mut self, value: u32, negotiation: &Negotiation, mem: &M)
+        ensures { self.new ≡ with_ready_written value (M.ranged mem.now) negotiation.now self.old }
     {
         match value {
             0 => self.ring = None,
@@ -98,8 +92,8 @@ impl QueueRegisters {
     }
 
     // The ring that the queue gets as it is made ready, if it can be served.
-    fn new_ring<A: Allocator>(&self, features: Features, mem: &GuestMemory<A>) -> Option<Queue>
-        ensures { result ≡ ring_of mem.now (feature_bits features) self.now }
+    fn new_ring<M: Ranged>(&self, features: Features, mem: &M) -> Option<Queue>
+        ensures { result ≡ ring_of (M.ranged mem.now) (feature_bits features) self.now }
     {
         let setup = Setup {
             size: self.number,

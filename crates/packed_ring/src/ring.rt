@@ -1,6 +1,6 @@
 //! The ring: its areas, its places, and the calls of a service.
 
-ghost use Rattle.std.specs.Prelude.{◌≡◌, ◌*◌, ◌<◌, ◌≤◌, ◌↔◌, if◌then◌else◌, IsTrue, IsSome, IfSome};
+ghost use Rattle.std.specs.Prelude.{◌≡◌, ◌+◌, ◌*◌, ◌<◌, ◌≤◌, ◌↔◌, if◌then◌else◌, IsTrue, IsSome, IfSome};
 ghost use Rattle.guest_memory.specs.Memory.{SameRange};
 ghost use Rattle.chain.specs.Setup.{IsUsable, new_ring};
 ghost use Rattle.packed_ring.specs.Ring.{IsQueueSize, LiesIn, areas_of, can_set_up, descriptor_addr, head_of, id_of, is_available, is_queue_size, next_taken, next_wrap, used_flags, used_head, with_used, wrap_counter};
@@ -13,7 +13,7 @@ mod view;
 use crate::modulus::reduced;
 use crate::walk::{Table, append_list};
 use chain::{Areas, Chain, Fault, RingState, Setup, Used, Virtqueue};
-use guest_memory::GuestMemory;
+use guest_memory::{GuestMemory, Ranged};
 use indirect::WRITE;
 use std::alloc::Allocator;
 use std::marker::Model;
@@ -67,10 +67,10 @@ pub struct Token {
 impl PackedRing {
     /// A ring of `n` descriptors whose areas begin at the three addresses, before its first service. There
     /// is none where `n` is no queue size, or an area isn't aligned or isn't inside the memory (2.8).
-    pub fn new<A: Allocator>(mem: &GuestMemory<A>, setup: Setup) -> Option<PackedRing>
-        ensures value { result ≡ (if can_set_up mem.now setup then Some (new_ring setup) else None) }
-        ensures usable { IsSome result ↔ IsUsable IsQueueSize areas_of mem.now setup }
-        ensures lies { IfSome result (λ ring. LiesIn mem.now ring.setup) }
+    pub fn new<M: Ranged>(mem: &M, setup: Setup) -> Option<PackedRing>
+        ensures value { result ≡ (if can_set_up (M.ranged mem.now) setup then Some (new_ring setup) else None) }
+        ensures usable { IsSome result ↔ IsUsable IsQueueSize areas_of (M.ranged mem.now) setup }
+        ensures lies { IfSome result (λ ring. LiesIn (M.ranged mem.now) ring.setup) }
     {
         if !is_queue_size(setup.size) || !setup.fits_in(mem, areas_of(setup.size)) {
             return None;
@@ -80,9 +80,20 @@ impl PackedRing {
         })
     }
 
+    /// A ring in this state.
+    pub fn of(state: RingState) -> PackedRing
+        requires number { IsQueueSize state.setup.size }
+        requires below { state.place < 2 * state.setup.size }
+        requires fewer { state.used_count + state.ahead < 2 * state.setup.size }
+        requires most { 0 < state.pending → state.used_count + state.ahead + state.pending ≤ state.setup.size }
+        ensures { result ≡ state }
+    {
+        PackedRing { state }
+    }
+
     /// Whether the areas lie in this memory, as each call of a service wants.
-    pub fn lies_in<A: Allocator>(&self, mem: &GuestMemory<A>) -> bool
-        ensures { IsTrue result ↔ LiesIn mem.now self.now.setup }
+    pub fn lies_in<M: Ranged>(&self, mem: &M) -> bool
+        ensures { IsTrue result ↔ LiesIn (M.ranged mem.now) self.now.setup }
     {
         self.state
             .setup
@@ -93,6 +104,10 @@ impl PackedRing {
     pub fn state(&self) -> RingState
         ensures value { result ≡ self.now }
         ensures reached { served_to self.now.place self.now.pending self.now.used_count self.now.ahead self.now ≡ Some self.now }
+        ensures number { IsQueueSize result.setup.size }
+        ensures below { result.place < 2 * result.setup.size }
+        ensures fewer { result.used_count + result.ahead < 2 * result.setup.size }
+        ensures most { 0 < result.pending → result.used_count + result.ahead + result.pending ≤ result.setup.size }
     {
         self.state
     }

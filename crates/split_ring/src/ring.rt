@@ -1,6 +1,6 @@
 //! The ring: its areas, its places, and the calls of a service.
 
-ghost use Rattle.std.specs.Prelude.{◌≡◌, ◌%◌, ◌<◌, ◌↔◌, if◌then◌else◌, IsTrue, IsSome, IfSome};
+ghost use Rattle.std.specs.Prelude.{◌≡◌, ◌+◌, ◌%◌, ◌<◌, ◌≤◌, ◌↔◌, if◌then◌else◌, IsTrue, IsSome, IfSome};
 ghost use Rattle.guest_memory.specs.Memory.{SameRange};
 ghost use Rattle.chain.specs.Setup.{IsUsable, new_ring};
 ghost use Rattle.split_ring.specs.Ring.{IsQueueSize, LiesIn, head_of, areas_of, can_set_up, is_queue_size, next_place, next_taken, with_used};
@@ -12,7 +12,7 @@ mod view;
 
 use crate::walk::{Table, append_path};
 use chain::{Areas, Chain, Fault, RingState, Setup, Used, Virtqueue};
-use guest_memory::GuestMemory;
+use guest_memory::{GuestMemory, Ranged};
 use std::alloc::Allocator;
 use std::marker::Model;
 use suppression::split_wants;
@@ -54,10 +54,10 @@ pub struct Token {
 impl SplitRing {
     /// A ring of `n` descriptors whose areas begin at the three addresses, before its first service. There
     /// is none where `n` is no queue size, or an area isn't aligned or isn't inside the memory (2.7).
-    pub fn new<A: Allocator>(mem: &GuestMemory<A>, setup: Setup) -> Option<SplitRing>
-        ensures value { result ≡ (if can_set_up mem.now setup then Some (new_ring setup) else None) }
-        ensures usable { IsSome result ↔ IsUsable IsQueueSize areas_of mem.now setup }
-        ensures lies { IfSome result (λ ring. LiesIn mem.now ring.setup) }
+    pub fn new<M: Ranged>(mem: &M, setup: Setup) -> Option<SplitRing>
+        ensures value { result ≡ (if can_set_up (M.ranged mem.now) setup then Some (new_ring setup) else None) }
+        ensures usable { IsSome result ↔ IsUsable IsQueueSize areas_of (M.ranged mem.now) setup }
+        ensures lies { IfSome result (λ ring. LiesIn (M.ranged mem.now) ring.setup) }
     {
         if !is_queue_size(setup.size) || !setup.fits_in(mem, areas_of(setup.size)) {
             return None;
@@ -67,9 +67,18 @@ impl SplitRing {
         })
     }
 
+    /// A ring in this state.
+    pub fn of(state: RingState) -> SplitRing
+        requires number { IsQueueSize state.setup.size }
+        requires most { state.used_count + state.pending + state.ahead ≤ state.setup.size }
+        ensures { result ≡ state }
+    {
+        SplitRing { state }
+    }
+
     /// Whether the areas lie in this memory, as each call of a service wants.
-    pub fn lies_in<A: Allocator>(&self, mem: &GuestMemory<A>) -> bool
-        ensures { IsTrue result ↔ LiesIn mem.now self.now.setup }
+    pub fn lies_in<M: Ranged>(&self, mem: &M) -> bool
+        ensures { IsTrue result ↔ LiesIn (M.ranged mem.now) self.now.setup }
     {
         self.state
             .setup
@@ -80,6 +89,8 @@ impl SplitRing {
     pub fn state(&self) -> RingState
         ensures value { result ≡ self.now }
         ensures reached { served_to self.now.place self.now.pending self.now.used_count self.now.ahead self.now ≡ Some self.now }
+        ensures number { IsQueueSize result.setup.size }
+        ensures most { result.used_count + result.pending + result.ahead ≤ result.setup.size }
     {
         self.state
     }

@@ -4,8 +4,7 @@ ghost use Rattle.std.specs.Prelude.{◌≡◌, ◌↔◌, IsTrue};
 ghost use Rattle.mmio_window.specs.Queue.{LiesIn};
 
 use crate::queue::Queue;
-use guest_memory::GuestMemory;
-use std::alloc::Allocator;
+use guest_memory::Ranged;
 
 impl Queue {
     /// The queue once more. What a service would take can be asked of the copy.
@@ -19,8 +18,8 @@ impl Queue {
     }
 
     /// Whether its areas lie in this memory, as each call of a service wants.
-    pub fn lies_in<A: Allocator>(&self, mem: &GuestMemory<A>) -> bool
-        ensures { IsTrue result ↔ LiesIn mem.now self.now }
+    pub fn lies_in<M: Ranged>(&self, mem: &M) -> bool
+        ensures { IsTrue result ↔ LiesIn (M.ranged mem.now) self.now }
     {
         match self {
             Queue::Split(ring) => ring.lies_in(mem),

@@ -11,25 +11,18 @@ use crate::interrupts::Interrupts;
 use crate::queue_registers::QueueRegisters;
 use crate::register::Register;
 use crate::window::Window;
-use guest_memory::GuestMemory;
+use guest_memory::Ranged;
 use negotiation::{Features, Flags};
-use std::alloc::Allocator;
 
 impl Window {
     /// A write of `width` bytes at `offset`, and what it leaves for the device to do. Control registers take
     /// aligned writes of width 4. The device has the aligned writes of width 1, 2 and 4 to its configuration.
     /// Every other write is ignored.
     #[inline(always)]
-    pub fn write<A: Allocator>(
-        &mut self,
-        offset: u16,
-        width: u8,
-        value: u32,
-        mem: &GuestMemory<A>,
-    ) -> Action
+    pub fn write<M: Ranged>(&mut self, offset: u16, width: u8, value: u32, mem: &M) -> Action
         ensures action { result ≡ action_of offset width value self.old }
-        ensures written { self.new ≡ written offset width value mem.now self.old }
-        ensures sound { IsSound mem.now self.old → IsSound mem.now self.new }
+        ensures written { self.new ≡ written offset width value (M.ranged mem.now) self.old }
+        ensures sound { IsSound (M.ranged mem.now) self.old → IsSound (M.ranged mem.now) self.new }
     {
         if offset >= CONFIGURATION_OFFSET {
             if is_configuration_access(offset, width) {
@@ -88,8 +81,8 @@ impl Window {
 
     // A write to a register.
     #[inline(always)]
-    fn write_register<A: Allocator>(&mut self, register: Register, value: u32, mem: &GuestMemory<A>)
-        ensures { self.new ≡ register_written register value mem.now self.old }
+    fn write_register<M: Ranged>(&mut self, register: Register, value: u32, mem: &M)
+        ensures { self.new ≡ register_written register value (M.ranged mem.now) self.old }
     {
         match register {
             Register::DeviceFeaturesSel => self.device_features_sel = value,
@@ -115,8 +108,8 @@ impl Window {
     }
 
     // A write to a register of the selected queue.
-    fn write_queue<A: Allocator>(&mut self, register: Register, value: u32, mem: &GuestMemory<A>)
-        ensures { self.new ≡ with_queue_written register value mem.now self.old }
+    fn write_queue<M: Ranged>(&mut self, register: Register, value: u32, mem: &M)
+        ensures { self.new ≡ with_queue_written register value (M.ranged mem.now) self.old }
     {
         match self.kind.queue(self.queue_sel) {
             Some(QueueIndex::Queue0) => {
