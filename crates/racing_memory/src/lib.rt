@@ -1,7 +1,7 @@
 //! Guest memory that the guest's own CPUs write at any moment.
 //!
-//! It is rows of words, each of which changes in single atomic steps, so nothing is known of what a step finds. `region` has
-//! the steps, `memory` finds the region of an access. What an access found is noted as what the memory was seen as: `past`
+//! It is rows of words, each of which changes in single atomic steps, so nothing is known of what a step finds. `word` has
+//! the steps, `region` finds the words of a range, and `memory` the region of an access. What an access found is noted as what the memory was seen as: `past`
 //! has the one call that says so.
 #![tactic(auto)]
 
@@ -11,6 +11,7 @@ mod past;
 mod region;
 #[cfg(test)]
 mod tests;
+mod word;
 
 pub use laws::good_regions_make_a_memory;
 pub use memory::RacingMemory;

@@ -117,6 +117,11 @@ impl<'r, 'w> Shared for RacingMemory<'r, 'w> {
     }
 
     #[tactic(auto, using(crate::proofs::Seeing::stores_noted))]
+    fn store_u8(&mut self, addr: u64, v: u8) {
+        self.put(addr, &[v]);
+    }
+
+    #[tactic(auto, using(crate::proofs::Seeing::stores_noted))]
     fn store_u16(&mut self, addr: u64, v: u16) {
         let mut bytes = [0; 2];
         LittleEndian::write_u16(&mut bytes, v);

@@ -1,13 +1,11 @@
-//! One region of the memory: the words, and the steps that touch them.
+//! One region of the memory: the words, and the words of a range.
 
-ghost use Rattle.std.specs.Prelude.{◌≡◌, ◌+◌, ◌*◌, ◌^◌, ◌≤◌, ◌<◌, length, IsTrue};
+ghost use Rattle.std.specs.Prelude.{◌≡◌, ◌+◌, ◌*◌, ◌^◌, ◌≤◌, length, IsTrue};
 ghost use Rattle.racing_memory.specs.Words.{reaches};
 
+use crate::word::{WORD_LEN, store_in_word, word_at};
 use std::marker::Model;
-use std::sync::atomic::{AtomicU64, Ordering};
-
-/// The bytes of a word.
-const WORD_LEN: usize = 8;
+use std::sync::atomic::AtomicU64;
 
 /// One region of a guest's memory, which the guest may write at any moment. Whoever else has the words changes them by single
 /// atomic steps, too.
@@ -70,16 +68,19 @@ impl<'w> RacingRegion<'w> {
         self.len() - (addr - self.base)
     }
 
-    /// The bytes from an address on, whatever stands there. Bytes of one word are those of one step.
+    /// The bytes from an address on, whatever stands there. Bytes of one word are those of one step. The words are read from the
+    /// last to the first: a driver stores the flags of a packed descriptor last, in its last word, so what it stored before them
+    /// is read after them (2.8.6, 2.8.13).
     pub(crate) fn copy_out(&self, addr: u64, into: &mut [u8])
         requires above { self.now.base ≤ addr }
         requires below { addr + length into.old ≤ self.now.base + self.now.len }
     {
         let from = (addr - self.base) as usize;
+        let len = into.len();
         let mut word = [0; WORD_LEN];
-        for i in 0..into.len() {
+        for i in (0..len).rev() {
             let at = from + i;
-            if i == 0 || at % WORD_LEN == 0 {
+            if i + 1 == len || at % WORD_LEN == WORD_LEN - 1 {
                 word = word_at(self.words, at);
             }
             into[i] = word[at % WORD_LEN];
@@ -92,25 +93,12 @@ impl<'w> RacingRegion<'w> {
         requires below { addr + length bytes.now ≤ self.now.base + self.now.len }
     {
         let from = (addr - self.base) as usize;
-        let mut word = [0; WORD_LEN];
-        let mut change = [0; WORD_LEN];
-        for i in 0..bytes.len() {
-            let at = from + i;
-            if i == 0 || at % WORD_LEN == 0 {
-                word = word_at(self.words, at);
-                change = [0; WORD_LEN];
-            }
-            change[at % WORD_LEN] = word[at % WORD_LEN] ^ bytes[i];
-            if i + 1 == bytes.len() || at % WORD_LEN == WORD_LEN - 1 {
-                self.words[at / WORD_LEN].fetch_xor(u64::from_le_bytes(change), Ordering::SeqCst);
-            }
+        let mut done = 0;
+        while done < bytes.len() {
+            let at = from + done;
+            let len = (bytes.len() - done).min(WORD_LEN - at % WORD_LEN);
+            store_in_word(self.words, at, &bytes[done..done + len]);
+            done += len;
         }
     }
-}
-
-/// The bytes of the word that a place lies in, as one step finds them.
-fn word_at(words: &[AtomicU64], place: usize) -> [u8; WORD_LEN]
-    requires { place < 8 * length words.now }
-{
-    words[place / WORD_LEN].load(Ordering::SeqCst).to_le_bytes()
 }

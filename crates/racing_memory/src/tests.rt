@@ -41,3 +41,19 @@ fn two_bytes_across_words_of_the_second_region(rt: HostRuntime) {
     assert!(rt; mem.holds(0x2007, 2));
     assert_eq!(rt; mem.load_u16(0x2007), 0xabcd);
 }
+
+#[test]
+fn a_byte_within_a_word_and_one_at_its_end(rt: HostRuntime) {
+    let words = [
+        AtomicU64::new(0x0706_0504_0302_0100),
+        AtomicU64::new(0x0f0e_0d0c_0b0a_0908),
+    ];
+    let region = RacingRegion::new(0x1000, &words);
+    let mut mem = RacingMemory::over_one(&region);
+    assert!(rt; mem.holds(0x1003, 1));
+    mem.store_u8(0x1003, 0xab);
+    assert!(rt; mem.holds(0x1007, 1));
+    mem.store_u8(0x1007, 0xcd);
+    assert_eq!(rt; words[0].load(Ordering::SeqCst), 0xcd06_0504_ab02_0100);
+    assert_eq!(rt; words[1].load(Ordering::SeqCst), 0x0f0e_0d0c_0b0a_0908);
+}

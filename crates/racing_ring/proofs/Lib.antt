@@ -1,3 +1,4 @@
+pub mod Unread
 pub mod Reading
 pub mod Lying
 pub mod Tables

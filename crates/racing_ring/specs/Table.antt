@@ -1,5 +1,5 @@
 -- What is read of a descriptor table while one chain is taken: each descriptor once.
-use Rattle.std.specs.Prelude.{◌≡◌, ℕ, ◌+◌, ◌*◌, ◌<◌, get_or, List, Option, Some, None}
+use Rattle.std.specs.Prelude.{◌≡◌, ℕ, ◌+◌, ◌*◌, ◌<◌, ◌≤◌, ◌⊎◌, get_or, List, Option, Some, None}
 use Rattle.guest_memory.specs.Memory.{Memory}
 use Rattle.indirect.specs.declared.descriptor.Descriptor.{Descriptor}
 use Rattle.indirect.specs.Descriptors.{split_descriptor}
@@ -12,6 +12,10 @@ Known = List (Option Descriptor)
 -- the one at an index, if it was read
 abbrev pub known_at : Known → ℕ → Option Descriptor
 known_at known i = get_or known i None
+
+-- none was read below the first of two indices, nor from the second on
+abbrev pub AreUnreadBeside : Known → ℕ → ℕ → Type 0
+AreUnreadBeside known from to = (i : ℕ) → (i < from) ⊎ (to ≤ i) → known_at known i ≡ None
 
 -- The descriptor d of index i was looked up in the table at an address: it is what was known of it, or else what was
 -- read of it just now, and it is known from then on.

@@ -4,7 +4,6 @@
 //! opened, a head, and a descriptor until the next chain. An indirect table is copied, and walked in the copy.
 #![tactic(auto)]
 
-mod areas;
 mod laws;
 mod packed;
 mod room;

@@ -65,7 +65,11 @@ impl RacingPackedRing {
 
     /// How it is set up, and how far it is served.
     pub fn state(&self) -> RingState
-        ensures { result ≡ self.now }
+        ensures value { result ≡ self.now }
+        ensures number { IsQueueSize result.setup.size }
+        ensures below { result.place < 2 * result.setup.size }
+        ensures fewer { result.used_count + result.ahead < 2 * result.setup.size }
+        ensures most { 0 < result.pending → result.used_count + result.ahead + result.pending ≤ result.setup.size }
     {
         self.state
     }

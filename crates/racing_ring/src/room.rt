@@ -17,14 +17,20 @@ const MOST_DESCRIPTORS: usize = 256;
 #[derive(Drop)]
 pub struct Known {
     known: [Option<Descriptor>; MOST_DESCRIPTORS],
+    // None was read below the first of these indices, nor from the second on.
+    from: usize,
+    to: usize,
 }
 
 impl Model for Known {
-    ghost use Rattle.racing_ring.specs.Table.{Known as Value_of};
+    ghost use Rattle.std.specs.Prelude.{◌≤◌};
+    ghost use Rattle.racing_ring.specs.Table.{Known as Value_of, AreUnreadBeside};
 
     ghost Value = { Value_of };
 
     ghost view = { λ r. r.known };
+
+    ghost invariant = { λ r. (r.to ≤ 256) × AreUnreadBeside r.known r.from r.to };
 }
 
 /// The room for what is read of the memory. What it holds between two calls has no part in what they come to.
@@ -53,6 +59,8 @@ impl Known {
     {
         Known {
             known: [None; MOST_DESCRIPTORS],
+            from: MOST_DESCRIPTORS,
+            to: 0,
         }
     }
 
@@ -60,7 +68,11 @@ impl Known {
     pub(crate) fn clear(&mut self)
         ensures { self.new ≡ replicate 256 None }
     {
-        self.known = [None; MOST_DESCRIPTORS];
+        for index in self.from..self.to {
+            self.known[index] = None;
+        }
+        self.from = MOST_DESCRIPTORS;
+        self.to = 0;
     }
 
     /// The descriptor of an index, of the table at `addr`: it is read where it wasn't before.
@@ -78,6 +90,8 @@ impl Known {
             None => {
                 let descriptor = read(mem, addr + 16 * u64::from(index));
                 self.known[at] = Some(descriptor);
+                self.from = self.from.min(at);
+                self.to = self.to.max(at + 1);
                 descriptor
             }
         }

@@ -53,7 +53,9 @@ impl RacingSplitRing {
 
     /// How it is set up, and how far it is served.
     pub fn state(&self) -> RingState
-        ensures { result ≡ self.now }
+        ensures value { result ≡ self.now }
+        ensures number { IsQueueSize result.setup.size }
+        ensures most { result.used_count + result.pending + result.ahead ≤ result.setup.size }
     {
         self.state
     }

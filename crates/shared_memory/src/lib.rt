@@ -5,5 +5,7 @@
 #![tactic(auto)]
 
 mod memory;
+mod ranges_of;
 
 pub use memory::Shared;
+pub use ranges_of::RangesOf;

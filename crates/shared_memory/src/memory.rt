@@ -39,6 +39,12 @@ pub trait Shared {
         ensures loads { Loads (races self.old) (sightings self.old) (sightings self.new) }
         ensures races { races self.new ≡ races self.old };
 
+    /// Stores a byte.
+    fn store_u8(&mut self, addr: u64, v: u8)
+        requires { Inside (memory (sightings self.old)) addr 1 }
+        ensures stores { Stores (races self.old) (sightings self.old) (sightings self.new) addr 1 v }
+        ensures races { races self.new ≡ races self.old };
+
     /// Stores a 16-bit number.
     fn store_u16(&mut self, addr: u64, v: u16)
         requires { Inside (memory (sightings self.old)) addr 2 }
@@ -78,6 +84,10 @@ impl<A: Allocator> Shared for GuestMemory<A> {
 
     fn load(&mut self, addr: u64, into: &mut [u8]) {
         into.copy_from_slice(self.slice(addr, into.len() as u64));
+    }
+
+    fn store_u8(&mut self, addr: u64, v: u8) {
+        self.part_mut(addr, 1).copy_from_slice(&[v]);
     }
 
     fn store_u16(&mut self, addr: u64, v: u16) {
