@@ -18,46 +18,9 @@ use Rattle.chain.proofs.Cutting.{runs_inside, runs_listed}
 use Rattle.chain.proofs.Directions.{All-segments_of, length-addresses_of}
 use Rattle.chain.proofs.Places.{size}
 use Rattle.shared_memory.specs.Sightings.{Sightings, Loads, memory}
-use Rattle.shared_memory.proofs.Sightings.{loads_range, loads_trans, seen_last, seen_later, seen_sooner}
+use Rattle.shared_memory.proofs.Sightings.{loads_range, loads_trans, seen_last, seen_sooner}
 use Rattle.racing_service.specs.Device.{AreBytesSeen}
-use Rattle.racing_service.proofs.Seeing.{part_seen, seen_append}
-
--- ---- what was seen stays seen
-
-pub bytes_later : (races : Bool) (a b c : Sightings) (addrs bytes : List ℕ) → Loads races b c → AreBytesSeen a b addrs bytes
-    → AreBytesSeen a c addrs bytes
-bytes_later races a b c [] [] loads seen = tt
-bytes_later races a b c [] (x ∷ bytes) loads seen = absurd seen
-bytes_later races a b c (at ∷ addrs) [] loads seen = absurd seen
-bytes_later races a b c (at ∷ addrs) (x ∷ bytes) loads seen = (
-  record {
-    where_read = seen.0.where_read;
-    seen = seen_later races a b c seen.0.where_read loads seen.0.seen;
-    is = seen.0.is;
-  },
-  bytes_later races a b c addrs bytes loads seen.1,
-)
-
-pub bytes_sooner : (races : Bool) (a b c : Sightings) (addrs bytes : List ℕ) → Loads races a b → AreBytesSeen b c addrs bytes
-    → AreBytesSeen a c addrs bytes
-bytes_sooner races a b c [] [] loads seen = tt
-bytes_sooner races a b c [] (x ∷ bytes) loads seen = absurd seen
-bytes_sooner races a b c (at ∷ addrs) [] loads seen = absurd seen
-bytes_sooner races a b c (at ∷ addrs) (x ∷ bytes) loads seen = (
-  record {
-    where_read = seen.0.where_read;
-    seen = seen_sooner races a b c seen.0.where_read loads seen.0.seen;
-    is = seen.0.is;
-  },
-  bytes_sooner races a b c addrs bytes loads seen.1,
-)
-
--- there are as many as addresses
-pub bytes_count : (a b : Sightings) (addrs bytes : List ℕ) → AreBytesSeen a b addrs bytes → length bytes ≡ length addrs
-bytes_count a b [] [] seen = refl
-bytes_count a b [] (x ∷ bytes) seen = absurd seen
-bytes_count a b (at ∷ addrs) [] seen = absurd seen
-bytes_count a b (at ∷ addrs) (x ∷ bytes) seen = omega (arith, bytes_count a b addrs bytes seen.1)
+use Rattle.racing_service.proofs.Seeing.{bytes_later, part_seen, seen_append}
 
 -- ---- the runs
 

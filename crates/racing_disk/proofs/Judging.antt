@@ -25,12 +25,11 @@ use Rattle.block_device.specs.Request.{AreRead, out_request_of, payload_of, writ
 use Rattle.block_device.specs.Zeroes.{are_segments}
 use Rattle.block_device.proofs.Judging.{payload_size, request_by_type}
 use Rattle.racing_service.specs.Device.{AreBytesSeen}
-use Rattle.racing_service.proofs.Seeing.{part_seen, seen_append}
+use Rattle.racing_service.proofs.Seeing.{bytes_count, bytes_later, bytes_sooner, part_seen, seen_append}
 use Rattle.racing_service.proofs.Standing.{good_same}
 use Rattle.racing_disk.specs.Copying.{HasPayload, IsCopy, IsHeader}
 use Rattle.racing_disk.specs.Segments.{HasSegments, SegmentOfZeroes}
 use Rattle.racing_disk.specs.Judging.{BeginsWith, IsJudged, IsZeroing}
-use Rattle.racing_disk.proofs.Copying.{bytes_count, bytes_later, bytes_sooner}
 
 -- ---- the readable list as it stands at one access
 

@@ -1,14 +1,12 @@
 -- A guest that stands still.
-use Rattle.std.proofs.Common.{Bool, ◌≡◌, ◌∙◌, ℕ, zero, suc, ◌+◌, false, true, None, List, [], ◌∷◌, length, replicate, refl, sym, ap, subst}
+use Rattle.std.proofs.Common.{Bool, ◌≡◌, ◌∙◌, ℕ, ◌+◌, false, true, List, [], ◌∷◌, length, refl, sym, ap, subst}
 use Rattle.std.specs.Prelude.{All}
-use Rattle.std.proofs.lemmas.List.{length-replicate}
 use Rattle.guest_memory.specs.Memory.{Memory, put}
 use Rattle.chain.specs.declared.segment.Buffer.{Buffer}
 use Rattle.chain.specs.declared.segment.Segment.{Segment}
 use Rattle.chain.specs.Buffers.{Good, Within}
 use Rattle.chain.specs.Bytes.{readable_of, writable_of}
-use Rattle.chain.specs.Service.{Device, Does, used_len}
-use Rattle.chain.proofs.Partial.{wrote-unwritten}
+use Rattle.chain.specs.Service.{Does}
 use Rattle.shared_memory.specs.Sightings.{Sightings, Loads, memory}
 use Rattle.block_device.specs.declared.device.BlockDevice.{BlockDevice}
 use Rattle.block_device.specs.declared.request.Request.{Request}
@@ -22,44 +20,17 @@ use Rattle.block_device.specs.Operation.{IsToldToHost, runs_for, zeroes_in}
 use Rattle.block_device.specs.Progress.{IsServable}
 use Rattle.block_device.specs.Request.{code_of, payload_of, request_of}
 use Rattle.racing_service.specs.Device.{DoesRaced, RefusesRaced}
-use Rattle.racing_service.proofs.Standing.{does_still}
+use Rattle.racing_service.proofs.Standing.{does_still, read_still}
 use Rattle.racing_disk.specs.Copying.{IsCopy}
 use Rattle.racing_disk.specs.Answering.{IsAnswered}
 use Rattle.racing_disk.specs.Completing.{IsCompleted}
 use Rattle.racing_disk.specs.Judging.{IsJudged}
 use Rattle.racing_disk.specs.Telling.{IsLeft, runs_by}
 
--- a device that reads these bytes, and writes none
-abbrev reads : List ℕ → Device (Unit {0})
-reads bytes = record {
-  takes = λ state. true;
-  Gives = λ state readable w given. bytes ≡ readable;
-  LacksMemory = λ state readable w. ⊥;
-}
-
-none_used : (n : ℕ) → 0 ≡ used_len (replicate n None)
-none_used zero = refl
-none_used (suc n) = refl
-
 -- what was copied is what stands there
 pub copy_still : (old new : Sightings) (buffers : List Buffer) (readable : List ℕ) → All (Within (memory old)) buffers
     → Loads false old new → IsCopy old new buffers readable → readable ≡ readable_of (memory old) buffers
-copy_still old new buffers readable inside loads copy =
-    let n = length (writable_of buffers) in
-    let d : DoesRaced (reads readable) false old new buffers tt tt 0 false = record {
-      readable = readable;
-      written = replicate n None;
-      read_to = new;
-      reads = loads;
-      each_read = copy;
-      gives = refl;
-      each = length-replicate n None;
-      parts = [];
-      stores = (refl, wrote-unwritten n);
-      len_is = none_used n;
-      any_is = sym (wrote-unwritten n);
-    } in
-    (does_still (reads readable) old new buffers tt tt 0 false inside d).gives
+copy_still old new buffers readable inside loads copy = read_still old new buffers readable inside loads copy
 
 -- so the request is that of the one memory
 pub request_still : (device : BlockDevice) (old new : Sightings) (buffers : List Buffer) (room : ℕ) (request : Request)

@@ -1,5 +1,5 @@
 -- A chain that is answered at once, since its request asks nothing of the disk: what it is given was stored byte by byte.
-use Rattle.std.specs.Prelude.{◌≡◌, ℕ, Bool, true, Option, Some, List, [], ◌∷◌, length, take, ◌<◌}
+use Rattle.std.specs.Prelude.{◌≡◌, ℕ, Bool, true, Option, List, length, take, ◌<◌}
 use Rattle.chain.specs.declared.segment.Buffer.{Buffer}
 use Rattle.chain.specs.Bytes.{writable_of}
 use Rattle.chain.specs.Service.{Entry, used_len, wrote}
@@ -10,20 +10,9 @@ use Rattle.block_device.specs.declared.request.Request.{Request}
 use Rattle.block_device.specs.declared.request.RequestStatus.{RequestStatus}
 use Rattle.block_device.specs.Asking.{EndsUnasked}
 use Rattle.block_device.specs.Hosting.{hosted_device}
-use Rattle.racing_service.specs.Device.{Part, StoresAtOnce, StoresParts}
+use Rattle.racing_service.specs.Device.{Part, StoresParts}
 use Rattle.racing_service.specs.Queue.{RacingKind}
-
--- these bytes were stored at these addresses, one after another
-pub record StoresOne (races : Bool) (old new : Sightings) (a x : ℕ) (Later : Sightings → Type 0) : Type 0 where
-  pub stored : Sightings
-  pub stores : StoresAtOnce races old stored (a ∷ []) (Some x ∷ [])
-  pub later : Later stored
-
-abbrev pub StoresEach : Bool → Sightings → Sightings → List ℕ → List ℕ → Type 0
-StoresEach races old new [] [] = new ≡ old
-StoresEach races old new (a ∷ addrs) (x ∷ bytes) =
-    StoresOne races old new a x (λ stored. StoresEach races stored new addrs bytes)
-StoresEach races old new _ _ = ⊥
+use Rattle.racing_service.specs.Storing.{StoresEach}
 
 -- The request asks nothing of the disk, and whatever that is, it ends with this status, and with these bytes in the first
 -- writable places.

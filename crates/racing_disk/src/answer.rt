@@ -1,20 +1,19 @@
 //! A chain that is answered at once: what it is given is stored byte by byte, the status last.
 
-ghost use Rattle.std.specs.Prelude.{◌≡◌, ◌<◌, ◌≤◌, ℕ, List, ◌∷◌, [], false, length, take, drop};
-ghost use Rattle.guest_memory.specs.Memory.{Inside, Memory, SameRange};
+ghost use Rattle.std.specs.Prelude.{◌≡◌, ℕ, List, false};
+ghost use Rattle.guest_memory.specs.Memory.{SameRange};
 ghost use Rattle.chain.specs.Buffers.{Good};
-ghost use Rattle.chain.specs.Bytes.{writable_of};
 ghost use Rattle.shared_memory.specs.Sightings.{memory};
 ghost use Rattle.block_device.specs.Asking.{asks_image};
-ghost use Rattle.racing_disk.specs.Answering.{HasFound, IsAnsweredIn, StoresEach};
+ghost use Rattle.racing_disk.specs.Answering.{HasFound, IsAnsweredIn};
 ghost use Rattle.racing_disk.specs.Telling.{IsLeft, WasLeft};
 
-use crate::bytes::StoresBytes;
 use crate::disk::RacingDisk;
 use crate::status::{code, used_len};
 use block_device::{Request, RequestStatus};
 use chain::{Chain, Runs, Used};
-use racing_service::RacingQueue;
+use racing_service::{RacingQueue, store_in_chain};
+use shared_memory::Shared;
 
 /// What is stored of an answer before its status.
 #[derive(Clone, Copy)]
@@ -27,7 +26,7 @@ struct Answer {
 impl RacingDisk {
     /// Answers the chain that was taken last, whose request asks nothing of the disk, and gives it back. Answers its used
     /// length.
-    pub fn answer<Q: RacingQueue, M: StoresBytes>(
+    pub fn answer<Q: RacingQueue, M: Shared>(
         &self,
         mem: &mut M,
         queue: &mut Q,
@@ -57,7 +56,7 @@ impl RacingDisk {
     }
 
     /// Stores what a request finds that asks nothing of the disk.
-    fn store_found<M: StoresBytes>(
+    fn store_found<M: Shared>(
         &self,
         mem: &mut M,
         request: Request,
@@ -74,7 +73,7 @@ impl RacingDisk {
     {
         match request {
             Request::GetId => {
-                store_first(mem, chain, &self.device.identity, room);
+                store_in_chain(mem, chain, 0, &self.device.identity, room);
                 Answer {
                     len: 20,
                     status: RequestStatus::Success,
@@ -84,30 +83,4 @@ impl RacingDisk {
             _ => unreachable!(),
         }
     }
-}
-
-/// Stores bytes in the first writable places, one after another.
-fn store_first<M: StoresBytes>(mem: &mut M, chain: &Chain, bytes: &[u8], room: &mut Runs)
-    requires good { Good (memory (M.sightings mem.old)) chain.now }
-    requires range { length bytes.now ≤ length (writable_of chain.now) }
-    ensures stored { StoresEach (M.races mem.old) (M.sightings mem.old) (M.sightings mem.new)
-        (take (length bytes.now) (writable_of chain.now)) bytes.now }
-    ensures races { M.races mem.new ≡ M.races mem.old }
-    ensures range { SameRange (memory (M.sightings mem.old)) (memory (M.sightings mem.new)) }
-{
-    for (index, byte) in bytes.iter().enumerate() {
-        mem.store_u8(place_at(chain, index as u64, room), *byte);
-    }
-}
-
-/// The address of a writable place. `room` is for its run.
-fn place_at(chain: &Chain, place: u64, room: &mut Runs) -> u64
-    requires { place < length (writable_of chain.now) }
-    ensures value { take 1 (drop place (writable_of chain.now)) ≡ result ∷ [] }
-    ensures inside { (m : Memory) → Good m chain.now → Inside m result 1 }
-{
-    // What it ensures: no place passes 2^32.
-    let _ = chain.buffers();
-    chain.runs(true, place, place + 1, room);
-    room.as_slice()[0].addr
 }

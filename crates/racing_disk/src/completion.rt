@@ -5,16 +5,16 @@ ghost use Rattle.guest_memory.specs.Memory.{Inside};
 ghost use Rattle.shared_memory.specs.Sightings.{memory};
 ghost use Rattle.racing_disk.specs.Completing.{IsGivenBack};
 
-use crate::bytes::StoresBytes;
 use crate::operation::Flight;
 use crate::status::{code, used_len};
 use block_device::{OperationKind, RequestStatus, Verdict};
 use chain::Used;
 use racing_service::RacingQueue;
+use shared_memory::Shared;
 
 /// Completes a chain in flight by how its operation came out, and gives it back. Answers its used length. The round takes no
 /// more chains, and the caller closes the queue.
-pub fn complete<Q: RacingQueue, M: StoresBytes>(
+pub fn complete<Q: RacingQueue, M: Shared>(
     flight: Flight<Q::Token>,
     mem: &mut M,
     queue: &mut Q,

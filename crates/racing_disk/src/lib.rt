@@ -6,7 +6,6 @@
 #![tactic(auto)]
 
 mod answer;
-mod bytes;
 mod completion;
 mod copy;
 mod disk;
@@ -22,7 +21,6 @@ mod status;
 #[cfg(test)]
 mod tests;
 
-pub use bytes::StoresBytes;
 pub use completion::complete;
 pub use disk::RacingDisk;
 pub use laws::{

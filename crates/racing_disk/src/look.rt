@@ -10,13 +10,13 @@ ghost use Rattle.block_device.specs.Operation.{LiesInside};
 ghost use Rattle.racing_service.specs.Service.{IsRacingService, standing_at};
 ghost use Rattle.racing_disk.specs.Looking.{FindsOneThatAsks, FindsOneToAnswer};
 
-use crate::bytes::StoresBytes;
 use crate::disk::RacingDisk;
 use crate::operation::Flight;
 use block_device::Request;
 use chain::{Budget, Chain, Runs};
 use racing_ring::Room;
 use racing_service::{Limits, Outcome, RacingQueue, Refused, serve};
+use shared_memory::Shared;
 
 /// A look that found a request. The queue stands open behind its chain: the caller closes it, and looks once more.
 #[derive(Drop)]
@@ -39,7 +39,7 @@ fn asks(request: Request) -> bool
 impl RacingDisk {
     /// Serves a queue up to its next request. One that asks for the disk stays in flight: `runs` has then where the bytes of its
     /// operation lie, and `chain` its buffers. Any other is answered. `stable` is whether the driver can't flush.
-    pub fn look<Q: RacingQueue, M: StoresBytes>(
+    pub fn look<Q: RacingQueue, M: Shared>(
         &mut self,
         mem: &mut M,
         queue: &mut Q,

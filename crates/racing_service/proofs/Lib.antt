@@ -4,3 +4,5 @@ pub mod Rounds
 pub mod Rings
 pub mod Looking
 pub mod Seeing
+pub mod Flights
+pub mod Rows

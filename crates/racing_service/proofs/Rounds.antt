@@ -6,17 +6,17 @@ use Rattle.guest_memory.proofs.Ranges.{same_trans}
 use Rattle.chain.specs.declared.segment.Buffer.{Buffer}
 use Rattle.chain.specs.declared.fault.Fault.{Fault}
 use Rattle.chain.specs.Buffers.{Good}
-use Rattle.chain.specs.Bytes.{writable_of}
-use Rattle.chain.specs.Service.{Device, Does, Ending, Spent, Faulted, Entry, Served, ServesChain, ServesAll, IsEnding, IsService, after, open_site, scattered, stop, used_len, wrote}
+use Rattle.chain.specs.Bytes.{readable_of, writable_of}
+use Rattle.chain.specs.Service.{Device, Does, Ending, Spent, Faulted, Refused, Entry, Leaves, Served, ServesChain, ServesAll, IsEnding, IsService, after, open_site, scattered, stop, used_len, wrote}
 use Rattle.chain.specs.Service as services
 use Rattle.chain.proofs.Servicing.{both}
 use Rattle.shared_memory.specs.Sightings.{Sightings, Loads, memory}
 use Rattle.racing_service.specs.Queue.{RacingKind}
-use Rattle.racing_service.specs.Service.{Standing, Halt, Drained, Met, Limited, Round, ServesOne, ServesSome, OnlyLoads, HaltsBy, Works, IsRound, AreBusyRounds, AreRounds, IsSettled, IsRacingService}
+use Rattle.racing_service.specs.Service.{Standing, Halt, Drained, Met, Limited, Round, ServesOne, ServesSome, OnlyLoads, HaltsBy, Works, IsClosing, IsRound, LeavesOne, RunsUpTo, AreBusyRounds, AreRounds, IsSettled, IsRacingService}
 use Rattle.racing_service.specs.declared.service.Ending.TheVariants.{Settled}
 use Rattle.racing_service.specs.Laws.{AreServices, site_of}
 use Rattle.racing_service.proofs.Coming.{busy_is_round}
-use Rattle.racing_service.proofs.Standing.{does_still, one_still, scattered_range}
+use Rattle.racing_service.proofs.Standing.{does_still, one_still, read_still, scattered_range}
 
 -- What a kind of ring has to be for that: its definitions are those of the kind of a guest that stands still, where a ring
 -- is sound for its memory, which it stays.
@@ -220,6 +220,63 @@ module _ {Ring State : Type 0} {kind : RacingKind Ring} {IsSound : Memory → Ri
         sound = rw (closed, c.ring) (is.sound_shut _ r.last.ring (is.in_range (memory r.last.sightings) _ r.last.ring
             (is.closed_range (memory r.last.sightings) r.last.ring) w.sound));
       }
+
+  -- A round whose device leaves a chain, where that is for want of memory: the chains before were served, and the queue was
+  -- closed at its place.
+  module _ {E : Type 0} (Refuses : State → List ℕ → List Buffer → E → Type 0) (buffers : List Buffer) (entry : Entry)
+      (why : E) (lacks : (s : State) (readable : List ℕ) → Refuses s readable buffers why
+      → device.LacksMemory s readable (length (writable_of buffers))) where
+    -- how the chain is left
+    record IsLeft (a b : Standing Ring State) : Type 0 where
+      pub leaves : Leaves kind.still device (site_of a)
+      pub same : site_of b ≡ site_of a
+
+    left_there : (a b : Standing Ring State) → LeavesOne kind device false Refuses buffers entry why a b → IsLeft a b
+    left_there a b l =
+        let m = memory a.sightings in
+        let taken : memory l.taken ≡ m = one_still a.sightings l.taken l.loads in
+        let later : memory b.sightings ≡ m = one_still l.taken b.sightings l.refuses.reads ∙ taken in
+        let good = is.good a.sightings l.taken a.ring buffers entry l.offered in
+        let read : l.refuses.readable ≡ readable_of m buffers =
+        rw taken at (read_still l.taken b.sightings buffers l.refuses.readable good.inside l.refuses.reads l.refuses.each_read) in
+        record {
+          leaves = record {
+            ready = both (device.takes a.state) (kind.still.offers m a.ring) l.takes
+                (sym (is.told a.sightings l.taken a.ring true l.loads l.told));
+            buffers = buffers;
+            entry = entry;
+            offered = is.offered a.sightings l.taken a.ring buffers entry l.loads l.offered;
+            lacks_memory = rw read at (lacks a.state l.refuses.readable l.refuses.refuses);
+          };
+          same = rw (later, l.ring, l.state) refl;
+        }
+
+    pub left_service : (a at b : Standing Ring State) (wanted : Bool) → IsSound (memory a.sightings) a.ring
+        → RunsUpTo kind device false Refuses buffers entry why a at → IsClosing kind device false at b wanted
+        → IsService kind.still device (site_of a) (site_of b) Refused wanted
+    left_service a at b wanted sound r c =
+        let m = memory a.sightings in
+        let o = r.opened in
+        let same : memory o.sightings ≡ m = same_memory a o r.opens.only in
+        let ring : o.ring ≡ kind.still.opened m a.ring = rw same at r.opens.ring in
+        let opened : site_of o ≡ open_site kind.still device (site_of a) = rw (same, ring, r.opens.only.state) refl in
+        let no_fault : kind.still.opening_fault m a.ring ≡ None = rw same at r.no_fault in
+        let chains = all_served r.serves.between o r.serves.at (rw (same, ring) (is.sound_opened m m a.ring sound))
+        r.serves.serves in
+        let left = left_there r.serves.at at r.serves.leaves in
+        let closed = is.closed at.sightings b.sightings at.ring wanted c.closed in
+        record {
+          last = site_of at;
+          works = rw (no_fault, ← opened) (record {
+            chains = chains.chains;
+            at = site_of r.serves.at;
+            serves = chains.serves;
+            ends = left.leaves;
+            stands = left.same;
+          });
+          closed = rw (closed, c.ring, c.state) refl;
+          wanted_is = rw closed at (is.wants at.sightings b.sightings at.ring wanted c.closed);
+        }
 
   -- rounds
   pub record AreAllServices (a : Standing Ring State) (rounds : List (Round Ring State)) (b : Standing Ring State)

@@ -13,10 +13,49 @@ use Rattle.chain.specs.Bytes.{addresses, readable_of, segments_of, writable_of}
 use Rattle.chain.specs.Service.{Device, used_len}
 use Rattle.chain.proofs.Directions.{All-segments_of}
 use Rattle.chain.proofs.Partial.{wrote-unwritten}
-use Rattle.shared_memory.specs.Sightings.{Sightings, SeenAs, memory}
-use Rattle.shared_memory.proofs.Sightings.{loads_none}
+use Rattle.shared_memory.specs.Sightings.{Sightings, Loads, SeenAs, memory}
+use Rattle.shared_memory.proofs.Sightings.{loads_none, seen_later, seen_sooner}
 use Rattle.racing_service.specs.Device.{AreBytesSeen, DoesRaced}
 use Rattle.racing_service.proofs.Standing.{part_more}
+
+-- ---- what was seen stays seen
+
+pub bytes_later : (races : Bool) (a b c : Sightings) (addrs bytes : List ℕ) → Loads races b c → AreBytesSeen a b addrs bytes
+    → AreBytesSeen a c addrs bytes
+bytes_later races a b c [] [] loads seen = tt
+bytes_later races a b c [] (x ∷ bytes) loads seen = absurd seen
+bytes_later races a b c (at ∷ addrs) [] loads seen = absurd seen
+bytes_later races a b c (at ∷ addrs) (x ∷ bytes) loads seen = (
+  record {
+    where_read = seen.0.where_read;
+    seen = seen_later races a b c seen.0.where_read loads seen.0.seen;
+    is = seen.0.is;
+  },
+  bytes_later races a b c addrs bytes loads seen.1,
+)
+
+pub bytes_sooner : (races : Bool) (a b c : Sightings) (addrs bytes : List ℕ) → Loads races a b → AreBytesSeen b c addrs bytes
+    → AreBytesSeen a c addrs bytes
+bytes_sooner races a b c [] [] loads seen = tt
+bytes_sooner races a b c [] (x ∷ bytes) loads seen = absurd seen
+bytes_sooner races a b c (at ∷ addrs) [] loads seen = absurd seen
+bytes_sooner races a b c (at ∷ addrs) (x ∷ bytes) loads seen = (
+  record {
+    where_read = seen.0.where_read;
+    seen = seen_sooner races a b c seen.0.where_read loads seen.0.seen;
+    is = seen.0.is;
+  },
+  bytes_sooner races a b c addrs bytes loads seen.1,
+)
+
+-- there are as many as addresses
+pub bytes_count : (a b : Sightings) (addrs bytes : List ℕ) → AreBytesSeen a b addrs bytes → length bytes ≡ length addrs
+bytes_count a b [] [] seen = refl
+bytes_count a b [] (x ∷ bytes) seen = absurd seen
+bytes_count a b (at ∷ addrs) [] seen = absurd seen
+bytes_count a b (at ∷ addrs) (x ∷ bytes) seen = omega (arith, bytes_count a b addrs bytes seen.1)
+
+-- ---- parts that were copied
 
 module _ (old new : Sightings) where
   -- bytes behind others
@@ -46,7 +85,7 @@ module _ (old new : Sightings) where
       (record { where_read = m; seen = seen; is = byte.1 }, part_seen m (a + 1) n seen later)
 
 -- the readable list as it stands at one access
-segments_seen : (s : Sightings) (segments : List Segment) → All (λ r. Inside (memory s) r.addr r.len) segments
+pub segments_seen : (s : Sightings) (segments : List Segment) → All (λ r. Inside (memory s) r.addr r.len) segments
     → AreBytesSeen s s (flat_map addresses segments) (flat_map (λ r. part_of (memory s) r.addr r.len) segments)
 segments_seen s [] inside = tt
 segments_seen s (r ∷ segments) inside =

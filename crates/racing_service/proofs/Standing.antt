@@ -80,6 +80,13 @@ readable_at : (m : Memory) (buffers : List Buffer) → All (Within m) buffers
     → bytes_at m (addresses_of false buffers) ≡ readable_of m buffers
 readable_at m buffers inside = segments_at m (segments_of false buffers) (All-segments_of m false buffers inside)
 
+-- so what was copied of the readable list is what stands there
+pub read_still : (old new : Sightings) (buffers : List Buffer) (readable : List ℕ) → All (Within (memory old)) buffers
+    → Loads false old new → AreBytesSeen old new (addresses_of false buffers) readable
+    → readable ≡ readable_of (memory old) buffers
+read_still old new buffers readable inside loads seen =
+    seen_is old new (addresses_of false buffers) readable loads seen ∙ readable_at (memory old) buffers inside
+
 -- ---- writing
 
 -- places of which none was written
@@ -159,9 +166,7 @@ pub does_still : {State : Type 0} (device : Device State) (old new : Sightings) 
     (len : ℕ) (any : Bool) → All (Within (memory old)) buffers → DoesRaced device false old new buffers s t len any
     → Does device (memory old) (memory new) buffers s t len any
 does_still device old new buffers s t len any inside d =
-    let read : d.readable ≡ readable_of (memory old) buffers =
-    seen_is old d.read_to (addresses_of false buffers) d.readable d.reads d.each_read
-    ∙ readable_at (memory old) buffers inside in
+    let read = read_still old d.read_to buffers d.readable inside d.reads d.each_read in
     record {
       written = d.written;
       gives = rw read at d.gives;

@@ -1,6 +1,9 @@
 pub mod Lying
 pub mod Queue
 pub mod Device
+pub mod Storing
 pub mod Service
 pub mod Sink
 pub mod Laws
+pub mod Flights
+pub mod Lasting

@@ -1,16 +1,20 @@
 //! Laws of the definitions. The bodies are empty: each contract is a theorem.
 
-ghost use Rattle.std.specs.Prelude.{◌≡◌, ◌<◌, ℕ, Bool, List, [], ◌∷◌, false, true};
+ghost use Rattle.std.specs.Prelude.{◌≡◌, ◌<◌, ◌-◌, ◌++◌, ◌^◌, ℕ, Bool, List, [], ◌∷◌, None, Option, Some, false, length, map, replicate, take, true};
 ghost use Rattle.chain.specs.declared.fault.Fault.{Fault};
 ghost use Rattle.chain.specs.declared.state.RingState.{RingState};
-ghost use Rattle.chain.specs.Service.{Faulted, IsService, Spent};
+ghost use Rattle.chain.specs.declared.segment.Buffer.{Buffer};
+ghost use Rattle.chain.specs.Bytes.{writable_of};
+ghost use Rattle.chain.specs.Service.{Entry, Faulted, IsService, Refused, Spent};
 ghost use Rattle.split_ring.specs.Ring.{LiesIn};
 ghost use Rattle.split_ring.specs.Kind.{split_kind};
 ghost use Rattle.packed_ring.specs.Kind.{packed_kind};
-ghost use Rattle.shared_memory.specs.Sightings.{memory};
+ghost use Rattle.shared_memory.specs.Sightings.{Sightings, Stores, memory};
 ghost use Rattle.racing_service.specs.declared.service.Ending.TheVariants.{Settled};
 ghost use Rattle.racing_service.specs.Queue.{racing_packed, racing_split};
-ghost use Rattle.racing_service.specs.Service.{AreRounds, IsRacingService, IsRound, IsSettled, Met, Round, Standing};
+ghost use Rattle.racing_service.specs.Service.{AreRounds, IsClosing, IsRacingService, IsRound, IsSettled, Met, Round, RunsUpTo, Standing};
+ghost use Rattle.racing_service.specs.Device.{StoresAtOnce};
+ghost use Rattle.racing_service.specs.Storing.{StoresEach, StoresSome};
 ghost use Rattle.racing_service.specs.Laws.{AreServices, SeesNoHead, SeesNoList, site_of};
 
 use crate::device::RacingDevice;
@@ -27,6 +31,13 @@ pub fn a_split_ring_that_stands_still_is_served_by_services<B, D: RacingDevice<B
         → LiesIn (memory a.sightings) a.ring.setup → 0 < a.ring.setup.size
         → IsRound racing_split (D.device setup) false a (Met fault) b wanted
         → IsService split_kind (D.device setup) (site_of a) (site_of b) (Faulted fault) wanted }
+    ensures left { (setup : D.Setup) (backend : B) (buffers : List Buffer) (entry : Entry) (why : D.Refusal) (wanted : Bool)
+        (a at b : Standing RingState D.State) → LiesIn (memory a.sightings) a.ring.setup → 0 < a.ring.setup.size
+        → ((s : D.State) (readable : List ℕ) → D.Refuses setup backend s readable buffers why
+        → (D.device setup).LacksMemory s readable (length (writable_of buffers)))
+        → RunsUpTo racing_split (D.device setup) false (D.Refuses setup backend) buffers entry why a at
+        → IsClosing racing_split (D.device setup) false at b wanted
+        → IsService split_kind (D.device setup) (site_of a) (site_of b) Refused wanted }
     ensures look { (setup : D.Setup) (rounds : List (Round RingState D.State)) (wanted : Bool)
         (a at b : Standing RingState D.State) → AreRounds racing_split (D.device setup) false a rounds at
         → IsSettled racing_split (D.device setup) false rounds at b wanted → site_of b ≡ site_of at }
@@ -44,6 +55,13 @@ pub fn a_packed_ring_that_stands_still_is_served_by_services<B, D: RacingDevice<
     ensures broken { (setup : D.Setup) (fault : Fault) (wanted : Bool) (a b : Standing RingState D.State)
         → 0 < a.ring.setup.size → IsRound racing_packed (D.device setup) false a (Met fault) b wanted
         → IsService packed_kind (D.device setup) (site_of a) (site_of b) (Faulted fault) wanted }
+    ensures left { (setup : D.Setup) (backend : B) (buffers : List Buffer) (entry : Entry) (why : D.Refusal) (wanted : Bool)
+        (a at b : Standing RingState D.State) → 0 < a.ring.setup.size
+        → ((s : D.State) (readable : List ℕ) → D.Refuses setup backend s readable buffers why
+        → (D.device setup).LacksMemory s readable (length (writable_of buffers)))
+        → RunsUpTo racing_packed (D.device setup) false (D.Refuses setup backend) buffers entry why a at
+        → IsClosing racing_packed (D.device setup) false at b wanted
+        → IsService packed_kind (D.device setup) (site_of a) (site_of b) Refused wanted }
     ensures look { (setup : D.Setup) (rounds : List (Round RingState D.State)) (wanted : Bool)
         (a at b : Standing RingState D.State) → AreRounds racing_packed (D.device setup) false a rounds at
         → IsSettled racing_packed (D.device setup) false rounds at b wanted → site_of b ≡ site_of at }
@@ -63,4 +81,22 @@ pub fn a_settled_service_saw_nothing_more_on_offer<B, D: RacingDevice<B>>()
     ensures packed { (setup : D.Setup) (races wanted : Bool) (rounds : List (Round RingState D.State))
         (at b : Standing RingState D.State) → IsSettled racing_packed (D.device setup) races rounds at b wanted
         → (D.device setup).takes at.state ≡ true → at.ring.ahead < at.ring.setup.size → SeesNoList at.sightings b.sightings at.ring }
+{}
+
+/// A row of bytes is stored in parts, as `DoesRaced` asks of a device: of whatever places it is, and whatever is stored behind
+/// it. `first` is the whole of a device that fills the first places and writes no others.
+pub fn a_row_of_bytes_is_stored_in_parts()
+    ensures byte { (races : Bool) (old new : Sightings) (addr byte : ℕ) → byte < 2 ^ 8 → Stores races old new addr 1 byte
+        → StoresAtOnce races old new (addr ∷ []) (Some byte ∷ []) }
+    ensures joined { (races : Bool) (old mid new : Sightings) (addrs bytes more others : List ℕ)
+        → StoresEach races old mid addrs bytes → StoresEach races mid new more others
+        → StoresEach races old new (addrs ++ more) (bytes ++ others) }
+    ensures once { (races : Bool) (old new : Sightings) (addrs : List ℕ) (written : List (Option ℕ))
+        → StoresAtOnce races old new addrs written → StoresSome races old new addrs written }
+    ensures behind { (races : Bool) (old mid new : Sightings) (addrs bytes more : List ℕ) (written : List (Option ℕ))
+        → StoresEach races old mid addrs bytes → StoresSome races mid new more written
+        → StoresSome races old new (addrs ++ more) (map Some bytes ++ written) }
+    ensures first { (races : Bool) (old new : Sightings) (addrs bytes : List ℕ)
+        → StoresEach races old new (take (length bytes) addrs) bytes
+        → StoresSome races old new addrs (map Some bytes ++ replicate (length addrs - length bytes) None) }
 {}

@@ -5,19 +5,23 @@
 #![tactic(auto)]
 
 mod device;
+mod flight;
 mod laws;
 mod queue;
 mod service;
 mod sink;
+mod storing;
 #[cfg(test)]
 mod tests;
 
 pub use device::RacingDevice;
+pub use flight::KeepsFlights;
 pub use laws::{
-    a_packed_ring_that_stands_still_is_served_by_services,
+    a_packed_ring_that_stands_still_is_served_by_services, a_row_of_bytes_is_stored_in_parts,
     a_settled_service_saw_nothing_more_on_offer,
     a_split_ring_that_stands_still_is_served_by_services,
 };
 pub use queue::RacingQueue;
 pub use service::{Ending, Limits, Outcome, Refused, serve};
 pub use sink::Sink;
+pub use storing::store_in_chain;

@@ -2,8 +2,8 @@
 
 ghost use Rattle.shared_memory.specs.Sightings.{memory};
 
-use crate::{Ending, Limits, Outcome, RacingQueue, Sink, serve};
-use chain::{Budget, Chain, Setup};
+use crate::{Ending, Limits, Outcome, RacingQueue, Sink, serve, store_in_chain};
+use chain::{Budget, Chain, Runs, Setup};
 use guest_memory::GuestMemory;
 use racing_ring::{RacingPackedRing, RacingSplitRing, Room};
 use shared_memory::Shared;
@@ -135,5 +135,28 @@ fn a_list_of_a_packed_ring_is_served(rt: HostRuntime) -> Result<(), Fail> {
     assert!(rt; is_settled(&outcome));
     assert!(rt; outcome.wanted);
     assert_eq!(rt; mem.get_u64(BASE + 8), Some(0x8080_0007_0000_0000));
+    Ok(())
+}
+
+#[tactic(auto, using(chain::proofs::Holding::good_after, chain::proofs::Admitting::good_nil))]
+/// Stores three bytes from the second place on of two writable buffers, of which the second lies before the first.
+fn row_stored<M: Shared>(mem: &mut M) -> Option<()> {
+    let mut chain = Chain::new();
+    let inside = mem.holds(BASE + 4, 2);
+    chain.push_tested(inside, BASE + 4, 2, true).ok()?;
+    let inside = mem.holds(BASE, 3);
+    chain.push_tested(inside, BASE, 3, true).ok()?;
+    if chain.writable_len() < 4 {
+        return None;
+    }
+    store_in_chain(mem, &chain, 1, &[0x11, 0x22, 0x33], &mut Runs::new());
+    Some(())
+}
+
+#[test]
+fn a_row_of_bytes_goes_over_two_buffers(rt: HostRuntime) -> Result<(), Fail> {
+    let mut mem = GuestMemory::new(rt.alloc(), BASE, 4096)?;
+    row_stored(&mut mem).ok_or("no chain")?;
+    assert_eq!(rt; mem.get_u64(BASE), Some(0x0000_1100_0000_3322));
     Ok(())
 }

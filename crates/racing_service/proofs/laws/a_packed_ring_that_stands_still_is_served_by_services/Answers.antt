@@ -2,7 +2,7 @@ use Rattle.std.proofs.Common.{refl}
 use Rattle.chain.specs.Service.{Faulted}
 use Rattle.racing_service.specs.Service.{Met}
 use Rattle.racing_service.proofs.Rings.{packed_stands_still}
-use Rattle.racing_service.proofs.Rounds.{all_services, one_service, one_settled, settled_there}
+use Rattle.racing_service.proofs.Rounds.{all_services, left_service, one_service, one_settled, settled_there}
 use Rattle.racing_service.proofs.laws.a_packed_ring_that_stands_still_is_served_by_services.Goals as goal
 
 pub returns-clause-rounds : goal.returns-clause-rounds
@@ -13,6 +13,11 @@ pub returns-clause-broken : goal.returns-clause-broken
 returns-clause-broken g c = λ setup fault wanted a b some r.
     (one_service packed_stands_still (g.D.RacingDevice.device setup) (Met fault) (Faulted fault) a b wanted refl
     (record { some = some }) r).service
+
+pub returns-clause-left : goal.returns-clause-left
+returns-clause-left g c = λ setup backend buffers entry why wanted a at b some lacks r closing.
+    left_service packed_stands_still (g.D.RacingDevice.device setup) (g.D.RacingDevice.Refuses setup backend) buffers entry why
+    lacks a at b wanted (record { some = some }) r closing
 
 pub returns-clause-look : goal.returns-clause-look
 returns-clause-look g c = λ setup rounds wanted a at b r s.

@@ -1,7 +1,7 @@
 use Rattle.std.proofs.Common.{◌∙◌, true, arith}
 use Rattle.chain.proofs.Directions.{len_of-le, length-addresses_of}
-use Rattle.racing_disk.proofs.Answering.{place_first, place_inside}
-use Rattle.racing_disk.proofs.answer.place_at.Goals as goal
+use Rattle.racing_service.proofs.Rows.{place_first, place_inside}
+use Rattle.racing_service.proofs.storing.place_at.Goals as goal
 
 pub overflow_add-place : goal.overflow_add-place
 overflow_add-place c =
