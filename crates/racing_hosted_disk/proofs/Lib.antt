@@ -1,0 +1,9 @@
+pub mod Bits
+pub mod Freeing
+pub mod Holding
+pub mod Going
+pub mod Looks
+pub mod Finding
+pub mod Landing
+pub mod Telling
+pub mod Standing

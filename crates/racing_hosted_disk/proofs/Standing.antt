@@ -1,0 +1,89 @@
+-- Of a guest that stands still the host is told what it is told of any other such guest.
+use Rattle.std.proofs.Common.{◌≡◌, ◌∙◌, ℕ, Bool, true, false, List, [], ◌∷◌, sym, ap, subst}
+use Rattle.guest_memory.specs.Memory.{Memory, SameRange, put}
+use Rattle.guest_memory.proofs.Ranges.{put_range}
+use Rattle.chain.specs.Bytes.{readable_of}
+use Rattle.chain.specs.Service.{Entry}
+use Rattle.shared_memory.specs.Sightings.{memory}
+use Rattle.block_device.specs.declared.device.BlockDevice.{BlockDevice}
+use Rattle.block_device.specs.declared.operation.Verdict.{Verdict}
+use Rattle.block_device.specs.Asking.{status_by}
+use Rattle.block_device.specs.Request.{code_of}
+use Rattle.block_device.specs.Operation.{IsToldToHost, runs_for}
+use Rattle.racing_service.specs.Queue.{RacingKind}
+use Rattle.racing_service.specs.Service.{Standing}
+use Rattle.racing_service.proofs.Rounds.{StandsStill}
+use Rattle.racing_service.proofs.Standing.{one_still}
+use Rattle.racing_disk.specs.Telling.{runs_by}
+use Rattle.racing_disk.proofs.Standing.{copy_still, left_still, runs_still}
+use Rattle.racing_hosted_disk.specs.Laws.{IsToldOf, LandsAsOne}
+use Rattle.racing_hosted_disk.specs.Looking.{AsksIn, Place}
+use Rattle.racing_hosted_disk.specs.Tags.{InFlight}
+use Rattle.racing_hosted_disk.specs.Told.{Lands}
+
+module _ {Ring T : Type 0} (kind : RacingKind Ring) (IsSound : Memory → Ring → Type 0) (stands : StandsStill kind IsSound)
+    (entry_of : T → Entry) (device : BlockDevice) (most : ℕ) (stable : Bool) where
+  pub told_of : (here : InFlight T) (a b : Standing Ring (Unit {0})) (wanted : Bool)
+      (asks : AsksIn kind entry_of device false most stable here a b wanted)
+      → IsToldOf kind.still entry_of device stable (memory asks.finds.at.sightings) asks.finds.at.ring asks.buffers here
+  told_of here a b wanted asks =
+      let finds = asks.finds in
+      let up = finds.finds.service.leaves.serves in
+      let one = up.leaves in
+      let entry = entry_of here.flight.token in
+      let buffers = asks.buffers in
+      let good = stands.good up.at.sightings one.taken up.at.ring buffers entry one.offered in
+      let same : memory finds.at.sightings ≡ memory one.taken = one_still one.taken finds.at.sightings one.refuses.reads in
+      let seen : memory one.taken ≡ memory up.at.sightings = one_still up.at.sightings one.taken one.loads in
+      let offered = stands.offered up.at.sightings one.taken up.at.ring buffers entry one.loads one.offered in
+      let copied : one.refuses.readable ≡ readable_of (memory one.taken) buffers =
+      copy_still one.taken finds.at.sightings buffers one.refuses.readable good.inside one.refuses.reads
+      one.refuses.each_read in
+      let are : here.runs ≡ runs_by finds.request one.refuses.readable buffers =
+      finds.runs_are one.refuses.readable one.refuses.refuses in
+      let by : here.runs ≡ runs_for finds.request (memory one.taken) buffers =
+      are ∙ ap (λ (l : List ℕ). runs_by finds.request l buffers) copied
+      ∙ runs_still finds.request (memory one.taken) buffers in
+      let told : IsToldToHost device (memory one.taken) buffers finds.request finds.kept =
+      left_still device one.taken finds.at.sightings buffers finds.request finds.kept good one.refuses finds.asks in
+      record {
+        request = finds.request;
+        kept = finds.kept;
+        offered = rw (same ∙ seen, one.ring) offered;
+        told = rw same told;
+        operation_is = finds.operation_is;
+        runs_are = rw same by;
+        place = finds.place;
+      }
+
+  -- ---- a completion
+
+  pub lands_as_one : (tag : ℕ) (verdict : Verdict) (a b : Place Ring T) (wanted : Bool)
+      → IsSound (memory a.service.sightings) a.service.ring
+      → (lands : Lands kind entry_of device false tag verdict a b wanted)
+      → LandsAsOne kind.still entry_of verdict lands.here (memory a.service.sightings) (memory b.service.sightings)
+      a.service.ring b.service.ring wanted
+  lands_as_one tag verdict a b wanted sound lands =
+      let back = lands.back in
+      let entry = entry_of lands.here.flight.token in
+      let m = memory a.service.sightings in
+      let status : memory back.done ≡ put m lands.here.flight.status (code_of (status_by verdict) ∷ []) =
+      back.completed.stored.stored
+      ∙ ap (λ (n : Memory). put n lands.here.flight.status (code_of (status_by verdict) ∷ []))
+      back.completed.stored.interference in
+      let range : SameRange m (memory back.done) =
+      subst (SameRange m) (sym status) (put_range m lands.here.flight.status (code_of (status_by verdict) ∷ [])) in
+      record {
+        done = memory back.done;
+        given = memory lands.given;
+        len = lands.len;
+        behind = lands.behind;
+        status = status;
+        len_is = back.completed.len_is;
+        used = stands.given back.done lands.given a.service.ring entry lands.len true
+            (stands.in_range m (memory back.done) a.service.ring range sound) back.given;
+        landed = back.landed;
+        closed = stands.closed lands.given b.service.sightings lands.behind wanted lands.closes.closed;
+        wants = stands.wants lands.given b.service.sightings lands.behind wanted lands.closes.closed;
+        shut = lands.closes.ring;
+      }

@@ -1,0 +1,5 @@
+pub mod Tags
+pub mod Disk
+pub mod Looking
+pub mod Told
+pub mod Laws
