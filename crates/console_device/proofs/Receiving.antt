@@ -27,7 +27,7 @@ scatter_none m (a ∷ addrs) (x ∷ bytes) none = let e : length (x ∷ bytes) �
     (omega (arith, e))
 
 -- the first n of two lists
-take-append : (n : ℕ) (xs ys : List ℕ) → take n (xs ++ ys) ≡ take n xs ++ take (n - length xs) ys
+pub take-append : (n : ℕ) (xs ys : List ℕ) → take n (xs ++ ys) ≡ take n xs ++ take (n - length xs) ys
 take-append zero [] ys = refl
 take-append (suc n) [] ys = let e : suc n ≡ suc n - length {A = ℕ} [] = omega arith in ap (λ k. take k ys) e
 take-append zero (x ∷ xs) ys = let e : 0 ≡ 0 - length (x ∷ xs) = omega arith in ap (λ k. take k ys) e
@@ -36,7 +36,7 @@ take-append (suc n) (x ∷ xs) ys =
     ap (λ (l : List ℕ). x ∷ l) (take-append n xs ys ∙ ap (λ k. take n xs ++ take k ys) e)
 
 -- no more than there are
-take_fewer : (k n : ℕ) (xs : List ℕ) → k ≡ min (length xs) n → take k xs ≡ take n xs
+pub take_fewer : (k n : ℕ) (xs : List ℕ) → k ≡ min (length xs) n → take k xs ≡ take n xs
 take_fewer k n xs h = let e : k ≡ min n (length xs) = omega (arith, h) in
     ap (λ j. take j xs) e ∙ take_min n xs
 

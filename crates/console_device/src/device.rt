@@ -1,6 +1,6 @@
 //! The device: its size, its pending input, and its configuration space (5.3.4).
 
-ghost use Rattle.std.specs.Prelude.{◌≡◌, ◌++◌, ◌+◌, ◌∷◌, ◌≤◌, [], length, take, IfOk, OnOk, OnErr};
+ghost use Rattle.std.specs.Prelude.{◌≡◌, ◌++◌, ◌+◌, ◌∷◌, ◌≤◌, [], drop, length, take, IfOk, OnOk, OnErr};
 ghost use Rattle.console_device.specs.Config.{config_of};
 ghost use Rattle.console_device.specs.Console.{Console};
 ghost use Rattle.console_device.specs.Device.{Fits, MayRefuse};
@@ -57,6 +57,14 @@ impl<A: Allocator> ConsoleDevice<A> {
         ensures limit { length self.new.pending ≤ 4096 }
     {
         self.pending.append(bytes)
+    }
+
+    /// Takes the first pending bytes away, once they stand in a buffer of the driver.
+    pub fn skip_input(&mut self, count: usize)
+        requires { count ≤ length self.old.pending }
+        ensures { self.new ≡ record self.old { pending = drop count self.old.pending } }
+    {
+        self.pending.skip(count);
     }
 
     /// Puts this size and these pending bytes in the place of its own.

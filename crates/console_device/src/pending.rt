@@ -105,9 +105,9 @@ impl<A: Allocator> Pending<A> {
         count
     }
 
-    // Takes the first bytes away. Where they are all the ring stays where it is, so that what comes next is one part.
+    /// Takes the first bytes away. Where they are all the ring stays where it is, so that what comes next is one part.
     #[inline(always)]
-    fn skip(&mut self, count: usize)
+    pub(crate) fn skip(&mut self, count: usize)
         requires { count ≤ length self.old }
         ensures { self.new ≡ drop count self.old }
     {

@@ -1,0 +1,3 @@
+pub mod PuttingOut
+pub mod Receiving
+pub mod Standing

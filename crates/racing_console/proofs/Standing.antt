@@ -1,0 +1,51 @@
+-- A guest that stands still.
+use Rattle.std.proofs.Common.{ℕ, Bool, false, Option, List, length, subst}
+use Rattle.guest_memory.specs.Memory.{Memory}
+use Rattle.chain.specs.declared.segment.Buffer.{Buffer}
+use Rattle.chain.specs.Buffers.{Good}
+use Rattle.chain.specs.Bytes.{readable_of, writable_of}
+use Rattle.chain.specs.Service.{Does}
+use Rattle.shared_memory.specs.Sightings.{Sightings, memory}
+use Rattle.console_device.specs.declared.no_memory.NoMemory.{NoMemory}
+use Rattle.console_device.specs.Device.{receive, transmit_within}
+use Rattle.racing_service.specs.Device.{DoesRaced, RefusesRaced}
+use Rattle.racing_service.specs.Queue.{RacingKind}
+use Rattle.racing_service.specs.Service.{Standing}
+use Rattle.racing_service.specs.Laws.{site_of}
+use Rattle.racing_service.proofs.Standing.{does_still, read_still}
+use Rattle.racing_service.proofs.Rounds.{StandsStill, all_services, left_service}
+use Rattle.racing_console.specs.Output.{NoRoom}
+use Rattle.racing_console.specs.Serving.{EndsFull, IsFull}
+
+pub transmit_still : (limit : Option ℕ) (old new : Sightings) (buffers : List Buffer) (out after : List ℕ) (len : ℕ) (any : Bool)
+    → Good (memory old) buffers → DoesRaced (transmit_within limit) false old new buffers out after len any
+    → Does (transmit_within limit) (memory old) (memory new) buffers out after len any
+transmit_still limit old new buffers out after len any good d =
+    does_still (transmit_within limit) old new buffers out after len any good.inside d
+
+pub receive_still : (old new : Sightings) (buffers : List Buffer) (pending left : List ℕ) (len : ℕ) (any : Bool)
+    → Good (memory old) buffers → DoesRaced receive false old new buffers pending left len any
+    → Does receive (memory old) (memory new) buffers pending left len any
+receive_still old new buffers pending left len any good d =
+    does_still receive old new buffers pending left len any good.inside d
+
+pub refused_still : (limit : Option ℕ) (old new : Sightings) (buffers : List Buffer) (out : List ℕ) (why : NoMemory)
+    → Good (memory old) buffers → RefusesRaced (NoRoom limit) false old new buffers out why
+    → (transmit_within limit).LacksMemory out (readable_of (memory old) buffers) (length (writable_of buffers))
+refused_still limit old new buffers out why good r =
+    subst (λ (l : List ℕ). (transmit_within limit).LacksMemory out l (length (writable_of buffers)))
+    (read_still old new buffers r.readable good.inside r.reads r.each_read) r.refuses
+
+-- a service that leaves a chain
+pub full_still : {Ring : Type 0} {kind : RacingKind Ring} {IsSound : Memory → Ring → Type 0} (is : StandsStill kind IsSound)
+    (limit : Option ℕ) (most : ℕ) (wanted : Bool) (a b : Standing Ring (List ℕ)) (full : IsFull kind limit false most a b wanted)
+    → IsSound (memory a.sightings) a.ring → EndsFull kind.still limit (site_of a) full.refused.rounds (site_of b) full.closing
+full_still is limit most wanted a b full sound =
+    let r = full.refused in
+    let before = all_services is (transmit_within limit) r.rounds a r.at sound r.serves in
+    record {
+      between = site_of r.at;
+      services = before.services;
+      last = left_service is (transmit_within limit) (NoRoom limit) full.buffers full.entry full.why
+          (λ out readable lacks. lacks) r.at full.at b full.closing before.sound r.leaves full.closes;
+    }

@@ -1,0 +1,89 @@
+//! The receive queue's device: it stores pending input in chains.
+
+ghost use Rattle.std.specs.Prelude.{◌≡◌, length, take};
+ghost use Rattle.chain.specs.Buffers.{Good};
+ghost use Rattle.chain.specs.Bytes.{writable_of};
+ghost use Rattle.shared_memory.specs.Sightings.{memory};
+ghost use Rattle.racing_service.specs.Storing.{StoresEach};
+
+use chain::{Chain, Runs, Used};
+use console_device::{ConsoleDevice, NoMemory};
+use racing_service::{RacingDevice, store_in_chain};
+use shared_memory::Shared;
+use std::alloc::Allocator;
+
+/// Stores pending input in the writable places of chains. It refuses none.
+#[derive(Drop)]
+pub struct RacingReceive {
+    // For the runs of a chain's places.
+    room: Runs,
+}
+
+impl RacingReceive {
+    /// A device, with room for the places that it stores in.
+    pub fn new() -> RacingReceive {
+        RacingReceive { room: Runs::new() }
+    }
+}
+
+impl<A: Allocator> RacingDevice<ConsoleDevice<A>> for RacingReceive {
+    type Refusal = NoMemory;
+
+    ghost use Rattle.std.specs.Prelude.{ℕ, List};
+    ghost use Rattle.console_device.specs.Device.{receive};
+
+    ghost State = { List ℕ };
+
+    ghost state = { λ here console. console.pending };
+
+    ghost Setup = { ℕ × ℕ };
+
+    ghost setup = { λ here console. (console.cols, console.rows) };
+
+    ghost device = { λ size. receive };
+
+    ghost Refuses = { λ size left pending readable buffers why. ⊥ };
+
+    ghost IsReady = { λ here console. Unit {0} };
+
+    fn takes(&self, console: &ConsoleDevice<A>) -> bool {
+        console.pending_len() > 0
+    }
+
+    fn serve<M: Shared>(
+        &mut self,
+        mem: &mut M,
+        chain: &Chain,
+        console: &mut ConsoleDevice<A>,
+    ) -> Result<Used, NoMemory> {
+        let count = store_input(mem, chain, console, &mut self.room);
+        console.skip_input(count);
+        Ok(Used {
+            len: count as u32,
+            wrote: count > 0,
+        })
+    }
+}
+
+/// Stores pending input in the first writable places of a chain, as many bytes as both have, and answers how many they
+/// are. What is pending stays.
+fn store_input<M: Shared, A: Allocator>(
+    mem: &mut M,
+    chain: &Chain,
+    console: &ConsoleDevice<A>,
+    room: &mut Runs,
+) -> usize
+    requires good { Good (memory (M.sightings mem.old)) chain.now }
+    ensures count { result ≡ length (take (length (writable_of chain.now)) console.now.pending) }
+    ensures stored { StoresEach (M.races mem.old) (M.sightings mem.old) (M.sightings mem.new)
+        (take result (writable_of chain.now)) (take (length (writable_of chain.now)) console.now.pending) }
+    ensures races { M.races mem.new ≡ M.races mem.old }
+{
+    let places = chain.writable_len() as usize;
+    let (front, back) = console.pending();
+    let from_front = front.len().min(places);
+    let from_back = back.len().min(places - from_front);
+    store_in_chain(mem, chain, 0, &front[..from_front], room);
+    store_in_chain(mem, chain, from_front as u64, &back[..from_back], room);
+    from_front + from_back
+}
