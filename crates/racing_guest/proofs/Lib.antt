@@ -1,0 +1,6 @@
+pub mod Making
+pub mod Holding
+pub mod Telling
+pub mod Answering
+pub mod Transmitting
+pub mod Routing

@@ -1,0 +1,4 @@
+pub mod Reply
+pub mod Block
+pub mod Console
+pub mod Guest

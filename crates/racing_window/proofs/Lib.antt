@@ -1,0 +1,4 @@
+pub mod Rings
+pub mod Staying
+pub mod Sizes
+pub mod Standing

@@ -1,0 +1,6 @@
+pub mod Queue
+pub mod Layout
+pub mod Lying
+pub mod Serving
+pub mod Laws
+pub mod Lasting

@@ -1,0 +1,55 @@
+//! Laws of the definitions. The bodies are empty: each contract is a theorem.
+
+ghost use Rattle.std.specs.Prelude.{◌≡◌, ◌<◌, ℕ, Bool, List, [], ◌∷◌, Some, false};
+ghost use Rattle.chain.specs.declared.budget.Budget.{Budget};
+ghost use Rattle.chain.specs.declared.budget.Progress.{Progress};
+ghost use Rattle.chain.specs.declared.fault.Fault.{Fault};
+ghost use Rattle.chain.specs.Service as chain;
+ghost use Rattle.chain.specs.Service.{IsService, Spent};
+ghost use Rattle.mmio_window.specs.declared.queue.Queue.{Queue};
+ghost use Rattle.mmio_window.specs.Queue.{LiesIn, queue_kind};
+ghost use Rattle.mmio_window.specs.Serving as still;
+ghost use Rattle.mmio_window.specs.Soundness.{IsSound};
+ghost use Rattle.mmio_window.specs.Window.{WindowState, queue_at};
+ghost use Rattle.shared_memory.specs.Sightings.{Sightings, memory};
+ghost use Rattle.racing_service.specs.declared.service.Ending.TheVariants.{Faulted, Settled};
+ghost use Rattle.racing_service.specs.Laws.{AreServices, site_of};
+ghost use Rattle.racing_service.specs.Service.{AreRounds, IsRound, IsSettled, Met, Round, Standing};
+ghost use Rattle.racing_window.specs.Laws.{size_of};
+ghost use Rattle.racing_window.specs.Queue.{racing_queue};
+ghost use Rattle.racing_window.specs.Serving.{ServesQueue};
+
+use racing_service::RacingDevice;
+
+/// A guest that stands still: each round of a queue is one service of `queue_kind`, whether it ends with no chain on offer or
+/// by a fault, and the look that settles the service changes nothing.
+pub fn a_queue_that_stands_still_is_served_by_services<B, D: RacingDevice<B>>()
+    ensures rounds { (setup : D.Setup) (rounds : List (Round Queue D.State)) (a b : Standing Queue D.State)
+        → LiesIn (memory a.sightings) a.ring → 0 < size_of a.ring
+        → AreRounds racing_queue (D.device setup) false a rounds b
+        → AreServices queue_kind (D.device setup) (site_of a) rounds (site_of b) }
+    ensures broken { (setup : D.Setup) (fault : Fault) (wanted : Bool) (a b : Standing Queue D.State)
+        → LiesIn (memory a.sightings) a.ring → 0 < size_of a.ring
+        → IsRound racing_queue (D.device setup) false a (Met fault) b wanted
+        → IsService queue_kind (D.device setup) (site_of a) (site_of b) (chain.Faulted fault) wanted }
+    ensures look { (setup : D.Setup) (rounds : List (Round Queue D.State)) (wanted : Bool)
+        (a at b : Standing Queue D.State) → AreRounds racing_queue (D.device setup) false a rounds at
+        → IsSettled racing_queue (D.device setup) false rounds at b wanted → site_of b ≡ site_of at }
+{}
+
+/// A guest that stands still, and a sound window: a service of one round is what `mmio_window` says of one, with the same memory,
+/// registers and interrupts. It ends settled (`settled`), or by a fault of its first round (`broken`).
+pub fn a_window_that_stands_still_is_served_once<B, D: RacingDevice<B>>()
+    ensures settled { (setup : D.Setup) (most q : ℕ) (budget : Budget) (queue : Queue) (progress : Progress) (old new : Sightings)
+        (before after : WindowState) (s s' : D.State) (r : Round Queue D.State)
+        (serves : ServesQueue (D.device setup) false most q budget queue progress old new before after s s')
+        → IsSound (memory old) before → queue_at q before ≡ Some queue → serves.ending ≡ Settled
+        → serves.service.rounds ≡ r ∷ []
+        → still.ServesQueue (D.device setup) q queue Spent (memory old) (memory new) before after s s' }
+    ensures broken { (setup : D.Setup) (most q : ℕ) (budget : Budget) (queue : Queue) (progress : Progress) (old new : Sightings)
+        (before after : WindowState) (s s' : D.State) (fault : Fault)
+        (serves : ServesQueue (D.device setup) false most q budget queue progress old new before after s s')
+        → IsSound (memory old) before → queue_at q before ≡ Some queue → serves.ending ≡ Faulted fault
+        → serves.service.rounds ≡ []
+        → still.ServesQueue (D.device setup) q queue (chain.Faulted fault) (memory old) (memory new) before after s s' }
+{}

@@ -1,0 +1,16 @@
+//! The queues of a register window while their guest runs on: each as a racing ring, and one service of it with what the
+//! window shows.
+#![tactic(auto)]
+
+mod flight;
+mod laws;
+mod ring;
+mod service;
+#[cfg(test)]
+mod tests;
+
+pub use laws::{
+    a_queue_that_stands_still_is_served_by_services, a_window_that_stands_still_is_served_once,
+};
+pub use ring::RacingRing;
+pub use service::{met_with, serve_queue};
