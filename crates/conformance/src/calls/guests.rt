@@ -1,6 +1,9 @@
 //! `guests`: guests on a board, over an image whose listed calls fail, or in a session; and a heap that may refuse.
 
 mod boards;
+mod devices;
+mod driver;
+mod events;
 mod runs;
 mod sessions;
 mod snapshots;
@@ -18,24 +21,6 @@ use std::alloc::{AllocError, Allocator, Global};
 pub(crate) use stops::Stops;
 use test_support::RefusingHeap;
 use trace::event_of_line;
-
-/// What a driver writes that accepts VERSION_1 alone (3.1.1): offsets and values.
-static NEGOTIATED: [(u16, u32); 5] = [
-    (0x070, 0x1),
-    (0x070, 0x3),
-    (0x024, 1),
-    (0x020, 1),
-    (0x070, 0xb),
-];
-
-/// What it writes to make the queue ready that it selected (4.2.3.2).
-static READY: [(u16, u32); 5] = [
-    (0x080, 0x8000_1000),
-    (0x090, 0x8000_2000),
-    (0x0a0, 0x8000_3000),
-    (0x044, 1),
-    (0x070, 0xf),
-];
 
 /// A board or a session, and what the next one is asked for.
 #[derive(Drop)]
@@ -112,25 +97,6 @@ impl<'h, B: Allocator> Guests<'h, B> {
     fn plan(&mut self, words: &mut Words<'_>, answer: &mut String) -> Answered {
         self.events.push(event_of(self.heap, words.rest())?)?;
         put_word(answer, "ok")
-    }
-
-    // A driver brings a device of a slot up with one queue, of so many entries.
-    fn bring_up(&mut self, words: &mut Words<'_>, answer: &mut String) -> Answered {
-        let (slot, window) = (words.word(), words.word());
-        let queue = [(0x030, words.u32()), (0x038, words.u32())];
-        self.write_all(slot, window, &NEGOTIATED)?;
-        self.write_all(slot, window, &queue)?;
-        self.write_all(slot, window, &READY)?;
-        put_word(answer, "ok")
-    }
-
-    // Writes registers of a window: offsets and values.
-    fn write_all(&mut self, slot: &str, window: &str, writes: &[(u16, u32)]) -> Answered {
-        for (offset, value) in writes {
-            let line = format!(in self.alloc; "w {slot} {window} {offset:03x} 4 {value:08x}")?;
-            self.event(line.as_str(), &mut String::new(self.alloc))?;
-        }
-        Ok(())
     }
 
     /// The call of an event, of the session or the board.
