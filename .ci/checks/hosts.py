@@ -147,7 +147,8 @@ def flooded(sources, cards):
     """What is wrong with kvm.c over these sources of the library's functions, or nothing."""
     with tempfile.TemporaryDirectory() as folder:
         host = f"{folder}/kvm"
-        wrong = compiled(host, [EMBED / "kvm.c", EMBED / "cpus.c", EMBED / "file_disk.c", *sources, "-pthread"])
+        parts = [EMBED / name for name in ("kvm.c", "cpus.c", "device_tree.c", "file_disk.c")]
+        wrong = compiled(host, [*parts, *sources, "-pthread"])
         runs = [([], "expected-guests"), (["hosted"], "expected-guests"), (["flood"], "expected-flood"), (["pair"], "expected-pair")]
         for words, expected in () if wrong else runs + [(words, "expected-cards") for words in cards]:
             ran = subprocess.run([host, *words], capture_output=True, text=True, timeout=60)

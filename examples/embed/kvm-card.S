@@ -1,6 +1,6 @@
-# A guest in real mode with a network card: it sends frames to another guest, and gets as many from that. It finds in ebx and
-# ecx which features it takes (0 to 31 and 32 to 63), so that its queues are split or packed, with or without EVENT_IDX, and in
-# dx how many frames. A frame's length and bytes follow from its number and its sender, and each that comes is compared. The
+# A guest in real mode with a network card: it sends frames to another guest, and gets as many from that. It finds in si a
+# device tree, which says where its devices are, in ebx and ecx which features it takes (0 to 31 and 32 to 63), so that its
+# queues are split or packed, with or without EVENT_IDX, and in dx how many frames. A frame's length and bytes follow from its number and its sender, and each that comes is compared. The
 # buffers lie in the memory's second region. It ends halted for good, with ax = 0 or the number of the step that failed,
 # bx = the frames that it sent, cx = those that it got, dx = its notifications, and si = its interrupts. kvm.c runs it at 1000
 # as `kvm cards`; `./assemble kvm-card` makes bytes of it.
@@ -8,9 +8,6 @@
 # It has no barrier between its ring and what the device wants: the device works only while this CPU stands.
 
         .code16
-
-        .equ    WINDOWS, 0xd000                 # fs, the segment of the windows: the card's is at 2000
-        .equ    CARD, 0x2000
 
         .equ    SIZE, 8                         # a queue has so many descriptors, and a buffer for each,
         .equ    BUFFER, 0x800                   # of 2 to the
@@ -56,7 +53,7 @@
         .equ    TOLD, 16
 
         .macro  put     register, value
-        movl    \value, %fs:(CARD + \register)
+        movl    \value, %fs:\register
         .endm
 
         .globl  _start
@@ -65,23 +62,17 @@ _start:
         movw    %ax, %ds
         movw    %ax, %ss
         movw    $_start, %sp                    # the stack lies below the program
-        movw    $WINDOWS, %ax
-        movw    %ax, %fs
-        movw    $REGION, %ax
         movw    %ax, %es
-        movw    $on_card, 4 * 0x22              # the card's vector
-        movw    $0, 4 * 0x22 + 2
         movl    %ebx, features
         movl    %ecx, features + 4
         movw    %dx, frames
 
         movw    $1, %bp                         # step 1: a network card, whose address differs from the other's in a bit
-        cmpl    $0x74726976, %fs:(CARD + MAGIC)
-        jne     failed
-        cmpl    $1, %fs:(CARD + DEVICE_ID)
-        jne     failed
+        call    find_card
+        movw    $REGION, %ax
+        movw    %ax, %es
         xorw    %di, %di
-1:      movb    %fs:CARD + ADDRESS(%di), %al
+1:      movb    %fs:ADDRESS(%di), %al
         movb    %al, sending + 6(%di)           # from here to there
         movb    %al, receiving(%di)             # and the other way
         cmpw    $5, %di
@@ -97,19 +88,21 @@ _start:
         put     STATUS, $0
         put     STATUS, $1                      # ACKNOWLEDGE
         put     STATUS, $3                      # DRIVER
+        movl    features, %eax
         put     DRIVER_FEATURES_SEL, $0
-        put     DRIVER_FEATURES, %ebx
+        put     DRIVER_FEATURES, %eax
+        movl    features + 4, %eax
         put     DRIVER_FEATURES_SEL, $1
-        put     DRIVER_FEATURES, %ecx
+        put     DRIVER_FEATURES, %eax
         put     STATUS, $11                     # FEATURES_OK
-        cmpl    $11, %fs:(CARD + STATUS)
+        cmpl    $11, %fs:STATUS
         jne     failed
         movw    $receive, %si
         call    set_up
         movw    $transmit, %si
         call    set_up
         put     STATUS, $15                     # DRIVER_OK
-        cmpl    $15, %fs:(CARD + STATUS)
+        cmpl    $15, %fs:STATUS
         jne     failed
 
         incw    %bp                             # step 3: the frames
@@ -199,6 +192,98 @@ failed:
         movw    interrupts, %si
         cli
         hlt
+
+# ---- the device tree, of numbers whose high byte is first
+
+# Finds the network card in the tree at si, whose root has cells of 32 bits: fs is its window's segment, and its line's vector
+# is set.
+find_card:
+        cmpl    $0xedfe0dd0, (%si)              # the magic number
+        jne     failed
+        movl    12(%si), %edx                   # where the names of properties lie,
+        bswapl  %edx
+        addw    %si, %dx
+        movl    8(%si), %eax                    # and the structure
+        bswapl  %eax
+        addw    %ax, %si
+token:  lodsl
+        bswapl  %eax
+        cmpl    $4, %eax                        # nothing
+        je      token
+        cmpl    $3, %eax
+        je      property
+        cmpl    $2, %eax
+        je      ends
+        cmpl    $1, %eax                        # a node begins, and its name
+        jne     failed                          # or the tree ends, and has no card
+        movb    $0, is_virtio
+1:      lodsb
+        testb   %al, %al
+        jnz     1b
+        jmp     align
+
+ends:   testb   $1, is_virtio                   # a node ends: whether it is the card's
+        movb    $0, is_virtio
+        jz      token
+        movw    segment, %ax
+        movw    %ax, %fs
+        cmpl    $0x74726976, %fs:MAGIC
+        jne     token
+        cmpl    $1, %fs:DEVICE_ID
+        jne     token
+        movw    vector, %bx
+        shlw    $2, %bx
+        movw    $on_card, (%bx)
+        movw    $0, 2(%bx)
+        ret
+
+property:
+        lodsl                                   # the length of what is at si then,
+        bswapl  %eax
+        movl    %eax, %ecx
+        lodsl                                   # and the name
+        bswapl  %eax
+        movw    %ax, %bx
+        addw    %dx, %bx
+        pushw   %si
+        pushw   %cx
+        movl    (%si), %eax
+        bswapl  %eax
+        movw    $compatible, %di
+        call    is_name
+        jne     1f
+        movw    $virtio, %di
+        movw    %si, %bx
+        call    is_name
+        sete    is_virtio
+        jmp     3f
+1:      movw    $reg, %di
+        call    is_name
+        jne     2f
+        shrl    $4, %eax                        # a window begins below a MiB, at a multiple of 16
+        movw    %ax, segment
+        jmp     3f
+2:      movw    $line, %di
+        call    is_name
+        jne     3f
+        movw    %ax, vector
+3:      popw    %cx
+        popw    %si
+        addw    %cx, %si
+align:  addw    $3, %si                         # the next token is aligned
+        andw    $-4, %si
+        jmp     token
+
+# Whether the text at bx is that at di: the zero flag is then 1. Leaves eax, dx and si.
+is_name:
+        pushw   %si
+        movw    %bx, %si
+1:      cmpsb
+        jne     2f
+        cmpb    $0, -1(%si)
+        jne     1b
+2:      popw    %si
+        ret
 
 # ---- for the queue at si
 
@@ -403,13 +488,24 @@ compare:
 
 on_card:
         pushl   %ecx
-        movl    %fs:(CARD + INTERRUPT_STATUS), %ecx
+        movl    %fs:INTERRUPT_STATUS, %ecx
         put     INTERRUPT_ACK, %ecx
         incw    interrupts
         popl    %ecx
         iret
 
+compatible:
+        .asciz  "compatible"
+virtio: .asciz  "virtio,mmio"
+reg:    .asciz  "reg"
+line:   .asciz  "interrupts"
+is_virtio:                                      # whether the node is a virtio device's: its window's segment, and its line
+        .byte   0
         .balign 4, 0
+segment:
+        .short  0
+vector:
+        .short  0
 features:
         .long   0, 0
 frames:

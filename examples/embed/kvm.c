@@ -9,6 +9,7 @@
  * `kvm hosted` has no image: each disk is a file of its own, which file_disk.c reads while the guest runs on.
  * `kvm lent` has the guests' memory in a file of memory, which it maps and lends to the board.
  * `kvm cards` gives each guest a network card and the program of kvm-card.S, and they send one another frames over a switch.
+ * Their windows and vectors lie apart. Each finds its own in a device tree, which device_tree.c writes into its memory.
  * Two words behind it say what the guests' queues are: `split`, `split-event`, `packed` or `packed-event`.
  * Where /dev/kvm can't be opened the host says so, with status 77.
  */
@@ -29,6 +30,7 @@
 #include <unistd.h>
 
 #include "cpus.h"
+#include "device_tree.h"
 #include "file_disk.h"
 #include "kvm-card.h"
 #include "kvm-flood.h"
@@ -45,8 +47,11 @@ static const struct kalyubos_region MEMORY[REGIONS] = { { 0, 0x10000 }, { 0x2000
 /* Where the second CPU's program lies, what it counts, and how many microseconds a call takes in which it mustn't. */
 enum { SECOND = 0x6000, COUNT = 0x7000, CALL_TIME = 200 };
 
-/* The vectors of a guest's lines. */
-enum { BLOCK_VECTOR = 0x20, CONSOLE_VECTOR = 0x21, CARD_VECTOR = 0x22 };
+/* The vectors of a guest's lines, and how far those and the windows of the guests with cards lie apart. */
+enum { BLOCK_VECTOR = 0x20, CONSOLE_VECTOR = 0x21, CARD_VECTOR = 0x22, VECTORS_APART = 0x10, WINDOWS_APART = 0x8000 };
+
+/* Where a guest's device tree lies, and how much room there is for it. */
+enum { TREE = 0xf000, TREE_ROOM = 0x1000 };
 
 /* The window of a network card, how long a frame is, and how many frames wait at a port of the switch. */
 enum { CARD = KALYUBOS_DEVICE, ADDRESS = 6, ETHERNET = 14, MTU = 1500, FRAME = MTU + ETHERNET, ANY_FRAME = 65536, PORT_ROOM = 64 };
@@ -67,6 +72,7 @@ struct port {
 
 struct guest {
     uint8_t slot;
+    uint32_t windows, vectors; /* where its windows lie, and by how much its vectors are higher */
     int machine, cpu;
     struct kvm_run *run;
     FILE *terminal;                /* what its console put out */
@@ -129,11 +135,24 @@ static uint8_t *map_region(const struct guest *guest, uint32_t number)
     return bytes;
 }
 
+/* The guest's memory tells where its devices are. */
+static void describe(const struct guest *guest)
+{
+    const struct tree_device devices[] = {
+        { guest->windows + KALYUBOS_BLOCK * PAGE, BLOCK_VECTOR + guest->vectors },
+        { guest->windows + KALYUBOS_CONSOLE * PAGE, CONSOLE_VECTOR + guest->vectors },
+        { guest->windows + CARD * PAGE, CARD_VECTOR + guest->vectors },
+    };
+    size_t len = device_tree(guest->bytes + TREE, TREE_ROOM, devices, cards ? 3 : 2);
+    must(len > 0 ? 0 : -1, "a device tree");
+}
+
 static void map_memory(struct guest *guest, const struct program *program)
 {
     guest->bytes = map_region(guest, 0);
     map_region(guest, 1);
     memcpy(guest->bytes + PROGRAM, program->bytes, program->len);
+    describe(guest);
 }
 
 /* Adds a CPU to a guest, which begins with such registers at an address, and answers what it shares with KVM. */
@@ -403,7 +422,7 @@ static uint32_t load(const struct guest *guest, uint8_t window, uint16_t offset,
 /* A load or a store of a CPU at a window. In a store all CPUs of its guest stand until its service has ended. */
 static void access_window(struct guest *guest, struct kvm_run *run)
 {
-    uint64_t place = run->mmio.phys_addr - WINDOWS;
+    uint64_t place = run->mmio.phys_addr - guest->windows;
     uint8_t window = (uint8_t)(place / PAGE), *data = run->mmio.data, width = (uint8_t)run->mmio.len;
     uint32_t value = 0;
     if (place >= (cards ? 3 : 2) * PAGE) { /* nobody is there */
@@ -428,10 +447,10 @@ static void access_window(struct guest *guest, struct kvm_run *run)
 static uint32_t vector_of(const struct guest *guest)
 {
     if (guest->lines.block != 0)
-        return BLOCK_VECTOR;
+        return BLOCK_VECTOR + guest->vectors;
     if (guest->lines.console != 0)
-        return CONSOLE_VECTOR;
-    return guest->card.interrupt != 0 ? CARD_VECTOR : 0;
+        return CONSOLE_VECTOR + guest->vectors;
+    return guest->card.interrupt != 0 ? CARD_VECTOR + guest->vectors : 0;
 }
 
 /* A line that is high interrupts the CPU as soon as it can be, and until its driver has acknowledged what it tells. */
@@ -609,6 +628,8 @@ static void create(void)
     for (uint8_t slot = 0; slot < GUESTS; slot++) {
         memcpy(slots[slot].regions, MEMORY, sizeof MEMORY);
         guests[slot].slot = slot;
+        guests[slot].windows = WINDOWS - (cards ? slot * WINDOWS_APART : 0);
+        guests[slot].vectors = cards ? slot * VECTORS_APART : 0;
         guests[slot].disk.ready = guests[slot].port.ready = -1;
         if (cards)
             add_card(&guests[slot], &slots[slot]);
@@ -638,7 +659,7 @@ static struct program card_program(const char *word)
         number++;
     must(number < 4 ? 0 : -1, word);
     return (struct program){ KVM_CARD, sizeof KVM_CARD,
-                             { .rbx = 1 << 5 | (number & 1) << 29, .rcx = 1 | (number & 2) << 1, .rdx = FRAMES } };
+                             { .rbx = 1 << 5 | (number & 1) << 29, .rcx = 1 | (number & 2) << 1, .rdx = FRAMES, .rsi = TREE } };
 }
 
 /* What each guest runs, by the words. */
