@@ -114,7 +114,7 @@ bench: $(if $(UNPROVED),unproved-fast)
 fuzz: $(BUILT)
 	@fuzz/run $(N) --from $(FROM) --program "$(PROGRAM)" --in-place
 
-# Runs the built program on some thousand broken traces.
+# Runs the built program on thousands of broken traces.
 broken: $(BUILT)
 	@tests/program/broken --program "$(PROGRAM)"
 

@@ -1,7 +1,8 @@
 //! What `vreplay` does, in plain Rust: what a replay costs without proofs.
 //!
 //! It serves all of docs/model.md and docs/formats.md over an image in memory, which it reads and writes without a cache. Only
-//! restores, disks that a host serves and `--in-place` are left out: a trace that asks for one ends it with status 77.
+//! restores, disks that a host serves, further devices and `--in-place` are left out. A trace with a line `st` or `io` ends it with status
+//! 77; of the others' lines it knows nothing.
 //!
 //! Built by `rustc -O --edition 2021 -o plain bench/plain/main.rs`, called as `plain [TRACE IMAGE [--save FILE]]`.
 mod board;
