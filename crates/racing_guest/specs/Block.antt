@@ -36,6 +36,7 @@ use Rattle.racing_hosted_disk.specs.Told.{DoesAsTold, told_unserved}
 use Rattle.racing_guest.specs.declared.reply.GuestQueue.TheVariants as queues
 use Rattle.racing_guest.specs.declared.reply.Reply.{Reply}
 use Rattle.racing_guest.specs.declared.reply.Reply.TheVariants as reply
+use Rattle.racing_guest.specs.Reply.{NothingHappens}
 
 pub record RacingBlock : Type 0 where
   pub window : WindowState
@@ -68,12 +69,6 @@ pub record IsSoundBlock (m : Memory) (block : RacingBlock) : Type 0 where
       (λ queue. AreAhead entry_of Fits ahead_of queue (tokens_of block.disk.tags))
 
 -- ---- a notification
-
--- nothing happens
-pub record NothingHappens {Device : Type 0} (old new : Sightings) (before after : Device) (progress : Progress) : Type 0 where
-  pub memory : new ≡ old
-  pub device : after ≡ before
-  pub done : progress ≡ Done
 
 -- the fault that looks at the queue met, if they met one
 abbrev pub fault_met : LookEnding → Option Fault

@@ -32,7 +32,7 @@ use Rattle.racing_window.specs.Serving.{Notified}
 use Rattle.racing_guest.specs.declared.reply.GuestQueue.{GuestQueue}
 use Rattle.racing_guest.specs.declared.reply.GuestQueue.TheVariants as queues
 use Rattle.racing_guest.specs.declared.reply.Reply.{Reply}
-use Rattle.racing_guest.specs.Reply.{AnswersBy}
+use Rattle.racing_guest.specs.Reply.{AnswersBy, NothingHappens}
 
 pub record RacingConsole : Type 0 where
   pub window : WindowState
@@ -59,12 +59,6 @@ abbrev pub IsSoundConsole : Memory → RacingConsole → Type 0
 IsSoundConsole m console = IsSound m console.window
 
 module _ (races : Bool) (limits : Limits) (old new : Sightings) (before after : RacingConsole) (progress : Progress) where
-  -- nothing happens
-  pub record StaysIdle : Type 0 where
-    pub memory : new ≡ old
-    pub console : after ≡ before
-    pub done : progress ≡ Done
-
   -- The receive queue is served (5.3.6.1), where the window is live and the queue ready: its chains are filled from pending
   -- input.
   pub record Receives : Type 0 where
@@ -137,15 +131,15 @@ module _ (races : Bool) (limits : Limits) (limit : Option ℕ) (old new : Sighti
   ActsOnConsole (action.Notify (suc zero)) progress =
       Transmits races limits old new before after progress limit out out'
   ActsOnConsole (action.ConfigWrite offset width value) progress =
-      StaysIdle races limits old new before after progress
+      NothingHappens old new before after progress
       × PutsOutIf (offset == emergency_write) (value % 2 ^ 8) limit out out'
-  ActsOnConsole action progress = StaysIdle races limits old new before after progress × (out' ≡ out)
+  ActsOnConsole action progress = NothingHappens old new before after progress × (out' ≡ out)
 
   -- and where it has none
   abbrev pub FindsNoRoom : Action → Type 0
   FindsNoRoom (action.Notify (suc zero)) = IsRefused races limits limit old new before after out out'
   FindsNoRoom (action.ConfigWrite offset width value) = (offset ≡ emergency_write)
-      × (StaysIdle races limits old new before after Done × ((out' ≡ out) × MayRefuse limit (length out + 1)))
+      × (NothingHappens old new before after Done × ((out' ≡ out) × MayRefuse limit (length out + 1)))
   FindsNoRoom action = ⊥
 
 -- the registers are written

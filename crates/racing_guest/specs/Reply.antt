@@ -1,7 +1,8 @@
--- What a guest is answered.
+-- What a guest is answered, and what that says where nothing happens.
 use Rattle.std.specs.Prelude.{◌≡◌, Bool, true, false}
 use Rattle.chain.specs.declared.budget.Progress.{Progress}
 use Rattle.chain.specs.declared.budget.Progress.TheVariants as progress
+use Rattle.shared_memory.specs.Sightings.{Sightings}
 use Rattle.racing_guest.specs.declared.reply.GuestQueue.{GuestQueue}
 use Rattle.racing_guest.specs.declared.reply.Reply.{Reply}
 use Rattle.racing_guest.specs.declared.reply.Reply.TheVariants.{Done, More, Busy, NoMemory}
@@ -21,3 +22,9 @@ AnswersBy Done queue Serves NoRoom = Serves progress.Done
 AnswersBy (More other) queue Serves NoRoom = (other ≡ queue) × Serves progress.More
 AnswersBy Busy queue Serves NoRoom = ⊥
 AnswersBy NoMemory queue Serves NoRoom = NoRoom
+
+-- no device does anything
+pub record NothingHappens {Device : Type 0} (old new : Sightings) (before after : Device) (so_far : Progress) : Type 0 where
+  pub memory : new ≡ old
+  pub device : after ≡ before
+  pub done : so_far ≡ progress.Done

@@ -120,7 +120,11 @@ fn show_looks(
 {
     let wanted = served.wanted;
     let _ = show(window, REQUESTQ, Left::Closed { fault, wanted }, chain);
-    served.ending.progress()
+    let progress = served.ending.progress();
+    if matches!(progress, Progress::More) {
+        chain.count_pause();
+    }
+    progress
 }
 
 // After a drop the window asks to be reset (2.1.2).
