@@ -19,7 +19,8 @@ use Rattle.mmio_window.proofs.Soundness.{IsSound-same_range}
 use Rattle.device_list.specs.Device.{DeviceState, IsSoundDevice}
 use Rattle.device_list.specs.List.{AreSoundDevices}
 use Rattle.device_list.proofs.Sound.{still_sound}
-use Rattle.board.specs.Slot.{IsSoundSlot, console_features}
+use Rattle.console_device.specs.Config.{console_features}
+use Rattle.board.specs.Slot.{IsSoundSlot}
 
 -- a piece of the transmit queue's service, however it ends
 pub transmit_keeps : {E : Type 0} (stage : Stage) (served refused : Device (List ℕ)) (budget : Budget)

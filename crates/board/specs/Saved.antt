@@ -13,9 +13,10 @@ use Rattle.device_list.specs.Saved.{RestoresEach, SuitDevices, devices_restored,
 use Rattle.snapshot.specs.declared.saved.SavedSlot.{SavedSlot}
 use Rattle.snapshot.specs.Faults.{IsFirstFault}
 use Rattle.snapshot.specs.Spelling.{IsSnapshot, snapshot}
+use Rattle.console_device.specs.Config.{console_features}
 use Rattle.board.specs.declared.saved.RestoreFault.{RestoreFault}
 use Rattle.board.specs.declared.saved.RestoreFault.TheVariants.{Snapshot, OtherSlot, BadDevice, BadBlock, BadConsole, BadDeviceWindow}
-use Rattle.board.specs.Slot.{BoardSlot, console_features, sectors_in}
+use Rattle.board.specs.Slot.{BoardSlot, sectors_in}
 
 -- ---- what is saved
 

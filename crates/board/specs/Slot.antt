@@ -1,8 +1,7 @@
 -- A slot: what its guest can see, and what the board keeps of it.
-use Rattle.std.specs.Prelude.{◌≡◌, ℕ, ◌+◌, ◌||◌, Bool, false, nat_lt, List, [], length, ◌≤◌, Option, Some, None, replicate}
+use Rattle.std.specs.Prelude.{◌≡◌, ℕ, ◌||◌, Bool, false, nat_lt, List, [], length, ◌≤◌, Option, Some, None, replicate}
 use Rattle.guest_memory.specs.Faults.{zeroed_regions}
 use Rattle.guest_memory.specs.Memory.{Memory, SameRange}
-use Rattle.negotiation.specs.Features.{console_size, console_emerg_write, device_features}
 use Rattle.mmio_window.specs.declared.device_kind.DeviceKind.TheVariants.{Block, Console}
 use Rattle.mmio_window.specs.Interrupts.{interrupt_bits}
 use Rattle.mmio_window.specs.Soundness.{IsSound}
@@ -15,6 +14,7 @@ use Rattle.block_device.specs.declared.extent.Extent.{Extent}
 use Rattle.block_device.specs.Config.{block_features}
 use Rattle.block_device.specs.Extent.{StaysInExtent}
 use Rattle.block_device.specs.Flights.{is_any}
+use Rattle.console_device.specs.Config.{console_features}
 use Rattle.board.specs.declared.spec.Backing.{Backing}
 use Rattle.board.specs.declared.spec.Backing.TheVariants.{Image, Host}
 use Rattle.board.specs.declared.spec.SlotSpec.{SlotSpec}
@@ -108,10 +108,6 @@ pub record KeepsBesideDisk (old new : SlotState) : Type 0 where
 pub record KeepsBesideTransmit (old new : SlotState) : Type 0 where
   pub rest : new ≡ record old { memory = new.memory; console = new.console }
   pub memory : SameRange old.memory new.memory
-
--- the features that a console offers (5.3.3): it tells its size, and takes emergency writes
-abbrev pub console_features : ℕ
-console_features = console_size + console_emerg_write + device_features
 
 -- Each window is that of its device, of its kind and offering what it offers. The block device's has
 -- ConfigGeneration 0, as its configuration never changes (2.5). Both are sound for the memory: their ready

@@ -8,7 +8,7 @@
 //! `board` is the board. `spec` says what it is made of, `check` and `fault` why one is refused;
 //! `event` is what comes in and `reply` what goes out, and `pause` what a turn of a slot is asked and comes to,
 //! whose service may pause, and `task` what a write leaves to be done. `slot` serves one guest, its memory, its two windows
-//! and its two devices, and knows of no other; `counters` is what it counts of them, `features` says what its devices offer,
+//! and its two devices, and knows of no other; `counters` is what it counts of them,
 //! `opening` opens the slots of a board, and `lent` makes a slot's memory of a host's bytes. `laws` has what holds of every
 //! run by itself.
 #![tactic(auto)]
@@ -19,7 +19,6 @@ mod check;
 mod counters;
 mod event;
 mod fault;
-mod features;
 mod guest;
 mod host_disk;
 mod laws;

@@ -35,7 +35,6 @@ mod window;
 use crate::check::share;
 use crate::counters::Counters;
 use crate::event::EventKind;
-use crate::features;
 use crate::host_disk::HostedDisk;
 use crate::pause::{Pause, Service, Turn};
 use crate::reply::Reply;
@@ -140,8 +139,8 @@ impl<A: Allocator + Copy> Slot<A> {
             host: host_of(alloc, spec)?,
             on_hold: false,
             block: Window::new(DeviceKind::Block, block_device.features()),
+            console: Window::new(DeviceKind::Console, console_device.features()),
             console_device,
-            console: Window::new(DeviceKind::Console, features::of_console()),
             devices: DeviceList::new(alloc),
             chain: Chain::new(),
             disturbed: false,

@@ -1,7 +1,8 @@
-//! The device: its size, its pending input, and its configuration space (5.3.4).
+//! The device: its size, its pending input, its features (5.3.3) and its configuration space (5.3.4).
 
 ghost use Rattle.std.specs.Prelude.{◌≡◌, ◌++◌, ◌+◌, ◌∷◌, ◌≤◌, [], drop, length, take, IfOk, OnOk, OnErr};
-ghost use Rattle.console_device.specs.Config.{config_of};
+ghost use Rattle.negotiation.specs.Features.{feature_bits};
+ghost use Rattle.console_device.specs.Config.{config_of, console_features};
 ghost use Rattle.console_device.specs.Console.{Console};
 ghost use Rattle.console_device.specs.Device.{Fits, MayRefuse};
 ghost use Rattle.console_device.specs.Input.{fitting};
@@ -10,6 +11,7 @@ use crate::no_memory::NoMemory;
 use crate::outlet::Outlet;
 use crate::pending::Pending;
 use byteorder::{ByteOrder, LittleEndian};
+use negotiation::{Features, Flags};
 use std::alloc::{Allocator, Global};
 use std::marker::Model;
 
@@ -50,6 +52,15 @@ impl<A: Allocator + Copy> ConsoleDevice<A> {
 }
 
 impl<A: Allocator> ConsoleDevice<A> {
+    /// The features that it offers (5.3.3).
+    pub fn features(&self) -> Features
+        ensures { feature_bits result ≡ console_features }
+    {
+        Features::of_every_device()
+            .union(Features::CONSOLE_SIZE)
+            .union(Features::CONSOLE_EMERG_WRITE)
+    }
+
     /// Takes what is typed: the first bytes that fit become pending. Answers how many they are.
     pub fn input(&mut self, bytes: &[u8]) -> usize
         ensures count { result ≡ fitting self.old.pending bytes.now }
