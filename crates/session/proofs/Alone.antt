@@ -14,6 +14,7 @@ use Rattle.board.proofs.OneRun.{next_of}
 use Rattle.board.proofs.OneSeat.{seat_once}
 use Rattle.board.proofs.Steps.{IsOwn, each_along, one_course, own_alone}
 use Rattle.board.specs.declared.pause.Pause.{Pause}
+use Rattle.output_queue.specs.Waiting.{Waiting}
 use Rattle.session.specs.declared.response.Response.{Response}
 use Rattle.session.specs.declared.response.Response.TheVariants.{Answered, More, Busy, Idle}
 use Rattle.session.specs.Alone.{Begins, GoesOn, OwnCall, IsNextAsked, IsSeatCourse, IsSeatedAlone, SeeAlike, own_answers, own_askings, own_call, seat_of}
@@ -21,7 +22,7 @@ use Rattle.session.specs.Course.{Happens, SessionStep, IsCalled, IsCourse, IsTak
 use Rattle.session.specs.Line.{IsIdle}
 use Rattle.session.specs.Pacing.{Call, GoOn, Handle, slot_in}
 use Rattle.session.specs.Pausing.{ComesTo}
-use Rattle.session.specs.Session.{IsStep, SessionState, Waiting, limit_of, output_of, world_of}
+use Rattle.session.specs.Session.{IsStep, SessionState, limit_of, output_of, world_of}
 use Rattle.session.specs.Steps.{Answer, Asking, Called, Does, Gave, IsAnsweredSo, Takes, Told, Took, after_step, answer_of, asking_of, slot_of}
 use Rattle.session.proofs.PacedAlone.{others_at}
 use Rattle.session.proofs.PacedCourses.{by_pause, step_of}

@@ -33,6 +33,7 @@ use Rattle.board.specs.Outcome.{Outcome, replies}
 use Rattle.board.specs.Slot.{BoardSlot, SlotState, state_of}
 use Rattle.board.specs.World.{Answers, KeepsOthers, MayGive, MayGiveBy, MayGiveOverImage, MissingStep, SlotStep, World, extents_of}
 use Rattle.board.proofs.Replies.{given_replies}
+use Rattle.output_queue.specs.Waiting.{Waiting}
 use Rattle.session.specs.declared.response.Response.{Response}
 use Rattle.session.specs.declared.response.Response.TheVariants.{Answered, More, Busy, Idle}
 use Rattle.session.specs.declared.refusal.Refusal.TheVariants as refusal
@@ -40,7 +41,7 @@ use Rattle.session.specs.Answering.{IsDoneOrRefusing, IsReading, IsServing, IsTa
 use Rattle.session.specs.declared.progress.Progress.{Progress}
 use Rattle.session.specs.declared.progress.Progress.TheVariants as progress
 use Rattle.session.specs.declared.refusal.Refusal.{Refusal}
-use Rattle.session.specs.Session.{IsStep, SessionState, Waiting, output_of, world_of}
+use Rattle.session.specs.Session.{IsStep, SessionState, output_of, world_of}
 use Rattle.session.proofs.Parts.{given}
 use Rattle.session.proofs.Ranges.{behind}
 use Rattle.session.proofs.Steps.{as_many, session}

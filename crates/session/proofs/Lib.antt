@@ -15,7 +15,6 @@ pub mod Alone
 pub mod Made
 pub mod InPlace
 pub mod Restored
-pub mod Outputs
 pub mod Telling
 pub mod Loans
 pub mod Parts

@@ -18,11 +18,12 @@ use Rattle.board.specs.Backing.{HostDisk}
 use Rattle.board.specs.Fault.{IsAccepted, IsGoodSlot, place_by, room_by}
 use Rattle.board.specs.Pausing.{HasLimit}
 use Rattle.board.specs.Slot.{BoardSlot, SlotState, extent_by, host_by, opened, state_of}
+use Rattle.output_queue.specs.Waiting.{Waiting, none_waiting}
 use Rattle.session.specs.declared.guest.GuestSpec.{GuestSpec}
 use Rattle.session.specs.Alone.{SeeAlike, at_front, new_session_alone, own_askings, part_of_image}
 use Rattle.session.specs.Course.{SessionStep, IsCourse, NeverPauses}
 use Rattle.session.specs.Refusing.{AreDevices, AreOutlets, has_bad_device}
-use Rattle.session.specs.Session.{SessionState, Waiting, devices_of, none_waiting, new_session, slots_of, with_fresh, world_of}
+use Rattle.session.specs.Session.{SessionState, devices_of, new_session, slots_of, with_fresh, world_of}
 use Rattle.session.proofs.Alone.{see_alike}
 use Rattle.session.proofs.PacedCourses.{never_pauses}
 

@@ -15,6 +15,7 @@ use Rattle.board.specs.Machine.{RunsOnItsOwn}
 use Rattle.board.specs.Pausing.{HasLimit}
 use Rattle.board.specs.Slot.{SlotState}
 use Rattle.board.specs.World.{World}
+use Rattle.output_queue.specs.Waiting.{Waiting}
 use Rattle.session.specs.declared.response.Response.{Response}
 use Rattle.session.specs.declared.response.Response.TheVariants.{Answered, More, Busy, Idle}
 use Rattle.session.specs.Line.{IsIdle, record_at}
@@ -25,7 +26,7 @@ use Rattle.board.proofs.Steps.{Passes, alone, each_along, kept_along}
 use Rattle.session.proofs.PacedAlone.{Begun, Ended, IsStalled, OwnMove, Sits, Stayed, WentOn, events_from, events_of_others, others_at, others_move, out_of, own_move, run_as}
 use Rattle.session.specs.Course.{SessionStep, HadRoom, Happens, IsCalled, IsCourse, IsTaken, NeverPauses, RunsAlone, ended_by, events_begun, output_taken, paced_world_of, put_out, replies_ended}
 use Rattle.session.specs.Pausing.{ComesTo, IsCall, IsTurn}
-use Rattle.session.specs.Session.{KeepsOtherOutputs, SessionState, Waiting, limit_of, output_of, world_of}
+use Rattle.session.specs.Session.{KeepsOtherOutputs, SessionState, limit_of, output_of, world_of}
 use Rattle.session.specs.Steps.{Called, IsAnsweredSo, Took, after_step, slot_of}
 use Rattle.session.proofs.Waiting.{others_wait}
 

@@ -19,11 +19,12 @@ use Rattle.board.specs.Image.{bytes_of}
 use Rattle.board.specs.Slot.{BoardSlot, SlotState, state_of}
 use Rattle.board.specs.World.{BoardState, KeepsOthers, extents_of, world_of}
 use Rattle.board.specs.Within.{BeginsWithin, TakesWithin, TurnWithin}
+use Rattle.output_queue.specs.Waiting.{Waiting}
 use Rattle.session.specs.declared.response.Response.TheVariants.{Answered}
 use Rattle.session.specs.Pacing.{paused_by, response_to}
 use Rattle.session.specs.Answering.{SuitsCall}
 use Rattle.session.specs.Pausing.{IsEventCall}
-use Rattle.session.specs.Session.{SessionState, Waiting}
+use Rattle.session.specs.Session.{SessionState}
 use Rattle.session.proofs.Places.{set_same}
 use Rattle.session.proofs.Steps.{called, shown, suits_call, whole}
 

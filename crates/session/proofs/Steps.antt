@@ -32,6 +32,7 @@ use Rattle.board.proofs.Answered.{ended_within, handled}
 use Rattle.board.proofs.Runs.{answered}
 use Rattle.board.proofs.Lists.{others_kept}
 use Rattle.board.proofs.Outside.{length-outside}
+use Rattle.output_queue.specs.Waiting.{Waiting, none_waiting}
 use Rattle.session.specs.declared.response.Response.{Response}
 use Rattle.session.specs.declared.response.Response.TheVariants.{Answered, More}
 use Rattle.session.specs.declared.turn_kind.TurnKind.{TurnKind}
@@ -39,7 +40,7 @@ use Rattle.session.specs.declared.turn_kind.TurnKind.TheVariants.{Begin, Resume}
 use Rattle.session.specs.Pacing.{GoOn, Handle, call_of, paused_by, response_to, work_in}
 use Rattle.session.specs.Answering.{SuitsCall, SuitsTurn}
 use Rattle.session.specs.Pausing.{IsCall, IsTurn, IsWhole, IsWholeCall}
-use Rattle.session.specs.Session.{AnswersInPlace, BeginsInPlace, IsStep, SessionState, Waiting, none_waiting, limit_of, output_of, world_of}
+use Rattle.session.specs.Session.{AnswersInPlace, BeginsInPlace, IsStep, SessionState, limit_of, output_of, world_of}
 use Rattle.session.proofs.Places.{set_same}
 use Rattle.session.proofs.Suiting.{paused_suits, silent, suits}
 use Rattle.session.proofs.Unchanged.{missing}

@@ -4,8 +4,9 @@ use Rattle.std.specs.Prelude.{slice_set}
 use Rattle.std.specs.List.{slice_get}
 use Rattle.std.specs.Option.{option_map}
 use Rattle.board.proofs.Lists.{get_set}
+use Rattle.output_queue.specs.Waiting.{Waiting}
 use Rattle.session.specs.declared.told.Waits.{Waits}
-use Rattle.session.specs.Session.{Waiting, waiting_at, waits_by}
+use Rattle.session.specs.Session.{waiting_at, waits_by}
 
 -- where nothing is there, the list ends before
 none_past : {X : Type 0} (xs : List X) (i : ℕ) → slice_get xs i ≡ None → length xs ≤ i

@@ -4,7 +4,8 @@ use Rattle.std.specs.Prelude.{slice_set, unwrap_or}
 use Rattle.std.specs.List.{slice_get}
 use Rattle.std.proofs.lemmas.List.{length-set, get_or-set_same}
 use Rattle.std.proofs.lemmas.Option.{unwrap_or-slice_get, same_Some}
-use Rattle.session.specs.Session.{KeepsOtherOutputs, Waiting, none_waiting, waiting_at}
+use Rattle.output_queue.specs.Waiting.{Waiting, none_waiting}
+use Rattle.session.specs.Session.{KeepsOtherOutputs, waiting_at}
 
 -- what waits of the others is the same
 pub others_wait : (g slot : ℕ) (old new : List Waiting) → KeepsOtherOutputs slot old new → slot ≢ g

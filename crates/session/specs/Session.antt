@@ -20,20 +20,12 @@ use Rattle.board.specs.Lent.{made_over, opened_over}
 use Rattle.board.specs.Slot.{BoardSlot, SlotState, interrupt_words, opened, state_of}
 use Rattle.board.specs.World.{World, Answers, KeepsOthers, MayLackMemory, extents_of, seen}
 use Rattle.board.specs.Within.{MayPutOut, TakesWithin}
+use Rattle.output_queue.specs.Waiting.{Waiting, none_waiting}
 use Rattle.session.specs.Pacing.{paused_at}
 use Rattle.session.specs.declared.guest.GuestSpec.{GuestSpec}
 use Rattle.session.specs.declared.told.Waits.{Waits}
 use Rattle.session.specs.declared.turn_kind.TurnKind.{TurnKind}
 use Rattle.session.specs.declared.turn_kind.TurnKind.TheVariants.{Begin, Resume}
-
--- What a slot's console put out and nobody has taken yet, and how many bytes of it may wait.
-pub record Waiting : Type 0 where
-  pub bytes : List ℕ
-  pub limit : ℕ
-
--- nothing waits, of so many bytes that may
-abbrev pub none_waiting : ℕ → Waiting
-none_waiting limit = record { bytes = []; limit = limit }
 
 -- A session: the slots of its board, the image's bytes and whether a write waits for a flush, for each slot
 -- what its console put out and nobody has taken yet and the service that is paused, if any, and how much one

@@ -3,11 +3,12 @@
 ghost use Rattle.std.specs.Prelude.{◌≡◌, ◌↔◌, None, length, map, replicate, take, IsTrue, IfOk};
 ghost use Rattle.std.specs.Vec.{vec_items};
 ghost use Rattle.board.specs.Lent.{AreBytesOf};
+ghost use Rattle.output_queue.specs.Waiting.{none_waiting};
 ghost use Rattle.session.specs.Refusing.{AreDevices, AreOutlets, has_bad_device};
-ghost use Rattle.session.specs.Session.{none_waiting, slots_of};
+ghost use Rattle.session.specs.Session.{slots_of};
 
-use crate::output_queue::OutputQueue;
 use board::{DeviceSpec, MOST_DEVICES, Pause, RegionSpec, SlotSpec};
+use output_queue::OutputQueue;
 use std::alloc::{AllocError, Allocator};
 use std_alloc::vec::Lodged;
 

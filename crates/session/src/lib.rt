@@ -8,16 +8,15 @@
 //! on when it is told to. `turn_kind` says what a slot is asked to do in a call, `response` what comes of it, and `progress`
 //! what the caller is told.
 //!
-//! `guest` is what a session is made of, `plugging` gives its board the guests' further devices, and `output_queue` keeps
-//! what a console put out. `fault` says why there is no session, `refusal` why a call was refused, `typed` what became of
-//! input, `laws` what holds of every session, and `lines` what holds of every line of calls.
+//! `guest` is what a session is made of, and `plugging` gives its board the guests' further devices. `fault` says why there is no
+//! session, `refusal` why a call was refused, `typed` what became of input, `laws` what holds of every session, and `lines` what
+//! holds of every line of calls.
 #![tactic(auto)]
 
 mod fault;
 mod guest;
 mod laws;
 mod lines;
-mod output_queue;
 mod plugging;
 mod progress;
 mod refusal;

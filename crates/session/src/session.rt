@@ -12,6 +12,7 @@ ghost use Rattle.board.specs.Fault.{IsAccepted, Refuses};
 ghost use Rattle.board.specs.Image.{bytes_of};
 ghost use Rattle.board.specs.Lent.{AreBytesOf, made_over, opened_over};
 ghost use Rattle.board.specs.Slot.{BoardSlot, interrupt_words, opened};
+ghost use Rattle.output_queue.specs.Waiting.{none_waiting};
 ghost use Rattle.session.specs.declared.fault.SessionFault.{SessionFault};
 ghost use Rattle.board.specs.declared.event.EventKind.{EventKind};
 ghost use Rattle.board.specs.declared.reply.Reply.{Reply};
@@ -19,7 +20,7 @@ ghost use Rattle.session.specs.declared.response.Response.{Response};
 ghost use Rattle.session.specs.Pacing.{call_of, paused_at};
 ghost use Rattle.session.specs.Answering.{SuitsCall, SuitsTurn};
 ghost use Rattle.session.specs.Pausing.{IsCall, IsEventCall, IsWholeCall};
-ghost use Rattle.session.specs.Session.{BeginsInPlace, IsIdle, new_session, new_session_over, none_waiting, plugged, slots_of, waits_at};
+ghost use Rattle.session.specs.Session.{BeginsInPlace, IsIdle, new_session, new_session_over, plugged, slots_of, waits_at};
 ghost use Rattle.session.specs.Refusing.{AreDevices, AreOutlets, IsBoardFault, IsJudged, IsLentRefusedFor, IsRefusedFor};
 
 mod console;
@@ -35,12 +36,12 @@ use crate::fault::{SessionFault, why_not};
 use crate::guest::{
     GuestSpec, are_bytes_of, are_devices, are_outlets, none_paused, outputs, slots,
 };
-use crate::output_queue::OutputQueue;
 use crate::plugging::plug_devices;
 use crate::response::{Response, Turned, note};
 use crate::told::Waits;
 use crate::turn_kind::TurnKind;
 use board::{Board, Budget, MemoryImage, Pause, Refused, Reply};
+use output_queue::OutputQueue;
 use sector_cache::are_whole_sectors;
 use std::alloc::{AllocError, Allocator, Global};
 use std::marker::Model;

@@ -1,6 +1,6 @@
 -- the outputs so far are those of the guests so far
 use Rattle.std.proofs.Common.{◌≡◌, map, take}
-use Rattle.session.specs.Session.{none_waiting}
+use Rattle.output_queue.specs.Waiting.{none_waiting}
 use Rattle.session.proofs.guest.outputs.Given as goal
 
 abbrev pub invariant-loop-guest : goal.invariant-loop-guest

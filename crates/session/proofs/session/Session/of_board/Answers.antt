@@ -1,7 +1,7 @@
 -- Each guest's output has room, and none of them is paused.
 use Rattle.std.proofs.Common.{length, None, sym, ◌∙◌, ap}
 use Rattle.std.proofs.lemmas.List.{length-map, length-replicate}
-use Rattle.session.specs.Session.{none_waiting}
+use Rattle.output_queue.specs.Waiting.{none_waiting}
 use Rattle.session.proofs.session.Session.of_board.Goals as goal
 
 pub invariant_of-result : goal.invariant_of-result

@@ -1,7 +1,7 @@
 -- What is moved out are the first bytes of both parts.
 use Rattle.std.proofs.Common.{arith}
 use Rattle.circular_buffer.proofs.Items.{copied_out}
-use Rattle.session.proofs.output_queue.OutputQueue.take.Goals as goal
+use Rattle.output_queue.proofs.queue.OutputQueue.take.Goals as goal
 
 pub returns-clause-moved : goal.returns-clause-moved
 returns-clause-moved g c =

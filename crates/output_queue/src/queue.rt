@@ -1,7 +1,7 @@
-//! What a console put out, until it is taken.
+//! The bytes that wait.
 
 ghost use Rattle.std.specs.Prelude.{◌≡◌, ◌++◌, ◌-◌, ◌≤◌, Some, length, vec_capacity, min, take, drop, IfOk};
-ghost use Rattle.session.specs.Session.{none_waiting};
+ghost use Rattle.output_queue.specs.Waiting.{none_waiting};
 
 use console_device::{NoMemory, Outlet};
 use std::alloc::{AllocError, Allocator, Global};
@@ -12,7 +12,7 @@ use std::mem;
 /// Bytes are put behind `later`; once all of `first` are taken the two change places. Both have room for as many as
 /// may wait, which is made once.
 #[derive(Drop)]
-pub(crate) struct OutputQueue<A: Allocator = Global> {
+pub struct OutputQueue<A: Allocator = Global> {
     first: Vec<u8, A>,
     start: usize,
     later: Vec<u8, A>,
@@ -21,7 +21,7 @@ pub(crate) struct OutputQueue<A: Allocator = Global> {
 
 impl<A: Allocator> Model for OutputQueue<A> {
     ghost use Rattle.std.specs.Prelude.{◌++◌, ◌≤◌, length, drop, vec_capacity};
-    ghost use Rattle.session.specs.Session.{Waiting};
+    ghost use Rattle.output_queue.specs.Waiting.{Waiting};
 
     ghost Value = { Waiting };
 
@@ -34,7 +34,7 @@ impl<A: Allocator> Model for OutputQueue<A> {
 
 impl<A: Allocator> OutputQueue<A> {
     /// No bytes, and room for so many.
-    pub(crate) fn new(alloc: A, limit: u32) -> Result<OutputQueue<A>, AllocError>
+    pub fn new(alloc: A, limit: u32) -> Result<OutputQueue<A>, AllocError>
     where
         A: Copy,
         ensures { IfOk result (λ made. made ≡ none_waiting limit) }
@@ -49,21 +49,21 @@ impl<A: Allocator> OutputQueue<A> {
     }
 
     /// The bytes that wait, in two parts.
-    pub(crate) fn waiting(&self) -> (&[u8], &[u8])
+    pub fn waiting(&self) -> (&[u8], &[u8])
         ensures { result.0.now ++ result.1.now ≡ self.now.bytes }
     {
         (&self.first[self.start..], self.later.as_slice())
     }
 
     /// How many bytes wait.
-    pub(crate) fn len(&self) -> usize
+    pub fn len(&self) -> usize
         ensures { result ≡ length self.now.bytes }
     {
         self.first.len() - self.start + self.later.len()
     }
 
     /// Moves the first bytes out, as many as find room, and answers how many they are.
-    pub(crate) fn take(&mut self, into: &mut [u8]) -> usize
+    pub fn take(&mut self, into: &mut [u8]) -> usize
         ensures count { result ≡ min (length self.old.bytes) (length into.old) }
         ensures moved { into.new ≡ take result self.old.bytes ++ drop result into.old }
         ensures left { self.new ≡ record self.old { bytes = drop result self.old.bytes } }

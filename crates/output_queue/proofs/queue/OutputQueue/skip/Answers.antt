@@ -1,8 +1,8 @@
 -- The list that held the later bytes holds the first ones.
 use Rattle.std.proofs.Common.{ap, arith}
 use Rattle.std.specs.Vec.{vec_len}
-use Rattle.session.proofs.Outputs.{left_later}
-use Rattle.session.proofs.output_queue.OutputQueue.skip.Goals as goal
+use Rattle.output_queue.proofs.Parts.{left_later}
+use Rattle.output_queue.proofs.queue.OutputQueue.skip.Goals as goal
 
 pub returns-else-count-of_first : goal.returns-else-count-of_first
 returns-else-count-of_first g c =
