@@ -139,3 +139,13 @@ seen_ends rs past a n s h view inside =
     let lies = subst (λ (s : Seen). Inside (memory (sightings_of s)) a n) (sym view) inside in
     let at = inside_found (map zeroed_region rs) a n none h (inside_seen (record { regions = rs; past = past }) a n lies) in
     omega (arith, at.3.below, region_fits (map zeroed_region rs) at.0 none h at.2)
+
+-- where there is one region, the range lies in it
+pub only_place : (rs : List RegionSpec) (past : List Access) (a n : ℕ) (s : Seen)
+    → MakeMemory rs → record { regions = rs; past = past } ≡ s → Inside (newest s.regions s.past) a n → length rs ≡ 1
+    → IsPlace s.regions 0 a n
+only_place rs past a n s h view inside one =
+    let found = place_found rs past a n (unwrap_or (position (reaches a) rs) 0) (position (reaches a) rs) s h view inside refl refl in
+    let same : length rs ≡ length s.regions = ap (λ (s : Seen). length s.regions) view in
+    let first : unwrap_or (position (reaches a) rs) 0 ≡ 0 = omega (arith, found.within, same, one) in
+    subst (λ (i : ℕ). IsPlace s.regions i a n) first found

@@ -1,7 +1,8 @@
 -- What a memory was seen as, access by access.
-use Rattle.std.proofs.Common.{◌≡◌, ◌∙◌, ℕ, suc, ◌+◌, ◌-◌, ◌≤◌, true, List, [], ◌∷◌, length, drop, sym, ap, subst, arith, inl, inr, length-take, length-append, length-drop}
+use Rattle.std.proofs.Common.{◌≡◌, ◌∙◌, ℕ, suc, ◌+◌, ◌-◌, ◌≤◌, true, List, [], ◌∷◌, zero, length, drop, take, refl, sym, ap, subst, arith, inl, inr, length-take, length-append, length-drop}
 use Rattle.std.proofs.lemmas.Bool.{cases_lt}
 use Rattle.std.proofs.lemmas.List.{places, same_lists}
+use Rattle.std.specs.Int.{byte_at, bytes_low_first}
 use Rattle.byteorder.specs.Endian.{little_bytes}
 use Rattle.guest_memory.specs.declared.spec.RegionSpec.{RegionSpec}
 use Rattle.guest_memory.specs.Faults.{zeroed_regions}
@@ -76,3 +77,10 @@ stores_noted s a k v bs e = record {
   interference = same_self (memory (sightings_of s));
   stored = now_noted s a bs ∙ ap (λ (bs : List ℕ). put (memory (sightings_of s)) a bs) e;
 }
+
+-- the lowest bytes of a number are the first of those of a word
+pub lowest_bytes : (i k n v : ℕ) → n ≤ k → take n (bytes_low_first i k v) ≡ bytes_low_first i n v
+lowest_bytes i k zero v h = refl
+lowest_bytes i zero (suc n) v h = absurd (omega arith)
+lowest_bytes i (suc k) (suc n) v h =
+    ap (λ (bs : List ℕ). byte_at i v ∷ bs) (lowest_bytes (suc i) k n v (omega arith))

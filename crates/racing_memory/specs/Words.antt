@@ -1,5 +1,6 @@
 -- A region of words of 8 bytes.
-use Rattle.std.specs.Prelude.{◌≡◌, ℕ, ◌+◌, ◌*◌, ◌^◌, ◌<◌, ◌≤◌, ◌⊎◌, Bool, List, Some, length, bit_xor, slice_get, slice_index_or}
+use Rattle.std.specs.Prelude.{◌≡◌, ℕ, ◌+◌, ◌*◌, ◌^◌, ◌<◌, ◌≤◌, ◌⊎◌, Bool, bit_xor}
+use Rattle.std.specs.Int.{bit_at}
 use Rattle.guest_memory.specs.declared.spec.RegionSpec.{RegionSpec}
 use Rattle.guest_memory.specs.Faults.{zeroed_region}
 use Rattle.guest_memory.specs.Regions.{touches}
@@ -17,9 +18,9 @@ pub record IsOfWords (base words : ℕ) : Type 0 where
 abbrev pub reaches : ℕ → RegionSpec → Bool
 reaches addr region = touches addr (zeroed_region region)
 
--- The bytes `change`, xored with a word, store `bytes` in it from one of its bytes on, if that was as it was read: a byte that
--- isn't named stays whatever it is, and each named one becomes what is stored.
-pub record IsChange (word : List ℕ) (from : ℕ) (bytes change : List ℕ) : Type 0 where
-  pub others : (k : ℕ) → k < 8 → (k < from) ⊎ (from + length bytes ≤ k) → slice_get change k ≡ Some 0
-  pub named : (i d : ℕ) → i < length bytes
-      → slice_get change (from + i) ≡ Some (bit_xor (slice_index_or word (from + i) d) (slice_index_or bytes i d))
+-- What `change`, xored with a word as it then is, makes of it. A bit that isn't one of the `len` bytes from byte `from` on stays
+-- whatever it is. Where theirs are as they were read, in `word`, they become those of the number v.
+pub record IsChange (word from len v change : ℕ) : Type 0 where
+  pub others : (now i : ℕ) → (i < 8 * from) ⊎ (8 * (from + len) ≤ i) → bit_at (bit_xor now change) i ≡ bit_at now i
+  pub named : (now i : ℕ) → i < 8 * len → bit_at now (8 * from + i) ≡ bit_at word (8 * from + i)
+      → bit_at (bit_xor now change) (8 * from + i) ≡ bit_at v i

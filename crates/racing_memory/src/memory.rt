@@ -1,7 +1,8 @@
 //! The memory, and its accesses.
 
-ghost use Rattle.std.specs.Prelude.{◌≡◌, [], ◌∷◌, ◌+◌, ◌≤◌, ◌<◌, ◌↔◌, length, IsTrue, slice_index_or};
+ghost use Rattle.std.specs.Prelude.{◌≡◌, [], ◌∷◌, ◌+◌, ◌*◌, ◌^◌, ◌≤◌, ◌<◌, ◌↔◌, length, IsTrue, slice_index_or};
 ghost use Rattle.std.specs.List.{position};
+ghost use Rattle.byteorder.specs.Endian.{little_bytes};
 ghost use Rattle.guest_memory.specs.Memory.{Inside};
 ghost use Rattle.racing_memory.specs.Past.{MakeMemory, newest, seen_again};
 ghost use Rattle.racing_memory.specs.Words.{reaches};
@@ -57,6 +58,7 @@ impl<'r, 'w> RacingMemory<'r, 'w> {
     }
 
     // The place of the region that holds the `n` bytes from `addr` on.
+    #[inline(always)]
     fn place_inside(&self, addr: u64, n: u64) -> usize
         requires { Inside (newest self.now.regions self.now.past) addr n }
         ensures place { result < length self.now.regions }
@@ -64,24 +66,32 @@ impl<'r, 'w> RacingMemory<'r, 'w> {
         ensures below { (d : _) → addr + n ≤ (slice_index_or self.now.regions result d).base
             + (slice_index_or self.now.regions result d).len }
     {
+        if self.regions.len() == 1 {
+            return 0;
+        }
         place_of(self.regions, addr).unwrap_or(0)
     }
 
     // These bytes stand from an address on.
+    #[inline(always)]
     fn note(&mut self, addr: u64, bytes: &[u8])
         ensures { self.new ≡ seen_again self.old addr bytes.now }
     {
         self.past.note(addr, bytes);
     }
 
-    // Stores bytes from an address on.
-    fn put(&mut self, addr: u64, bytes: &[u8])
-        requires { Inside (newest self.old.regions self.old.past) addr (length bytes.now) }
-        ensures { self.new ≡ seen_again self.old addr bytes.now }
+    // Stores a number in the `len` bytes from an address on.
+    #[inline(always)]
+    fn put(&mut self, addr: u64, len: usize, v: u64)
+        requires inside { Inside (newest self.old.regions self.old.past) addr len }
+        requires some { 0 < len }
+        requires most { len ≤ 8 }
+        requires number { v < 2 ^ (8 * len) }
+        ensures { self.new ≡ seen_again self.old addr (little_bytes len v) }
     {
-        let place = self.place_inside(addr, bytes.len() as u64);
-        self.regions[place].copy_in(addr, bytes);
-        self.note(addr, bytes);
+        let place = self.place_inside(addr, len as u64);
+        self.regions[place].store(addr, len, v);
+        self.note(addr, &v.to_le_bytes()[..len]);
     }
 }
 
@@ -105,11 +115,13 @@ impl<'r, 'w> Shared for RacingMemory<'r, 'w> {
     }
 
     fn load_u16(&mut self, addr: u64) -> u16 {
-        let mut bytes = [0; 2];
-        self.load(addr, &mut bytes);
+        let place = self.place_inside(addr, 2);
+        let bytes = self.regions[place].two_at(addr);
+        self.note(addr, &bytes);
         LittleEndian::read_u16(&bytes)
     }
 
+    #[inline(always)]
     fn load(&mut self, addr: u64, into: &mut [u8]) {
         let place = self.place_inside(addr, into.len() as u64);
         self.regions[place].copy_out(addr, into);
@@ -118,27 +130,21 @@ impl<'r, 'w> Shared for RacingMemory<'r, 'w> {
 
     #[tactic(auto, using(crate::proofs::Seeing::stores_noted))]
     fn store_u8(&mut self, addr: u64, v: u8) {
-        self.put(addr, &[v]);
+        self.put(addr, 1, u64::from(v));
     }
 
     #[tactic(auto, using(crate::proofs::Seeing::stores_noted))]
     fn store_u16(&mut self, addr: u64, v: u16) {
-        let mut bytes = [0; 2];
-        LittleEndian::write_u16(&mut bytes, v);
-        self.put(addr, &bytes);
+        self.put(addr, 2, u64::from(v));
     }
 
     #[tactic(auto, using(crate::proofs::Seeing::stores_noted))]
     fn store_u32(&mut self, addr: u64, v: u32) {
-        let mut bytes = [0; 4];
-        LittleEndian::write_u32(&mut bytes, v);
-        self.put(addr, &bytes);
+        self.put(addr, 4, u64::from(v));
     }
 
     #[tactic(auto, using(crate::proofs::Seeing::stores_noted))]
     fn store_u64(&mut self, addr: u64, v: u64) {
-        let mut bytes = [0; 8];
-        LittleEndian::write_u64(&mut bytes, v);
-        self.put(addr, &bytes);
+        self.put(addr, 8, v);
     }
 }

@@ -1,9 +1,9 @@
 //! One region of the memory: the words, and the words of a range.
 
-ghost use Rattle.std.specs.Prelude.{◌≡◌, ◌+◌, ◌*◌, ◌^◌, ◌≤◌, length, IsTrue};
+ghost use Rattle.std.specs.Prelude.{◌≡◌, ◌+◌, ◌*◌, ◌^◌, ◌≤◌, ◌<◌, length, IsTrue};
 ghost use Rattle.racing_memory.specs.Words.{reaches};
 
-use crate::word::{WORD_LEN, store_in_word, word_at};
+use crate::word::{WORD_LEN, copy_of, store_in_word, word_at};
 use std::marker::Model;
 use std::sync::atomic::AtomicU64;
 
@@ -70,35 +70,77 @@ impl<'w> RacingRegion<'w> {
 
     /// The bytes from an address on, whatever stands there. Bytes of one word are those of one step. The words are read from the
     /// last to the first: a driver stores the flags of a packed descriptor last, in its last word, so what it stored before them
-    /// is read after them (2.8.6, 2.8.13).
+    /// is read after them (2.8.6, 2.8.13). Bytes of one word, and two whole words, as a descriptor, go a short way.
+    #[inline(always)]
     pub(crate) fn copy_out(&self, addr: u64, into: &mut [u8])
         requires above { self.now.base ≤ addr }
         requires below { addr + length into.old ≤ self.now.base + self.now.len }
     {
         let from = (addr - self.base) as usize;
-        let len = into.len();
-        let mut word = [0; WORD_LEN];
-        for i in (0..len).rev() {
-            let at = from + i;
-            if i + 1 == len || at % WORD_LEN == WORD_LEN - 1 {
-                word = word_at(self.words, at);
-            }
-            into[i] = word[at % WORD_LEN];
+        let first = from % WORD_LEN;
+        if !into.is_empty() && first + into.len() <= WORD_LEN {
+            copy_of(word_at(self.words, from), first, into);
+        } else if first == 0 && into.len() == 2 * WORD_LEN {
+            copy_of(
+                word_at(self.words, from + WORD_LEN),
+                0,
+                &mut into[WORD_LEN..],
+            );
+            copy_of(word_at(self.words, from), 0, &mut into[..WORD_LEN]);
+        } else {
+            self.copy_words(from, into);
         }
     }
 
-    /// Stores bytes from an address on. Those of one word change in one step, and no other byte does.
-    pub(crate) fn copy_in(&self, addr: u64, bytes: &[u8])
-        requires above { self.now.base ≤ addr }
-        requires below { addr + length bytes.now ≤ self.now.base + self.now.len }
+    // The bytes from a place on, word by word.
+    #[inline(never)]
+    fn copy_words(&self, from: usize, into: &mut [u8])
+        requires { from + length into.old ≤ self.now.len }
     {
-        let from = (addr - self.base) as usize;
-        let mut done = 0;
-        while done < bytes.len() {
-            let at = from + done;
-            let len = (bytes.len() - done).min(WORD_LEN - at % WORD_LEN);
-            store_in_word(self.words, at, &bytes[done..done + len]);
-            done += len;
+        let mut left = into.len();
+        while left > 0 {
+            let end = from + left;
+            let len = ((end - 1) % WORD_LEN + 1).min(left);
+            let word = word_at(self.words, end - 1);
+            copy_of(word, (end - len) % WORD_LEN, &mut into[left - len..left]);
+            left -= len;
         }
+    }
+
+    /// The two bytes from an address on, whatever stands there: the same of two.
+    #[inline(always)]
+    pub(crate) fn two_at(&self, addr: u64) -> [u8; 2]
+        requires above { self.now.base ≤ addr }
+        requires below { addr + 2 ≤ self.now.base + self.now.len }
+    {
+        let place = (addr - self.base) as usize;
+        let from = place % WORD_LEN;
+        if from < WORD_LEN - 1 {
+            let word = word_at(self.words, place) >> (8 * from);
+            return ((word & 0xffff) as u16).to_le_bytes();
+        }
+        let high = word_at(self.words, place + 1);
+        let low = word_at(self.words, place) >> (8 * from);
+        [(low & 0xff) as u8, (high & 0xff) as u8]
+    }
+
+    /// Stores a number in the `len` bytes from an address on. Those of one word change in one step, and no other byte does.
+    #[inline(always)]
+    pub(crate) fn store(&self, addr: u64, len: usize, v: u64)
+        requires above { self.now.base ≤ addr }
+        requires below { addr + len ≤ self.now.base + self.now.len }
+        requires some { 0 < len }
+        requires most { len ≤ 8 }
+        requires number { v < 2 ^ (8 * len) }
+    {
+        let place = (addr - self.base) as usize;
+        let room = WORD_LEN - place % WORD_LEN;
+        if len <= room {
+            store_in_word(self.words, place, len, v);
+            return;
+        }
+        let low = v & (u64::MAX >> (64 - 8 * room));
+        store_in_word(self.words, place, room, low);
+        store_in_word(self.words, place + room, len - room, v >> (8 * room));
     }
 }

@@ -1,6 +1,7 @@
 //! One word of the memory: the steps that touch it, and what of it a store changes.
 
-ghost use Rattle.std.specs.Prelude.{◌≡◌, ◌+◌, ◌*◌, ◌%◌, ◌≤◌, ◌<◌, length};
+ghost use Rattle.std.specs.Prelude.{◌≡◌, ◌+◌, ◌*◌, ◌%◌, ◌^◌, ◌≤◌, ◌<◌, drop, length, take};
+ghost use Rattle.byteorder.specs.Endian.{little_bytes};
 ghost use Rattle.racing_memory.specs.Words.{IsChange};
 
 use std::sync::atomic::{AtomicU64, Ordering};
@@ -8,30 +9,57 @@ use std::sync::atomic::{AtomicU64, Ordering};
 /// The bytes of a word.
 pub(crate) const WORD_LEN: usize = 8;
 
-/// The bytes of the word that a place lies in, as one step finds them.
-pub(crate) fn word_at(words: &[AtomicU64], place: usize) -> [u8; WORD_LEN]
+/// The word that a place lies in, as one step finds it.
+#[inline(always)]
+pub(crate) fn word_at(words: &[AtomicU64], place: usize) -> u64
     requires { place < 8 * length words.now }
 {
-    words[place / WORD_LEN].load(Ordering::SeqCst).to_le_bytes()
+    words[place / WORD_LEN].load(Ordering::SeqCst)
 }
 
-/// Stores bytes from a place on, all of them in the word that it lies in, in one step.
-pub(crate) fn store_in_word(words: &[AtomicU64], place: usize, bytes: &[u8])
-    requires there { place < 8 * length words.now }
-    requires within { place % 8 + length bytes.now ≤ 8 }
+/// Copies the bytes of a word from one of its bytes on.
+#[inline(always)]
+pub(crate) fn copy_of(word: u64, from: usize, into: &mut [u8])
+    requires { from + length into.old ≤ 8 }
+    ensures { into.new ≡ take (length into.old) (drop from (little_bytes 8 word)) }
 {
-    let change = change_of(word_at(words, place), place % WORD_LEN, bytes);
-    words[place / WORD_LEN].fetch_xor(u64::from_le_bytes(change), Ordering::SeqCst);
-}
-
-/// What of a word changes where bytes are stored from one of its bytes on.
-fn change_of(word: [u8; WORD_LEN], from: usize, bytes: &[u8]) -> [u8; WORD_LEN]
-    requires { from + length bytes.now ≤ 8 }
-    ensures { IsChange word from bytes.now result }
-{
-    let mut change = [0; WORD_LEN];
-    for (index, byte) in bytes.iter().enumerate() {
-        change[from + index] = word[from + index] ^ *byte;
+    let bytes = word.to_le_bytes();
+    if into.len() == WORD_LEN {
+        into.copy_from_slice(&bytes);
+    } else {
+        into.copy_from_slice(&bytes[from..from + into.len()]);
     }
-    change
+}
+
+/// Stores a number in `len` bytes from a place on, all of them in the word that it lies in, in one step. Where they have it
+/// already, the step is the load that finds so.
+#[inline(always)]
+pub(crate) fn store_in_word(words: &[AtomicU64], place: usize, len: usize, v: u64)
+    requires there { place < 8 * length words.now }
+    requires within { place % 8 + len ≤ 8 }
+    requires some { 0 < len }
+    requires number { v < 2 ^ (8 * len) }
+{
+    let change = change_of(word_at(words, place), place % WORD_LEN, len, v);
+    if change == 0 {
+        return;
+    }
+    if len == WORD_LEN {
+        words[place / WORD_LEN].store(v, Ordering::SeqCst);
+    } else {
+        words[place / WORD_LEN].fetch_xor(change, Ordering::SeqCst);
+    }
+}
+
+/// What of a word changes where a number is stored in `len` of its bytes.
+#[inline(always)]
+fn change_of(word: u64, from: usize, len: usize, v: u64) -> u64
+    requires some { 0 < len }
+    requires within { from + len ≤ 8 }
+    requires number { v < 2 ^ (8 * len) }
+    ensures { IsChange word from len v result }
+{
+    let shift = 8 * from;
+    let mask = u64::MAX >> (64 - 8 * len);
+    (((word >> shift) & mask) ^ v) << shift
 }

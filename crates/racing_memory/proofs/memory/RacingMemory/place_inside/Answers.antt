@@ -1,5 +1,15 @@
-use Rattle.racing_memory.proofs.Places.{place_found}
+use Rattle.racing_memory.proofs.Places.{only_place, place_found}
 use Rattle.racing_memory.proofs.memory.RacingMemory.place_inside.Goals as goal
+
+pub returns-then-self-eq1-clause-above : goal.returns-then-self-eq1-clause-above
+returns-then-self-eq1-clause-above c =
+    (only_place c.self.inside.regions.now c.self.inside.past.accesses c.args.addr c.args.n c.args.self.now c.self.invariant
+    c.self.view_is c.requires c.if-self-eq1.true).above
+
+pub returns-then-self-eq1-clause-below : goal.returns-then-self-eq1-clause-below
+returns-then-self-eq1-clause-below c =
+    (only_place c.self.inside.regions.now c.self.inside.past.accesses c.args.addr c.args.n c.args.self.now c.self.invariant
+    c.self.view_is c.requires c.if-self-eq1.true).below
 
 pub returns : goal.returns
 returns c =

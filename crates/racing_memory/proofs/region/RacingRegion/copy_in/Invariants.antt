@@ -1,8 +1,0 @@
-use Rattle.std.proofs.Common.{◌≤◌, ◌-◌, length}
-use Rattle.racing_memory.proofs.region.RacingRegion.copy_in.Given as goal
-
-abbrev pub invariant-loop-done : goal.invariant-loop-done
-invariant-loop-done l = l.done ≤ length l.bytes
-
-abbrev pub decreases-loop-done : goal.decreases-loop-done
-decreases-loop-done l = length l.bytes - l.done
