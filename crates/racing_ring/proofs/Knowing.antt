@@ -1,13 +1,13 @@
 -- The descriptors that were read, each once, and known from then on.
-use Rattle.std.proofs.Common.{◌≡◌, ◌∙◌, ℕ, zero, suc, ◌+◌, ◌*◌, ◌<◌, ◌≤◌, Bool, true, false, Option, Some, None, List, [], ◌∷◌, ◌++◌, get_or, length, refl, sym, ap, arith, inl, inr}
+use Rattle.std.proofs.Common.{◌≡◌, ◌∙◌, ℕ, zero, suc, ◌+◌, ◌*◌, ◌<◌, ◌≤◌, Bool, true, false, Option, Some, None, List, [], ◌∷◌, ◌++◌, get_or, length, refl, sym, ap, inl, inr}
 use Rattle.std.specs.Prelude.{is_some, replicate, slice_set}
 use Rattle.std.proofs.lemmas.List.{get_or_default, get_or-set_same, get_or-set_other}
 use Rattle.std.proofs.lemmas.Bool.{cases_eq}
 use Rattle.indirect.specs.declared.descriptor.Descriptor.{Descriptor}
 use Rattle.indirect.specs.Descriptors.{split_descriptor}
 use Rattle.shared_memory.specs.Sightings.{Sightings, Loads, memory}
-use Rattle.shared_memory.proofs.Sightings.{seen_later}
-use Rattle.racing_ring.specs.Table.{Known, known_at, IsLookedUp, IsDescriptorSeen, IsTableSeen}
+use Rattle.racing_ring.specs.Table.{Known, known_at, IsLookedUp, IsDescriptorSeen, IsTableSeen, read_split}
+use Rattle.racing_ring.proofs.Seeing.{seen_at_last, source_of, turn_later, turn_sooner}
 use Rattle.racing_ring.proofs.Tables.{Agree}
 
 -- a descriptor that wasn't read
@@ -46,12 +46,12 @@ agree_filled known sightings addr (x ∷ front) k =
     by None h = let test : false ≡ true = h in cc
     by (Some d) h = refl
 
-pub agree_looked : (sightings : Sightings) (addr : ℕ) (old new : Known) (i : ℕ) (d : Descriptor) (front : List ℕ)
-    → IsLookedUp sightings addr old new i d → AreKnown old front
+pub agree_looked : (begin : ℕ) (sightings : Sightings) (addr : ℕ) (old new : Known) (i : ℕ) (d : Descriptor)
+    (front : List ℕ) → IsLookedUp begin sightings addr old new i d → AreKnown old front
     → Agree (told old) (told new) front × AreKnown new front
-agree_looked sightings addr old new i d [] looked k = (tt, tt)
-agree_looked sightings addr old new i d (x ∷ front) looked k =
-    let rest = agree_looked sightings addr old new i d front looked k.1 in
+agree_looked begin sightings addr old new i d [] looked k = (tt, tt)
+agree_looked begin sightings addr old new i d (x ∷ front) looked k =
+    let rest = agree_looked begin sightings addr old new i d front looked k.1 in
     let here = by (known_at old x) refl k.0 in
     ((here.0, rest.0), (here.1, rest.1))
   where
@@ -63,9 +63,9 @@ agree_looked sightings addr old new i d (x ∷ front) looked k =
         (rw (e, stays) refl, rw stays refl)
 
 -- each descriptor that is known was seen
-abbrev pub AreSeen : Sightings → Sightings → ℕ → Known → Type 0
-AreSeen old new addr known =
-    (j : ℕ) (d : Descriptor) → known_at known j ≡ Some d → IsDescriptorSeen old new (addr + 16 * j) d
+abbrev pub AreSeen : ℕ → Sightings → ℕ → Known → Type 0
+AreSeen begin new addr known =
+    (j : ℕ) (d : Descriptor) → known_at known j ≡ Some d → IsDescriptorSeen begin new (addr + 16 * j) d
 
 pub known_push : (known : Known) (front : List ℕ) (i : ℕ) (d : Descriptor) → AreKnown known front
     → known_at known i ≡ Some d → AreKnown known (front ++ i ∷ [])
@@ -81,8 +81,8 @@ pub filled_found : (known : Known) (sightings : Sightings) (addr i : ℕ) (d : D
 filled_found known sightings addr i d e = rw e refl
 
 -- nothing is known at first
-pub seen_none : (old new : Sightings) (addr k : ℕ) → AreSeen old new addr (replicate k None)
-seen_none old new addr k j d e = absurd (no (nothing k j) e)
+pub seen_none : (begin : ℕ) (new : Sightings) (addr k : ℕ) → AreSeen begin new addr (replicate k None)
+seen_none begin new addr k j d e = absurd (no (nothing k j) e)
   where
     nothing : (k j : ℕ) → known_at (replicate k None) j ≡ None
     nothing zero j = refl
@@ -95,65 +95,70 @@ seen_none old new addr k j d e = absurd (no (nothing k j) e)
 some_same : {a b : Descriptor} → Some a ≡ Some b → a ≡ b
 some_same h = cc h
 
+-- what was seen of a descriptor
+seen_here : (begin : ℕ) (new : Sightings) (a b : ℕ) (d e : Descriptor) → e ≡ d → b ≡ a → IsDescriptorSeen begin new a d
+    → IsDescriptorSeen begin new b e
+seen_here begin new a b d e same place seen = record {
+  source = seen.source;
+  seen = seen.seen;
+  is = same ∙ seen.is ∙ ap (read_split seen.source) (sym place);
+}
+
+seen_later : (races : Bool) (begin : ℕ) (mid new : Sightings) (a : ℕ) (d : Descriptor) → Loads races mid new
+    → IsDescriptorSeen begin mid a d → IsDescriptorSeen begin new a d
+seen_later races begin mid new a d loads was = record {
+  source = was.source;
+  seen = turn_later races begin mid new was.source loads was.seen;
+  is = was.is;
+}
+
 -- what one look-up adds
 pub seen_looked : (races : Bool) (old mid new : Sightings) (addr : ℕ) (known known' : Known) (i : ℕ) (d : Descriptor)
-    → Loads races old mid → Loads races mid new → IsLookedUp new addr known known' i d → AreSeen old mid addr known
-    → AreSeen old new addr known'
+    → Loads races old mid → Loads races mid new → IsLookedUp mid.now new addr known known' i d
+    → AreSeen old.now mid addr known → AreSeen old.now new addr known'
 seen_looked races old mid new addr known known' i d before loads looked seen j e is =
     by (known_at known j) refl
   where
-    by : (o : Option Descriptor) → known_at known j ≡ o → IsDescriptorSeen old new (addr + 16 * j) e
-    by None n = record {
-      where_read = memory new;
-      seen = record {
-        place = new.now;
-        from = omega (arith, before.later, loads.later);
-        to = omega arith;
-        is = refl;
-      };
-      is = looked.fresh j e n is;
-    }
-    by (Some c) k =
-        let same : e ≡ c = some_same (sym is ∙ looked.kept j c k) in
-        let was = seen j c k in
+    by : (o : Option Descriptor) → known_at known j ≡ o → IsDescriptorSeen old.now new (addr + 16 * j) e
+    by None n =
+        let now = looked.fresh j e n is in
         record {
-          where_read = was.where_read;
-          seen = seen_later races old mid new was.where_read loads was.seen;
-          is = same ∙ was.is;
+          source = now.source;
+          seen = turn_sooner old.now mid.now new now.source before.later now.seen;
+          is = now.is;
         }
+    by (Some c) k =
+        seen_here old.now new (addr + 16 * j) (addr + 16 * j) c e (some_same (sym is ∙ looked.kept j c k)) refl
+        (seen_later races old.now mid new (addr + 16 * j) c loads (seen j c k))
 
 -- and what later reads leave
-pub seen_after : (races : Bool) (old mid new : Sightings) (addr : ℕ) (known : Known) → Loads races mid new
-    → AreSeen old mid addr known → AreSeen old new addr known
-seen_after races old mid new addr known loads seen j d e =
-    let was = seen j d e in
-    record {
-      where_read = was.where_read;
-      seen = seen_later races old mid new was.where_read loads was.seen;
-      is = was.is;
-    }
+pub seen_after : (races : Bool) (begin : ℕ) (mid new : Sightings) (addr : ℕ) (known : Known) → Loads races mid new
+    → AreSeen begin mid addr known → AreSeen begin new addr known
+seen_after races begin mid new addr known loads seen j d e =
+    seen_later races begin mid new (addr + 16 * j) d loads (seen j d e)
 
 -- each descriptor of the table was seen
-pub filled_seen : (old new : Sightings) (addr n : ℕ) (known : Known) → old.now ≤ new.now → AreSeen old new addr known
-    → IsTableSeen old new addr n (filled known new addr)
-filled_seen old new addr n known later seen i below = by (known_at known i) refl
+pub filled_seen : (begin : ℕ) (new : Sightings) (addr n : ℕ) (known : Known) → begin ≤ new.now
+    → AreSeen begin new addr known → IsTableSeen begin new addr n (filled known new addr)
+filled_seen begin new addr n known later seen i below = by (known_at known i) refl
   where
     by : (o : Option Descriptor) → known_at known i ≡ o
-        → IsDescriptorSeen old new (addr + 16 * i) (filled known new addr i)
+        → IsDescriptorSeen begin new (addr + 16 * i) (filled known new addr i)
     by None e = record {
-      where_read = memory new;
-      seen = record { place = new.now; from = later; to = omega arith; is = refl };
+      source = source_of new new;
+      seen = seen_at_last begin new later;
       is = rw e refl;
     }
     by (Some d) e =
         let was = seen i d e in
-        record { where_read = was.where_read; seen = was.seen; is = rw e was.is }
+        record { source = was.source; seen = was.seen; is = rw e was.is }
 
 -- a descriptor that wasn't known was read
-pub looked_fresh : (sightings : Sightings) (addr : ℕ) (old : Known) (i j : ℕ) (d : Descriptor) (any : Option Descriptor)
-    → j ≡ i → j < length old → get_or old j any ≡ None → d ≡ split_descriptor (memory sightings) (addr + 16 * i)
-    → IsLookedUp sightings addr old (slice_set old j (Some d)) i d
-looked_fresh sightings addr old i j d any at room unknown read = record {
+pub looked_fresh : (begin : ℕ) (sightings : Sightings) (addr : ℕ) (old : Known) (i j : ℕ) (d : Descriptor)
+    (any : Option Descriptor) → j ≡ i → j < length old → get_or old j any ≡ None
+    → IsDescriptorSeen begin sightings (addr + 16 * i) d
+    → IsLookedUp begin sightings addr old (slice_set old j (Some d)) i d
+looked_fresh begin sightings addr old i j d any at room unknown read = record {
   found = rw (← at) (get_or-set_same old j (Some d) None room);
   kept = λ k e is. elim (cases_eq k j) [
     | inl same ↦ absurd (no (ap (λ (n : ℕ). known_at old n) same ∙ none) is)
@@ -163,8 +168,8 @@ looked_fresh sightings addr old i j d any at room unknown read = record {
     | inl same ↦
         let here : known_at (slice_set old j (Some d)) k ≡ Some d =
         rw same (get_or-set_same old j (Some d) None room) in
-        some_same (sym is ∙ here) ∙ read ∙ ap (λ (n : ℕ). split_descriptor (memory sightings) (addr + 16 * n))
-        (sym (same ∙ at))
+        seen_here begin sightings (addr + 16 * i) (addr + 16 * k) d e (some_same (sym is ∙ here))
+        (ap (λ (n : ℕ). addr + 16 * n) (same ∙ at)) read
     | inr other ↦ absurd (no (get_or-set_other old j k (Some d) None other ∙ was) is)
   ];
 }

@@ -1,5 +1,5 @@
 -- A chain that its guest leaves alone while it is taken is one that a memory offers.
-use Rattle.std.proofs.Common.{◌≡◌, ◌∙◌, ℕ, ◌+◌, ◌*◌, Bool, false, List, [], ◌∷◌, sym, ap, subst, arith}
+use Rattle.std.proofs.Common.{◌≡◌, ◌∙◌, ℕ, ◌+◌, ◌*◌, ◌≤◌, Bool, false, List, [], ◌∷◌, sym, ap, subst, arith}
 use Rattle.guest_memory.specs.Memory.{Memory}
 use Rattle.chain.specs.declared.segment.Buffer.{Buffer}
 use Rattle.chain.specs.declared.fault.Fault.{Fault}
@@ -14,7 +14,8 @@ use Rattle.split_ring.specs.Ring.{head_of, table_of}
 use Rattle.split_ring.specs.Kind.{entry_of, split_kind}
 use Rattle.shared_memory.specs.Sightings.{Sightings, Loads, memory}
 use Rattle.shared_memory.proofs.Sightings.{seen_still}
-use Rattle.racing_ring.specs.Table.{AreOne, IsTableSeen}
+use Rattle.racing_ring.specs.Source.{Source, IsSeenInTurn}
+use Rattle.racing_ring.specs.Table.{AreOne, IsTableSeen, read_split}
 use Rattle.racing_ring.specs.Split.{IsOffered, IsFaulty}
 use Rattle.racing_ring.proofs.Tables.{Agree, reached_kept}
 
@@ -24,17 +25,23 @@ agree_below t u n h i [] one l = tt
 agree_below t u n h i (x ∷ front) one l =
     (one x l.1.below, agree_below t u n (first_of front i) i front one l.2)
 
+-- a list through one table is one through another that agrees on its members
+pub list_of_members : (kind : TableKind) (negotiated : Bool) (m : Memory) (t u : ℕ → Descriptor) (n h count last : ℕ) (buffers : List Buffer)
+    (x : ListResolves kind negotiated m t n h count last buffers) → Agree t u x.reached.front → t last ≡ u last
+    → ListResolves kind negotiated m u n h count last buffers
+list_of_members kind negotiated m t u n h count last buffers x front end = record {
+  before = x.before;
+  reached = reached_kept m [] t u n h count last x.before x.reached front;
+  comes = x.comes;
+  ends = subst (λ (d : Descriptor). EndsBy kind negotiated m d.indirect x.before count d buffers) end x.ends;
+}
+
 pub list_kept : (kind : TableKind) (negotiated : Bool) (m : Memory) (t u : ℕ → Descriptor) (n h count last : ℕ) (buffers : List Buffer)
     → AreOne n t u → ListResolves kind negotiated m t n h count last buffers
     → ListResolves kind negotiated m u n h count last buffers
-list_kept kind negotiated m t u n h count last buffers one x = record {
-  before = x.before;
-  reached = reached_kept m [] t u n h count last x.before x.reached
-      (agree_below t u n h last x.reached.front one x.reached.leads);
-  comes = x.comes;
-  ends = subst (λ (d : Descriptor). EndsBy kind negotiated m d.indirect x.before count d buffers)
-      (one last x.comes.below) x.ends;
-}
+list_kept kind negotiated m t u n h count last buffers one x =
+    list_of_members kind negotiated m t u n h count last buffers x
+    (agree_below t u n h last x.reached.front one x.reached.leads) (one last x.comes.below)
 
 pub fails_kept : (kind : TableKind) (negotiated : Bool) (m : Memory) (t u : ℕ → Descriptor) (n h : ℕ) (fault : Fault)
     → AreOne n t u → ListFails kind negotiated m t n h fault
@@ -83,13 +90,24 @@ faulty_at old new ring fault r head one =
 pub one_still : (old new : Sightings) → Loads false old new → memory new ≡ memory old
 one_still old new loads = loads.interference new.now loads.later (omega arith)
 
-table_still : (old new : Sightings) (addr n : ℕ) (table : ℕ → Descriptor) (m : Memory) → Loads false old new
-    → m ≡ memory old → IsTableSeen old new addr n table
+-- and so is what a descriptor was read of
+pub turn_still : (old new : Sightings) (begin : ℕ) (source : Source) → Loads false old new → old.now ≤ begin
+    → IsSeenInTurn begin new source → (source.flags_in ≡ memory old) × (source.addr_in ≡ memory old)
+turn_still old new begin source loads later s = (
+  s.flags_is ∙ loads.interference s.flags_at (omega (arith, later, s.from)) (omega (arith, s.in_turn, s.to)),
+  s.addr_is ∙ loads.interference s.addr_at (omega (arith, later, s.from, s.in_turn)) s.to,
+)
+
+table_still : (old new : Sightings) (begin addr n : ℕ) (table : ℕ → Descriptor) (m : Memory) → Loads false old new
+    → old.now ≤ begin → m ≡ memory old → IsTableSeen begin new addr n table
     → AreOne n table (λ i. split_descriptor m (addr + 16 * i))
-table_still old new addr n table m loads same seen i below =
+table_still old new begin addr n table m loads later same seen i below =
     let was = seen i below in
-    was.is ∙ ap (λ (m : Memory). split_descriptor m (addr + 16 * i))
-    (seen_still old new was.where_read loads was.seen ∙ sym same)
+    let both = turn_still old new begin was.source loads later was.seen in
+    let a = addr + 16 * i in
+    was.is
+    ∙ ap (λ (m : Memory). read_split (record { flags_in = m; addr_in = was.source.addr_in }) a) (both.0 ∙ sym same)
+    ∙ ap (λ (n : Memory). read_split (record { flags_in = m; addr_in = n }) a) (both.1 ∙ sym same)
 
 pub offered_still : (old new : Sightings) (ring : RingState) (buffers : List Buffer) (entry : Entry)
     → Loads false old new → IsOffered old new ring buffers entry
@@ -99,7 +117,8 @@ offered_still old new ring buffers entry loads r =
     let head = seen_still old new r.head_in loads r.head_seen in
     subst (λ (m : Memory). split_kind.Offers m ring buffers entry) one
     (offered_at old new ring buffers entry r (ap (λ (m : Memory). head_of m ring) (head ∙ sym one))
-    (table_still old new ring.setup.desc ring.setup.size r.walked.table (memory new) loads one r.walked.table_seen))
+    (table_still old new r.head_seen.place ring.setup.desc ring.setup.size r.walked.table (memory new) loads
+    r.head_seen.from one r.walked.table_seen))
 
 pub faulty_still : (old new : Sightings) (ring : RingState) (fault : Fault) → Loads false old new
     → IsFaulty old new ring fault → split_kind.HasFault (memory old) ring fault
@@ -108,4 +127,5 @@ faulty_still old new ring fault loads r =
     let head = seen_still old new r.head_in loads r.head_seen in
     subst (λ (m : Memory). split_kind.HasFault m ring fault) one
     (faulty_at old new ring fault r (ap (λ (m : Memory). head_of m ring) (head ∙ sym one))
-    (table_still old new ring.setup.desc ring.setup.size r.walked.table (memory new) loads one r.walked.table_seen))
+    (table_still old new r.head_seen.place ring.setup.desc ring.setup.size r.walked.table (memory new) loads
+    r.head_seen.from one r.walked.table_seen))

@@ -1,5 +1,6 @@
 pub mod Unread
 pub mod Reading
+pub mod Seeing
 pub mod Lying
 pub mod Tables
 pub mod Knowing
@@ -10,4 +11,5 @@ pub mod Standing
 pub mod Positions
 pub mod Listing
 pub mod PackedLeaving
+pub mod Publishing
 pub mod PackedTaking

@@ -12,7 +12,6 @@ use Rattle.indirect.proofs.Listing.{list_is_good, packed_keeps_good}
 use Rattle.packed_ring.specs.Ring.{head_of, next_wrap}
 use Rattle.shared_memory.specs.Sightings.{Sightings, memory}
 use Rattle.racing_ring.specs.Packed.{IsFaulty, IsListed, IsListFaulty, IsOffered, IsTold, IsWithheld, read_table}
-use Rattle.racing_ring.proofs.PackedLeaving.{first_below}
 
 module _ (old new : Sightings) (ring : RingState) (n h wrap : ℕ) (size : n ≡ ring.setup.size) (head : h ≡ head_of ring)
     (counter : next_wrap ring ≡ wrap) where
@@ -39,14 +38,11 @@ module _ (old new : Sightings) (ring : RingState) (n h wrap : ℕ) (size : n ≡
 pub told_offered : (old new : Sightings) (ring : RingState) (buffers : List Buffer) (entry : Entry) → 0 < ring.pending
     → IsOffered old new ring buffers entry → IsTold old new ring true
 told_offered old new ring buffers entry some r =
-    let list = r.offers.list in
-    let below = first_below (read_table r.source ring.setup.desc ring.setup.size) ring.setup.size (head_of ring)
-    r.offers.last list.reached.front list.reached.leads list.comes.below in
     let going : nat_lt 0 ring.pending ≡ true = grind (arith, nat_tests, some) in
     record {
-      head_in = r.source (head_of ring);
-      head_seen = r.sources (head_of ring) below;
-      told = rw going (sym r.available);
+      head_in = (r.source (head_of ring)).flags_in;
+      head_seen = r.read.first_seen;
+      told = rw going (sym r.read.available);
     }
 
 -- and none is where the service goes no further

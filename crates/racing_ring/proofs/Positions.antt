@@ -2,9 +2,10 @@
 use Rattle.std.proofs.Common.{◌≡◌, ◌∙◌, ℕ, ◌+◌, ◌-◌, ◌%◌, ◌<◌, Bool, true, false, if◌then◌else◌, Some, None, List, [], ◌∷◌, ◌++◌, sym, ap, arith}
 use Rattle.std.proofs.Math.Nat.{mod-add-mod, add-mod_right, mod-eq_of_lt}
 use Rattle.std.proofs.lemmas.Nat.{mod_below}
-use Rattle.guest_memory.specs.Memory.{Memory}
 use Rattle.indirect.specs.Descriptors.{has_flag, next_flag}
-use Rattle.packed_ring.specs.Ring.{descriptor_addr, flags_of, ring_descriptor}
+use Rattle.packed_ring.specs.Ring.{descriptor_addr, flags_of}
+use Rattle.racing_ring.specs.Source.{Source}
+use Rattle.racing_ring.specs.Packed.{read_descriptor}
 
 -- how many steps lead from the position h to another, round a ring of n descriptors
 pub steps : ℕ → ℕ → ℕ → ℕ
@@ -35,18 +36,18 @@ behind_push n h count i [] e b = (omega (arith, e), tt)
 behind_push n h count i (x ∷ front) e b = (omega (arith, b.0), behind_push n h count i front e b.1)
 
 -- the position at which a list goes on
-pub next_is : (m : Memory) (desc n i j : ℕ) → (ring_descriptor m desc n i).next ≡ Some j → j ≡ (i + 1) % n
-next_is m desc n i j next = go (has_flag (flags_of m (descriptor_addr desc i)) next_flag) next
+pub next_is : (source : Source) (desc n i j : ℕ) → (read_descriptor source desc n i).next ≡ Some j → j ≡ (i + 1) % n
+next_is source desc n i j next = go (has_flag (flags_of source.flags_in (descriptor_addr desc i)) next_flag) next
   where
     go : (v : Bool) → (if v then Some ((i + 1) % n) else None) ≡ Some j → j ≡ (i + 1) % n
     go true e = let same : (i + 1) % n ≡ j = cc e in sym same
     go false e = cc e
 
-pub next_at : (m : Memory) (desc n h count i j : ℕ) → (ring_descriptor m desc n i).next ≡ Some j
+pub next_at : (source : Source) (desc n h count i j : ℕ) → (read_descriptor source desc n i).next ≡ Some j
     → i ≡ (h + count) % n → j ≡ (h + (count + 1)) % n
-next_at m desc n h count i j next at =
+next_at source desc n h count i j next at =
     let same : h + count + 1 ≡ h + (count + 1) = omega arith in
-    next_is m desc n i j next ∙ ap (λ (x : ℕ). (x + 1) % n) at ∙ mod-add-mod (h + count) n 1
+    next_is source desc n i j next ∙ ap (λ (x : ℕ). (x + 1) % n) at ∙ mod-add-mod (h + count) n 1
     ∙ ap (λ (x : ℕ). x % n) same
 
 pub next_below : (n h count j : ℕ) → h < n → j ≡ (h + (count + 1)) % n → j < n

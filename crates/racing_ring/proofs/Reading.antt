@@ -1,8 +1,10 @@
 -- What a copy says of the memory that it was made of.
-use Rattle.std.proofs.Common.{◌≡◌, ℕ, ◌∙◌, ◌+◌, ◌*◌, ◌≤◌, List, ap, sym, subst, arith, length, take, drop, length-take, length-drop}
+use Rattle.std.proofs.Common.{◌≡◌, ℕ, ◌∙◌, ◌+◌, ◌*◌, ◌<◌, ◌≤◌, List, ap, sym, subst, arith, length, take, drop, length-take, length-drop}
+use Rattle.std.specs.Prelude.{slice_index}
 use Rattle.std.proofs.lemmas.List.{places, same_lists}
 use Rattle.byteorder.specs.Endian.{little_number}
 use Rattle.guest_memory.specs.Memory.{Memory, Inside, num, part_of}
+use Rattle.guest_memory.proofs.Ranges.{length-part_of}
 use Rattle.indirect.specs.declared.descriptor.Descriptor.{Descriptor}
 use Rattle.indirect.specs.Descriptors.{StandsIn, split_descriptor, split_table}
 use Rattle.indirect.proofs.Entries.{entry_is, number_in}
@@ -23,14 +25,25 @@ number_first bytes k v room read =
     number_in bytes 0 k v (length bytes) (omega (arith, room)) room
     (read ∙ ap (λ (bs : List ℕ). little_number k bs) (sym whole))
 
--- a descriptor read of a copy of 16 bytes is the one in memory
-pub copy_stands : (m : Memory) (addr : ℕ) (bytes : List ℕ) (d : Descriptor) → Inside m addr 16
-    → bytes ≡ part_of m addr 16 → StandsIn bytes 0 (λ m a. d ≡ split_descriptor m a)
-    → d ≡ split_descriptor m addr
-copy_stands m addr bytes d inside are stands =
-    stands m addr 16 inside are ∙ ap (λ (a : ℕ). split_descriptor m a) (omega arith)
+-- a byte of two that are taken of a word
+byte_of : (word : List ℕ) (j k i : ℕ) → i ≡ j + k → k < 2 → i < length word
+    → slice_index (take 2 (drop j word)) k ≡ slice_index word i
+byte_of word j k i at few within = grind (arith, places)
 
--- and one that was read of a copy of a table is the table's
+-- two bytes of the second word of a descriptor are the number that stands there
+pub second_number : (m : Memory) (addr j v : ℕ) (word : List ℕ) → Inside m (addr + 8) 8
+    → word ≡ part_of m (addr + 8) 8 → j + 2 ≤ 8
+    → v ≡ slice_index word j + slice_index word (j + 1) * 256 → v ≡ num m (addr + (8 + j)) 2
+second_number m addr j v word inside are within read =
+    let long : length word ≡ 8 = ap (λ (bs : List ℕ). length bs) are ∙ length-part_of m (addr + 8) 8 inside in
+    let place : addr + 8 + j ≡ addr + (8 + j) = omega arith in
+    let low = byte_of word j 0 j (omega arith) (omega arith) (omega (arith, long, within)) in
+    let high = byte_of word j 1 (j + 1) (omega arith) (omega arith) (omega (arith, long, within)) in
+    let bytes : v ≡ little_number 2 (take 2 (drop j word)) = omega (arith, read, low, high) in
+    number_in word j 2 v 2 (omega (arith, long, within)) (omega arith) bytes m (addr + 8) 8 inside are
+    ∙ ap (λ (a : ℕ). num m a 2) place
+
+-- a descriptor that was read of a copy of a table is the table's
 pub entry_stands : (m : Memory) (addr len at i : ℕ) (bytes : List ℕ) (d : Descriptor) → Inside m addr len
     → bytes ≡ part_of m addr len → at ≡ 16 * i → StandsIn bytes at (λ m a. d ≡ split_descriptor m a)
     → d ≡ split_table m addr i

@@ -1,8 +1,7 @@
 -- The descriptors that weren't read.
-use Rattle.std.proofs.Common.{◌≡◌, ℕ, zero, suc, ◌<◌, ◌≤◌, ◌⊎◌, inl, inr, Option, Some, None, List, [], ◌∷◌, length, refl, arith}
+use Rattle.std.proofs.Common.{◌≡◌, ℕ, zero, suc, ◌≤◌, inl, inr, None, [], ◌∷◌, length, refl, arith}
 use Rattle.std.proofs.lemmas.Bool.{cases_lt}
 use Rattle.std.specs.Prelude.{replicate}
-use Rattle.indirect.specs.declared.descriptor.Descriptor.{Descriptor}
 use Rattle.racing_ring.specs.Table.{Known, known_at, AreUnreadBeside}
 
 none_at : (n i : ℕ) → known_at (replicate n None) i ≡ None

@@ -31,11 +31,11 @@ walked_start m known n h = record {
 }
 
 -- the descriptor at the index was looked up
-pub walked_looked : (m : Memory) (sightings : Sightings) (addr : ℕ) (old new : Known) (n h count i : ℕ)
-    (buffers : List Buffer) (d : Descriptor) → IsLookedUp sightings addr old new i d → Walked m old n h count i buffers
-    → Walked m new n h count i buffers
-walked_looked m sightings addr old new n h count i buffers d looked w =
-    let a = agree_looked sightings addr old new i d w.reached.front looked w.fronts in
+pub walked_looked : (m : Memory) (begin : ℕ) (sightings : Sightings) (addr : ℕ) (old new : Known) (n h count i : ℕ)
+    (buffers : List Buffer) (d : Descriptor) → IsLookedUp begin sightings addr old new i d
+    → Walked m old n h count i buffers → Walked m new n h count i buffers
+walked_looked m begin sightings addr old new n h count i buffers d looked w =
+    let a = agree_looked begin sightings addr old new i d w.reached.front looked w.fronts in
     record {
       reached = reached_kept m [] (told old) (told new) n h count i buffers w.reached a.0;
       fronts = a.1;
@@ -45,19 +45,19 @@ walked_looked m sightings addr old new n h count i buffers d looked w =
 pub record LookedUp (races : Bool) (old new : Sightings) (addr n h count i : ℕ) (known : Known)
     (buffers : List Buffer) : Type 0 where
   pub loads : Loads races old new
-  pub seen : AreSeen old new addr known
+  pub seen : AreSeen old.now new addr known
   pub walk : Walked (memory old) known n h count i buffers
 
 pub looked_up : (races races' : Bool) (old mid new : Sightings) (addr n h count i : ℕ) (known known' : Known)
     (buffers : List Buffer) (d : Descriptor) → races' ≡ races → Loads races old mid → Loads races' mid new
-    → IsLookedUp new addr known known' i d → AreSeen old mid addr known
+    → IsLookedUp mid.now new addr known known' i d → AreSeen old.now mid addr known
     → Walked (memory old) known n h count i buffers → LookedUp races old new addr n h count i known' buffers
 looked_up races races' old mid new addr n h count i known known' buffers d same before loads looked seen walk =
     let now : Loads races mid new = rw (← same) loads in
     record {
       loads = loads_trans races old mid new before now;
       seen = seen_looked races old mid new addr known known' i d before now looked seen;
-      walk = walked_looked (memory old) new addr known known' n h count i buffers d looked walk;
+      walk = walked_looked (memory old) mid.now new addr known known' n h count i buffers d looked walk;
     }
 
 -- and what later reads leave
@@ -68,7 +68,7 @@ looked_later races races' old at new addr n h count i known buffers same loads s
     let then : Loads races at new = rw (← same) loads in
     record {
       loads = loads_trans races old at new s.loads then;
-      seen = seen_after races old at new addr known then s.seen;
+      seen = seen_after races old.now at new addr known then s.seen;
       walk = s.walk;
     }
 
@@ -105,7 +105,7 @@ reach m known sightings addr n h count i buffers w =
     (agree_filled known sightings addr w.reached.front w.fronts)
 
 module _ (races : Bool) (old new : Sightings) (negotiated : Bool) (addr n h : ℕ) (known : Known)
-    (loads : Loads races old new) (seen : AreSeen old new addr known) where
+    (loads : Loads races old new) (seen : AreSeen old.now new addr known) where
   same : SameRange (memory old) (memory new)
   same = loads_range races old new loads
 
@@ -120,10 +120,10 @@ module _ (races : Bool) (old new : Sightings) (negotiated : Bool) (addr n h : �
   pub walk_plain : (count i : ℕ) (buffers after : List Buffer) (d : Descriptor) → known_at known i ≡ Some d
       → count < n → i < n → d.indirect ≡ false → d.next ≡ None → Admits (memory old) buffers d.buffer
       → after ≡ buffers ++ d.buffer ∷ [] → Walked (memory old) known n h count i buffers
-      → IsWalked old new negotiated addr n h after
+      → IsWalked old.now new negotiated addr n h after
   walk_plain count i buffers after d found room below plain ends a pushed w = record {
     table = filled known new addr;
-    table_seen = filled_seen old new addr n known loads.later seen;
+    table_seen = filled_seen old.now new addr n known loads.later seen;
     count = count;
     last = i;
     resolves = list_plain split_tables negotiated (memory new) (filled known new addr) n h buffers after count i d
@@ -135,10 +135,10 @@ module _ (races : Bool) (old new : Sightings) (negotiated : Bool) (addr n h : �
   pub walk_table : (count i : ℕ) (buffers after : List Buffer) (d : Descriptor) → known_at known i ≡ Some d
       → count < n → i < n → d.indirect ≡ true
       → EndsInTable split_tables negotiated (memory new) buffers count d after
-      → Walked (memory old) known n h count i buffers → IsWalked old new negotiated addr n h after
+      → Walked (memory old) known n h count i buffers → IsWalked old.now new negotiated addr n h after
   walk_table count i buffers after d found room below indirect ends w = record {
     table = filled known new addr;
-    table_seen = filled_seen old new addr n known loads.later seen;
+    table_seen = filled_seen old.now new addr n known loads.later seen;
     count = count;
     last = i;
     resolves = list_table split_tables negotiated (memory new) (filled known new addr) n h buffers after count i d
@@ -148,19 +148,19 @@ module _ (races : Bool) (old new : Sightings) (negotiated : Bool) (addr n h : �
 
   -- or fails
   pub walk_full : (count i : ℕ) (buffers : List Buffer) → count ≡ n
-      → Walked (memory old) known n h count i buffers → IsWalkFaulty old new negotiated addr n h Loop
+      → Walked (memory old) known n h count i buffers → IsWalkFaulty old.now new negotiated addr n h Loop
   walk_full count i buffers full w = record {
     table = filled known new addr;
-    table_seen = filled_seen old new addr n known loads.later seen;
+    table_seen = filled_seen old.now new addr n known loads.later seen;
     fails = list_full split_tables negotiated (memory new) (filled known new addr) n h buffers count i full
         (far count i buffers w);
   }
 
   pub walk_past : (count i : ℕ) (buffers : List Buffer) → count < n → n ≤ i
-      → Walked (memory old) known n h count i buffers → IsWalkFaulty old new negotiated addr n h Index
+      → Walked (memory old) known n h count i buffers → IsWalkFaulty old.now new negotiated addr n h Index
   walk_past count i buffers room past w = record {
     table = filled known new addr;
-    table_seen = filled_seen old new addr n known loads.later seen;
+    table_seen = filled_seen old.now new addr n known loads.later seen;
     fails = list_past split_tables negotiated (memory new) (filled known new addr) n h buffers count i room past
         (far count i buffers w);
   }
@@ -168,10 +168,10 @@ module _ (races : Bool) (old new : Sightings) (negotiated : Bool) (addr n h : �
   pub walk_refused : (count i : ℕ) (buffers : List Buffer) (d : Descriptor) (fault : Fault)
       → known_at known i ≡ Some d → count < n → i < n → d.indirect ≡ false
       → Refuses (memory old) buffers d.buffer fault → Walked (memory old) known n h count i buffers
-      → IsWalkFaulty old new negotiated addr n h fault
+      → IsWalkFaulty old.now new negotiated addr n h fault
   walk_refused count i buffers d fault found room below plain refused w = record {
     table = filled known new addr;
-    table_seen = filled_seen old new addr n known loads.later seen;
+    table_seen = filled_seen old.now new addr n known loads.later seen;
     fails = list_refused split_tables negotiated (memory new) (filled known new addr) n h buffers count i d fault
         (filled_found known new addr i d found) room below plain
         (refuses_back (memory new) (memory old) buffers d.buffer fault (same_back (memory old) (memory new) same)
@@ -181,10 +181,10 @@ module _ (races : Bool) (old new : Sightings) (negotiated : Bool) (addr n h : �
   pub walk_table_refused : (count i : ℕ) (buffers : List Buffer) (d : Descriptor) (fault : Fault)
       → known_at known i ≡ Some d → count < n → i < n → d.indirect ≡ true
       → TableRefused split_tables negotiated (memory new) buffers count d fault
-      → Walked (memory old) known n h count i buffers → IsWalkFaulty old new negotiated addr n h fault
+      → Walked (memory old) known n h count i buffers → IsWalkFaulty old.now new negotiated addr n h fault
   walk_table_refused count i buffers d fault found room below indirect refused w = record {
     table = filled known new addr;
-    table_seen = filled_seen old new addr n known loads.later seen;
+    table_seen = filled_seen old.now new addr n known loads.later seen;
     fails = list_table_refused split_tables negotiated (memory new) (filled known new addr) n h buffers count i d
         fault (filled_found known new addr i d found) room below indirect refused
         (far count i buffers w);

@@ -1,3 +1,4 @@
+pub mod Source
 pub mod Table
 pub mod Walk
 pub mod Split

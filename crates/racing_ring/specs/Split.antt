@@ -12,18 +12,18 @@ use Rattle.shared_memory.specs.Sightings.{Sightings, Loads, SeenAs, Stores, memo
 use Rattle.racing_ring.specs.Walk.{IsWalked, IsWalkFaulty}
 
 -- the chain that was taken has these buffers and this entry: it is that of the head which stood in the available entry
--- at some access
+-- at some access, and no descriptor was read before the head
 pub record IsOffered (old new : Sightings) (ring : RingState) (buffers : List Buffer) (entry : Entry) : Type 0 where
   pub head_in : Memory
   pub head_seen : SeenAs old new head_in
-  pub walked : IsWalked old new ring.setup.indirect ring.setup.desc ring.setup.size (head_of head_in ring) buffers
+  pub walked : IsWalked head_seen.place new ring.setup.indirect ring.setup.desc ring.setup.size (head_of head_in ring) buffers
   pub entry_is : entry ≡ entry_of (head_of head_in ring)
 
 -- or it has this fault
 pub record IsFaulty (old new : Sightings) (ring : RingState) (fault : Fault) : Type 0 where
   pub head_in : Memory
   pub head_seen : SeenAs old new head_in
-  pub walked : IsWalkFaulty old new ring.setup.indirect ring.setup.desc ring.setup.size (head_of head_in ring) fault
+  pub walked : IsWalkFaulty head_seen.place new ring.setup.indirect ring.setup.desc ring.setup.size (head_of head_in ring) fault
 
 -- a chain was given back: its used entry was stored, id and len side by side, and only then the used idx (2.7.8)
 pub record IsGiven (races : Bool) (old new : Sightings) (ring : RingState) (head len : ℕ) : Type 0 where

@@ -4,6 +4,7 @@
 //! opened, a head, and a descriptor until the next chain. An indirect table is copied, and walked in the copy.
 #![tactic(auto)]
 
+mod descriptor;
 mod laws;
 mod packed;
 mod room;
@@ -17,6 +18,7 @@ pub use laws::{
 };
 pub use packed::{
     RacingPackedRing, a_list_that_is_left_alone_is_offered_at_one_moment,
+    a_list_that_is_published_meanwhile_is_taken_as_it_stands,
     a_packed_ring_that_stands_still_is_served_as_it_is,
 };
 pub use room::Room;

@@ -22,6 +22,7 @@ use crate::walk::Table;
 use chain::{Chain, Fault, RingState};
 pub use laws::{
     a_list_that_is_left_alone_is_offered_at_one_moment,
+    a_list_that_is_published_meanwhile_is_taken_as_it_stands,
     a_packed_ring_that_stands_still_is_served_as_it_is,
 };
 use packed_ring::Token;

@@ -3,10 +3,11 @@
 ghost use Rattle.std.specs.Prelude.{◌≡◌, ◌+◌, ◌*◌, ◌≤◌, ◌<◌, ◌^◌, replicate, None};
 ghost use Rattle.guest_memory.specs.Memory.{Inside};
 ghost use Rattle.shared_memory.specs.Sightings.{Loads, memory};
-ghost use Rattle.indirect.specs.Descriptors.{split_descriptor};
-ghost use Rattle.racing_ring.specs.Table.{IsLookedUp};
+ghost use Rattle.racing_ring.specs.Table.{IsDescriptorSeen, IsLookedUp};
 
-use indirect::Descriptor;
+use crate::descriptor::load_fields;
+use chain::{Buffer, Segment};
+use indirect::{Descriptor, INDIRECT, NEXT, WRITE};
 use shared_memory::Shared;
 use std::marker::Model;
 
@@ -82,7 +83,7 @@ impl Known {
         requires fits { addr + 16 * index < 2 ^ 64 }
         ensures loads { Loads (M.races mem.old) (M.sightings mem.old) (M.sightings mem.new) }
         ensures races { M.races mem.new ≡ M.races mem.old }
-        ensures looked { IsLookedUp (M.sightings mem.new) addr self.old self.new index result }
+        ensures looked { IsLookedUp (M.sightings mem.old).now (M.sightings mem.new) addr self.old self.new index result }
     {
         let at = usize::from(index);
         match self.known[at] {
@@ -98,15 +99,29 @@ impl Known {
     }
 }
 
-/// A descriptor, by one copy.
-#[tactic(auto, using(guest_memory::proofs::Ranges::inside_part, shared_memory::proofs::Sightings::inside_loads, crate::proofs::Reading::copy_stands))]
-pub(crate) fn read<M: Shared>(mem: &mut M, addr: u64) -> Descriptor
+/// The split descriptor at `addr` (2.7.5), each of its words by one copy.
+#[tactic(auto, using(crate::proofs::Seeing::fields_loaded))]
+fn read<M: Shared>(mem: &mut M, addr: u64) -> Descriptor
     requires { Inside (memory (M.sightings mem.old)) addr 16 }
-    ensures value { result ≡ split_descriptor (memory (M.sightings mem.new)) addr }
+    ensures seen { IsDescriptorSeen (M.sightings mem.old).now (M.sightings mem.new) addr result }
     ensures loads { Loads (M.races mem.old) (M.sightings mem.old) (M.sightings mem.new) }
     ensures races { M.races mem.new ≡ M.races mem.old }
 {
-    let mut bytes = [0; 16];
-    mem.load(addr, &mut bytes);
-    Descriptor::of_split(&bytes, 0)
+    let fields = load_fields(mem, addr);
+    let flags = fields.third;
+    Descriptor {
+        buffer: Buffer {
+            segment: Segment {
+                addr: fields.addr,
+                len: fields.len,
+            },
+            writable: flags & WRITE != 0,
+        },
+        indirect: flags & INDIRECT != 0,
+        next: if flags & NEXT != 0 {
+            Some(fields.last)
+        } else {
+            None
+        },
+    }
 }

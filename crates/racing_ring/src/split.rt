@@ -156,10 +156,10 @@ impl RacingSplitRing {
         ensures lies { LiesIn (memory (M.sightings mem.new)) self.new.setup }
     {
         chain.clear();
-        room.known.clear();
         if self.state.pending == 0 {
             return Ok(None);
         }
+        room.known.clear();
         let head = self.head(mem);
         let table = Table {
             addr: self.state.setup.desc,

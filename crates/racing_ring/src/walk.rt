@@ -33,8 +33,8 @@ pub(crate) fn append_path<M: Shared>(
     requires unread { room.old.known ≡ replicate 256 None }
     ensures loads { Loads (M.races mem.old) (M.sightings mem.old) (M.sightings mem.new) }
     ensures races { M.races mem.new ≡ M.races mem.old }
-    ensures ok { OnOk result (IsWalked (M.sightings mem.old) (M.sightings mem.new) table.indirect table.addr table.size head chain.new) }
-    ensures fault { IfErr result (IsWalkFaulty (M.sightings mem.old) (M.sightings mem.new) table.indirect table.addr table.size head) }
+    ensures ok { OnOk result (IsWalked (M.sightings mem.old).now (M.sightings mem.new) table.indirect table.addr table.size head chain.new) }
+    ensures fault { IfErr result (IsWalkFaulty (M.sightings mem.old).now (M.sightings mem.new) table.indirect table.addr table.size head) }
 {
     // So no address in the table passes 2^64.
     mem.fits(table.addr, 16 * u64::from(table.size));

@@ -5,8 +5,8 @@ ghost use Rattle.guest_memory.specs.Memory.{Inside};
 ghost use Rattle.chain.specs.Setup.{launched};
 ghost use Rattle.packed_ring.specs.Ring.{LiesIn, place_behind, used_addr, used_flags, used_head, wrap_counter};
 ghost use Rattle.packed_ring.specs.Kind.{IsAhead, IsTaken, landed, past};
-ghost use Rattle.shared_memory.specs.Sightings.{Stores, memory};
-ghost use Rattle.racing_ring.specs.Packed.{IsGiven};
+ghost use Rattle.shared_memory.specs.Sightings.{memory};
+ghost use Rattle.racing_ring.specs.Packed.{IsGiven, used_word};
 
 use crate::packed::RacingPackedRing;
 use crate::packed::walk::{AVAIL, USED};
@@ -16,8 +16,8 @@ use packed_ring::Token;
 use shared_memory::Shared;
 
 impl RacingPackedRing {
-    /// Gives the list that was taken last back to the driver as used: len and id of its used descriptor are stored first,
-    /// then the flags (2.8.1, 2.8.4).
+    /// Gives the list that was taken last back to the driver as used: len, id and flags of its used descriptor are stored at
+    /// once (2.8.1, 2.8.4).
     pub fn give<M: Shared>(&mut self, mem: &mut M, token: Token, used: Used)
         requires lies { LiesIn (memory (M.sightings mem.old)) self.old.setup }
         requires taken { IsTaken self.old token }
@@ -43,7 +43,7 @@ impl RacingPackedRing {
         self.state.ahead += token.length;
     }
 
-    /// Gives a list in flight back to the driver as used, whichever it is, in the order of `give`. The service takes no
+    /// Gives a list in flight back to the driver as used, whichever it is, as `give` does. The service takes no
     /// more lists; `close` ends it.
     pub fn land<M: Shared>(&mut self, mem: &mut M, token: Token, used: Used)
         requires lies { LiesIn (memory (M.sightings mem.old)) self.old.setup }
@@ -61,53 +61,17 @@ impl RacingPackedRing {
         self.state.ahead -= length;
     }
 
-    /// Stores the used descriptor of the ring's place: its len, its id, and then its flags.
+    /// Stores the used descriptor of the ring's place: its len, its id and its flags at once.
+    #[tactic(auto, using(guest_memory::proofs::Ranges::inside_part))]
     fn put_used<M: Shared>(&self, mem: &mut M, id: u16, used: Used)
         requires { LiesIn (memory (M.sightings mem.old)) self.now.setup }
         ensures given { IsGiven (M.races mem.old) (M.sightings mem.old) (M.sightings mem.new) self.now id used.len used.wrote }
         ensures lies { LiesIn (memory (M.sightings mem.new)) self.now.setup }
         ensures races { M.races mem.new ≡ M.races mem.old }
     {
-        self.put_len(mem, used.len);
-        self.put_id(mem, id);
-        self.put_flags(mem, used.wrote);
-    }
-
-    /// Stores the len of the used descriptor.
-    #[tactic(auto, using(guest_memory::proofs::Ranges::inside_part))]
-    fn put_len<M: Shared>(&self, mem: &mut M, len: u32)
-        requires { LiesIn (memory (M.sightings mem.old)) self.now.setup }
-        ensures stored { Stores (M.races mem.old) (M.sightings mem.old) (M.sightings mem.new) (used_addr self.now + 8) 4 len }
-        ensures lies { LiesIn (memory (M.sightings mem.new)) self.now.setup }
-        ensures races { M.races mem.new ≡ M.races mem.old }
-    {
+        let word = used_word(self.used_flags(used.wrote), id, used.len);
         let descriptor = self.used_at(mem);
-        mem.store_u32(descriptor + 8, len);
-    }
-
-    /// Stores its buffer id.
-    #[tactic(auto, using(guest_memory::proofs::Ranges::inside_part))]
-    fn put_id<M: Shared>(&self, mem: &mut M, id: u16)
-        requires { LiesIn (memory (M.sightings mem.old)) self.now.setup }
-        ensures stored { Stores (M.races mem.old) (M.sightings mem.old) (M.sightings mem.new) (used_addr self.now + 12) 2 id }
-        ensures lies { LiesIn (memory (M.sightings mem.new)) self.now.setup }
-        ensures races { M.races mem.new ≡ M.races mem.old }
-    {
-        let descriptor = self.used_at(mem);
-        mem.store_u16(descriptor + 12, id);
-    }
-
-    /// Stores its flags, by which the driver knows that it is used.
-    #[tactic(auto, using(guest_memory::proofs::Ranges::inside_part))]
-    fn put_flags<M: Shared>(&self, mem: &mut M, wrote: bool)
-        requires { LiesIn (memory (M.sightings mem.old)) self.now.setup }
-        ensures stored { Stores (M.races mem.old) (M.sightings mem.old) (M.sightings mem.new) (used_addr self.now + 14) 2 (used_flags (wrap_counter self.now) wrote) }
-        ensures lies { LiesIn (memory (M.sightings mem.new)) self.now.setup }
-        ensures races { M.races mem.new ≡ M.races mem.old }
-    {
-        let descriptor = self.used_at(mem);
-        let flags = self.used_flags(wrote);
-        mem.store_u16(descriptor + 14, flags);
+        mem.store_u64(descriptor + 8, word);
     }
 
     /// The address of the descriptor at the ring's place.
@@ -152,4 +116,11 @@ impl RacingPackedRing {
         let write = if wrote { WRITE } else { 0 };
         both | write
     }
+}
+
+/// The second word of a used descriptor (2.8.13).
+fn used_word(flags: u16, id: u16, len: u32) -> u64
+    ensures { result ≡ used_word flags id len }
+{
+    u64::from(flags) * (1 << 48) + u64::from(id) * (1 << 32) + u64::from(len)
 }

@@ -2,17 +2,16 @@
 
 ghost use Rattle.std.specs.Prelude.{◌≡◌, ◌+◌, ◌*◌, ◌<◌, ◌≤◌, [], ◌&&◌, ◌==◌, not, if◌then◌else◌, IfOk, IfErr, IfSome, IfNone};
 ghost use Rattle.guest_memory.specs.Memory.{Inside};
-ghost use Rattle.indirect.specs.Descriptors.{packed_buffer};
-ghost use Rattle.packed_ring.specs.Ring.{descriptor_addr, flags_of, id_of, ring_descriptor};
 ghost use Rattle.packed_ring.specs.Kind.{entry_of};
 ghost use Rattle.shared_memory.specs.Sightings.{Loads, memory};
-ghost use Rattle.racing_ring.specs.Packed.{IsListFaulty, IsListed, IsWithheld, are_available};
+ghost use Rattle.racing_ring.specs.Packed.{IsCopied, IsListFaulty, IsListed, IsWithheld, are_available};
 
+use crate::descriptor::load_fields;
 use crate::packed::table::append_table;
 use crate::table::push;
 use crate::walk::Table;
-use chain::{Chain, Fault};
-use indirect::{Descriptor, INDIRECT, NEXT, PackedDescriptor};
+use chain::{Buffer, Chain, Fault, Segment};
+use indirect::{Descriptor, INDIRECT, NEXT, WRITE};
 use shared_memory::Shared;
 
 /// The driver has made the descriptor available, where the flag equals its wrap counter (VIRTQ_DESC_F_AVAIL, 2.8.1).
@@ -28,7 +27,7 @@ pub(crate) struct End {
     pub id: u16,
 }
 
-/// A descriptor of a ring, its id and its flags, all of one copy.
+/// A descriptor of a ring, its id and its flags.
 #[derive(Clone, Copy)]
 struct Copied {
     descriptor: Descriptor,
@@ -36,7 +35,7 @@ struct Copied {
     flags: u16,
 }
 
-/// Fills the empty chain with the buffers of the list that begins at a position (2.8.6). Each descriptor is copied once;
+/// Fills the empty chain with the buffers of the list that begins at a position (2.8.6). Each descriptor is read once;
 /// there is `None` where the first isn't available at this wrap counter.
 pub(crate) fn append_list<M: Shared>(
     mem: &mut M,
@@ -82,51 +81,40 @@ pub(crate) fn append_list<M: Shared>(
     Err(Fault::Loop)
 }
 
-/// The descriptor at a position (2.8.13), by one copy. One with NEXT goes on at the next position, and behind the last at
-/// the first.
-#[tactic(auto, using(guest_memory::proofs::Ranges::inside_part))]
+/// The descriptor at a position (2.8.13), each of its words by one copy. One with NEXT goes on at the next position, and
+/// behind the last at the first.
+#[tactic(auto, using(guest_memory::proofs::Ranges::inside_part, crate::proofs::Seeing::fields_loaded))]
 fn copy_at<M: Shared>(mem: &mut M, table: Table, index: u16) -> Copied
     requires area { Inside (memory (M.sightings mem.old)) table.addr (16 * table.size) }
     requires few { table.size ≤ 256 }
     requires below { index < table.size }
-    ensures descriptor { result.descriptor ≡ ring_descriptor (memory (M.sightings mem.new)) table.addr table.size index }
-    ensures id { result.id ≡ id_of (memory (M.sightings mem.new)) (descriptor_addr table.addr index) }
-    ensures flags { result.flags ≡ flags_of (memory (M.sightings mem.new)) (descriptor_addr table.addr index) }
+    ensures copied { IsCopied (M.sightings mem.old) (M.sightings mem.new) table.addr table.size index result.descriptor result.id result.flags }
     ensures loads { Loads (M.races mem.old) (M.sightings mem.old) (M.sightings mem.new) }
     ensures races { M.races mem.new ≡ M.races mem.old }
 {
-    let offset = 16 * u64::from(index);
     // So no address in the ring passes 2^64.
     mem.fits(table.addr, 16 * u64::from(table.size));
-    let packed = copy(mem, table.addr + offset);
+    let fields = load_fields(mem, table.addr + 16 * u64::from(index));
+    let flags = fields.last;
     Copied {
         descriptor: Descriptor {
-            buffer: packed.buffer,
-            indirect: packed.flags & INDIRECT != 0,
-            next: if packed.flags & NEXT != 0 {
+            buffer: Buffer {
+                segment: Segment {
+                    addr: fields.addr,
+                    len: fields.len,
+                },
+                writable: flags & WRITE != 0,
+            },
+            indirect: flags & INDIRECT != 0,
+            next: if flags & NEXT != 0 {
                 Some((index + 1) % table.size)
             } else {
                 None
             },
         },
-        id: packed.id,
-        flags: packed.flags,
+        id: fields.third,
+        flags,
     }
-}
-
-/// The 16 bytes of a descriptor, by one copy.
-#[tactic(auto, using(guest_memory::proofs::Ranges::inside_part, shared_memory::proofs::Sightings::inside_loads, crate::proofs::Reading::stands_at_last))]
-fn copy<M: Shared>(mem: &mut M, addr: u64) -> PackedDescriptor
-    requires { Inside (memory (M.sightings mem.old)) addr 16 }
-    ensures buffer { result.buffer ≡ packed_buffer (memory (M.sightings mem.new)) addr }
-    ensures id { result.id ≡ id_of (memory (M.sightings mem.new)) addr }
-    ensures flags { result.flags ≡ flags_of (memory (M.sightings mem.new)) addr }
-    ensures loads { Loads (M.races mem.old) (M.sightings mem.old) (M.sightings mem.new) }
-    ensures races { M.races mem.new ≡ M.races mem.old }
-{
-    let mut bytes = [0; 16];
-    mem.load(addr, &mut bytes);
-    PackedDescriptor::of(&bytes, 0)
 }
 
 /// Whether a list ends before it begins: its first descriptor, before which none comes, isn't available.

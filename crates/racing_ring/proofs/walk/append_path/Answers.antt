@@ -15,7 +15,7 @@ loop-count-init g c =
     record {
       loads = loads_none (g.M.Shared.races c.args.mem.now) l;
       races = refl;
-      seen = rw c.requires.unread (seen_none l l c.args.table.addr 256);
+      seen = rw c.requires.unread (seen_none l.now l c.args.table.addr 256);
       walk = rw c.requires.empty (walked_start (memory l) c.args.room.now.known c.args.table.size c.args.head);
     }
 
@@ -125,7 +125,7 @@ returns-then-descriptor-clause-fault g c =
     i.loads c.descriptor-descriptor.ensures.loads looked i.seen i.walk) in
     IfErr-weaker c.append_table.result
     (λ fault. (count : ℕ) → TableRefused split_tables c.args.table.indirect (memory new) before count d fault)
-    (IsWalkFaulty old new c.args.table.indirect c.args.table.addr c.args.table.size c.args.head)
+    (IsWalkFaulty old.now new c.args.table.indirect c.args.table.addr c.args.table.size c.args.head)
     (λ fault refused. walk_table_refused races old new c.args.table.indirect c.args.table.addr c.args.table.size
     c.args.head c.descriptor-descriptor.new.self s.loads s.seen k c.loop-count.index before d fault looked.found
     c.loop-count-test.true c.if-index-table.false c.if-descriptor.true (refused k) s.walk)

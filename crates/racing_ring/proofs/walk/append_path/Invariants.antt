@@ -8,6 +8,6 @@ abbrev pub invariant-loop-count : goal.invariant-loop-count
 invariant-loop-count g l = record {
   loads : Loads (g.M.Shared.races l.fn.mem) (g.M.Shared.sightings l.fn.mem) (g.M.Shared.sightings l.mem);
   races : g.M.Shared.races l.mem ≡ g.M.Shared.races l.fn.mem;
-  seen : AreSeen (g.M.Shared.sightings l.fn.mem) (g.M.Shared.sightings l.mem) l.table.addr l.room.known;
+  seen : AreSeen (g.M.Shared.sightings l.fn.mem).now (g.M.Shared.sightings l.mem) l.table.addr l.room.known;
   walk : Walked (memory (g.M.Shared.sightings l.fn.mem)) l.room.known l.table.size l.head l._count l.index l.chain;
 }

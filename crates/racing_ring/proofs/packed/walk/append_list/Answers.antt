@@ -1,5 +1,6 @@
-use Rattle.std.proofs.Common.{◌∙◌, arith, rules, refl}
+use Rattle.std.proofs.Common.{◌∙◌, arith, refl}
 use Rattle.std.specs.Prelude.{if◌then◌else◌}
+use Rattle.std.proofs.lemmas.Result.{err_from_is_err_and}
 use Rattle.shared_memory.proofs.Sightings.{inside_loads, loads_none}
 use Rattle.racing_ring.proofs.Positions.{next_below}
 use Rattle.racing_ring.proofs.Listing.{followed_start, followed_step, hidden, listed_full, listed_plain, listed_refused, listed_table, listed_table_refused, loads_on, shown}
@@ -28,63 +29,60 @@ returns-clause-fault g c =
 pub returns-then-is_withheld-clause-withheld : goal.returns-then-is_withheld-clause-withheld
 returns-then-is_withheld-clause-withheld g c =
     let i = c.loop-count.invariant in
-    (hidden c.requires.first c.loop-count-test.true i.races i.loads c.copy_at-copied.ensures.loads i.list
-    c.copy_at-copied.ensures.flags c.is_withheld.ensures c.if-is_withheld.true).0
+    (hidden c.requires.first i.loads c.copy_at-copied.ensures.loads i.list
+    c.copy_at-copied.ensures.copied c.is_withheld.ensures c.if-is_withheld.true).0
 
 pub returns-then-is_withheld-clause-none : goal.returns-then-is_withheld-clause-none
 returns-then-is_withheld-clause-none g c =
     let i = c.loop-count.invariant in
-    (hidden c.requires.first c.loop-count-test.true i.races i.loads c.copy_at-copied.ensures.loads i.list
-    c.copy_at-copied.ensures.flags c.is_withheld.ensures c.if-is_withheld.true).1
+    (hidden c.requires.first i.loads c.copy_at-copied.ensures.loads i.list
+    c.copy_at-copied.ensures.copied c.is_withheld.ensures c.if-is_withheld.true).1
 
 pub returns-in_err-append_table-clause-fault : goal.returns-in_err-append_table-clause-fault
 returns-in_err-append_table-clause-fault g c =
     let i = c.loop-count.invariant in
     let s = shown c.requires.first c.loop-count-test.true i.races i.loads c.copy_at-copied.ensures.loads i.list
-    c.copy_at-copied.ensures.flags c.is_withheld.ensures c.if-is_withheld.false in
+    c.copy_at-copied.ensures.copied c.is_withheld.ensures c.if-is_withheld.false in
     let fails = listed_table_refused (g.M.Shared.races c.args.mem.now) _ (g.M.Shared.sightings c.copy_at-copied.new.mem)
-    (g.M.Shared.sightings c.append_table.new.mem) c.args.table.indirect _ _ _ _ _ _ _ _ c.loop-count-test.true i.below s
-    c.copy_at-copied.ensures.descriptor (rw (← i.races, ← c.copy_at-copied.ensures.races) c.append_table.ensures.loads)
+    (g.M.Shared.sightings c.append_table.new.mem) c.args.table.indirect _ _ _ _ _ _ _ _ _ c.loop-count-test.true i.below s (rw (← i.races, ← c.copy_at-copied.ensures.races) c.append_table.ensures.loads)
     _ c.if-descriptor.true c.in_err-append_table.ensures.fault in
-    search (rules, fails)
+    let p = err_from_is_err_and c.from_residual.result c.from_residual.ensures.1 in
+    rw (p.1, p.2) fails
 
 pub returns-then-descriptor-clause-listed : goal.returns-then-descriptor-clause-listed
 returns-then-descriptor-clause-listed g c =
     let i = c.loop-count.invariant in
     let s = shown c.requires.first c.loop-count-test.true i.races i.loads c.copy_at-copied.ensures.loads i.list
-    c.copy_at-copied.ensures.flags c.is_withheld.ensures c.if-is_withheld.false in
-    listed_table (g.M.Shared.races c.args.mem.now) _ _ _ c.args.table.indirect _ _ _ _ _ _ _ _ c.loop-count-test.true i.below s
-    c.copy_at-copied.ensures.descriptor (rw (← i.races, ← c.copy_at-copied.ensures.races) c.append_table.ensures.loads)
-    c.copy_at-copied.result.id c.copy_at-copied.ensures.id c.append_table.new.chain c.if-descriptor.true
+    c.copy_at-copied.ensures.copied c.is_withheld.ensures c.if-is_withheld.false in
+    listed_table (g.M.Shared.races c.args.mem.now) _ _ _ c.args.table.indirect _ _ _ _ _ _ _ _ _ c.loop-count-test.true i.below s (rw (← i.races, ← c.copy_at-copied.ensures.races) c.append_table.ensures.loads)
+    c.append_table.new.chain c.if-descriptor.true
     c.in_ok-append_table.ensures.ok
 
 pub returns-in_err-push-clause-fault : goal.returns-in_err-push-clause-fault
 returns-in_err-push-clause-fault g c =
     let i = c.loop-count.invariant in
     let s = shown c.requires.first c.loop-count-test.true i.races i.loads c.copy_at-copied.ensures.loads i.list
-    c.copy_at-copied.ensures.flags c.is_withheld.ensures c.if-is_withheld.false in
-    let fails = listed_refused _ _ _ _ c.args.table.indirect _ _ _ _ _ _ _ _ c.loop-count-test.true i.below s
-    c.copy_at-copied.ensures.descriptor (loads_none _ _) _ c.if-descriptor.false
+    c.copy_at-copied.ensures.copied c.is_withheld.ensures c.if-is_withheld.false in
+    let fails = listed_refused _ _ _ _ c.args.table.indirect _ _ _ _ _ _ _ _ _ c.loop-count-test.true i.below s (loads_none _ _) _ c.if-descriptor.false
     c.in_err-push.ensures.fault in
-    search (rules, fails)
+    let p = err_from_is_err_and c.from_residual-in_err-push.result c.from_residual-in_err-push.ensures.1 in
+    rw (p.1, p.2) fails
 
 pub returns-in-None-clause-listed : goal.returns-in-None-clause-listed
 returns-in-None-clause-listed g c =
     let i = c.loop-count.invariant in
     let s = shown c.requires.first c.loop-count-test.true i.races i.loads c.copy_at-copied.ensures.loads i.list
-    c.copy_at-copied.ensures.flags c.is_withheld.ensures c.if-is_withheld.false in
-    listed_plain _ _ _ _ c.args.table.indirect _ _ _ _ _ _ _ _ c.loop-count-test.true i.below s
-    c.copy_at-copied.ensures.descriptor (loads_none _ _) c.copy_at-copied.result.id
-    c.copy_at-copied.ensures.id c.push.new.chain c.if-descriptor.false c.in-None.is c.in_ok-push.ensures.ok
+    c.copy_at-copied.ensures.copied c.is_withheld.ensures c.if-is_withheld.false in
+    listed_plain _ _ _ _ c.args.table.indirect _ _ _ _ _ _ _ _ _ c.loop-count-test.true i.below s (loads_none _ _) c.push.new.chain c.if-descriptor.false c.in-None.is c.in_ok-push.ensures.ok
     c.in_ok-push.ensures.pushed
 
 pub loop-count-preserved : goal.loop-count-preserved
 loop-count-preserved g c =
     let i = c.loop-count.invariant in
     let s = shown c.requires.first c.loop-count-test.true i.races i.loads c.copy_at-copied.ensures.loads i.list
-    c.copy_at-copied.ensures.flags c.is_withheld.ensures c.if-is_withheld.false in
-    let list = followed_step _ _ _ _ _ _ _ _ _ _ _ c.requires.first c.loop-count-test.true i.below s
-    c.copy_at-copied.ensures.descriptor c.in-Some.next c.push.new.chain c.if-descriptor.false c.in-Some.is
+    c.copy_at-copied.ensures.copied c.is_withheld.ensures c.if-is_withheld.false in
+    let list = followed_step _ _ _ _ _ _ _ _ _ _ _ _ c.requires.first c.loop-count-test.true i.below s
+    c.in-Some.next c.push.new.chain c.if-descriptor.false c.in-Some.is
     c.in_ok-push.ensures.ok c.in_ok-push.ensures.pushed in
     record {
       loads = s.loads;

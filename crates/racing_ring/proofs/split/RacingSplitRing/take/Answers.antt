@@ -10,7 +10,7 @@ returns-in-Ok-clause-offered g c =
 
 pub returns-in-Ok-clause-good : goal.returns-in-Ok-clause-good
 returns-in-Ok-clause-good g c =
-    walked_good (g.M.Shared.sightings c.head-head.new.mem) (g.M.Shared.sightings c.append_path.new.mem) _ _ _ _
+    walked_good (g.M.Shared.sightings c.head-head.new.mem).now (g.M.Shared.sightings c.append_path.new.mem) _ _ _ _
     c.append_path.new.chain c.in-Ok.ensures.ok
 
 pub returns-in-Err-clause-fault : goal.returns-in-Err-clause-fault
