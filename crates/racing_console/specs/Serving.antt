@@ -4,6 +4,7 @@ use Rattle.chain.specs.declared.segment.Buffer.{Buffer}
 use Rattle.chain.specs.Service.{Entry, IsService, Kind, Refused, Site}
 use Rattle.console_device.specs.declared.no_memory.NoMemory.{NoMemory}
 use Rattle.console_device.specs.Device.{transmit_within}
+use Rattle.racing_service.specs.declared.stage.Stage.TheVariants.{First}
 use Rattle.racing_service.specs.Queue.{RacingKind}
 use Rattle.racing_service.specs.Service.{IsClosing, IsRefusedService, Round, Standing}
 use Rattle.racing_service.specs.Laws.{AreServices}
@@ -18,7 +19,7 @@ pub record IsFull {Ring : Type 0} (kind : RacingKind Ring) (limit : Option ℕ) 
   pub entry : Entry
   pub why : NoMemory
   pub before : Bool
-  pub refused : IsRefusedService kind (transmit_within limit) races (NoRoom limit) most a at buffers entry why before
+  pub refused : IsRefusedService kind (transmit_within limit) races (NoRoom limit) First most a at buffers entry why before
   pub closing : Bool
   pub closes : IsClosing kind (transmit_within limit) races at b closing
   pub wanted_is : wanted ≡ (before || closing)

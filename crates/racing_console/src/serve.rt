@@ -3,6 +3,7 @@
 ghost use Rattle.std.specs.Prelude.{◌≡◌, IfOk, IfErr};
 ghost use Rattle.shared_memory.specs.Sightings.{memory};
 ghost use Rattle.console_device.specs.Device.{receive, transmit_within};
+ghost use Rattle.racing_service.specs.declared.stage.Stage.TheVariants.{First};
 ghost use Rattle.racing_service.specs.Service.{IsRacingService, standing_at};
 ghost use Rattle.racing_console.specs.Serving.{IsFull};
 
@@ -11,7 +12,7 @@ use crate::transmit::RacingTransmit;
 use chain::{Budget, Chain};
 use console_device::{ConsoleDevice, Outlet};
 use racing_ring::Room;
-use racing_service::{Limits, Outcome, RacingQueue, serve};
+use racing_service::{Limits, Outcome, RacingQueue, Stage, serve};
 use shared_memory::Shared;
 use std::alloc::Allocator;
 
@@ -37,7 +38,7 @@ pub fn serve_transmit<Q: RacingQueue, M: Shared, O: Outlet>(
     room: &mut Room,
 ) -> Result<Outcome, Full>
     requires queue { Q.LiesIn (memory (M.sightings mem.old)) queue.old }
-    ensures service { IfOk result (λ outcome. IsRacingService Q.kind (transmit_within (O.limit out.old)) (M.races mem.old) limits.rounds
+    ensures service { IfOk result (λ outcome. IsRacingService Q.kind (transmit_within (O.limit out.old)) (M.races mem.old) First limits.rounds
         (standing_at (M.sightings mem.old) queue.old (O.bytes out.old) limits.budget)
         (standing_at (M.sightings mem.new) queue.new (O.bytes out.new) outcome.left) outcome.ending outcome.wanted) }
     ensures full { IfErr result (λ full. IsFull Q.kind (O.limit out.old) (M.races mem.old) limits.rounds
@@ -47,7 +48,7 @@ pub fn serve_transmit<Q: RacingQueue, M: Shared, O: Outlet>(
     ensures races { M.races mem.new ≡ M.races mem.old }
     ensures lies { Q.LiesIn (memory (M.sightings mem.new)) queue.new }
 {
-    match serve(device, out, mem, queue, limits, chain, room) {
+    match serve(device, out, mem, queue, Stage::First, limits, chain, room) {
         Ok(outcome) => Ok(outcome),
         Err(refused) => {
             let closing = queue.close(mem);
@@ -70,14 +71,24 @@ pub fn serve_receive<Q: RacingQueue, M: Shared, A: Allocator>(
     room: &mut Room,
 ) -> Outcome
     requires queue { Q.LiesIn (memory (M.sightings mem.old)) queue.old }
-    ensures service { IsRacingService Q.kind receive (M.races mem.old) limits.rounds
+    ensures service { IsRacingService Q.kind receive (M.races mem.old) First limits.rounds
         (standing_at (M.sightings mem.old) queue.old console.old.pending limits.budget)
         (standing_at (M.sightings mem.new) queue.new console.new.pending result.left) result.ending result.wanted }
     ensures size { console.new ≡ record console.old { pending = console.new.pending } }
     ensures races { M.races mem.new ≡ M.races mem.old }
     ensures lies { Q.LiesIn (memory (M.sightings mem.new)) queue.new }
 {
-    let Ok(outcome) = serve(device, console, mem, queue, limits, chain, room) else {
+    let served = serve(
+        device,
+        console,
+        mem,
+        queue,
+        Stage::First,
+        limits,
+        chain,
+        room,
+    );
+    let Ok(outcome) = served else {
         unreachable!();
     };
     outcome

@@ -9,11 +9,13 @@ use Rattle.chain.specs.Budget.{IsSpent, less_chain}
 use Rattle.chain.specs.Service.{Device, Entry}
 use Rattle.shared_memory.specs.Sightings.{Sightings, Loads, memory}
 use Rattle.shared_memory.proofs.Sightings.{loads_none}
+use Rattle.racing_service.specs.declared.stage.Stage.{Stage}
+use Rattle.racing_service.specs.declared.stage.Stage.TheVariants.{First, Next, Again}
 use Rattle.racing_service.specs.declared.service.Stop.{Stop}
 use Rattle.racing_service.specs.declared.service.Stop.TheVariants.{Idle, Dry, Paused, Broken}
 use Rattle.racing_service.specs.Queue.{RacingKind}
 use Rattle.racing_service.specs.Device.{DoesRaced, RefusesRaced}
-use Rattle.racing_service.specs.Service.{Standing, Halt, Drained, Met, Limited, Round, any_wanted, standing_at, ServesOne, ServesSome, OnlyLoads, FindsNone, Serves, IsOpened, Works, IsRun, IsClosing, IsRound, ServesAny, IsBusyRun, IsBusyRound, AreBusyRounds, AreRounds, IsLook, EndsWith, EndsBy, IsRacingService, IsRefusedService, RunsAs, RunsUpTo, ServesAs, ServesUpTo, ending_of}
+use Rattle.racing_service.specs.Service.{Standing, Halt, Drained, Met, Limited, Round, any_wanted, standing_at, ServesOne, ServesSome, OnlyLoads, FindsNone, Serves, IsOpened, Works, IsRun, IsClosing, IsRound, ServesAny, IsBusyRun, IsBusyRound, AreBusyRounds, IsFirstRound, AreRounds, IsLook, EndsWith, EndsBy, IsRacingService, IsRefusedService, RunsAs, RunsUpTo, ServesAs, ServesUpTo, ending_of, fault_at, opened_at, stage_behind}
 use Rattle.racing_service.specs.declared.service.Held.{Held}
 use Rattle.racing_service.specs.declared.service.Ending.{Ending}
 use Rattle.racing_service.specs.declared.service.Ending.TheVariants.{Settled, Faulted, More}
@@ -187,108 +189,118 @@ module _ {Ring State : Type 0} (kind : RacingKind Ring) (device : Device State) 
 
   -- ---- a round
 
-  -- what was served behind an opening without a fault
-  ran_to : (halt : Halt) (a start b : Standing Ring State) → IsOpened kind device races a start
-      → None ≡ kind.still.opening_fault (memory start.sightings) a.ring → Serves kind device races start halt b
-      → IsRun kind device races a halt b
-  ran_to halt a start b opens none serves = record {
-    opened = start;
-    opens = opens;
-    works = subst (λ (f : Option Fault). Works kind device races f start halt b) none serves;
-  }
+  module _ (stage : Stage) where
+    -- what was served behind an opening without a fault
+    ran_to : (halt : Halt) (a start b : Standing Ring State) → IsOpened kind device races stage a start
+        → None ≡ fault_at kind stage (memory start.sightings) a.ring → Serves kind device races start halt b
+        → IsRun kind device races stage a halt b
+    ran_to halt a start b opens none serves = record {
+      opened = start;
+      opens = opens;
+      works = subst (λ (f : Option Fault). Works kind device races f start halt b) none serves;
+    }
 
-  ran_as : (stop : Stop) (a start b : Standing Ring State) → IsOpened kind device races a start
-      → None ≡ kind.still.opening_fault (memory start.sightings) a.ring → ServesAs kind device races stop start b
-      → RunsAs kind device races stop a b
-  ran_as Idle a start b opens none serves =
-      record { opened = start; opens = opens; no_fault = sym none; finds = serves }
-  ran_as Dry a start b opens none serves =
-      record { opened = start; opens = opens; no_fault = sym none; serves = serves }
-  ran_as Paused a start b opens none serves = ran_to Limited a start b opens none serves
-  ran_as (Broken fault) a start b opens none serves = ran_to (Met fault) a start b opens none serves
+    ran_as : (stop : Stop) (a start b : Standing Ring State) → IsOpened kind device races stage a start
+        → None ≡ fault_at kind stage (memory start.sightings) a.ring → ServesAs kind device races stop start b
+        → RunsAs kind device races stage stop a b
+    ran_as Idle a start b opens none serves =
+        record { opened = start; opens = opens; no_fault = sym none; finds = serves }
+    ran_as Dry a start b opens none serves =
+        record { opened = start; opens = opens; no_fault = sym none; serves = serves }
+    ran_as Paused a start b opens none serves = ran_to Limited a start b opens none serves
+    ran_as (Broken fault) a start b opens none serves = ran_to (Met fault) a start b opens none serves
 
-  opening : (r : Bool) (old new : Sightings) (ring opened : Ring) (s : State) (left : Budget) → r ≡ races
-      → Loads r old new → opened ≡ kind.still.opened (memory new) ring
-      → IsOpened kind device races (standing_at old ring s left) (standing_at new opened s left)
-  opening r old new ring opened s left is loads opens = record {
-    only = only old new ring opened s left (rw is at loads);
-    ring = opens;
-  }
+    opening : (r : Bool) (old new : Sightings) (ring opened : Ring) (s : State) (left : Budget) → r ≡ races
+        → Loads r old new → opened ≡ opened_at kind stage (memory new) ring
+        → IsOpened kind device races stage (standing_at old ring s left) (standing_at new opened s left)
+    opening r old new ring opened s left is loads opens = record {
+      only = only old new ring opened s left (rw is at loads);
+      ring = opens;
+    }
 
-  pub ran : (stop : Stop) (old new : Sightings) (ring opened : Ring) (s : State) (left : Budget) (b : Standing Ring State)
-      → Loads races old new → None ≡ kind.still.opening_fault (memory new) ring
-      → opened ≡ kind.still.opened (memory new) ring → ServesAs kind device races stop (standing_at new opened s left) b
-      → RunsAs kind device races stop (standing_at old ring s left) b
-  ran stop old new ring opened s left b loads none opens serves =
-      ran_as stop (standing_at old ring s left) (standing_at new opened s left) b
-      (opening races old new ring opened s left refl loads opens) none serves
+    pub ran : (stop : Stop) (old new : Sightings) (ring opened : Ring) (s : State) (left : Budget)
+        (b : Standing Ring State) → Loads races old new → None ≡ fault_at kind stage (memory new) ring
+        → opened ≡ opened_at kind stage (memory new) ring
+        → ServesAs kind device races stop (standing_at new opened s left) b
+        → RunsAs kind device races stage stop (standing_at old ring s left) b
+    ran stop old new ring opened s left b loads none opens serves =
+        ran_as stop (standing_at old ring s left) (standing_at new opened s left) b
+        (opening races old new ring opened s left refl loads opens) none serves
 
-  -- what serving behind it comes to, or a chain that is left
-  pub ran_ok : {E : Type 0} (result : Result Stop E) (old new : Sightings) (ring opened : Ring) (s : State) (left : Budget)
-      (b : Standing Ring State) → Loads races old new → None ≡ kind.still.opening_fault (memory new) ring
-      → opened ≡ kind.still.opened (memory new) ring
-      → IfOk result (λ stop. ServesAs kind device races stop (standing_at new opened s left) b)
-      → IfOk result (λ stop. RunsAs kind device races stop (standing_at old ring s left) b)
-  ran_ok (Ok stop) old new ring opened s left b loads none opens serves =
-      ran stop old new ring opened s left b loads none opens serves
-  ran_ok (Err held) old new ring opened s left b loads none opens serves = tt
+    -- what serving behind it comes to, or a chain that is left
+    pub ran_ok : {E : Type 0} (result : Result Stop E) (old new : Sightings) (ring opened : Ring) (s : State) (left : Budget)
+        (b : Standing Ring State) → Loads races old new → None ≡ fault_at kind stage (memory new) ring
+        → opened ≡ opened_at kind stage (memory new) ring
+        → IfOk result (λ stop. ServesAs kind device races stop (standing_at new opened s left) b)
+        → IfOk result (λ stop. RunsAs kind device races stage stop (standing_at old ring s left) b)
+    ran_ok (Ok stop) old new ring opened s left b loads none opens serves =
+        ran stop old new ring opened s left b loads none opens serves
+    ran_ok (Err held) old new ring opened s left b loads none opens serves = tt
 
-  pub ran_up_to : {T E : Type 0} (entry_of : T → Entry) (Refuses : State → List ℕ → List Buffer → E → Type 0)
-      (buffers : List Buffer) (result : Result Stop (Held T E)) (old new : Sightings) (ring opened : Ring) (s : State) (left : Budget)
-      (b : Standing Ring State) → Loads races old new → None ≡ kind.still.opening_fault (memory new) ring
-      → opened ≡ kind.still.opened (memory new) ring
-      → IfErr result (λ held. ServesUpTo kind device races Refuses buffers (entry_of held.token) held.why
-      (standing_at new opened s left) b)
-      → IfErr result (λ held. RunsUpTo kind device races Refuses buffers (entry_of held.token) held.why
-      (standing_at old ring s left) b)
-  ran_up_to entry_of Refuses buffers (Ok stop) old new ring opened s left b loads none opens serves = tt
-  ran_up_to entry_of Refuses buffers (Err held) old new ring opened s left b loads none opens serves = record {
-    opened = standing_at new opened s left;
-    opens = opening races old new ring opened s left refl loads opens;
-    no_fault = sym none;
-    serves = serves;
-  }
+    pub ran_up_to : {T E : Type 0} (entry_of : T → Entry) (Refuses : State → List ℕ → List Buffer → E → Type 0)
+        (buffers : List Buffer) (result : Result Stop (Held T E)) (old new : Sightings) (ring opened : Ring) (s : State)
+        (left : Budget) (b : Standing Ring State) → Loads races old new
+        → None ≡ fault_at kind stage (memory new) ring → opened ≡ opened_at kind stage (memory new) ring
+        → IfErr result (λ held. ServesUpTo kind device races Refuses buffers (entry_of held.token) held.why
+        (standing_at new opened s left) b)
+        → IfErr result (λ held. RunsUpTo kind device races Refuses stage buffers (entry_of held.token) held.why
+        (standing_at old ring s left) b)
+    ran_up_to entry_of Refuses buffers (Ok stop) old new ring opened s left b loads none opens serves = tt
+    ran_up_to entry_of Refuses buffers (Err held) old new ring opened s left b loads none opens serves = record {
+      opened = standing_at new opened s left;
+      opens = opening races old new ring opened s left refl loads opens;
+      no_fault = sym none;
+      serves = serves;
+    }
 
-  -- an opening with a fault
-  pub ran_into : (old new : Sightings) (ring opened : Ring) (s : State) (left : Budget) (fault : Fault)
-      → Loads races old new → Some fault ≡ kind.still.opening_fault (memory new) ring
-      → opened ≡ kind.still.opened (memory new) ring
-      → RunsAs kind device races (Broken fault) (standing_at old ring s left) (standing_at new opened s left)
-  ran_into old new ring opened s left fault loads some opens =
-      let start = standing_at new opened s left in record {
-        opened = start;
-        opens = opening races old new ring opened s left refl loads opens;
-        works = subst (λ (f : Option Fault). Works kind device races f start (Met fault) start) some (refl, refl);
-      }
+    -- an opening with a fault
+    pub ran_into : (old new : Sightings) (ring opened : Ring) (s : State) (left : Budget) (fault : Fault)
+        → Loads races old new → Some fault ≡ fault_at kind stage (memory new) ring
+        → opened ≡ opened_at kind stage (memory new) ring
+        → RunsAs kind device races stage (Broken fault) (standing_at old ring s left) (standing_at new opened s left)
+    ran_into old new ring opened s left fault loads some opens =
+        let start = standing_at new opened s left in record {
+          opened = start;
+          opens = opening races old new ring opened s left refl loads opens;
+          works = subst (λ (f : Option Fault). Works kind device races f start (Met fault) start) some (refl, refl);
+        }
 
-  -- a look is a round up to its closing
-  look_is_run : (a b : Standing Ring State) → IsLook kind device races a b → IsRun kind device races a Drained b
-  look_is_run a b look =
-      ran_to Drained a look.opened b look.opens (sym look.no_fault)
-      (record { between = []; at = look.opened; serves = refl; halts = look.finds })
+    -- a look is a round up to its closing
+    look_is_run : (a b : Standing Ring State) → IsLook kind device races stage a b
+        → IsRun kind device races stage a Drained b
+    look_is_run a b look =
+        ran_to Drained a look.opened b look.opens (sym look.no_fault)
+        (record { between = []; at = look.opened; serves = refl; halts = look.finds })
 
-  -- a round of some chains is a round
-  busy_is_run : (a b : Standing Ring State) → IsBusyRun kind device races a b → IsRun kind device races a Drained b
-  busy_is_run a b busy =
-      let serves = busy.serves in
-      ran_to Drained a busy.opened b busy.opens (sym busy.no_fault) (record {
-        between = serves.first ∷ serves.more.between;
-        at = serves.more.at;
-        serves = (serves.one, serves.more.serves);
-        halts = serves.more.halts;
-      })
+    -- a round of some chains is a round
+    busy_is_run : (a b : Standing Ring State) → IsBusyRun kind device races stage a b
+        → IsRun kind device races stage a Drained b
+    busy_is_run a b busy =
+        let serves = busy.serves in
+        ran_to Drained a busy.opened b busy.opens (sym busy.no_fault) (record {
+          between = serves.first ∷ serves.more.between;
+          at = serves.more.at;
+          serves = (serves.one, serves.more.serves);
+          halts = serves.more.halts;
+        })
+
+    dry_run : (stop : Stop) (a b : Standing Ring State) → ending_of stop ≡ None → RunsAs kind device races stage stop a b
+        → IsRun kind device races stage a Drained b
+    dry_run Idle a b e run = look_is_run a b run
+    dry_run Dry a b e run = busy_is_run a b run
+    dry_run Paused a b e run = cc
+    dry_run (Broken fault) a b e run = cc
 
   pub busy_is_round : (a b : Standing Ring State) (wanted : Bool) → IsBusyRound kind device races a b wanted
-      → IsRound kind device races a Drained b wanted
+      → IsRound kind device races Again a Drained b wanted
   busy_is_round a b wanted busy =
-      record { last = busy.last; run = busy_is_run a busy.last busy.run; closes = busy.closes }
+      record { last = busy.last; run = busy_is_run Again a busy.last busy.run; closes = busy.closes }
 
-  dry_run : (stop : Stop) (a b : Standing Ring State) → ending_of stop ≡ None → RunsAs kind device races stop a b
-      → IsRun kind device races a Drained b
-  dry_run Idle a b e run = look_is_run a b run
-  dry_run Dry a b e run = busy_is_run a b run
-  dry_run Paused a b e run = cc
-  dry_run (Broken fault) a b e run = cc
+  pub first_is_round : (stage : Stage) (a b : Standing Ring State) (wanted : Bool)
+      → IsFirstRound kind device races stage a b wanted → IsRound kind device races stage a Drained b wanted
+  first_is_round First a b wanted r = r
+  first_is_round Next a b wanted r = r
+  first_is_round Again a b wanted r = busy_is_round a b wanted r
 
   -- ---- rounds
 
@@ -299,20 +311,43 @@ module _ {Ring State : Type 0} (kind : RacingKind Ring) (device : Device State) 
       let one : IsBusyRound kind device races a r.after r.wanted = rw p at q in (one, refl)
   busy_push a b (x ∷ rounds) r p q = (p.0, busy_push x.after b rounds r p.1 q)
 
-  -- one more round, which served a chain unless it is the first
-  rounds_push : (a b last : Standing Ring State) (rounds : List (Round Ring State)) (r : Round Ring State) (stop : Stop)
-      → ending_of stop ≡ None → (0 < length rounds → ¬ (stop ≡ Idle)) → AreRounds kind device races a rounds b
-      → RunsAs kind device races stop b last → IsClosing kind device races last r.after r.wanted
-      → AreRounds kind device races a (rounds ++ r ∷ []) r.after
-  rounds_push a b last [] r stop e fresh p run closes =
-      let one : IsRound kind device races b Drained r.after r.wanted =
-      record { last = last; run = dry_run stop b last e run; closes = closes } in
-      let first : IsRound kind device races a Drained r.after r.wanted = rw p at one in (first, refl)
-  rounds_push a b last (x ∷ rounds) r Idle e fresh p run closes = absurd (fresh (omega arith) refl)
-  rounds_push a b last (x ∷ rounds) r Dry e fresh p run closes =
-      (p.0, busy_push x.after b rounds r p.1 (record { last = last; run = run; closes = closes }))
-  rounds_push a b last (x ∷ rounds) r Paused e fresh p run closes = cc
-  rounds_push a b last (x ∷ rounds) r (Broken fault) e fresh p run closes = cc
+  -- a round that served a chain, where closing writes were made right before
+  busy_round : (stop : Stop) (a last b : Standing Ring State) (wanted : Bool) → ending_of stop ≡ None → ¬ (stop ≡ Idle)
+      → RunsAs kind device races Again stop a last → IsClosing kind device races last b wanted
+      → IsBusyRound kind device races a b wanted
+  busy_round Idle a last b wanted e fresh run closes = absurd (fresh refl)
+  busy_round Dry a last b wanted e fresh run closes = record { last = last; run = run; closes = closes }
+  busy_round Paused a last b wanted e fresh run closes = cc
+  busy_round (Broken fault) a last b wanted e fresh run closes = cc
+
+  first_round : (stage : Stage) (stop : Stop) (a last b : Standing Ring State) (wanted : Bool) → ending_of stop ≡ None
+      → (stage ≡ Again → ¬ (stop ≡ Idle)) → RunsAs kind device races stage stop a last
+      → IsClosing kind device races last b wanted → IsFirstRound kind device races stage a b wanted
+  first_round First stop a last b wanted e fresh run closes =
+      record { last = last; run = dry_run First stop a last e run; closes = closes }
+  first_round Next stop a last b wanted e fresh run closes =
+      record { last = last; run = dry_run Next stop a last e run; closes = closes }
+  first_round Again stop a last b wanted e fresh run closes =
+      busy_round stop a last b wanted e (fresh refl) run closes
+
+  -- one more round, which served a chain where closing writes were made right before
+  rounds_push : (stage : Stage) (a b last : Standing Ring State) (rounds : List (Round Ring State)) (r : Round Ring State)
+      (stop : Stop) → ending_of stop ≡ None → (stage_behind stage rounds ≡ Again → ¬ (stop ≡ Idle))
+      → AreRounds kind device races stage a rounds b
+      → RunsAs kind device races (stage_behind stage rounds) stop b last
+      → IsClosing kind device races last r.after r.wanted
+      → AreRounds kind device races stage a (rounds ++ r ∷ []) r.after
+  rounds_push stage a b last [] r stop e fresh p run closes =
+      let one : IsFirstRound kind device races stage b r.after r.wanted =
+      first_round stage stop b last r.after r.wanted e fresh run closes in
+      let first : IsFirstRound kind device races stage a r.after r.wanted = rw p at one in (first, refl)
+  rounds_push stage a b last (x ∷ rounds) r stop e fresh p run closes =
+      (p.0, busy_push x.after b rounds r p.1 (busy_round stop b last r.after r.wanted e (fresh refl) run closes))
+
+  behind_push : (stage : Stage) (rounds : List (Round Ring State)) (r : Round Ring State)
+      → Again ≡ stage_behind stage (rounds ++ r ∷ [])
+  behind_push stage [] r = refl
+  behind_push stage (x ∷ rounds) r = refl
 
   wanted_push : (rounds : List (Round Ring State)) (r : Round Ring State)
       → any_wanted (rounds ++ r ∷ []) ≡ (any_wanted rounds || r.wanted)
@@ -327,15 +362,17 @@ module _ {Ring State : Type 0} (kind : RacingKind Ring) (device : Device State) 
       or_assoc true b c = refl
       or_assoc false b c = refl
 
-  -- So many rounds were served, each to where none was on offer, and this is what they wanted.
-  pub record IsInService (a b : Standing Ring State) (n : ℕ) (wanted : Bool) : Type 0 where
+  -- So many rounds were served from this stage on, each to where none was on offer. This is what they wanted, and where the next
+  -- one begins.
+  pub record IsInService (stage here : Stage) (a b : Standing Ring State) (n : ℕ) (wanted : Bool) : Type 0 where
     pub rounds : List (Round Ring State)
-    pub serves : AreRounds kind device races a rounds b
+    pub serves : AreRounds kind device races stage a rounds b
     pub count : length rounds ≡ n
+    pub here_is : here ≡ stage_behind stage rounds
     pub wanted_is : wanted ≡ any_wanted rounds
 
-  pub service_begins : (a : Standing Ring State) → IsInService a a 0 false
-  service_begins a = record { rounds = []; serves = refl; count = refl; wanted_is = refl }
+  pub service_begins : (stage : Stage) (a : Standing Ring State) → IsInService stage stage a a 0 false
+  service_begins stage a = record { rounds = []; serves = refl; count = refl; here_is = refl; wanted_is = refl }
 
   -- a queue was closed
   closing : (r : Bool) (old new : Sightings) (ring shut : Ring) (s : State) (left : Budget) (asked : Bool) → r ≡ races
@@ -344,36 +381,38 @@ module _ {Ring State : Type 0} (kind : RacingKind Ring) (device : Device State) 
   closing r old new ring shut s left asked is closed shuts =
       record { closed = rw is at closed; ring = shuts; state = refl; left = refl }
 
-  module _ (a b : Standing Ring State) (n : ℕ) (wanted : Bool) (stop : Stop) (r : Bool) (old new : Sightings)
-      (ring shut : Ring) (s : State) (left : Budget) (asked wanted' : Bool) (p : IsInService a b n wanted) (is : r ≡ races)
-      (run : RunsAs kind device races stop b (standing_at old ring s left)) (closed : kind.IsClosed r old new ring asked)
+  module _ (stage here : Stage) (a b : Standing Ring State) (n : ℕ) (wanted : Bool) (stop : Stop) (r : Bool)
+      (old new : Sightings) (ring shut : Ring) (s : State) (left : Budget) (asked wanted' : Bool)
+      (p : IsInService stage here a b n wanted) (is : r ≡ races)
+      (run : RunsAs kind device races here stop b (standing_at old ring s left)) (closed : kind.IsClosed r old new ring asked)
       (shuts : shut ≡ kind.still.shut ring) (wants : wanted' ≡ (wanted || asked)) where
     -- one more round, behind which none was on offer
-    pub service_goes_on : ending_of stop ≡ None → (0 < n → ¬ (stop ≡ Idle))
-        → IsInService a (standing_at new shut s left) (n + 1) wanted'
+    pub service_goes_on : ending_of stop ≡ None → (here ≡ Again → ¬ (stop ≡ Idle))
+        → IsInService stage Again a (standing_at new shut s left) (n + 1) wanted'
     service_goes_on e fresh =
         let round : Round Ring State = record { wanted = asked; after = standing_at new shut s left } in record {
           rounds = p.rounds ++ round ∷ [];
-          serves = rounds_push a b (standing_at old ring s left) p.rounds round stop e
-              (λ some. fresh (omega (arith, p.count, some))) p.serves run
+          serves = rounds_push stage a b (standing_at old ring s left) p.rounds round stop e
+              (λ behind. fresh (p.here_is ∙ behind)) p.serves (rw p.here_is at run)
               (closing r old new ring shut s left asked is closed shuts);
           count = length_push p.rounds round ∙ ap (λ (k : ℕ). k + 1) p.count;
+          here_is = behind_push stage p.rounds round;
           wanted_is = wants ∙ ap (λ (w : Bool). w || asked) p.wanted_is ∙ sym (wanted_push p.rounds round);
         }
 
     -- one more, which ends the service
     pub service_ends : (most : ℕ) (ending : Ending) → n ≤ most → ending_of stop ≡ Some ending
-        → IsRacingService kind device races most a (standing_at new shut s left) ending wanted'
+        → IsRacingService kind device races stage most a (standing_at new shut s left) ending wanted'
     service_ends most ending few e = record {
       rounds = p.rounds;
       few = omega (arith, p.count, few);
       at = b;
       serves = p.serves;
-      ends = by stop run e;
+      ends = by stop (rw p.here_is at run) e;
     }
       where
-        ended : (halt : Halt) → IsRun kind device races b halt (standing_at old ring s left)
-            → EndsWith kind device races halt p.rounds b (standing_at new shut s left) wanted'
+        ended : (halt : Halt) → IsRun kind device races (stage_behind stage p.rounds) b halt (standing_at old ring s left)
+            → EndsWith kind device races stage halt p.rounds b (standing_at new shut s left) wanted'
         ended halt run = record {
           asked = asked;
           round = record {
@@ -384,40 +423,43 @@ module _ {Ring State : Type 0} (kind : RacingKind Ring) (device : Device State) 
           wanted_is = wants ∙ ap (λ (w : Bool). w || asked) p.wanted_is;
         }
 
-        by : (stop : Stop) → RunsAs kind device races stop b (standing_at old ring s left) → ending_of stop ≡ Some ending
-            → EndsBy kind device races ending most p.rounds b (standing_at new shut s left) wanted'
+        by : (stop : Stop) → RunsAs kind device races (stage_behind stage p.rounds) stop b (standing_at old ring s left)
+            → ending_of stop ≡ Some ending
+            → EndsBy kind device races stage ending most p.rounds b (standing_at new shut s left) wanted'
         by Idle run e = cc
         by Dry run e = cc
         by Paused run e =
-            subst (λ (o : Ending). EndsBy kind device races o most p.rounds b (standing_at new shut s left) wanted')
+            subst (λ (o : Ending). EndsBy kind device races stage o most p.rounds b (standing_at new shut s left) wanted')
             (let same : More ≡ ending = cc in same) (inl (ended Limited run))
         by (Broken fault) run e =
-            subst (λ (o : Ending). EndsBy kind device races o most p.rounds b (standing_at new shut s left) wanted')
+            subst (λ (o : Ending). EndsBy kind device races stage o most p.rounds b (standing_at new shut s left) wanted')
             (let same : Faulted fault ≡ ending = cc in same) (ended (Met fault) run)
 
-  -- a look behind at least one round finds nothing new
-  pub service_settles : (most : ℕ) (a b : Standing Ring State) (n : ℕ) (wanted : Bool) (stop : Stop) (new : Sightings)
-      (ring shut : Ring) (s : State) (left : Budget) → IsInService a b n wanted → n ≤ most → 0 < n
-      → RunsAs kind device races stop b (standing_at new ring s left) → stop ≡ Idle → shut ≡ kind.still.shut ring
-      → IsRacingService kind device races most a (standing_at new shut s left) Settled wanted
-  service_settles most a b n wanted stop new ring shut s left p few some run idle shuts = record {
+  -- a look behind closing writes finds nothing new
+  pub service_settles : (stage here : Stage) (most : ℕ) (a b : Standing Ring State) (n : ℕ) (wanted : Bool) (stop : Stop)
+      (new : Sightings) (ring shut : Ring) (s : State) (left : Budget) → IsInService stage here a b n wanted → n ≤ most
+      → here ≡ Again → RunsAs kind device races here stop b (standing_at new ring s left) → stop ≡ Idle
+      → shut ≡ kind.still.shut ring
+      → IsRacingService kind device races stage most a (standing_at new shut s left) Settled wanted
+  service_settles stage here most a b n wanted stop new ring shut s left p few again run idle shuts = record {
     rounds = p.rounds;
     few = omega (arith, p.count, few);
     at = b;
     serves = p.serves;
     ends = record {
-      some = omega (arith, p.count, some);
+      behind = sym p.here_is ∙ again;
       looked = standing_at new ring s left;
-      look = rw idle at run;
+      look = rw (again, idle) at run;
       shut = rw shuts refl;
       wanted_is = p.wanted_is;
     };
   }
 
   -- no more rounds are left
-  pub service_stops : (most n : ℕ) (a b : Standing Ring State) (wanted : Bool) → IsInService a b n wanted → n ≤ most
-      → most ≤ n → IsRacingService kind device races most a b More wanted
-  service_stops most n a b wanted p few all = record {
+  pub service_stops : (stage here : Stage) (most n : ℕ) (a b : Standing Ring State) (wanted : Bool)
+      → IsInService stage here a b n wanted → n ≤ most → most ≤ n
+      → IsRacingService kind device races stage most a b More wanted
+  service_stops stage here most n a b wanted p few all = record {
     rounds = p.rounds;
     few = omega (arith, p.count, few);
     at = b;
@@ -426,16 +468,16 @@ module _ {Ring State : Type 0} (kind : RacingKind Ring) (device : Device State) 
   }
 
   -- a chain is left on offer
-  pub service_left : (most : ℕ) (a b : Standing Ring State) (n : ℕ) (wanted : Bool) {E : Type 0} (c : Standing Ring State)
-      (Refuses : State → List ℕ → List Buffer → E → Type 0) (buffers : List Buffer) (entry : Entry) (why : E)
-      → IsInService a b n wanted → n < most
-      → RunsUpTo kind device races Refuses buffers entry why b c
-      → IsRefusedService kind device races Refuses most a c buffers entry why wanted
-  service_left most a b n wanted c Refuses buffers entry why p few run = record {
+  pub service_left : (stage here : Stage) (most : ℕ) (a b : Standing Ring State) (n : ℕ) (wanted : Bool) {E : Type 0}
+      (c : Standing Ring State) (Refuses : State → List ℕ → List Buffer → E → Type 0) (buffers : List Buffer) (entry : Entry)
+      (why : E) → IsInService stage here a b n wanted → n < most
+      → RunsUpTo kind device races Refuses here buffers entry why b c
+      → IsRefusedService kind device races Refuses stage most a c buffers entry why wanted
+  service_left stage here most a b n wanted c Refuses buffers entry why p few run = record {
     rounds = p.rounds;
     few = omega (arith, p.count, few);
     at = b;
     serves = p.serves;
-    leaves = run;
+    leaves = rw p.here_is at run;
     wanted_is = p.wanted_is;
   }

@@ -11,10 +11,12 @@ use Rattle.shared_memory.specs.Sightings.{Sightings, memory}
 use Rattle.shared_memory.proofs.Sightings.{loads_range, same_self}
 use Rattle.racing_service.specs.declared.service.Ending.{Ending}
 use Rattle.racing_service.specs.declared.service.Ending.TheVariants.{Settled, Faulted, More}
+use Rattle.racing_service.specs.declared.stage.Stage.{Stage}
+use Rattle.racing_service.specs.declared.stage.Stage.TheVariants.{First, Next, Again}
 use Rattle.racing_service.specs.Flights.{AreAhead, FlightLaws, Stays, TagFits, tag_places}
 use Rattle.racing_service.specs.Queue.{RacingKind}
-use Rattle.racing_service.specs.Service.{Standing, Halt, Drained, Met, Limited, Round, ServesOne, ServesSome, OnlyLoads, HaltsBy, Serves, IsOpened, Works, IsRun, IsClosing, IsRound, AreBusyRounds, AreRounds, IsSettled, EndsBy, IsRacingService, IsRefusedService}
-use Rattle.racing_service.proofs.Coming.{busy_is_round}
+use Rattle.racing_service.specs.Service.{Standing, Halt, Drained, Met, Limited, Round, ServesOne, ServesSome, OnlyLoads, HaltsBy, Serves, IsOpened, Works, IsRun, IsClosing, IsRound, AreBusyRounds, AreRounds, IsSettled, EndsBy, IsRacingService, IsRefusedService, fault_at, stage_behind}
+use Rattle.racing_service.proofs.Coming.{busy_is_round, first_is_round}
 use Rattle.racing_service.proofs.Standing.{does_range}
 
 module _ {Ring Token : Type 0} (kind : RacingKind Ring) (entry_of : Token → Entry)
@@ -143,23 +145,29 @@ module _ {Ring Token : Type 0} (kind : RacingKind Ring) (entry_of : Token → En
     serves_keeps halt a b s =
         keeps_trans a s.at b (some_keeps s.between a s.at s.serves) (halts_keeps halt s.at b s.halts)
 
-    opens_keeps : (a b : Standing Ring State) → IsOpened kind device races a b → Keeps a b
-    opens_keeps a b o = record {
-      stays = stays_is a.ring (kind.still.opened (memory b.sightings) a.ring) b.ring o.ring
-          (laws.opened (memory b.sightings) a.ring);
-      range = only_range a b o.only;
-    }
+    opened_stays : (stage : Stage) (a b : Standing Ring State) → IsOpened kind device races stage a b
+        → Stays Fits ahead_of a.ring b.ring
+    opened_stays First a b o =
+        stays_is a.ring (kind.still.opened (memory b.sightings) a.ring) b.ring o.ring
+        (laws.opened (memory b.sightings) a.ring)
+    opened_stays Next a b o = stays_same a.ring b.ring o.ring
+    opened_stays Again a b o =
+        stays_is a.ring (kind.still.opened (memory b.sightings) a.ring) b.ring o.ring
+        (laws.opened (memory b.sightings) a.ring)
+
+    opens_keeps : (stage : Stage) (a b : Standing Ring State) → IsOpened kind device races stage a b → Keeps a b
+    opens_keeps stage a b o = record { stays = opened_stays stage a b o; range = only_range a b o.only }
 
     works_keeps : (fault : Option Fault) (a : Standing Ring State) (halt : Halt) (b : Standing Ring State)
         → Works kind device races fault a halt b → Keeps a b
     works_keeps (Some fault) a halt b w = keeps_none a b w.1
     works_keeps None a halt b w = serves_keeps halt a b w
 
-    run_keeps : (a : Standing Ring State) (halt : Halt) (b : Standing Ring State) → IsRun kind device races a halt b
-        → Keeps a b
-    run_keeps a halt b r =
-        keeps_trans a r.opened b (opens_keeps a r.opened r.opens)
-        (works_keeps (kind.still.opening_fault (memory r.opened.sightings) a.ring) r.opened halt b r.works)
+    run_keeps : (stage : Stage) (a : Standing Ring State) (halt : Halt) (b : Standing Ring State)
+        → IsRun kind device races stage a halt b → Keeps a b
+    run_keeps stage a halt b r =
+        keeps_trans a r.opened b (opens_keeps stage a r.opened r.opens)
+        (works_keeps (fault_at kind stage (memory r.opened.sightings) a.ring) r.opened halt b r.works)
 
     pub closing_keeps : (a b : Standing Ring State) (wanted : Bool) → IsClosing kind device races a b wanted → Keeps a b
     closing_keeps a b wanted c = record {
@@ -167,33 +175,35 @@ module _ {Ring Token : Type 0} (kind : RacingKind Ring) (entry_of : Token → En
       range = laws.closed_range races a.sightings b.sightings a.ring wanted c.closed;
     }
 
-    round_keeps : (a : Standing Ring State) (halt : Halt) (b : Standing Ring State) (wanted : Bool)
-        → IsRound kind device races a halt b wanted → Keeps a b
-    round_keeps a halt b wanted r =
-        keeps_trans a r.last b (run_keeps a halt r.last r.run) (closing_keeps r.last b wanted r.closes)
+    round_keeps : (stage : Stage) (a : Standing Ring State) (halt : Halt) (b : Standing Ring State) (wanted : Bool)
+        → IsRound kind device races stage a halt b wanted → Keeps a b
+    round_keeps stage a halt b wanted r =
+        keeps_trans a r.last b (run_keeps stage a halt r.last r.run) (closing_keeps r.last b wanted r.closes)
 
     busy_keeps : (a : Standing Ring State) (rounds : List (Round Ring State)) (b : Standing Ring State)
         → AreBusyRounds kind device races a rounds b → Keeps a b
     busy_keeps a [] b r = keeps_none a b r
     busy_keeps a (x ∷ rounds) b r =
         keeps_trans a x.after b
-        (round_keeps a Drained x.after x.wanted (busy_is_round kind device races a x.after x.wanted r.0))
+        (round_keeps Again a Drained x.after x.wanted (busy_is_round kind device races a x.after x.wanted r.0))
         (busy_keeps x.after rounds b r.1)
 
-    rounds_keeps : (a : Standing Ring State) (rounds : List (Round Ring State)) (b : Standing Ring State)
-        → AreRounds kind device races a rounds b → Keeps a b
-    rounds_keeps a [] b r = keeps_none a b r
-    rounds_keeps a (x ∷ rounds) b r =
-        keeps_trans a x.after b (round_keeps a Drained x.after x.wanted r.0) (busy_keeps x.after rounds b r.1)
+    rounds_keeps : (stage : Stage) (a : Standing Ring State) (rounds : List (Round Ring State)) (b : Standing Ring State)
+        → AreRounds kind device races stage a rounds b → Keeps a b
+    rounds_keeps stage a [] b r = keeps_none a b r
+    rounds_keeps stage a (x ∷ rounds) b r =
+        keeps_trans a x.after b
+        (round_keeps stage a Drained x.after x.wanted (first_is_round kind device races stage a x.after x.wanted r.0))
+        (busy_keeps x.after rounds b r.1)
 
-    settled_keeps : (rounds : List (Round Ring State)) (at b : Standing Ring State) (wanted : Bool)
-        → IsSettled kind device races rounds at b wanted → Keeps at b
-    settled_keeps rounds at b wanted s =
+    settled_keeps : (stage : Stage) (rounds : List (Round Ring State)) (at b : Standing Ring State) (wanted : Bool)
+        → IsSettled kind device races stage rounds at b wanted → Keeps at b
+    settled_keeps stage rounds at b wanted s =
         let opened = s.look.opened in
         let none = s.look.finds in
         let shut : b.ring ≡ kind.still.shut s.looked.ring = ap (λ (x : Standing Ring State). x.ring) s.shut in
         let seen : b.sightings ≡ s.looked.sightings = ap (λ (x : Standing Ring State). x.sightings) s.shut in
-        let looked = keeps_trans at opened s.looked (opens_keeps at opened s.look.opens)
+        let looked = keeps_trans at opened s.looked (opens_keeps Again at opened s.look.opens)
         (halts_keeps Drained opened s.looked none) in
         record {
           stays = stays_trans at.ring s.looked.ring b.ring looked.stays
@@ -201,27 +211,30 @@ module _ {Ring Token : Type 0} (kind : RacingKind Ring) (entry_of : Token → En
           range = subst (λ (l : Sightings). SameRange (memory at.sightings) (memory l)) (sym seen) looked.range;
         }
 
-    ends_keeps : (ending : Ending) (most : ℕ) (rounds : List (Round Ring State)) (at b : Standing Ring State)
-        (wanted : Bool) → EndsBy kind device races ending most rounds at b wanted → Keeps at b
-    ends_keeps Settled most rounds at b wanted e = settled_keeps rounds at b wanted e
-    ends_keeps (Faulted fault) most rounds at b wanted e = round_keeps at (Met fault) b e.asked e.round
-    ends_keeps More most rounds at b wanted (inl e) = round_keeps at Limited b e.asked e.round
-    ends_keeps More most rounds at b wanted (inr e) = keeps_none at b e.stands
+    ends_keeps : (stage : Stage) (ending : Ending) (most : ℕ) (rounds : List (Round Ring State))
+        (at b : Standing Ring State) (wanted : Bool) → EndsBy kind device races stage ending most rounds at b wanted
+        → Keeps at b
+    ends_keeps stage Settled most rounds at b wanted e = settled_keeps stage rounds at b wanted e
+    ends_keeps stage (Faulted fault) most rounds at b wanted e =
+        round_keeps (stage_behind stage rounds) at (Met fault) b e.asked e.round
+    ends_keeps stage More most rounds at b wanted (inl e) =
+        round_keeps (stage_behind stage rounds) at Limited b e.asked e.round
+    ends_keeps stage More most rounds at b wanted (inr e) = keeps_none at b e.stands
 
-    pub service_keeps : (most : ℕ) (a b : Standing Ring State) (ending : Ending) (wanted : Bool)
-        → IsRacingService kind device races most a b ending wanted → Keeps a b
-    service_keeps most a b ending wanted s =
-        keeps_trans a s.at b (rounds_keeps a s.rounds s.at s.serves)
-        (ends_keeps ending most s.rounds s.at b wanted s.ends)
+    pub service_keeps : (stage : Stage) (most : ℕ) (a b : Standing Ring State) (ending : Ending) (wanted : Bool)
+        → IsRacingService kind device races stage most a b ending wanted → Keeps a b
+    service_keeps stage most a b ending wanted s =
+        keeps_trans a s.at b (rounds_keeps stage a s.rounds s.at s.serves)
+        (ends_keeps stage ending most s.rounds s.at b wanted s.ends)
 
-    pub refused_keeps : {E : Type 0} (Refuses : State → List ℕ → List Buffer → E → Type 0) (most : ℕ)
+    pub refused_keeps : {E : Type 0} (Refuses : State → List ℕ → List Buffer → E → Type 0) (stage : Stage) (most : ℕ)
         (a b : Standing Ring State) (buffers : List Buffer) (entry : Entry) (why : E) (wanted : Bool)
-        → IsRefusedService kind device races Refuses most a b buffers entry why wanted → Keeps a b
-    refused_keeps Refuses most a b buffers entry why wanted s =
+        → IsRefusedService kind device races Refuses stage most a b buffers entry why wanted → Keeps a b
+    refused_keeps Refuses stage most a b buffers entry why wanted s =
         let up = s.leaves in
         let one = up.serves.leaves in
-        keeps_trans a s.at b (rounds_keeps a s.rounds s.at s.serves)
-        (keeps_trans s.at up.opened b (opens_keeps s.at up.opened up.opens)
+        keeps_trans a s.at b (rounds_keeps stage a s.rounds s.at s.serves)
+        (keeps_trans s.at up.opened b (opens_keeps (stage_behind stage s.rounds) s.at up.opened up.opens)
         (keeps_trans up.opened up.serves.at b (some_keeps up.serves.between up.opened up.serves.at up.serves.serves)
         (record {
           stays = stays_same up.serves.at.ring b.ring one.ring;

@@ -6,3 +6,4 @@ pub mod Looking
 pub mod Seeing
 pub mod Flights
 pub mod Rows
+pub mod LeftAlone

@@ -9,6 +9,7 @@ use Rattle.split_ring.specs.Ring.{on_offer}
 use Rattle.packed_ring.specs.Ring.{is_available}
 use Rattle.shared_memory.specs.Sightings.{memory}
 use Rattle.shared_memory.proofs.Sightings.{seen_last, seen_later, seen_sooner}
+use Rattle.racing_service.specs.declared.stage.Stage.TheVariants.{Again}
 use Rattle.racing_service.specs.Queue.{racing_packed, racing_split}
 use Rattle.racing_service.specs.Laws.{SeesNoHead, SeesNoList}
 use Rattle.racing_service.specs.Service.{IsLook, Standing}
@@ -30,7 +31,7 @@ going_on true available going none = sym none
 going_on false available going none = cc
 
 module _ {State : Type 0} (device : Device State) (races : Bool) where
-  pub no_head : (a b : Standing RingState State) → device.takes a.state ≡ true → IsLook racing_split device races a b
+  pub no_head : (a b : Standing RingState State) → device.takes a.state ≡ true → IsLook racing_split device races Again a b
       → SeesNoHead a.sightings b.sightings a.ring
   no_head a b takes look =
       let o = look.opened in record {
@@ -44,7 +45,7 @@ module _ {State : Type 0} (device : Device State) (races : Bool) where
       }
 
   pub no_list : (a b : Standing RingState State) → device.takes a.state ≡ true → a.ring.ahead < a.ring.setup.size
-      → IsLook racing_packed device races a b → SeesNoList a.sightings b.sightings a.ring
+      → IsLook racing_packed device races Again a b → SeesNoList a.sightings b.sightings a.ring
   no_list a b takes room look =
       let o = look.opened in
       let told = look.finds.none (ap device.takes look.opens.only.state ∙ takes) in

@@ -1,5 +1,5 @@
 -- Both kinds of racing ring, of a guest that stands still.
-use Rattle.std.proofs.Common.{◌≡◌, ◌∙◌, ℕ, ◌+◌, ◌*◌, ◌<◌, Bool, true, false, refl, sym, ap, arith, mod-lt}
+use Rattle.std.proofs.Common.{◌≡◌, ◌∙◌, ℕ, ◌+◌, ◌*◌, ◌<◌, Bool, true, false, refl, sym, ap, arith}
 use Rattle.std.specs.Prelude.{if◌then◌else◌, nat_lt}
 use Rattle.std.proofs.lemmas.Bool.Decides.{nat_tests}
 use Rattle.guest_memory.specs.Memory.{Memory, SameRange, put_num}
@@ -60,7 +60,8 @@ split_stands_still = record {
   told = λ old new ring offers loads told. told;
   offered = offered_still;
   good = λ old new ring buffers entry o.
-      walked_good old new ring.setup.indirect ring.setup.desc ring.setup.size (split.head_of o.head_in ring) buffers o.walked;
+      walked_good o.head_seen.place new ring.setup.indirect ring.setup.desc ring.setup.size (split.head_of o.head_in ring)
+      buffers o.walked;
   met = λ old new ring fault sound loads h. may_take ring.pending h.0;
   faulty = λ old new ring fault loads h. faulty_still old new ring fault loads h.1;
   given = λ old new ring entry len any sound g. given_still old new ring entry.id len sound.lies sound.some g.0 g.1;
@@ -85,12 +86,11 @@ pub record IsPackedSound (m : Memory) (ring : RingState) : Type 0 where
 packed_met : (old new : Sightings) (ring : RingState) (fault : Fault) → IsPackedSound (memory old) ring
     → Loads false old new → racing_packed.IsFaulty old new ring fault → packed_kind.offers (memory old) ring ≡ true
 packed_met old new ring fault sound loads h =
-    let head = packed.head_of ring in
-    let below : head < ring.setup.size = mod-lt (packed.next_taken ring) sound.some in
-    let same = seen_still old new (h.1.source head) loads (h.1.sources head below) in
+    let first = h.1.source (packed.head_of ring) in
+    let same = seen_still old new first.flags_in loads h.1.read.first_seen in
     let available : packed.is_available (memory old) ring ≡ true =
     ap (λ (m : Memory). are_available (packed.flags_of m (packed.head_addr ring)) (packed.next_wrap ring)) (sym same)
-    ∙ h.1.available in
+    ∙ h.1.read.available in
     both (nat_lt 0 ring.pending) (packed.is_available (memory old) ring) (may_take ring.pending h.0) available
 
 pub packed_stands_still : StandsStill racing_packed IsPackedSound

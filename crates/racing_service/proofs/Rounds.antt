@@ -12,8 +12,9 @@ use Rattle.chain.specs.Service as services
 use Rattle.chain.proofs.Servicing.{both}
 use Rattle.shared_memory.specs.Sightings.{Sightings, Loads, memory}
 use Rattle.racing_service.specs.Queue.{RacingKind}
-use Rattle.racing_service.specs.Service.{Standing, Halt, Drained, Met, Limited, Round, ServesOne, ServesSome, OnlyLoads, HaltsBy, Works, IsClosing, IsRound, LeavesOne, RunsUpTo, AreBusyRounds, AreRounds, IsSettled, IsRacingService}
+use Rattle.racing_service.specs.Service.{Standing, Halt, Drained, Met, Limited, Round, ServesOne, ServesSome, OnlyLoads, HaltsBy, IsOpened, Works, IsClosing, IsRound, LeavesOne, RunsUpTo, AreBusyRounds, AreRounds, IsSettled, IsRacingService, stage_behind}
 use Rattle.racing_service.specs.declared.service.Ending.TheVariants.{Settled}
+use Rattle.racing_service.specs.declared.stage.Stage.TheVariants.{First, Again}
 use Rattle.racing_service.specs.Laws.{AreServices, site_of}
 use Rattle.racing_service.proofs.Coming.{busy_is_round}
 use Rattle.racing_service.proofs.Standing.{does_still, one_still, read_still, scattered_range}
@@ -198,7 +199,7 @@ module _ {Ring State : Type 0} {kind : RacingKind Ring} {IsSound : Memory → Ri
     pub sound : IsSound (memory b.sightings) b.ring
 
   pub one_service : (halt : Halt) (ending : Ending) (a b : Standing Ring State) (wanted : Bool) → EndsAs halt ending
-      → IsSound (memory a.sightings) a.ring → IsRound kind device false a halt b wanted → IsOneService a b ending wanted
+      → IsSound (memory a.sightings) a.ring → IsRound kind device false First a halt b wanted → IsOneService a b ending wanted
   one_service halt ending a b wanted e sound r =
       let m = memory a.sightings in
       let o = r.run.opened in
@@ -220,6 +221,18 @@ module _ {Ring State : Type 0} {kind : RacingKind Ring} {IsSound : Memory → Ri
         sound = rw (closed, c.ring) (is.sound_shut _ r.last.ring (is.in_range (memory r.last.sightings) _ r.last.ring
             (is.closed_range (memory r.last.sightings) r.last.ring) w.sound));
       }
+
+  -- behind closing writes a round opens the queue, too
+  opens_again : (a b : Standing Ring State) → IsOpened kind device false Again a b → IsOpened kind device false First a b
+  opens_again a b o = record { only = o.only; ring = o.ring }
+
+  pub again_is_first : (halt : Halt) (a b : Standing Ring State) (wanted : Bool)
+      → IsRound kind device false Again a halt b wanted → IsRound kind device false First a halt b wanted
+  again_is_first halt a b wanted r = record {
+    last = r.last;
+    run = record { opened = r.run.opened; opens = opens_again a r.run.opened r.run.opens; works = r.run.works };
+    closes = r.closes;
+  }
 
   -- A round whose device leaves a chain, where that is for want of memory: the chains before were served, and the queue was
   -- closed at its place.
@@ -252,7 +265,7 @@ module _ {Ring State : Type 0} {kind : RacingKind Ring} {IsSound : Memory → Ri
         }
 
     pub left_service : (a at b : Standing Ring State) (wanted : Bool) → IsSound (memory a.sightings) a.ring
-        → RunsUpTo kind device false Refuses buffers entry why a at → IsClosing kind device false at b wanted
+        → RunsUpTo kind device false Refuses First buffers entry why a at → IsClosing kind device false at b wanted
         → IsService kind.still device (site_of a) (site_of b) Refused wanted
     left_service a at b wanted sound r c =
         let m = memory a.sightings in
@@ -288,13 +301,13 @@ module _ {Ring State : Type 0} {kind : RacingKind Ring} {IsSound : Memory → Ri
       → AreBusyRounds kind device false a rounds b → AreAllServices a rounds b
   busy_services [] a b sound r = record { services = ap site_of r; sound = rw r sound }
   busy_services (x ∷ rounds) a b sound r =
-      let round = busy_is_round kind device false a x.after x.wanted r.0 in
+      let round = again_is_first Drained a x.after x.wanted (busy_is_round kind device false a x.after x.wanted r.0) in
       let one = one_service Drained Spent a x.after x.wanted refl sound round in
       let more = busy_services rounds x.after b one.sound r.1 in
       record { services = (one.service, more.services); sound = more.sound }
 
   pub all_services : (rounds : List (Round Ring State)) (a b : Standing Ring State) → IsSound (memory a.sightings) a.ring
-      → AreRounds kind device false a rounds b → AreAllServices a rounds b
+      → AreRounds kind device false First a rounds b → AreAllServices a rounds b
   all_services [] a b sound r = record { services = ap site_of r; sound = rw r sound }
   all_services (x ∷ rounds) a b sound r =
       let one = one_service Drained Spent a x.after x.wanted refl sound r.0 in
@@ -308,15 +321,15 @@ module _ {Ring State : Type 0} {kind : RacingKind Ring} {IsSound : Memory → Ri
   still_shut [] a b shut r = rw r shut
   still_shut (x ∷ rounds) a b shut r = still_shut rounds x.after b (r.0.last.ring, r.0.closes.ring) r.1
 
-  ring_shut : (rounds : List (Round Ring State)) (a b : Standing Ring State) → AreRounds kind device false a rounds b
-      → 0 < length rounds → (last : Ring) × (b.ring ≡ kind.still.shut last)
-  ring_shut [] a b r some = absurd (omega (arith, some))
+  ring_shut : (rounds : List (Round Ring State)) (a b : Standing Ring State) → AreRounds kind device false First a rounds b
+      → stage_behind First rounds ≡ Again → (last : Ring) × (b.ring ≡ kind.still.shut last)
+  ring_shut [] a b r some = cc
   ring_shut (x ∷ rounds) a b r some = still_shut rounds x.after b (r.0.last.ring, r.0.closes.ring) r.1
 
   pub settled_there : (rounds : List (Round Ring State)) (a at b : Standing Ring State) (wanted : Bool)
-      → AreRounds kind device false a rounds at → IsSettled kind device false rounds at b wanted → site_of b ≡ site_of at
+      → AreRounds kind device false First a rounds at → IsSettled kind device false First rounds at b wanted → site_of b ≡ site_of at
   settled_there rounds a at b wanted r s =
-      let shut = ring_shut rounds a at r s.some in
+      let shut = ring_shut rounds a at r s.behind in
       let o = s.look.opened in
       let first : memory o.sightings ≡ memory at.sightings = same_memory at o s.look.opens.only in
       let then : memory s.looked.sightings ≡ memory o.sightings = same_memory o s.looked s.look.finds.only in
@@ -327,11 +340,11 @@ module _ {Ring State : Type 0} {kind : RacingKind Ring} {IsSound : Memory → Ri
 
   -- a settled service of one round is one service
   pub one_settled : (most : ℕ) (a b : Standing Ring State) (wanted : Bool) (r : Round Ring State)
-      (service : IsRacingService kind device false most a b Settled wanted) → IsSound (memory a.sightings) a.ring
+      (service : IsRacingService kind device false First most a b Settled wanted) → IsSound (memory a.sightings) a.ring
       → service.rounds ≡ r ∷ [] → IsService kind.still device (site_of a) (site_of b) Spent wanted
   one_settled most a b wanted r service sound only =
-      let rounds : AreRounds kind device false a (r ∷ []) service.at = rw only at service.serves in
-      let ends : IsSettled kind device false (r ∷ []) service.at b wanted = rw only at service.ends in
+      let rounds : AreRounds kind device false First a (r ∷ []) service.at = rw only at service.serves in
+      let ends : IsSettled kind device false First (r ∷ []) service.at b wanted = rw only at service.ends in
       let there : site_of b ≡ site_of r.after =
       settled_there (r ∷ []) a service.at b wanted rounds ends ∙ ap site_of rounds.1 in
       let asked : wanted ≡ r.wanted = ends.wanted_is ∙ or_false r.wanted in

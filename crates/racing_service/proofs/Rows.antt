@@ -1,19 +1,21 @@
 -- Bytes that a device stores one after another in places of a chain, and what they are of all that it writes.
-use Rattle.std.proofs.Common.{◌≡◌, ◌∙◌, ℕ, zero, suc, ◌+◌, ◌-◌, ◌<◌, ◌≤◌, ◌^◌, Bool, true, false, Option, Some, None, List, [], ◌∷◌, ◌++◌, length, get_or, map, take, drop, replicate, refl, sym, ap, subst, arith, length-drop}
+use Rattle.std.proofs.Common.{◌≡◌, ◌∙◌, ℕ, zero, suc, ◌+◌, ◌-◌, ◌<◌, ◌≤◌, ◌^◌, Bool, true, false, Option, Some, None, List, [], ◌∷◌, ◌++◌, length, get_or, map, take, drop, replicate, refl, sym, ap, subst, arith, length-append, append-nil, length-drop}
 use Rattle.std.specs.Prelude.{All}
 use Rattle.std.specs.List.{flat_map, range_with_len}
 use Rattle.std.proofs.Math.Nat.{mod-eq_of_lt}
 use Rattle.std.proofs.lemmas.List.{length-take-le, take-append-drop, take_all, take_more}
-use Rattle.std.proofs.lemmas.List.Elements.{All-get_or, All-head}
+use Rattle.std.proofs.lemmas.List.Concat.{flat_map-append}
+use Rattle.std.proofs.lemmas.List.FromFn.{length-range_with_len}
+use Rattle.std.proofs.lemmas.List.Elements.{All-get_or}
 use Rattle.guest_memory.specs.Memory.{Memory, Inside, SameRange, put}
-use Rattle.guest_memory.proofs.Ranges.{inside_part, same_trans, take-plus}
+use Rattle.guest_memory.proofs.Ranges.{inside_same, same_trans, take-plus}
 use Rattle.chain.specs.declared.segment.Buffer.{Buffer}
 use Rattle.chain.specs.declared.segment.Segment.{Segment}
 use Rattle.chain.specs.Buffers.{Good}
 use Rattle.chain.specs.Bytes.{addresses, segments_of, writable_of}
 use Rattle.chain.specs.Runs.{runs_of}
 use Rattle.chain.specs.Service.{scattered, wrote}
-use Rattle.chain.proofs.Cutting.{runs_inside, runs_listed, runs_some}
+use Rattle.chain.proofs.Cutting.{runs_inside, runs_listed}
 use Rattle.chain.proofs.Directions.{All-segments_of, length-addresses_of}
 use Rattle.chain.proofs.Partial.{wrote-unwritten}
 use Rattle.shared_memory.specs.Sightings.{Sightings, Stores, memory}
@@ -22,59 +24,58 @@ use Rattle.racing_service.specs.Device.{StoresAtOnce}
 use Rattle.racing_service.specs.Storing.{StoresEach, StoresSome}
 use Rattle.racing_service.proofs.Standing.{scattered_range}
 
--- ---- the address of a place
+-- ---- the runs of places
 
-range_first : (a n : ℕ) → 0 < n → range_with_len a n ≡ a ∷ range_with_len (a + 1) (n - 1)
-range_first a zero some = absurd (omega (arith, some))
-range_first a (suc n) some =
-    let k : n ≡ suc n - 1 = omega arith in
-    ap (λ j. a ∷ range_with_len (a + 1) j) k
+-- how many bytes runs have
+runs_len : List Segment → ℕ
+runs_len [] = 0
+runs_len (s ∷ ss) = s.len + runs_len ss
 
-alone : (a : ℕ) (rest : List ℕ) → length (a ∷ rest) ≡ 1 → a ∷ rest ≡ a ∷ []
-alone a [] one = refl
-alone a (b ∷ rest) one = absurd (omega (arith, one))
+runs_long : (runs : List Segment) → length (flat_map addresses runs) ≡ runs_len runs
+unfolding runs_len
+runs_long [] = refl
+runs_long (s ∷ ss) =
+    let first = length-range_with_len s.addr s.len in
+    let rest = runs_long ss in
+    let both = length-append (addresses s) (flat_map addresses ss) in
+    omega (arith, first, rest, both)
 
--- of runs of one place there is a first one
-pub record IsFirst (runs : List Segment) (d : Segment) (xs : List ℕ) : Type 0 where
-  pub there : 0 < length runs
-  pub is : xs ≡ (get_or runs 0 d).addr ∷ []
-  pub some : 0 < (get_or runs 0 d).len
+-- the runs of so many writable places
+pub record AreRunsOf (buffers : List Buffer) (from n : ℕ) (runs : List Segment) : Type 0 where
+  pub are : runs ≡ runs_of from (from + n) (segments_of true buffers)
+  pub fit : from + n ≤ length (writable_of buffers)
 
-first_run : (runs : List Segment) (xs : List ℕ) (d : Segment) → flat_map addresses runs ≡ xs
-    → All (λ (s : Segment). 0 < s.len) runs → length xs ≡ 1 → IsFirst runs d xs
-first_run [] xs d listed some one = absurd (omega (arith, ap length listed, one))
-first_run (r ∷ runs) xs d listed some one =
-    let long : 0 < r.len = All-head (λ (s : Segment). 0 < s.len) r runs some in
-    let behind = range_with_len (r.addr + 1) (r.len - 1) ++ flat_map addresses runs in
-    let is : r.addr ∷ behind ≡ xs =
-    sym (ap (λ l. l ++ flat_map addresses runs) (range_first r.addr r.len long)) ∙ listed in
-    record {
-      there = omega arith;
-      is = sym is ∙ alone r.addr behind (ap length is ∙ one);
-      some = long;
-    }
+runs_places : (buffers : List Buffer) (from n : ℕ) (runs : List Segment) → AreRunsOf buffers from n runs
+    → flat_map addresses runs ≡ take n (drop from (writable_of buffers))
+runs_places buffers from n runs h =
+    let whole : from + n - from ≡ n = omega arith in
+    let all = length-addresses_of true buffers in
+    ap (flat_map addresses) h.are
+    ∙ runs_listed (from + n - from) (segments_of true buffers) from (from + n) (omega arith) (omega (arith, h.fit, all))
+    ∙ ap (λ k. take k (drop from (writable_of buffers))) whole
 
-module _ (buffers : List Buffer) (place : ℕ) (runs : List Segment) (d : Segment)
-    (are : runs ≡ runs_of place (place + 1) (segments_of true buffers)) (fit : place < length (writable_of buffers)) where
-  pub place_first : IsFirst runs d (take 1 (drop place (writable_of buffers)))
-  place_first =
-      let addrs = writable_of buffers in
-      let all = length-addresses_of true buffers in
-      let one : place + 1 - place ≡ 1 = omega arith in
-      let listed : flat_map addresses runs ≡ take 1 (drop place addrs) =
-      ap (flat_map addresses) are
-      ∙ runs_listed (place + 1 - place) (segments_of true buffers) place (place + 1) (omega arith) (omega (arith, fit, all))
-      ∙ ap (λ k. take k (drop place addrs)) one in
-      first_run runs (take 1 (drop place addrs)) d listed (rw are (runs_some (segments_of true buffers) place (place + 1)))
-      (length-take-le 1 (drop place addrs) (omega (arith, length-drop place addrs, fit)))
+-- they have as many bytes
+runs_count : (buffers : List Buffer) (from n : ℕ) (runs : List Segment) → AreRunsOf buffers from n runs
+    → length (flat_map addresses runs) ≡ n
+runs_count buffers from n runs h =
+    ap length (runs_places buffers from n runs h)
+    ∙ length-take-le n (drop from (writable_of buffers)) (omega (arith, length-drop from (writable_of buffers), h.fit))
 
-  pub place_inside : (m : Memory) → Good m buffers → Inside m (get_or runs 0 d).addr 1
-  place_inside m good =
-      let first = place_first in
-      let each : All (λ (s : Segment). Inside m s.addr s.len) runs =
-      rw are (runs_inside m (segments_of true buffers) place (place + 1) (All-segments_of m true buffers good.inside)) in
-      let here = All-get_or (λ (s : Segment). Inside m s.addr s.len) runs 0 d first.there each in
-      inside_part here (omega arith) (omega (arith, first.some))
+-- the places of the first runs, and those of the next one
+next_places : (runs : List Segment) (i : ℕ) (d : Segment) → i < length runs
+    → flat_map addresses (take (i + 1) runs) ≡ flat_map addresses (take i runs) ++ addresses (get_or runs i d)
+next_places runs i d below =
+    ap (flat_map addresses) (take_more runs i d below)
+    ∙ flat_map-append addresses (take i runs) (get_or runs i d ∷ [])
+    ∙ ap (λ l. flat_map addresses (take i runs) ++ l) (append-nil (addresses (get_or runs i d)))
+
+-- the first ones have no more bytes than all
+first_count : (runs : List Segment) (i : ℕ) → length (flat_map addresses (take i runs)) ≤ length (flat_map addresses runs)
+first_count runs i =
+    let split = ap (flat_map addresses) (take-append-drop i runs) in
+    let parts = flat_map-append addresses (take i runs) (drop i runs) in
+    let long = length-append (flat_map addresses (take i runs)) (flat_map addresses (drop i runs)) in
+    omega (arith, ap length split, ap length parts, long)
 
 -- ---- bytes one after another
 
@@ -116,6 +117,71 @@ pub once_range : (races : Bool) (old new : Sightings) (addrs : List ℕ) (writte
 once_range races old new addrs written s =
     same_trans (memory old) s.before (memory new) (interference_range races (memory old) s.before s.interference)
     (subst (SameRange s.before) (sym s.stored) (scattered_range s.before addrs written))
+
+-- a place of a run
+pub range_place : (a n i : ℕ) → i < n → take 1 (drop i (range_with_len a n)) ≡ (a + i) ∷ []
+range_place a zero i below = absurd (omega (arith, below))
+range_place a (suc n) zero below = let same : a ≡ a + 0 = omega arith in ap (λ (x : ℕ). x ∷ []) same
+range_place a (suc n) (suc i) below =
+    let same : a + 1 + i ≡ a + suc i = omega arith in
+    range_place (a + 1) n i (omega (arith, below)) ∙ ap (λ (x : ℕ). x ∷ []) same
+
+-- the bytes of the first runs were stored
+pub record AreStored (races : Bool) (old now : Sightings) (runs : List Segment) (index done : ℕ) (bytes : List ℕ) : Type 0 where
+  pub done_is : done ≡ length (flat_map addresses (take index runs))
+  pub stored : StoresEach races old now (flat_map addresses (take index runs)) (take done bytes)
+
+module _ (buffers : List Buffer) (from : ℕ) (bytes : List ℕ) (runs : List Segment)
+    (are : AreRunsOf buffers from (length bytes) runs) where
+  -- the next one fits
+  pub run_fits : (races : Bool) (old now : Sightings) (index done : ℕ) (d : Segment)
+      → AreStored races old now runs index done bytes → index < length runs
+      → done + (get_or runs index d).len ≤ length bytes
+  run_fits races old now index done d h below =
+      let next = ap length (next_places runs index d below) in
+      let both = length-append (flat_map addresses (take index runs)) (addresses (get_or runs index d)) in
+      let one = length-range_with_len (get_or runs index d).addr (get_or runs index d).len in
+      let few = first_count runs (index + 1) in
+      omega (arith, next, both, one, few, runs_count buffers from (length bytes) runs are, h.done_is)
+
+  -- and lies in the memory
+  pub run_inside : (m n : Memory) (index : ℕ) (d : Segment) → Good m buffers → SameRange m n → index < length runs
+      → Inside n (get_or runs index d).addr (get_or runs index d).len
+  run_inside m n index d good same below =
+      let here = get_or runs index d in
+      let each : All (λ (s : Segment). Inside m s.addr s.len) runs =
+      rw are.are (runs_inside m (segments_of true buffers) from (from + length bytes)
+      (All-segments_of m true buffers good.inside)) in
+      inside_same m n here.addr here.len same (All-get_or (λ (s : Segment). Inside m s.addr s.len) runs index d below each)
+
+  pub run_stored : (races : Bool) (old now next : Sightings) (index done : ℕ) (d : Segment) (row : List ℕ)
+      → AreStored races old now runs index done bytes → index < length runs → row ≡ take (get_or runs index d).len (drop done bytes)
+      → StoresEach races now next (addresses (get_or runs index d)) row
+      → AreStored races old next runs (index + 1) (done + (get_or runs index d).len) bytes
+  run_stored races old now next index done d row h below is one =
+      let here = get_or runs index d in
+      let places = next_places runs index d below in
+      let both = length-append (flat_map addresses (take index runs)) (addresses here) in
+      let long = length-range_with_len here.addr here.len in
+      let rows : take (done + here.len) bytes ≡ take done bytes ++ row =
+      take-plus done here.len bytes ∙ ap (λ l. take done bytes ++ l) (sym is) in
+      record {
+        done_is = omega (arith, h.done_is, ap length places, both, long);
+        stored = rw (places, rows) (each_join races old now next (flat_map addresses (take index runs)) (take done bytes)
+            (addresses here) row h.stored one);
+      }
+
+  -- all of them
+  pub runs_stored : (races : Bool) (old now : Sightings) (index done : ℕ) → AreStored races old now runs index done bytes
+      → length runs ≤ index → StoresEach races old now (take (length bytes) (drop from (writable_of buffers))) bytes
+  runs_stored races old now index done h all =
+      let whole : take index runs ≡ runs = take_all index runs all in
+      let count = runs_count buffers from (length bytes) runs are in
+      let size : done ≡ length bytes = h.done_is ∙ ap (λ rs. length (flat_map addresses rs)) whole ∙ count in
+      let row : take done bytes ≡ bytes = take_all done bytes (omega (arith, size)) in
+      let addrs : flat_map addresses (take index runs) ≡ take (length bytes) (drop from (writable_of buffers)) =
+      ap (flat_map addresses) whole ∙ runs_places buffers from (length bytes) runs are in
+      rw (← addrs, ← row) h.stored
 
 -- ---- the parts of what is written
 

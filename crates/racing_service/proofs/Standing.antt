@@ -1,8 +1,8 @@
 -- What a device does with a chain: the range stays, and of a guest that stands still it is what the definitions of chain say.
 use Rattle.std.proofs.Common.{◌≡◌, ◌∙◌, ℕ, ◌+◌, ◌-◌, ◌≤◌, zero, suc, Bool, false, Option, Some, None, List, [], ◌∷◌, ◌++◌, take, drop, refl, sym, ap, subst, arith, append_assoc}
 use Rattle.std.specs.Prelude.{All}
-use Rattle.std.specs.List.{flat_map, range_with_len}
-use Rattle.std.proofs.lemmas.List.Elements.{All-cons, All-head, All-nil, All-tail}
+use Rattle.std.specs.List.{AllByRecursion, flat_map, range_with_len}
+use Rattle.std.proofs.lemmas.List.Elements.{All-cons, All-head, All-nil, All-tail, recursion_from_All}
 use Rattle.guest_memory.specs.Memory.{Memory, Inside, SameRange, part_of, put}
 use Rattle.guest_memory.proofs.Ranges.{inside_same, put_range, same_trans, take-plus}
 use Rattle.chain.specs.declared.segment.Buffer.{Buffer}
@@ -15,6 +15,7 @@ use Rattle.chain.proofs.Partial.{scattered-nil}
 use Rattle.shared_memory.specs.Sightings.{Sightings, Loads, memory}
 use Rattle.shared_memory.proofs.Sightings.{interference_range, loads_range, same_self, seen_still}
 use Rattle.racing_service.specs.Device.{AreBytesSeen, DoesRaced, Part, StoresParts}
+use Rattle.racing_service.specs.LeftAlone.{IsSteady}
 
 -- ---- reading
 
@@ -86,6 +87,27 @@ pub read_still : (old new : Sightings) (buffers : List Buffer) (readable : List 
     → readable ≡ readable_of (memory old) buffers
 read_still old new buffers readable inside loads seen =
     seen_is old new (addresses_of false buffers) readable loads seen ∙ readable_at (memory old) buffers inside
+
+-- and where each byte stays as it is while they are read
+steady_is : (old new : Sightings) (addrs bytes : List ℕ) → AllByRecursion (IsSteady old new) addrs
+    → AreBytesSeen old new addrs bytes → bytes ≡ bytes_at (memory old) addrs
+unfolding bytes_at
+steady_is old new [] [] steady seen = refl
+steady_is old new [] (x ∷ bytes) steady seen = absurd seen
+steady_is old new (a ∷ addrs) [] steady seen = absurd seen
+steady_is old new (a ∷ addrs) (x ∷ bytes) steady seen =
+    let here = seen.0 in
+    let same : part_of (memory old) a 1 ≡ x ∷ [] =
+    sym (steady.0 here.seen.place here.seen.from here.seen.to)
+    ∙ ap (λ (m : Memory). part_of m a 1) (sym here.seen.is) ∙ here.is in
+    rw (same, ← steady_is old new addrs bytes steady.1 seen.1) refl
+
+pub read_steady : (old new : Sightings) (buffers : List Buffer) (readable : List ℕ) → All (Within (memory old)) buffers
+    → All (IsSteady old new) (addresses_of false buffers) → AreBytesSeen old new (addresses_of false buffers) readable
+    → readable ≡ readable_of (memory old) buffers
+read_steady old new buffers readable inside steady seen =
+    let each = recursion_from_All (IsSteady old new) (addresses_of false buffers) steady in
+    steady_is old new (addresses_of false buffers) readable each seen ∙ readable_at (memory old) buffers inside
 
 -- ---- writing
 

@@ -50,10 +50,7 @@ split_closed races old new ring wanted c =
 
 packed_given : (races : Bool) (old new : Sightings) (ring : RingState) (id len : ℕ) (wrote : Bool)
     → racing_lists.IsGiven races old new ring id len wrote → SameRange (memory old) (memory new)
-packed_given races old new ring id len wrote g =
-    same_trans (memory old) (memory g.counted) (memory new) (stores_range races old g.counted _ _ _ g.len_first)
-    (same_trans (memory g.counted) (memory g.named) (memory new) (stores_range races g.counted g.named _ _ _ g.id_next)
-    (stores_range races g.named new _ _ _ g.flags_last))
+packed_given races old new ring id len wrote g = stores_range races old new _ _ _ g.at_once
 
 packed_closed : (races : Bool) (old new : Sightings) (ring : RingState) (wanted : Bool)
     → racing_lists.IsClosed races old new ring wanted → SameRange (memory old) (memory new)

@@ -5,5 +5,6 @@ pub mod Storing
 pub mod Service
 pub mod Sink
 pub mod Laws
+pub mod LeftAlone
 pub mod Flights
 pub mod Lasting

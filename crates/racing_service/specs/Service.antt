@@ -8,9 +8,12 @@ use Rattle.chain.specs.declared.segment.Buffer.{Buffer}
 use Rattle.chain.specs.declared.fault.Fault.{Fault}
 use Rattle.chain.specs.Budget.{IsSpent, less_chain}
 use Rattle.chain.specs.Service.{Device, Entry}
+use Rattle.guest_memory.specs.Memory.{Memory}
 use Rattle.shared_memory.specs.Sightings.{Sightings, Loads, memory}
 use Rattle.racing_service.specs.declared.service.Ending.{Ending}
 use Rattle.racing_service.specs.declared.service.Ending.TheVariants.{Settled, Faulted, More}
+use Rattle.racing_service.specs.declared.stage.Stage.{Stage}
+use Rattle.racing_service.specs.declared.stage.Stage.TheVariants.{First, Next, Again}
 use Rattle.racing_service.specs.declared.service.Stop.{Stop}
 use Rattle.racing_service.specs.declared.service.Stop.TheVariants.{Idle, Dry, Paused, Broken}
 use Rattle.racing_service.specs.Queue.{RacingKind}
@@ -42,6 +45,22 @@ pub record Round (Ring State : Type 0) : Type 0 where
 abbrev pub any_wanted : {Ring State : Type 0} → List (Round Ring State) → Bool
 any_wanted [] = false
 any_wanted (r ∷ rounds) = r.wanted || any_wanted rounds
+
+-- where the next round begins: behind the closing writes of the last one, or where the service began
+abbrev pub stage_behind : {Ring State : Type 0} → Stage → List (Round Ring State) → Stage
+stage_behind stage [] = stage
+stage_behind stage (r ∷ rounds) = Again
+
+-- the fault that opening meets at a stage, and the ring then: a ring that stands open isn't opened
+abbrev pub fault_at : {Ring : Type 0} → RacingKind Ring → Stage → Memory → Ring → Option Fault
+fault_at kind First m ring = kind.still.opening_fault m ring
+fault_at kind Next m ring = None
+fault_at kind Again m ring = kind.still.opening_fault m ring
+
+abbrev pub opened_at : {Ring : Type 0} → RacingKind Ring → Stage → Memory → Ring → Ring
+opened_at kind First m ring = kind.still.opened m ring
+opened_at kind Next m ring = ring
+opened_at kind Again m ring = kind.still.opened m ring
 
 module _ {Ring State : Type 0} (kind : RacingKind Ring) (device : Device State) (races : Bool) where
   -- One chain was seen on offer, was served, and was given back: its used entry is stored behind what the device wrote.
@@ -109,10 +128,10 @@ module _ {Ring State : Type 0} (kind : RacingKind Ring) (device : Device State) 
     pub serves : ServesSome a between at
     pub halts : HaltsBy halt at b
 
-  -- the ring was opened, by what was seen last
-  pub record IsOpened (a b : Standing Ring State) : Type 0 where
+  -- the ring was opened, by what was seen last, or stands open
+  pub record IsOpened (stage : Stage) (a b : Standing Ring State) : Type 0 where
     pub only : OnlyLoads a b
-    pub ring : b.ring ≡ kind.still.opened (memory b.sightings) a.ring
+    pub ring : b.ring ≡ opened_at kind stage (memory b.sightings) a.ring
 
   -- what comes behind the opening: nothing where it met a fault
   abbrev pub Works : Option Fault → Standing Ring State → Halt → Standing Ring State → Type 0
@@ -120,12 +139,12 @@ module _ {Ring State : Type 0} (kind : RacingKind Ring) (device : Device State) 
   Works None a halt b = Serves a halt b
 
   -- a round, up to its closing
-  pub record IsRun (a : Standing Ring State) (halt : Halt) (b : Standing Ring State) : Type 0 where
+  pub record IsRun (stage : Stage) (a : Standing Ring State) (halt : Halt) (b : Standing Ring State) : Type 0 where
     pub opened : Standing Ring State
-    pub opens : IsOpened a opened
-    pub works : Works (kind.still.opening_fault (memory opened.sightings) a.ring) opened halt b
+    pub opens : IsOpened stage a opened
+    pub works : Works (fault_at kind stage (memory opened.sightings) a.ring) opened halt b
 
-  -- the ring was closed
+  -- the queue was closed
   pub record IsClosing (a b : Standing Ring State) (wanted : Bool) : Type 0 where
     pub closed : kind.IsClosed races a.sightings b.sightings a.ring wanted
     pub ring : b.ring ≡ kind.still.shut a.ring
@@ -133,9 +152,10 @@ module _ {Ring State : Type 0} (kind : RacingKind Ring) (device : Device State) 
     pub left : b.left ≡ a.left
 
   -- a round: opening, chains, and closing
-  pub record IsRound (a : Standing Ring State) (halt : Halt) (b : Standing Ring State) (wanted : Bool) : Type 0 where
+  pub record IsRound (stage : Stage) (a : Standing Ring State) (halt : Halt) (b : Standing Ring State) (wanted : Bool)
+      : Type 0 where
     pub last : Standing Ring State
-    pub run : IsRun a halt last
+    pub run : IsRun stage a halt last
     pub closes : IsClosing last b wanted
 
   -- at least one chain was served from here on, until none was on offer
@@ -145,16 +165,16 @@ module _ {Ring State : Type 0} (kind : RacingKind Ring) (device : Device State) 
     pub more : Serves first Drained b
 
   -- a round of at least one chain, up to its closing
-  pub record IsBusyRun (a b : Standing Ring State) : Type 0 where
+  pub record IsBusyRun (stage : Stage) (a b : Standing Ring State) : Type 0 where
     pub opened : Standing Ring State
-    pub opens : IsOpened a opened
-    pub no_fault : kind.still.opening_fault (memory opened.sightings) a.ring ≡ None
+    pub opens : IsOpened stage a opened
+    pub no_fault : fault_at kind stage (memory opened.sightings) a.ring ≡ None
     pub serves : ServesAny opened b
 
-  -- and with it
+  -- and with it, behind the closing writes of the round before
   pub record IsBusyRound (a b : Standing Ring State) (wanted : Bool) : Type 0 where
     pub last : Standing Ring State
-    pub run : IsBusyRun a last
+    pub run : IsBusyRun Again a last
     pub closes : IsClosing last b wanted
 
   -- rounds one after another, each of which served a chain and ended with none on offer
@@ -162,32 +182,40 @@ module _ {Ring State : Type 0} (kind : RacingKind Ring) (device : Device State) 
   AreBusyRounds a [] b = b ≡ a
   AreBusyRounds a (r ∷ rounds) b = IsBusyRound a r.after r.wanted × AreBusyRounds r.after rounds b
 
-  -- the same of a first round that may have served none
-  abbrev pub AreRounds : Standing Ring State → List (Round Ring State) → Standing Ring State → Type 0
-  AreRounds a [] b = b ≡ a
-  AreRounds a (r ∷ rounds) b = IsRound a Drained r.after r.wanted × AreBusyRounds r.after rounds b
+  -- a first round, which may have served none unless closing writes were made right before
+  abbrev pub IsFirstRound : Stage → Standing Ring State → Standing Ring State → Bool → Type 0
+  IsFirstRound First a b wanted = IsRound First a Drained b wanted
+  IsFirstRound Next a b wanted = IsRound Next a Drained b wanted
+  IsFirstRound Again a b wanted = IsBusyRound a b wanted
 
-  -- A look at the ring finds nothing new: it is opened without a fault, no chain is seen on offer, and it is shut again.
-  pub record IsLook (a b : Standing Ring State) : Type 0 where
+  -- rounds from this stage on, each of which ended with none on offer
+  abbrev pub AreRounds : Stage → Standing Ring State → List (Round Ring State) → Standing Ring State → Type 0
+  AreRounds stage a [] b = b ≡ a
+  AreRounds stage a (r ∷ rounds) b = IsFirstRound stage a r.after r.wanted × AreBusyRounds r.after rounds b
+
+  -- A look at the ring finds nothing new: it is opened without a fault, and no chain is seen on offer.
+  pub record IsLook (stage : Stage) (a b : Standing Ring State) : Type 0 where
     pub opened : Standing Ring State
-    pub opens : IsOpened a opened
-    pub no_fault : kind.still.opening_fault (memory opened.sightings) a.ring ≡ None
+    pub opens : IsOpened stage a opened
+    pub no_fault : fault_at kind stage (memory opened.sightings) a.ring ≡ None
     pub finds : FindsNone opened b
 
-  -- The service is settled: behind the closing writes of its last round a look finds nothing new. So a driver that offered
-  -- a chain before them was seen, and one that offers a chain behind them sees them, and notifies (2.7.10, 2.8.10).
-  pub record IsSettled (rounds : List (Round Ring State)) (at b : Standing Ring State) (wanted : Bool) : Type 0 where
-    pub some : 0 < length rounds
+  -- The service is settled: behind the closing writes of its last round, or those right before the service, a look finds
+  -- nothing new, and the ring is shut. So a driver that offered a chain before them was seen, and one that offers a chain behind
+  -- them sees them, and notifies (2.7.10, 2.8.10).
+  pub record IsSettled (stage : Stage) (rounds : List (Round Ring State)) (at b : Standing Ring State)
+      (wanted : Bool) : Type 0 where
+    pub behind : stage_behind stage rounds ≡ Again
     pub looked : Standing Ring State
-    pub look : IsLook at looked
+    pub look : IsLook Again at looked
     pub shut : b ≡ record looked { ring = kind.still.shut looked.ring }
     pub wanted_is : wanted ≡ any_wanted rounds
 
   -- one more round ends so, and the service with it
-  pub record EndsWith (halt : Halt) (rounds : List (Round Ring State)) (at b : Standing Ring State)
+  pub record EndsWith (stage : Stage) (halt : Halt) (rounds : List (Round Ring State)) (at b : Standing Ring State)
       (wanted : Bool) : Type 0 where
     pub asked : Bool
-    pub round : IsRound at halt b asked
+    pub round : IsRound (stage_behind stage rounds) at halt b asked
     pub wanted_is : wanted ≡ (any_wanted rounds || asked)
 
   -- it has had as many rounds as it may
@@ -197,18 +225,21 @@ module _ {Ring State : Type 0} (kind : RacingKind Ring) (device : Device State) 
     pub stands : b ≡ at
     pub wanted_is : wanted ≡ any_wanted rounds
 
-  abbrev pub EndsBy : Ending → ℕ → List (Round Ring State) → Standing Ring State → Standing Ring State → Bool → Type 0
-  EndsBy Settled most rounds at b wanted = IsSettled rounds at b wanted
-  EndsBy (Faulted fault) most rounds at b wanted = EndsWith (Met fault) rounds at b wanted
-  EndsBy More most rounds at b wanted = EndsWith Limited rounds at b wanted ⊎ HasHadAll most rounds at b wanted
+  abbrev pub EndsBy : Stage → Ending → ℕ → List (Round Ring State) → Standing Ring State → Standing Ring State → Bool
+      → Type 0
+  EndsBy stage Settled most rounds at b wanted = IsSettled stage rounds at b wanted
+  EndsBy stage (Faulted fault) most rounds at b wanted = EndsWith stage (Met fault) rounds at b wanted
+  EndsBy stage More most rounds at b wanted =
+      EndsWith stage Limited rounds at b wanted ⊎ HasHadAll most rounds at b wanted
 
-  -- one service, of at most so many rounds
-  pub record IsRacingService (most : ℕ) (a b : Standing Ring State) (ending : Ending) (wanted : Bool) : Type 0 where
+  -- one service from this stage on, of at most so many rounds
+  pub record IsRacingService (stage : Stage) (most : ℕ) (a b : Standing Ring State) (ending : Ending) (wanted : Bool)
+      : Type 0 where
     pub rounds : List (Round Ring State)
     pub few : length rounds ≤ most
     pub at : Standing Ring State
-    pub serves : AreRounds a rounds at
-    pub ends : EndsBy ending most rounds at b wanted
+    pub serves : AreRounds stage a rounds at
+    pub ends : EndsBy stage ending most rounds at b wanted
 
   -- ---- a chain that its device leaves
 
@@ -235,30 +266,30 @@ module _ {Ring State : Type 0} (kind : RacingKind Ring) (device : Device State) 
     pub leaves : LeavesOne Refuses buffers entry why at b
 
   -- a round up to it, whose ring stands open
-  pub record RunsUpTo {E : Type 0} (Refuses : State → List ℕ → List Buffer → E → Type 0) (buffers : List Buffer) (entry : Entry) (why : E)
-      (a b : Standing Ring State) : Type 0 where
+  pub record RunsUpTo {E : Type 0} (Refuses : State → List ℕ → List Buffer → E → Type 0) (stage : Stage)
+      (buffers : List Buffer) (entry : Entry) (why : E) (a b : Standing Ring State) : Type 0 where
     pub opened : Standing Ring State
-    pub opens : IsOpened a opened
-    pub no_fault : kind.still.opening_fault (memory opened.sightings) a.ring ≡ None
+    pub opens : IsOpened stage a opened
+    pub no_fault : fault_at kind stage (memory opened.sightings) a.ring ≡ None
     pub serves : ServesUpTo Refuses buffers entry why opened b
 
   -- a service up to it; a notification was wanted in one of the rounds before
-  pub record IsRefusedService {E : Type 0} (Refuses : State → List ℕ → List Buffer → E → Type 0) (most : ℕ)
+  pub record IsRefusedService {E : Type 0} (Refuses : State → List ℕ → List Buffer → E → Type 0) (stage : Stage) (most : ℕ)
       (a b : Standing Ring State) (buffers : List Buffer) (entry : Entry) (why : E) (wanted : Bool) : Type 0 where
     pub rounds : List (Round Ring State)
     pub few : length rounds < most
     pub at : Standing Ring State
-    pub serves : AreRounds a rounds at
-    pub leaves : RunsUpTo Refuses buffers entry why at b
+    pub serves : AreRounds stage a rounds at
+    pub leaves : RunsUpTo Refuses (stage_behind stage rounds) buffers entry why at b
     pub wanted_is : wanted ≡ any_wanted rounds
 
   -- ---- a round up to its closing, by how the code tells it
 
-  abbrev pub RunsAs : Stop → Standing Ring State → Standing Ring State → Type 0
-  RunsAs Idle a b = IsLook a b
-  RunsAs Dry a b = IsBusyRun a b
-  RunsAs Paused a b = IsRun a Limited b
-  RunsAs (Broken fault) a b = IsRun a (Met fault) b
+  abbrev pub RunsAs : Stage → Stop → Standing Ring State → Standing Ring State → Type 0
+  RunsAs stage Idle a b = IsLook stage a b
+  RunsAs stage Dry a b = IsBusyRun stage a b
+  RunsAs stage Paused a b = IsRun stage a Limited b
+  RunsAs stage (Broken fault) a b = IsRun stage a (Met fault) b
 
   abbrev pub ServesAs : Stop → Standing Ring State → Standing Ring State → Type 0
   ServesAs Idle a b = FindsNone a b

@@ -7,6 +7,7 @@ ghost use Rattle.racing_service.specs.Service.{IsRacingService, IsRefusedService
 
 use crate::device::RacingDevice;
 use crate::queue::RacingQueue;
+use crate::stage::Stage;
 use chain::{Budget, Chain, Fault, Progress};
 use racing_ring::Room;
 use shared_memory::Shared;
@@ -74,8 +75,8 @@ struct Held<T, E> {
     why: E,
 }
 
-/// A service whose device left a chain on offer. The queue stands open at it: the caller may launch the chain, and closes the
-/// queue.
+/// A service whose device left a chain on offer. The queue stands open at it. The caller may launch the chain or give it back,
+/// and serve the queue from `Stage::Next` on. Else it closes the queue.
 #[derive(Drop)]
 pub struct Refused<T, E> {
     /// The chain.
@@ -88,25 +89,26 @@ pub struct Refused<T, E> {
     pub left: Budget,
 }
 
-/// Serves a queue until a look behind its closing writes finds nothing new, a fault ends the service, a limit is met, or the
-/// device leaves a chain on offer: then `chain` has its buffers.
+/// Serves a queue from this stage on, until a look behind its closing writes finds nothing new, a fault ends the service, a limit
+/// is met, or the device leaves a chain on offer: then `chain` has its buffers.
 pub fn serve<B, D: RacingDevice<B>, Q: RacingQueue, M: Shared>(
     device: &mut D,
     backend: &mut B,
     mem: &mut M,
     queue: &mut Q,
+    stage: Stage,
     limits: Limits,
     chain: &mut Chain,
     room: &mut Room,
 ) -> Result<Outcome, Refused<Q::Token, D::Refusal>>
     requires queue { Q.LiesIn (memory (M.sightings mem.old)) queue.old }
     requires ready { D.IsReady device.old backend.old }
-    ensures service { IfOk result (λ outcome. IsRacingService Q.kind (D.device (D.setup device.old backend.old)) (M.races mem.old) limits.rounds
+    ensures service { IfOk result (λ outcome. IsRacingService Q.kind (D.device (D.setup device.old backend.old)) (M.races mem.old) stage limits.rounds
         (standing_at (M.sightings mem.old) queue.old (D.state device.old backend.old) limits.budget)
         (standing_at (M.sightings mem.new) queue.new (D.state device.new backend.new) outcome.left)
         outcome.ending outcome.wanted) }
     ensures refuses { IfErr result (λ refused. IsRefusedService Q.kind (D.device (D.setup device.old backend.old)) (M.races mem.old)
-        (D.Refuses (D.setup device.old backend.old) backend.new) limits.rounds
+        (D.Refuses (D.setup device.old backend.old) backend.new) stage limits.rounds
         (standing_at (M.sightings mem.old) queue.old (D.state device.old backend.old) limits.budget)
         (standing_at (M.sightings mem.new) queue.new (D.state device.new backend.new) refused.left)
         chain.new (Q.entry_of refused.token) refused.why refused.wanted) }
@@ -119,8 +121,9 @@ pub fn serve<B, D: RacingDevice<B>, Q: RacingQueue, M: Shared>(
 {
     let mut left = limits.budget;
     let mut wanted = false;
-    for round in 0..limits.rounds {
-        let stop = match run(device, backend, mem, queue, &mut left, chain, room) {
+    let mut here = stage;
+    for _ in 0..limits.rounds {
+        let stop = match run(device, backend, mem, queue, here, &mut left, chain, room) {
             Ok(stop) => stop,
             Err(Held { token, why }) => {
                 return Err(Refused {
@@ -131,7 +134,7 @@ pub fn serve<B, D: RacingDevice<B>, Q: RacingQueue, M: Shared>(
                 });
             }
         };
-        if round > 0 && is_idle(stop) {
+        if here.is_again() && is_idle(stop) {
             queue.shut();
             return Ok(Outcome {
                 ending: Ending::Settled,
@@ -147,6 +150,7 @@ pub fn serve<B, D: RacingDevice<B>, Q: RacingQueue, M: Shared>(
                 left,
             });
         }
+        here = Stage::Again;
     }
     Ok(Outcome {
         ending: Ending::More,
@@ -173,23 +177,24 @@ fn ending_of(stop: Stop) -> Option<Ending>
     }
 }
 
-/// A round up to its closing: opens the queue, and serves chains.
+/// A round up to its closing: opens the queue, unless it stands open, and serves chains.
 fn run<B, D: RacingDevice<B>, Q: RacingQueue, M: Shared>(
     device: &mut D,
     backend: &mut B,
     mem: &mut M,
     queue: &mut Q,
+    stage: Stage,
     left: &mut Budget,
     chain: &mut Chain,
     room: &mut Room,
 ) -> Result<Stop, Held<Q::Token, D::Refusal>>
     requires queue { Q.LiesIn (memory (M.sightings mem.old)) queue.old }
     requires ready { D.IsReady device.old backend.old }
-    ensures runs { IfOk result (λ stop. RunsAs Q.kind (D.device (D.setup device.old backend.old)) (M.races mem.old) stop
+    ensures runs { IfOk result (λ stop. RunsAs Q.kind (D.device (D.setup device.old backend.old)) (M.races mem.old) stage stop
         (standing_at (M.sightings mem.old) queue.old (D.state device.old backend.old) left.old)
         (standing_at (M.sightings mem.new) queue.new (D.state device.new backend.new) left.new)) }
     ensures leaves { IfErr result (λ held. RunsUpTo Q.kind (D.device (D.setup device.old backend.old)) (M.races mem.old)
-        (D.Refuses (D.setup device.old backend.old) backend.new) chain.new (Q.entry_of held.token) held.why
+        (D.Refuses (D.setup device.old backend.old) backend.new) stage chain.new (Q.entry_of held.token) held.why
         (standing_at (M.sightings mem.old) queue.old (D.state device.old backend.old) left.old)
         (standing_at (M.sightings mem.new) queue.new (D.state device.new backend.new) left.new)) }
     ensures taken { IfErr result (λ held. Q.IsTaken queue.new held.token) }
@@ -199,7 +204,7 @@ fn run<B, D: RacingDevice<B>, Q: RacingQueue, M: Shared>(
     ensures ready { D.IsReady device.new backend.new }
     ensures lies { Q.LiesIn (memory (M.sightings mem.new)) queue.new }
 {
-    match queue.open(mem) {
+    match stage.open(queue, mem) {
         Ok(()) => serve_chains(device, backend, mem, queue, left, chain, room),
         Err(fault) => Ok(Stop::Broken(fault)),
     }

@@ -1,7 +1,8 @@
 //! A row of bytes that a device stores in the writable places of a chain, one after another.
 
-ghost use Rattle.std.specs.Prelude.{◌≡◌, ◌+◌, ◌<◌, ◌≤◌, ◌∷◌, [], length, take, drop};
-ghost use Rattle.guest_memory.specs.Memory.{Inside, Memory, SameRange};
+ghost use Rattle.std.specs.Prelude.{◌≡◌, ◌+◌, ◌≤◌, length, take, drop};
+ghost use Rattle.std.specs.List.{range_with_len};
+ghost use Rattle.guest_memory.specs.Memory.{Inside, SameRange};
 ghost use Rattle.chain.specs.Buffers.{Good};
 ghost use Rattle.chain.specs.Bytes.{writable_of};
 ghost use Rattle.shared_memory.specs.Sightings.{memory};
@@ -11,7 +12,7 @@ use chain::{Chain, Runs};
 use shared_memory::Shared;
 
 /// Stores bytes in the writable places of a chain, the first one in place `from`, each by a step of its own. `room` is for the
-/// run of a place.
+/// runs of these places.
 pub fn store_in_chain<M: Shared>(
     mem: &mut M,
     chain: &Chain,
@@ -28,20 +29,27 @@ pub fn store_in_chain<M: Shared>(
 {
     // What it ensures: no place passes 2^32.
     let _ = chain.buffers();
-    for (index, byte) in bytes.iter().enumerate() {
-        let addr = place_at(chain, from + index as u64, room);
-        mem.store_u8(addr, *byte);
+    chain.runs(true, from, from + bytes.len() as u64, room);
+    let runs = room.as_slice();
+    let mut done = 0;
+    for run in runs {
+        let len = run.len as usize;
+        store_run(mem, run.addr, &bytes[done..done + len]);
+        done += len;
     }
 }
 
-/// The address of a writable place. `room` is for its run.
-fn place_at(chain: &Chain, place: u64, room: &mut Runs) -> u64
-    requires { place < length (writable_of chain.now) }
-    ensures value { take 1 (drop place (writable_of chain.now)) ≡ result ∷ [] }
-    ensures inside { (m : Memory) → Good m chain.now → Inside m result 1 }
+/// Stores bytes from an address on, each by a step of its own.
+fn store_run<M: Shared>(mem: &mut M, addr: u64, bytes: &[u8])
+    requires { Inside (memory (M.sightings mem.old)) addr (length bytes.now) }
+    ensures stored { StoresEach (M.races mem.old) (M.sightings mem.old) (M.sightings mem.new)
+        (range_with_len addr (length bytes.now)) bytes.now }
+    ensures races { M.races mem.new ≡ M.races mem.old }
+    ensures range { SameRange (memory (M.sightings mem.old)) (memory (M.sightings mem.new)) }
 {
-    // What it ensures: no place passes 2^32.
-    let _ = chain.buffers();
-    chain.runs(true, place, place + 1, room);
-    room.as_slice()[0].addr
+    // So no address passes 2^64.
+    mem.fits(addr, bytes.len() as u64);
+    for (index, byte) in bytes.iter().enumerate() {
+        mem.store_u8(addr + index as u64, *byte);
+    }
 }

@@ -2,7 +2,7 @@
 
 ghost use Rattle.shared_memory.specs.Sightings.{memory};
 
-use crate::{Ending, Limits, Outcome, RacingQueue, Sink, serve, store_in_chain};
+use crate::{Ending, Limits, Outcome, RacingQueue, Sink, Stage, serve, store_in_chain};
 use chain::{Budget, Chain, Runs, Setup};
 use guest_memory::GuestMemory;
 use racing_ring::{RacingPackedRing, RacingSplitRing, Room};
@@ -76,6 +76,7 @@ fn served<Q: RacingQueue, M: Shared>(
         &mut (),
         mem,
         queue,
+        Stage::First,
         limits,
         &mut chain,
         &mut room,

@@ -2,3 +2,4 @@ pub mod Rings
 pub mod Staying
 pub mod Sizes
 pub mod Standing
+pub mod LeftAlone

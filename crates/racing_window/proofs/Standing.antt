@@ -11,6 +11,7 @@ use Rattle.mmio_window.specs.Serving as still
 use Rattle.mmio_window.specs.Soundness.{IsSound}
 use Rattle.mmio_window.specs.Window.{WindowState, queue_at, with_ring}
 use Rattle.shared_memory.specs.Sightings.{Sightings, memory}
+use Rattle.racing_service.specs.declared.stage.Stage.TheVariants.{First}
 use Rattle.racing_service.specs.declared.service.Ending.{Ending}
 use Rattle.racing_service.specs.declared.service.Ending.TheVariants.{Faulted, More, Settled}
 use Rattle.racing_service.specs.Laws.{site_of}
@@ -25,7 +26,7 @@ module _ {State : Type 0} (device : Device State) where
   -- the first round settles the service
   settles : (ending : Ending) (most : ℕ) (a b : Standing Queue State) (wanted : Bool) (r : Round Queue State)
       → ending ≡ Settled → IsQueueSound (memory a.sightings) a.ring
-      → (service : IsRacingService racing_queue device false most a b ending wanted) → service.rounds ≡ r ∷ []
+      → (service : IsRacingService racing_queue device false First most a b ending wanted) → service.rounds ≡ r ∷ []
       → IsService queue_kind device (site_of a) (site_of b) Spent wanted
   settles Settled most a b wanted r is sound service only =
       one_settled queue_stands_still device most a b wanted r service sound only
@@ -35,14 +36,14 @@ module _ {State : Type 0} (device : Device State) where
   -- or it ends by a fault
   breaks : (ending : Ending) (most : ℕ) (a b : Standing Queue State) (wanted : Bool) (fault : Fault)
       → ending ≡ Faulted fault → IsQueueSound (memory a.sightings) a.ring
-      → (service : IsRacingService racing_queue device false most a b ending wanted) → service.rounds ≡ []
+      → (service : IsRacingService racing_queue device false First most a b ending wanted) → service.rounds ≡ []
       → IsService queue_kind device (site_of a) (site_of b) (chain.Faulted fault) wanted
   breaks Settled most a b wanted fault is sound service only = cc
   breaks (Faulted met) most a b wanted fault is sound service only =
       let same : met ≡ fault = cc in
-      let none : AreRounds racing_queue device false a [] service.at = rw only at service.serves in
-      let ends : EndsWith racing_queue device false (Met met) [] service.at b wanted = rw only at service.ends in
-      let round : IsRound racing_queue device false a (Met met) b ends.asked = rw none at ends.round in
+      let none : AreRounds racing_queue device false First a [] service.at = rw only at service.serves in
+      let ends : EndsWith racing_queue device false First (Met met) [] service.at b wanted = rw only at service.ends in
+      let round : IsRound racing_queue device false First a (Met met) b ends.asked = rw none at ends.round in
       let one = (one_service queue_stands_still device (Met met) (chain.Faulted met) a b ends.asked refl sound round).service in
       rw (← same, ends.wanted_is) one
   breaks More most a b wanted fault is sound service only = cc

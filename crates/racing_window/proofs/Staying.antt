@@ -15,12 +15,14 @@ use Rattle.shared_memory.specs.Sightings.{Sightings, memory}
 use Rattle.shared_memory.proofs.Sightings.{loads_range, same_self, stores_range}
 use Rattle.racing_ring.specs.Split as split
 use Rattle.racing_ring.specs.Packed as packed
+use Rattle.racing_service.specs.declared.stage.Stage.{Stage}
+use Rattle.racing_service.specs.declared.stage.Stage.TheVariants.{First, Next, Again}
 use Rattle.racing_service.specs.declared.service.Ending.{Ending}
 use Rattle.racing_service.specs.declared.service.Outcome.{Outcome}
 use Rattle.racing_service.specs.declared.service.Refused.{Refused}
 use Rattle.racing_service.specs.declared.service.Ending.TheVariants.{Settled, Faulted, More}
-use Rattle.racing_service.specs.Service.{Standing, Halt, Drained, Met, Limited, Round, ServesOne, ServesSome, OnlyLoads, HaltsBy, Works, Serves, IsClosing, IsRound, AreBusyRounds, AreRounds, EndsBy, IsRacingService, IsRefusedService, standing_at}
-use Rattle.racing_service.proofs.Coming.{busy_is_round}
+use Rattle.racing_service.specs.Service.{Standing, Halt, Drained, Met, Limited, Round, ServesOne, ServesSome, OnlyLoads, HaltsBy, IsOpened, Works, Serves, IsClosing, IsRound, AreBusyRounds, AreRounds, EndsBy, IsRacingService, IsRefusedService, opened_at, stage_behind, standing_at}
+use Rattle.racing_service.proofs.Coming.{busy_is_round, first_is_round}
 use Rattle.racing_service.proofs.Standing.{does_range}
 use Rattle.racing_window.specs.Queue.{IsClosed, IsGiven, racing_queue}
 
@@ -35,10 +37,7 @@ given_split races old new ring head len g =
 
 given_packed : (races : Bool) (old new : Sightings) (ring : RingState) (id len : ℕ) (any : Bool)
     → packed.IsGiven races old new ring id len any → SameRange (memory old) (memory new)
-given_packed races old new ring id len any g =
-    same_trans (memory old) (memory g.counted) (memory new) (stores_range races old g.counted _ _ _ g.len_first)
-    (same_trans (memory g.counted) (memory g.named) (memory new) (stores_range races g.counted g.named _ _ _ g.id_next)
-    (stores_range races g.named new _ _ _ g.flags_last))
+given_packed races old new ring id len any g = stores_range races old new _ _ _ g.at_once
 
 given_range : (races : Bool) (old new : Sightings) (queue : Queue) (entry : Entry) (len : ℕ) (any : Bool)
     → IsGiven races old new queue entry len any → SameRange (memory old) (memory new)
@@ -68,6 +67,11 @@ closed_range races old new (Packed ring) wanted c =
 made_opened : (m : Memory) (queue : Queue) → made_as (opened m queue) ≡ made_as queue
 made_opened m (Split ring) = refl
 made_opened m (Packed ring) = refl
+
+made_at : (stage : Stage) (m : Memory) (queue : Queue) → made_as (opened_at racing_queue stage m queue) ≡ made_as queue
+made_at First m queue = made_opened m queue
+made_at Next m queue = refl
+made_at Again m queue = made_opened m queue
 
 pub made_past : (queue : Queue) (entry : Entry) → made_as (past queue entry) ≡ made_as queue
 made_past (Split ring) entry = refl
@@ -139,13 +143,14 @@ module _ {State : Type 0} (device : Device State) (races : Bool) where
     made = ap made_as c.ring ∙ made_shut a.ring;
   }
 
-  stays_round : (halt : Halt) (wanted : Bool) (a b : Standing Queue State)
-      → IsRound racing_queue device races a halt b wanted → Stays a b
-  stays_round halt wanted a b r =
+  stays_opening : (stage : Stage) (a b : Standing Queue State) → IsOpened racing_queue device races stage a b → Stays a b
+  stays_opening stage a b o = stays_read a b o.only (ap made_as o.ring ∙ made_at stage (memory b.sightings) a.ring)
+
+  stays_round : (stage : Stage) (halt : Halt) (wanted : Bool) (a b : Standing Queue State)
+      → IsRound racing_queue device races stage a halt b wanted → Stays a b
+  stays_round stage halt wanted a b r =
       let o = r.run.opened in
-      let opens : Stays a o =
-      stays_read a o r.run.opens.only (ap made_as r.run.opens.ring ∙ made_opened (memory o.sightings) a.ring) in
-      stays_then a o b opens
+      stays_then a o b (stays_opening stage a o r.run.opens)
       (stays_then o r.last b (stays_working _ halt o r.last r.run.works) (stays_closing wanted r.last b r.closes))
 
   stays_busy : (rounds : List (Round Queue State)) (a b : Standing Queue State)
@@ -153,53 +158,56 @@ module _ {State : Type 0} (device : Device State) (races : Bool) where
   stays_busy [] a b r = subst (λ (x : Standing Queue State). Stays a x) (sym r) (stays_there a)
   stays_busy (x ∷ rounds) a b r =
       stays_then a x.after b
-      (stays_round Drained x.wanted a x.after (busy_is_round racing_queue device races a x.after x.wanted r.0))
+      (stays_round Again Drained x.wanted a x.after (busy_is_round racing_queue device races a x.after x.wanted r.0))
       (stays_busy rounds x.after b r.1)
 
-  stays_rounds : (rounds : List (Round Queue State)) (a b : Standing Queue State)
-      → AreRounds racing_queue device races a rounds b → Stays a b
-  stays_rounds [] a b r = subst (λ (x : Standing Queue State). Stays a x) (sym r) (stays_there a)
-  stays_rounds (x ∷ rounds) a b r =
-      stays_then a x.after b (stays_round Drained x.wanted a x.after r.0) (stays_busy rounds x.after b r.1)
+  stays_rounds : (stage : Stage) (rounds : List (Round Queue State)) (a b : Standing Queue State)
+      → AreRounds racing_queue device races stage a rounds b → Stays a b
+  stays_rounds stage [] a b r = subst (λ (x : Standing Queue State). Stays a x) (sym r) (stays_there a)
+  stays_rounds stage (x ∷ rounds) a b r =
+      stays_then a x.after b
+      (stays_round stage Drained x.wanted a x.after (first_is_round racing_queue device races stage a x.after x.wanted r.0))
+      (stays_busy rounds x.after b r.1)
 
-  stays_ending : (ending : Ending) (most : ℕ) (rounds : List (Round Queue State)) (a b : Standing Queue State)
-      (wanted : Bool) → EndsBy racing_queue device races ending most rounds a b wanted → Stays a b
-  stays_ending Settled most rounds a b wanted e =
+  stays_ending : (stage : Stage) (ending : Ending) (most : ℕ) (rounds : List (Round Queue State)) (a b : Standing Queue State)
+      (wanted : Bool) → EndsBy racing_queue device races stage ending most rounds a b wanted → Stays a b
+  stays_ending stage Settled most rounds a b wanted e =
       let o = e.look.opened in
       let l = e.looked in
-      let opens : Stays a o =
-      stays_read a o e.look.opens.only (ap made_as e.look.opens.ring ∙ made_opened (memory o.sightings) a.ring) in
       let looks : Stays a l =
-      stays_then a o l opens (stays_read o l e.look.finds.only (ap made_as e.look.finds.ring)) in
+      stays_then a o l (stays_opening Again a o e.look.opens)
+      (stays_read o l e.look.finds.only (ap made_as e.look.finds.ring)) in
       let shuts : Stays l (record l { ring = shut l.ring }) =
       record { range = same_self (memory l.sightings); made = made_shut l.ring } in
       subst (λ (x : Standing Queue State). Stays a x) (sym e.shut) (stays_then a l _ looks shuts)
-  stays_ending (Faulted fault) most rounds a b wanted e = stays_round (Met fault) e.asked a b e.round
-  stays_ending More most rounds a b wanted (inl e) = stays_round Limited e.asked a b e.round
-  stays_ending More most rounds a b wanted (inr e) =
+  stays_ending stage (Faulted fault) most rounds a b wanted e =
+      stays_round (stage_behind stage rounds) (Met fault) e.asked a b e.round
+  stays_ending stage More most rounds a b wanted (inl e) =
+      stays_round (stage_behind stage rounds) Limited e.asked a b e.round
+  stays_ending stage More most rounds a b wanted (inr e) =
       subst (λ (x : Standing Queue State). Stays a x) (sym e.stands) (stays_there a)
 
-  pub service_stays : (most : ℕ) (a b : Standing Queue State) (ending : Ending) (wanted : Bool)
-      → IsRacingService racing_queue device races most a b ending wanted → Stays a b
-  service_stays most a b ending wanted s =
-      stays_then a s.at b (stays_rounds s.rounds a s.at s.serves) (stays_ending ending most s.rounds s.at b wanted s.ends)
+  pub service_stays : (stage : Stage) (most : ℕ) (a b : Standing Queue State) (ending : Ending) (wanted : Bool)
+      → IsRacingService racing_queue device races stage most a b ending wanted → Stays a b
+  service_stays stage most a b ending wanted s =
+      stays_then a s.at b (stays_rounds stage s.rounds a s.at s.serves)
+      (stays_ending stage ending most s.rounds s.at b wanted s.ends)
 
-  pub refused_stays : {E : Type 0} (Refuses : State → List ℕ → List Buffer → E → Type 0) (most : ℕ)
+  pub refused_stays : {E : Type 0} (Refuses : State → List ℕ → List Buffer → E → Type 0) (stage : Stage) (most : ℕ)
       (a b : Standing Queue State) (buffers : List Buffer) (entry : Entry) (why : E) (wanted : Bool)
-      → IsRefusedService racing_queue device races Refuses most a b buffers entry why wanted → Stays a b
-  refused_stays Refuses most a b buffers entry why wanted s =
+      → IsRefusedService racing_queue device races Refuses stage most a b buffers entry why wanted → Stays a b
+  refused_stays Refuses stage most a b buffers entry why wanted s =
       let r = s.leaves in
       let u = r.serves in
       let l = u.leaves in
       let o = r.opened in
-      let opens : Stays s.at o =
-      stays_read s.at o r.opens.only (ap made_as r.opens.ring ∙ made_opened (memory o.sightings) s.at.ring) in
+      let opens : Stays s.at o = stays_opening (stage_behind stage s.rounds) s.at o r.opens in
       let leaves : Stays u.at b = record {
         range = same_trans (memory u.at.sightings) (memory l.taken) (memory b.sightings)
             (loads_range races u.at.sightings l.taken l.loads) (loads_range races l.taken b.sightings l.refuses.reads);
         made = ap made_as l.ring;
       } in
-      stays_then a s.at b (stays_rounds s.rounds a s.at s.serves)
+      stays_then a s.at b (stays_rounds stage s.rounds a s.at s.serves)
       (stays_then s.at o b opens (stays_then o u.at b (stays_some u.between o u.at u.serves) leaves))
 
 -- ---- what a call answers
@@ -210,18 +218,19 @@ pub record IsKept (old new : Sightings) (first last : Queue) : Type 0 where
   pub made : made_as last ≡ made_as first
 
 pub served_keeps : {State T E : Type 0} (device : Device State) (races : Bool)
-    (Refuses : State → List ℕ → List Buffer → E → Type 0) (entry_of : T → Entry) (most : ℕ) (old new : Sightings)
+    (Refuses : State → List ℕ → List Buffer → E → Type 0) (entry_of : T → Entry) (stage : Stage) (most : ℕ)
+    (old new : Sightings)
     (first last : Queue) (s s' : State) (budget : Budget) (buffers : List Buffer) (result : Result Outcome (Refused T E))
-    → IfOk result (λ outcome. IsRacingService racing_queue device races most (standing_at old first s budget)
+    → IfOk result (λ outcome. IsRacingService racing_queue device races stage most (standing_at old first s budget)
     (standing_at new last s' outcome.left) outcome.ending outcome.wanted)
-    → IfErr result (λ refused. IsRefusedService racing_queue device races Refuses most (standing_at old first s budget)
+    → IfErr result (λ refused. IsRefusedService racing_queue device races Refuses stage most (standing_at old first s budget)
     (standing_at new last s' refused.left) buffers (entry_of refused.token) refused.why refused.wanted)
     → IsKept old new first last
-served_keeps device races Refuses entry_of most old new first last s s' budget buffers (Ok outcome) served left =
-    let stays = service_stays device races most (standing_at old first s budget) (standing_at new last s' outcome.left)
+served_keeps device races Refuses entry_of stage most old new first last s s' budget buffers (Ok outcome) served left =
+    let stays = service_stays device races stage most (standing_at old first s budget) (standing_at new last s' outcome.left)
     outcome.ending outcome.wanted served in
     record { range = stays.range; made = stays.made }
-served_keeps device races Refuses entry_of most old new first last s s' budget buffers (Err refused) served left =
-    let stays = refused_stays device races Refuses most (standing_at old first s budget)
+served_keeps device races Refuses entry_of stage most old new first last s s' budget buffers (Err refused) served left =
+    let stays = refused_stays device races Refuses stage most (standing_at old first s budget)
     (standing_at new last s' refused.left) buffers (entry_of refused.token) refused.why refused.wanted left in
     record { range = stays.range; made = stays.made }

@@ -17,6 +17,7 @@ use Rattle.mmio_window.specs.Queue.{entry_of}
 use Rattle.mmio_window.specs.Serving.{after_service, ending_of}
 use Rattle.mmio_window.specs.Window.{WindowState, with_ring}
 use Rattle.shared_memory.specs.Sightings.{Sightings}
+use Rattle.racing_service.specs.declared.stage.Stage.TheVariants.{First}
 use Rattle.racing_service.specs.declared.service.Ending.{Ending}
 use Rattle.racing_service.specs.declared.service.Ending.TheVariants.{Settled, Faulted, More}
 use Rattle.racing_service.specs.declared.service.Refused.{Refused}
@@ -46,7 +47,7 @@ pub record ServesQueue {State : Type 0} (device : Device State) (races : Bool) (
   pub left : Budget
   pub ending : Ending
   pub wanted : Bool
-  pub service : IsRacingService racing_queue device races most (standing_at old queue s budget)
+  pub service : IsRacingService racing_queue device races First most (standing_at old queue s budget)
       (standing_at new last s' left) ending wanted
   pub window : after ≡ after_service (ending_of (fault_of ending)) wanted (with_ring q before last)
   pub progress_is : progress ≡ progress_of ending
@@ -71,7 +72,7 @@ pub record LeavesChain {State E : Type 0} (device : Device State) (Refuses : Sta
     (races : Bool) (most q : ℕ) (budget : Budget) (queue : Queue) (buffers : List Buffer) (refused : Refused Token E)
     (old new : Sightings) (before after : WindowState) (s s' : State) : Type 0 where
   pub last : Queue
-  pub service : IsRefusedService racing_queue device races Refuses most (standing_at old queue s budget)
+  pub service : IsRefusedService racing_queue device races Refuses First most (standing_at old queue s budget)
       (standing_at new last s' refused.left) buffers (entry_of refused.token) refused.why refused.wanted
   pub window : after ≡ with_ring q before last
 

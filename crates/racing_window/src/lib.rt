@@ -10,7 +10,8 @@ mod service;
 mod tests;
 
 pub use laws::{
-    a_queue_that_stands_still_is_served_by_services, a_window_that_stands_still_is_served_once,
+    a_chain_that_is_left_alone_is_of_one_moment, a_queue_that_stands_still_is_served_by_services,
+    a_window_that_stands_still_is_served_once,
 };
 pub use ring::RacingRing;
 pub use service::{met_with, serve_queue};

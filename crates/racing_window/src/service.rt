@@ -8,6 +8,7 @@ ghost use Rattle.mmio_window.specs.Soundness.{IsSound};
 ghost use Rattle.mmio_window.specs.Window.{queue_at};
 ghost use Rattle.guest_memory.specs.Memory.{SameRange};
 ghost use Rattle.shared_memory.specs.Sightings.{memory};
+ghost use Rattle.racing_service.specs.declared.stage.Stage.TheVariants.{First};
 ghost use Rattle.racing_service.specs.Service.{IsRacingService, IsRefusedService, standing_at};
 ghost use Rattle.racing_window.specs.Queue.{racing_queue};
 ghost use Rattle.racing_window.specs.Serving.{IsLeft, Notified, fault_of, met_at, met_with};
@@ -16,7 +17,7 @@ use crate::ring::RacingRing;
 use chain::{Chain, Fault, Progress};
 use mmio_window::{Left, Queue, QueueFault, Token, Window, show};
 use racing_ring::Room;
-use racing_service::{Ending, Limits, Outcome, RacingDevice, Refused, serve};
+use racing_service::{Ending, Limits, Outcome, RacingDevice, Refused, Stage, serve};
 use shared_memory::Shared;
 
 /// Serves the queue of this number once, if the window is live and the queue ready, and has the window show what came of it: a
@@ -75,12 +76,12 @@ fn serve_ready<B, D: RacingDevice<B>, M: Shared>(
 ) -> Result<Outcome, Refused<Token, D::Refusal>>
     requires queue { LiesIn (memory (M.sightings mem.old)) queue.old }
     requires ready { D.IsReady device.old backend.old }
-    ensures service { IfOk result (λ outcome. IsRacingService racing_queue (D.device (D.setup device.old backend.old)) (M.races mem.old) limits.rounds
+    ensures service { IfOk result (λ outcome. IsRacingService racing_queue (D.device (D.setup device.old backend.old)) (M.races mem.old) First limits.rounds
         (standing_at (M.sightings mem.old) queue.old (D.state device.old backend.old) limits.budget)
         (standing_at (M.sightings mem.new) queue.new (D.state device.new backend.new) outcome.left)
         outcome.ending outcome.wanted) }
     ensures refuses { IfErr result (λ refused. IsRefusedService racing_queue (D.device (D.setup device.old backend.old)) (M.races mem.old)
-        (D.Refuses (D.setup device.old backend.old) backend.new) limits.rounds
+        (D.Refuses (D.setup device.old backend.old) backend.new) First limits.rounds
         (standing_at (M.sightings mem.old) queue.old (D.state device.old backend.old) limits.budget)
         (standing_at (M.sightings mem.new) queue.new (D.state device.new backend.new) refused.left)
         chain.new (entry_of refused.token) refused.why refused.wanted) }
@@ -93,7 +94,16 @@ fn serve_ready<B, D: RacingDevice<B>, M: Shared>(
     ensures made { made_as queue.new ≡ made_as queue.old }
 {
     let mut ring = RacingRing::of(queue);
-    let served = serve(device, backend, mem, &mut ring, limits, chain, room);
+    let served = serve(
+        device,
+        backend,
+        mem,
+        &mut ring,
+        Stage::First,
+        limits,
+        chain,
+        room,
+    );
     *queue = ring.queue();
     served
 }

@@ -4,14 +4,14 @@ use Rattle.racing_service.specs.Service.{standing_at}
 use Rattle.racing_service.proofs.Coming.{IsInService}
 use Rattle.racing_service.proofs.service.serve.Given as goal
 
-abbrev pub invariant-loop-round : goal.invariant-loop-round
-invariant-loop-round g l = record {
+abbrev pub invariant-loop : goal.invariant-loop
+invariant-loop g l = record {
   service : IsInService g.Q.RacingQueue.kind (g.D.RacingDevice.device (g.D.RacingDevice.setup l.fn.device l.fn.backend))
-      (g.M.Shared.races l.fn.mem)
+      (g.M.Shared.races l.fn.mem) l.fn.stage l.here
       (standing_at (g.M.Shared.sightings l.fn.mem) l.fn.queue (g.D.RacingDevice.state l.fn.device l.fn.backend)
       l.fn.limits.budget)
       (standing_at (g.M.Shared.sightings l.mem) l.queue (g.D.RacingDevice.state l.device l.backend) l.left)
-      l.round l.wanted;
+      l.counter l.wanted;
   races : g.M.Shared.races l.mem ≡ g.M.Shared.races l.fn.mem;
   setup : g.D.RacingDevice.setup l.device l.backend ≡ g.D.RacingDevice.setup l.fn.device l.fn.backend;
   ready : g.D.RacingDevice.IsReady l.device l.backend;
