@@ -12,6 +12,7 @@ use Rattle.block_device.specs.declared.operation.Operation.{Operation}
 use Rattle.block_device.specs.declared.request.Request.{Request}
 use Rattle.block_device.specs.Asking.{asks_image}
 use Rattle.block_device.specs.Operation.{operation_of}
+use Rattle.racing_service.specs.declared.stage.Stage.{Stage}
 use Rattle.racing_service.specs.Queue.{RacingKind}
 use Rattle.racing_service.specs.Service.{Standing, standing_at}
 use Rattle.racing_service.proofs.Seeing.{bytes_count}
@@ -19,10 +20,10 @@ use Rattle.racing_disk.specs.Answering.{IsAnsweredIn}
 use Rattle.racing_disk.specs.Looking.{FindsOneThatAsks, FindsOneToAnswer, FindsRequest}
 use Rattle.racing_disk.specs.Telling.{HasStatus, IsLeft, WasLeft, runs_by}
 
-module _ {Ring : Type 0} (queues : RacingKind Ring) (device : BlockDevice) (races : Bool) (most : ℕ)
-    (a : Standing Ring (Unit {0})) (s : Sightings) (ring : Ring) (left : Budget) (buffers : List Buffer) (entry : Entry)
+module _ {Ring : Type 0} (queues : RacingKind Ring) (device : BlockDevice) (races : Bool) (stage : Stage)
+    (most : ℕ) (a : Standing Ring (Unit {0})) (s : Sightings) (ring : Ring) (left : Budget) (buffers : List Buffer) (entry : Entry)
     (request : Request) (kept : List Segment) (wanted : Bool)
-    (finds : FindsRequest queues device races most a (standing_at s ring tt left) buffers entry request kept wanted) where
+    (finds : FindsRequest queues device races stage most a (standing_at s ring tt left) buffers entry request kept wanted) where
   pub was_left : WasLeft device buffers request kept
   was_left =
       let found = finds.service.leaves.serves.leaves.refuses in
@@ -37,7 +38,7 @@ module _ {Ring : Type 0} (queues : RacingKind Ring) (device : BlockDevice) (race
       (runs : List Segment) → asks_image request ≡ true → operation ≡ operation_of stable request
       → ((readable : List ℕ) → IsLeft device readable buffers request kept → runs ≡ runs_by request readable buffers)
       → HasStatus buffers status writable → named ≡ entry → next ≡ queues.still.launched ring entry
-      → FindsOneThatAsks queues device races most stable a (standing_at s next tt left) named operation status writable
+      → FindsOneThatAsks queues device races stage most stable a (standing_at s next tt left) named operation status writable
       buffers runs wanted
   one_asks stable next named operation status writable runs asks told are place same launched =
       rw (same, launched) (record {
@@ -55,7 +56,7 @@ module _ {Ring : Type 0} (queues : RacingKind Ring) (device : BlockDevice) (race
   pub one_answered : (t : Sightings) (next : Ring) (len : ℕ) → asks_image request ≡ false
       → ((readable : List ℕ) → IsLeft device readable buffers request kept
       → IsAnsweredIn queues device races s t readable buffers entry len ring next)
-      → FindsOneToAnswer queues device races most a (standing_at t next tt left) wanted
+      → FindsOneToAnswer queues device races stage most a (standing_at t next tt left) wanted
   one_answered t next len asks answered = record {
     at = standing_at s ring tt left;
     buffers = buffers;

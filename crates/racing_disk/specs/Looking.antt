@@ -1,4 +1,5 @@
--- One look at the queue of a disk that the host serves, while its guest may write: a service up to the next request.
+-- One look at the queue of a disk that the host serves, while its guest may write: a service from a stage on, up to the next
+-- request.
 use Rattle.std.specs.Prelude.{◌≡◌, ℕ, Bool, true, false, List}
 use Rattle.chain.specs.declared.segment.Buffer.{Buffer}
 use Rattle.chain.specs.declared.segment.Segment.{Segment}
@@ -9,18 +10,20 @@ use Rattle.block_device.specs.declared.request.Request.{Request}
 use Rattle.block_device.specs.Asking.{asks_image}
 use Rattle.block_device.specs.Hosting.{hosted_device}
 use Rattle.block_device.specs.Operation.{operation_of}
+use Rattle.racing_service.specs.declared.stage.Stage.{Stage}
 use Rattle.racing_service.specs.Queue.{RacingKind}
 use Rattle.racing_service.specs.Service.{IsRefusedService, Standing}
 use Rattle.racing_disk.specs.Answering.{IsAnsweredIn}
 use Rattle.racing_disk.specs.Telling.{HasStatus, IsLeft, runs_by}
 
-module _ {Ring : Type 0} (queues : RacingKind Ring) (device : BlockDevice) (races : Bool) (most : ℕ) where
+module _ {Ring : Type 0} (queues : RacingKind Ring) (device : BlockDevice) (races : Bool) (stage : Stage)
+    (most : ℕ) where
   -- The chain of these buffers was seen on offer, and is left for this request. `kept` is what the segments of a WRITE_ZEROES
   -- name.
   pub record FindsRequest (a at : Standing Ring (Unit {0})) (buffers : List Buffer) (entry : Entry) (request : Request)
       (kept : List Segment) (wanted : Bool) : Type 0 where
     pub service : IsRefusedService queues (hosted_device device) races
-        (λ state readable buffers request. IsLeft device readable buffers request kept) most a at buffers entry request wanted
+        (λ state readable buffers request. IsLeft device readable buffers request kept) stage most a at buffers entry request wanted
 
   -- Its request asks for the disk: the chain is in flight, and the host is told of it by the copy that was judged.
   pub record FindsOneThatAsks (stable : Bool) (a b : Standing Ring (Unit {0})) (entry : Entry) (operation : Operation)

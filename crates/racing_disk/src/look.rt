@@ -15,10 +15,11 @@ use crate::operation::Flight;
 use block_device::Request;
 use chain::{Budget, Chain, Runs};
 use racing_ring::Room;
-use racing_service::{Limits, Outcome, RacingQueue, Refused, serve};
+use racing_service::{Limits, Outcome, RacingQueue, Refused, Stage, serve};
 use shared_memory::Shared;
 
-/// A look that found a request. The queue stands open behind its chain: the caller closes it, and looks once more.
+/// A look that found a request. The queue stands open behind its chain: the caller looks once more from `Stage::Next` on, or closes
+/// it.
 #[derive(Drop)]
 pub struct Found<T> {
     /// The chain, where it asks for the disk and is in flight. Else it was answered.
@@ -37,12 +38,13 @@ fn asks(request: Request) -> bool
 }
 
 impl RacingDisk {
-    /// Serves a queue up to its next request. One that asks for the disk stays in flight: `runs` has then where the bytes of its
+    /// Serves a queue from this stage on, up to its next request. One that asks for the disk stays in flight: `runs` has then where the bytes of its
     /// operation lie, and `chain` its buffers. Any other is answered. `stable` is whether the driver can't flush.
     pub fn look<Q: RacingQueue, M: Shared>(
         &mut self,
         mem: &mut M,
         queue: &mut Q,
+        stage: Stage,
         limits: Limits,
         stable: bool,
         chain: &mut Chain,
@@ -51,16 +53,16 @@ impl RacingDisk {
     ) -> Result<Outcome, Found<Q::Token>>
         requires lies { Q.LiesIn (memory (M.sightings mem.old)) queue.old }
         requires disk { sector_len * self.old.device.extent.count < 2 ^ 64 }
-        ensures serves { IfOk result (λ outcome. IsRacingService Q.kind (hosted_device self.old.device) (M.races mem.old) limits.rounds
+        ensures serves { IfOk result (λ outcome. IsRacingService Q.kind (hosted_device self.old.device) (M.races mem.old) stage limits.rounds
             (standing_at (M.sightings mem.old) queue.old tt limits.budget)
             (standing_at (M.sightings mem.new) queue.new tt outcome.left) outcome.ending outcome.wanted) }
         ensures asks { IfErr result (λ found. IfSome found.flight (λ flight.
-            FindsOneThatAsks Q.kind self.old.device (M.races mem.old) limits.rounds stable
+            FindsOneThatAsks Q.kind self.old.device (M.races mem.old) stage limits.rounds stable
             (standing_at (M.sightings mem.old) queue.old tt limits.budget)
             (standing_at (M.sightings mem.new) queue.new tt found.left)
             (Q.entry_of flight.token) flight.operation flight.status flight.writable chain.new runs.new found.wanted)) }
         ensures answers { IfErr result (λ found. IfNone found.flight (
-            FindsOneToAnswer Q.kind self.old.device (M.races mem.old) limits.rounds
+            FindsOneToAnswer Q.kind self.old.device (M.races mem.old) stage limits.rounds
             (standing_at (M.sightings mem.old) queue.old tt limits.budget)
             (standing_at (M.sightings mem.new) queue.new tt found.left) found.wanted)) }
 
@@ -80,7 +82,7 @@ impl RacingDisk {
             why,
             wanted,
             left,
-        } = match serve(self, runs, mem, queue, limits, chain, room) {
+        } = match serve(self, runs, mem, queue, stage, limits, chain, room) {
             Ok(outcome) => return Ok(outcome),
             Err(refused) => refused,
         };

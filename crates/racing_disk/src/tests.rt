@@ -8,7 +8,7 @@ use block_device::{BlockDevice, Extent, Request};
 use chain::{Budget, Chain, Runs, Segment, Setup};
 use racing_memory::{RacingMemory, RacingRegion};
 use racing_ring::{RacingSplitRing, Room};
-use racing_service::Limits;
+use racing_service::{Limits, Stage};
 use shared_memory::Shared;
 use std::sync::atomic::{AtomicU64, Ordering};
 use std::test::*;
@@ -147,7 +147,14 @@ fn is_answered<M: Shared>(disk: &mut RacingDisk, mem: &mut M) -> Option<bool>
     };
     let (mut chain, mut room, mut runs) = (Chain::new(), Room::new(), Runs::new());
     match disk.look(
-        mem, &mut ring, limits, false, &mut chain, &mut room, &mut runs,
+        mem,
+        &mut ring,
+        Stage::First,
+        limits,
+        false,
+        &mut chain,
+        &mut room,
+        &mut runs,
     ) {
         Ok(_) => Some(false),
         Err(found) => Some(found.flight.is_none()),

@@ -15,9 +15,10 @@ use Rattle.block_device.specs.declared.request.Request.{Request}
 use Rattle.block_device.specs.Hosting.{hosted_device}
 use Rattle.racing_service.specs.Device.{DoesRaced}
 use Rattle.racing_service.specs.Flights.{AreAhead, FlightLaws, Stays, TagFits, tag_places}
+use Rattle.racing_service.specs.declared.stage.Stage.{Stage}
 use Rattle.racing_service.specs.Queue.{RacingKind}
-use Rattle.racing_service.specs.Service.{IsClosing, Standing}
-use Rattle.racing_service.proofs.Flights.{Keeps, closing_keeps, keeps_trans, refused_keeps}
+use Rattle.racing_service.specs.Service.{Standing}
+use Rattle.racing_service.proofs.Flights.{Keeps, keeps_trans, refused_keeps}
 use Rattle.racing_service.proofs.Standing.{does_range}
 use Rattle.racing_disk.specs.Looking.{FindsOneThatAsks, FindsOneToAnswer, FindsRequest}
 use Rattle.racing_disk.specs.Telling.{IsLeft}
@@ -27,7 +28,8 @@ use Rattle.racing_hosted_disk.proofs.Freeing.{is_free, token_at, tokens_set, tok
 
 module _ {Ring Token : Type 0} (kind : RacingKind Ring) (entry_of : Token → Entry)
     (IsAhead Fits : Ring → Token → Type 0) (ahead_of : Ring → ℕ)
-    (laws : FlightLaws kind entry_of IsAhead Fits ahead_of) (device : BlockDevice) (races : Bool) (most : ℕ) where
+    (laws : FlightLaws kind entry_of IsAhead Fits ahead_of) (device : BlockDevice) (races : Bool)
+    (stage : Stage) (most : ℕ) where
   abbrev At : Type 0
   At = Standing Ring (Unit {0})
 
@@ -36,15 +38,15 @@ module _ {Ring Token : Type 0} (kind : RacingKind Ring) (entry_of : Token → En
 
   -- up to the request
   up_to : (a at : At) (buffers : List Buffer) (entry : Entry) (request : Request) (kept : List Segment) (wanted : Bool)
-      → FindsRequest kind device races most a at buffers entry request kept wanted → Stayed a at
+      → FindsRequest kind device races stage most a at buffers entry request kept wanted → Stayed a at
   up_to a at buffers entry request kept wanted finds =
       refused_keeps kind entry_of IsAhead Fits ahead_of laws (hosted_device device) races
-      (λ state readable buffers request. IsLeft device readable buffers request kept) most a at buffers entry request
+      (λ state readable buffers request. IsLeft device readable buffers request kept) stage most a at buffers entry request
       wanted finds.service
 
   -- ---- one that is answered
 
-  pub answered_keeps : (a b : At) (wanted : Bool) → FindsOneToAnswer kind device races most a b wanted → Stayed a b
+  pub answered_keeps : (a b : At) (wanted : Bool) → FindsOneToAnswer kind device races stage most a b wanted → Stayed a b
   answered_keeps a b wanted finds =
       let at = finds.at in
       let before = up_to a at finds.buffers finds.entry finds.request finds.kept wanted finds.finds in
@@ -88,7 +90,7 @@ module _ {Ring Token : Type 0} (kind : RacingKind Ring) (entry_of : Token → En
 
   pub asked_launches : (stable : Bool) (a b : At) (t : Token) (operation : Operation) (status writable : ℕ)
       (buffers : List Buffer) (runs : List Segment) (wanted : Bool)
-      → FindsOneThatAsks kind device races most stable a b (entry_of t) operation status writable buffers runs wanted
+      → FindsOneThatAsks kind device races stage most stable a b (entry_of t) operation status writable buffers runs wanted
       → Fits b.ring t → Launches a b (entry_of t).places
   asked_launches stable a b t operation status writable buffers runs wanted finds f =
       let at = finds.at in
@@ -106,36 +108,21 @@ module _ {Ring Token : Type 0} (kind : RacingKind Ring) (entry_of : Token → En
         range = subst (λ (l : Sightings). SameRange (memory a.sightings) (memory l)) (sym seen) before.range;
       }
 
-  -- ---- and the closing behind it
-
-  closed_keeps : (a b : At) (wanted : Bool) → IsClosing kind (hosted_device device) races a b wanted → Stayed a b
-  closed_keeps a b wanted closes =
-      closing_keeps kind entry_of IsAhead Fits ahead_of laws (hosted_device device) races a b wanted closes
-
-  pub places_of : Option (InFlight Token) → ℕ
-  places_of asks = tag_places entry_of (token_in asks)
+  -- ---- either
 
   pub found_launches : (stable : Bool) (asks : Option (InFlight Token)) (a b : At) (wanted : Bool)
-      → FindsIn kind entry_of device races most stable asks a b wanted → TagFits Fits b.ring (token_in asks)
+      → FindsIn kind entry_of device races stage most stable asks a b wanted → TagFits Fits b.ring (token_in asks)
       → Launches a b (tag_places entry_of (token_in asks))
   found_launches stable (Some here) a b wanted finds f =
-      let shut = closed_keeps finds.last b finds.asked finds.closes in
-      let one = asked_launches stable a finds.last here.flight.token here.flight.operation here.flight.status
-      here.flight.writable finds.buffers here.runs finds.before finds.finds
-      ((shut.stays.fits here.flight.token).1 f) in
-      record {
-        fits = λ token f. (shut.stays.fits token).0 (one.fits token f);
-        ahead = shut.stays.ahead ∙ one.ahead;
-        range = same_trans (memory a.sightings) (memory finds.last.sightings) (memory b.sightings) one.range shut.range;
-      }
+      asked_launches stable a b here.flight.token here.flight.operation here.flight.status here.flight.writable
+      finds.buffers here.runs wanted finds.finds f
   found_launches stable None a b wanted finds f =
-      let one = answered_keeps a finds.last finds.before finds.finds in
-      let shut = closed_keeps finds.last b finds.asked finds.closes in
-      let same : ahead_of b.ring ≡ ahead_of a.ring = shut.stays.ahead ∙ one.stays.ahead in
+      let one = answered_keeps a b wanted finds in
+      let same = one.stays.ahead in
       record {
-        fits = λ token f. (shut.stays.fits token).0 ((one.stays.fits token).0 f);
+        fits = λ token f. (one.stays.fits token).0 f;
         ahead = omega (arith, same);
-        range = same_trans (memory a.sightings) (memory finds.last.sightings) (memory b.sightings) one.range shut.range;
+        range = one.range;
       }
 
   -- ---- what is in flight then
@@ -160,7 +147,7 @@ module _ {Ring Token : Type 0} (kind : RacingKind Ring) (entry_of : Token → En
   -- of the tags, of which the lowest free one is filled
   pub taken_ahead : (stable : Bool) (asks : Option (InFlight Token)) (a b : At) (wanted : Bool)
       (tags : List (Option (InFlight Token))) (i : ℕ) → free_tag tags ≡ Some i
-      → FindsIn kind entry_of device races most stable asks a b wanted → TagFits Fits b.ring (token_in asks)
+      → FindsIn kind entry_of device races stage most stable asks a b wanted → TagFits Fits b.ring (token_in asks)
       → AreAhead entry_of Fits ahead_of a.ring (tokens_of tags)
       → AreAhead entry_of Fits ahead_of b.ring (tokens_of (set tags i asks))
   taken_ahead stable asks a b wanted tags i lowest finds fits are =

@@ -2,29 +2,37 @@
 use Rattle.std.proofs.Common.{◌≡◌, ◌∙◌, ℕ, Bool, true, false, List, [], ◌∷◌, sym, ap, subst}
 use Rattle.guest_memory.specs.Memory.{Memory, SameRange, put}
 use Rattle.guest_memory.proofs.Ranges.{put_range}
-use Rattle.chain.specs.Bytes.{readable_of}
+use Rattle.chain.specs.declared.segment.Buffer.{Buffer}
+use Rattle.chain.specs.Bytes.{readable_of, segments_of}
+use Rattle.chain.proofs.Directions.{All-segments_of}
 use Rattle.chain.specs.Service.{Entry}
-use Rattle.shared_memory.specs.Sightings.{memory}
+use Rattle.shared_memory.specs.Sightings.{Sightings, memory, still}
+use Rattle.shared_memory.proofs.Sightings.{loads_none}
+use Rattle.block_device.specs.Hosting.{hosted_device}
+use Rattle.racing_service.proofs.LeftAlone.{LeftLaws, left_at_once}
+use Rattle.racing_service.proofs.Seeing.{segments_seen}
+use Rattle.racing_disk.specs.Telling.{IsLeft}
 use Rattle.block_device.specs.declared.device.BlockDevice.{BlockDevice}
 use Rattle.block_device.specs.declared.operation.Verdict.{Verdict}
 use Rattle.block_device.specs.Asking.{status_by}
 use Rattle.block_device.specs.Request.{code_of}
 use Rattle.block_device.specs.Operation.{IsToldToHost, runs_for}
+use Rattle.racing_service.specs.declared.stage.Stage.{Stage}
 use Rattle.racing_service.specs.Queue.{RacingKind}
 use Rattle.racing_service.specs.Service.{Standing}
 use Rattle.racing_service.proofs.Rounds.{StandsStill}
 use Rattle.racing_service.proofs.Standing.{one_still}
 use Rattle.racing_disk.specs.Telling.{runs_by}
-use Rattle.racing_disk.proofs.Standing.{copy_still, left_still, runs_still}
-use Rattle.racing_hosted_disk.specs.Laws.{IsToldOf, LandsAsOne}
+use Rattle.racing_disk.proofs.Standing.{copy_still, left_still, runs_still, told_still}
+use Rattle.racing_hosted_disk.specs.Laws.{IsAskedAlone, IsToldOf, LandsAsOne, moment_asked}
 use Rattle.racing_hosted_disk.specs.Looking.{AsksIn, Place}
 use Rattle.racing_hosted_disk.specs.Tags.{InFlight}
 use Rattle.racing_hosted_disk.specs.Told.{Lands}
 
 module _ {Ring T : Type 0} (kind : RacingKind Ring) (IsSound : Memory → Ring → Type 0) (stands : StandsStill kind IsSound)
-    (entry_of : T → Entry) (device : BlockDevice) (most : ℕ) (stable : Bool) where
+    (entry_of : T → Entry) (device : BlockDevice) (stage : Stage) (most : ℕ) (stable : Bool) where
   pub told_of : (here : InFlight T) (a b : Standing Ring (Unit {0})) (wanted : Bool)
-      (asks : AsksIn kind entry_of device false most stable here a b wanted)
+      (asks : AsksIn kind entry_of device false stage most stable here a b wanted)
       → IsToldOf kind.still entry_of device stable (memory asks.finds.at.sightings) asks.finds.at.ring asks.buffers here
   told_of here a b wanted asks =
       let finds = asks.finds in
@@ -86,4 +94,41 @@ module _ {Ring T : Type 0} (kind : RacingKind Ring) (IsSound : Memory → Ring �
         closed = stands.closed lands.given b.service.sightings lands.behind wanted lands.closes.closed;
         wants = stands.wants lands.given b.service.sightings lands.behind wanted lands.closes.closed;
         shut = lands.closes.ring;
+      }
+
+-- ---- a chain that its driver leaves alone while it is taken
+
+module _ {Ring T : Type 0} {kind : RacingKind Ring}
+    {Leaves : (old new : Sightings) (ring : Ring) (buffers : List Buffer) (entry : Entry)
+    → kind.IsOffered old new ring buffers entry → Type 0} (laws : LeftLaws kind Leaves)
+    (entry_of : T → Entry) (device : BlockDevice) (races : Bool) (stage : Stage) (most : ℕ) (stable : Bool) where
+  pub told_at_once : (here : InFlight T) (a b : Standing Ring (Unit {0})) (wanted : Bool)
+      (asks : AsksIn kind entry_of device races stage most stable here a b wanted)
+      → IsAskedAlone kind entry_of device races stage most stable here a b wanted asks Leaves
+      → IsToldOf kind.still entry_of device stable
+      (moment_asked kind entry_of device races stage most stable here a b wanted asks) asks.finds.at.ring asks.buffers here
+  told_at_once here a b wanted asks alone =
+      let finds = asks.finds in
+      let up = finds.finds.service.leaves.serves in
+      let entry = entry_of here.flight.token in
+      let buffers = asks.buffers in
+      let m = memory up.leaves.taken in
+      let good = laws.good up.at.sightings up.leaves.taken up.at.ring buffers entry up.leaves.offered in
+      let once = left_at_once laws (hosted_device device) races
+      (λ state readable buffers request. IsLeft device readable buffers request finds.kept) buffers entry finds.request up.at
+      finds.at up.leaves alone in
+      record {
+        request = finds.request;
+        kept = finds.kept;
+        offered = rw up.leaves.ring once.offered;
+        told = told_still device (still m) (still m) buffers once.refuses.room finds.request finds.kept good
+            (loads_none false (still m))
+            (record {
+              readable = readable_of m buffers;
+              copy = segments_seen (still m) (segments_of false buffers) (All-segments_of m false buffers good.inside);
+              judged = once.refuses.judged;
+            }) once.refuses.all finds.asks;
+        operation_is = finds.operation_is;
+        runs_are = finds.runs_are (readable_of m buffers) once.refuses ∙ runs_still finds.request m buffers;
+        place = finds.place;
       }

@@ -11,13 +11,15 @@ use Rattle.block_device.specs.declared.operation.HostEvent.{HostEvent}
 use Rattle.block_device.specs.declared.operation.HostEvent.TheVariants.{Complete, Drop, Hold, Release}
 use Rattle.block_device.specs.declared.operation.Verdict.{Verdict}
 use Rattle.racing_service.specs.Flights.{TagFits, tag_places}
+use Rattle.racing_service.specs.declared.stage.Stage.{Stage}
+use Rattle.racing_service.specs.declared.stage.Stage.TheVariants.{First, Again}
 use Rattle.racing_service.specs.Queue.{RacingKind}
 use Rattle.racing_hosted_disk.specs.declared.look.LookEnding.{LookEnding}
 use Rattle.racing_hosted_disk.specs.declared.look.LookEnding.TheVariants.{Idle}
 use Rattle.racing_hosted_disk.specs.declared.look.LookLimits.{LookLimits}
 use Rattle.racing_hosted_disk.specs.declared.look.Served as outcome
 use Rattle.racing_hosted_disk.specs.Disk.{HoldsFlights, RacingHostedDisk, fresh_disk}
-use Rattle.racing_hosted_disk.specs.Looking.{HasLooked, ServesDisk, idle, place_at}
+use Rattle.racing_hosted_disk.specs.Looking.{HasLooked, LooksAtQueue, idle, place_at}
 use Rattle.racing_hosted_disk.specs.Tags.{InFlight, TagIsHeld, freed, tokens_of}
 use Rattle.racing_hosted_disk.specs.Told.{DoesAsTold, Lands, told_unserved}
 use Rattle.racing_hosted_disk.proofs.Freeing.{some_within, tokens_set}
@@ -71,21 +73,21 @@ module _ {Ring Token : Type 0} (entry_of : Token → Entry) (Fits : Ring → Tok
 module _ {Ring T : Type 0} (queues : RacingKind Ring) (entry_of : T → Entry) (races : Bool) (limits : LookLimits)
     (stable : Bool) where
   -- a queue on hold is left as it is
-  pub serves_none : (disk : RacingHostedDisk T) (s : Sightings) (queue : Ring) → disk.on_hold ≡ true
-      → ServesDisk queues entry_of races limits stable disk s s queue queue disk Idle false
-  serves_none disk s queue on_hold = record {
+  pub serves_none : (stage : Stage) (disk : RacingHostedDisk T) (s : Sightings) (queue : Ring) → disk.on_hold ≡ true
+      → LooksAtQueue queues entry_of races limits stable stage disk s s queue queue disk Idle false
+  serves_none stage disk s queue on_hold = record {
     left = limits.budget;
     looks = rw on_hold (record { stands = refl; ending_is = refl; unwanted = refl });
     is = refl;
   }
 
   -- and any other is looked at
-  pub serves_looks : (disk new : RacingHostedDisk T) (s t : Sightings) (queue after : Ring) (ending : LookEnding)
+  pub serves_looks : (stage : Stage) (disk new : RacingHostedDisk T) (s t : Sightings) (queue after : Ring) (ending : LookEnding)
       (wanted : Bool) → disk.on_hold ≡ false → new ≡ record disk { tags = new.tags }
-      → HasLooked queues entry_of disk.device races limits stable (place_at s queue limits.budget disk.tags) t after
+      → HasLooked queues entry_of disk.device races limits stable stage (place_at s queue limits.budget disk.tags) t after
       new.tags ending wanted
-      → ServesDisk queues entry_of races limits stable disk s t queue after new ending wanted
-  serves_looks disk new s t queue after ending wanted on_hold rest looked = record {
+      → LooksAtQueue queues entry_of races limits stable stage disk s t queue after new ending wanted
+  serves_looks stage disk new s t queue after ending wanted on_hold rest looked = record {
     left = looked.left;
     looks = rw on_hold looked.serves;
     is = rest;
@@ -93,7 +95,7 @@ module _ {Ring T : Type 0} (queues : RacingKind Ring) (entry_of : T → Entry) (
 
   pub released : (disk new : RacingHostedDisk T) (s t : Sightings) (queue after : Ring) (ending : LookEnding)
       (wanted : Bool) → new ≡ record disk { tags = new.tags; on_hold = false }
-      → HasLooked queues entry_of disk.device races limits stable (place_at s queue limits.budget disk.tags) t after
+      → HasLooked queues entry_of disk.device races limits stable First (place_at s queue limits.budget disk.tags) t after
       new.tags ending wanted
       → DoesAsTold queues entry_of races limits stable Release disk s t queue after new ending wanted
   released disk new s t queue after ending wanted rest looked = record {
@@ -107,7 +109,7 @@ module _ {Ring T : Type 0} (queues : RacingKind Ring) (entry_of : T → Entry) (
       → landed ≡ record disk { tags = landed.tags }
       → Lands queues entry_of disk.device races tag verdict (place_at old before limits.budget disk.tags)
       (place_at mid between limits.budget landed.tags) first
-      → ServesDisk queues entry_of races limits stable landed mid last between after new ending asked
+      → LooksAtQueue queues entry_of races limits stable Again landed mid last between after new ending asked
       → DoesAsTold queues entry_of races limits stable (Complete tag verdict) disk old last before after new ending
       (first || asked)
   completed tag verdict disk landed new old mid last before between after ending first asked rest lands serves =

@@ -14,7 +14,14 @@ use Rattle.block_device.specs.declared.request.Request.{Request}
 use Rattle.block_device.specs.Asking.{found_by, status_by, used_by}
 use Rattle.block_device.specs.Operation.{IsToldToHost, operation_of, runs_for}
 use Rattle.block_device.specs.Request.{code_of}
-use Rattle.racing_disk.specs.Telling.{HasStatus}
+use Rattle.shared_memory.specs.Sightings.{Sightings, memory}
+use Rattle.block_device.specs.Hosting.{hosted_device}
+use Rattle.racing_service.specs.declared.stage.Stage.{Stage}
+use Rattle.racing_service.specs.LeftAlone.{LeavesAlone}
+use Rattle.racing_service.specs.Queue.{RacingKind}
+use Rattle.racing_service.specs.Service.{Standing}
+use Rattle.racing_disk.specs.Telling.{HasStatus, IsLeft}
+use Rattle.racing_hosted_disk.specs.Looking.{AsksIn}
 use Rattle.racing_hosted_disk.specs.Tags.{InFlight}
 
 abbrev pub SplitToken : Type 0
@@ -56,3 +63,22 @@ pub record LandsAsOne {Ring T : Type 0} (kind : Kind Ring) (entry_of : T → Ent
   pub closed : new ≡ kind.closed given behind
   pub wants : IsTrue wanted ↔ kind.Wants new behind
   pub shut : after ≡ kind.shut behind
+
+-- ---- a chain that its driver leaves alone while it is taken
+
+module _ {Ring T : Type 0} (kind : RacingKind Ring) (entry_of : T → Entry) (device : BlockDevice) (races : Bool) (stage : Stage)
+    (most : ℕ) (stable : Bool) (here : InFlight T) (a b : Standing Ring (Unit {0})) (wanted : Bool)
+    (asks : AsksIn kind entry_of device races stage most stable here a b wanted) where
+  -- what is taken of the chain stands as it was read, and each readable byte stays while it is judged
+  abbrev pub IsAskedAlone :
+      ((old new : Sightings) (ring : Ring) (buffers : List Buffer) (entry : Entry)
+      → kind.IsOffered old new ring buffers entry → Type 0) → Type 0
+  IsAskedAlone Leaves =
+      let up = asks.finds.finds.service.leaves.serves in
+      LeavesAlone kind (hosted_device device) races
+      (λ state readable buffers request. IsLeft device readable buffers request asks.finds.kept) Leaves asks.buffers
+      (entry_of here.flight.token) asks.finds.request up.at asks.finds.at up.leaves
+
+  -- the memory as it was seen once the chain was taken
+  abbrev pub moment_asked : Memory
+  moment_asked = memory asks.finds.finds.service.leaves.serves.leaves.taken

@@ -10,6 +10,8 @@ use Rattle.shared_memory.specs.Sightings.{Sightings}
 use Rattle.block_device.specs.declared.device.BlockDevice.{BlockDevice}
 use Rattle.block_device.specs.Hosting.{hosted_device}
 use Rattle.racing_service.specs.declared.service.Ending.{Ending}
+use Rattle.racing_service.specs.declared.stage.Stage.{Stage}
+use Rattle.racing_service.specs.declared.stage.Stage.TheVariants.{First, Next}
 use Rattle.racing_service.specs.Queue.{RacingKind}
 use Rattle.racing_service.specs.Service as services
 use Rattle.racing_service.specs.Service.{IsClosing, IsRacingService, Standing, standing_at}
@@ -41,33 +43,26 @@ abbrev pub any_wanted : {Ring T : Type 0} → List (Look Ring T) → Bool
 any_wanted [] = false
 any_wanted (l ∷ looks) = l.wanted || any_wanted looks
 
+-- where the next look begins: behind a request the queue stands open
+abbrev pub stage_behind : {Ring T : Type 0} → Stage → List (Look Ring T) → Stage
+stage_behind stage [] = stage
+stage_behind stage (l ∷ looks) = Next
+
 module _ {Ring T : Type 0} (queues : RacingKind Ring) (entry_of : T → Entry) (device : BlockDevice) (races : Bool)
-    (most : ℕ) (stable : Bool) where
-  -- A chain that asks is in flight, and the queue was closed behind it.
+    (stage : Stage) (most : ℕ) (stable : Bool) where
+  -- A chain that asks is in flight.
   pub record AsksIn (here : InFlight T) (a b : Standing Ring (Unit {0})) (wanted : Bool) : Type 0 where
-    pub last : Standing Ring (Unit {0})
     pub buffers : List Buffer
-    pub before : Bool
-    pub asked : Bool
-    pub finds : FindsOneThatAsks queues device races most stable a last (entry_of here.flight.token)
-        here.flight.operation here.flight.status here.flight.writable buffers here.runs before
-    pub closes : IsClosing queues (hosted_device device) races last b asked
-    pub wanted_is : wanted ≡ (before || asked)
+    pub finds : FindsOneThatAsks queues device races stage most stable a b (entry_of here.flight.token)
+        here.flight.operation here.flight.status here.flight.writable buffers here.runs wanted
 
-  -- A chain that asks for nothing was answered, and the queue was closed behind it.
-  pub record AnswersIn (a b : Standing Ring (Unit {0})) (wanted : Bool) : Type 0 where
-    pub last : Standing Ring (Unit {0})
-    pub before : Bool
-    pub asked : Bool
-    pub finds : FindsOneToAnswer queues device races most a last before
-    pub closes : IsClosing queues (hosted_device device) races last b asked
-    pub wanted_is : wanted ≡ (before || asked)
-
+  -- or one that asks for nothing was answered
   abbrev pub FindsIn : Option (InFlight T) → Standing Ring (Unit {0}) → Standing Ring (Unit {0}) → Bool → Type 0
   FindsIn (Some here) a b wanted = AsksIn here a b wanted
-  FindsIn None a b wanted = AnswersIn a b wanted
+  FindsIn None a b wanted = FindsOneToAnswer queues device races stage most a b wanted
 
-  -- A look finds a request. What asks is in the lowest free tag from then on; no other tag changes.
+  -- A look finds a request, and the queue stands open behind its chain. What asks is in the lowest free tag from then on; no
+  -- other tag changes.
   pub record LooksOn (asks : Option (InFlight T)) (a b : Place Ring T) (wanted : Bool) : Type 0 where
     pub tag : ℕ
     pub free : free_tag a.tags ≡ Some tag
@@ -76,51 +71,57 @@ module _ {Ring T : Type 0} (queues : RacingKind Ring) (entry_of : T → Entry) (
 
 module _ {Ring T : Type 0} (queues : RacingKind Ring) (entry_of : T → Entry) (device : BlockDevice) (races : Bool)
     (limits : LookLimits) (stable : Bool) where
-  -- looks one after another
-  abbrev pub AreLooks : Place Ring T → List (Look Ring T) → Place Ring T → Type 0
-  AreLooks a [] b = b ≡ a
-  AreLooks a (l ∷ looks) b = LooksOn queues entry_of device races limits.rounds stable l.asks a l.after l.wanted × AreLooks l.after looks b
+  -- looks one after another, each behind the first in the queue as it stands open
+  abbrev pub AreLooks : Stage → Place Ring T → List (Look Ring T) → Place Ring T → Type 0
+  AreLooks stage a [] b = b ≡ a
+  AreLooks stage a (l ∷ looks) b =
+      LooksOn queues entry_of device races stage limits.rounds stable l.asks a l.after l.wanted
+      × AreLooks Next l.after looks b
 
   -- A further look finds no request, and the service ends so; a tag is free then.
-  pub record EndsServed (ending : Ending) (looks : List (Look Ring T)) (at b : Place Ring T) (wanted : Bool) : Type 0 where
+  pub record EndsServed (stage : Stage) (ending : Ending) (looks : List (Look Ring T)) (at b : Place Ring T)
+      (wanted : Bool) : Type 0 where
     pub tag : ℕ
     pub free : free_tag at.tags ≡ Some tag
     pub asked : Bool
-    pub service : IsRacingService queues (hosted_device device) races limits.rounds at.service b.service ending asked
+    pub service : IsRacingService queues (hosted_device device) races (stage_behind stage looks) limits.rounds at.service
+        b.service ending asked
     pub tags : b.tags ≡ at.tags
     pub wanted_is : wanted ≡ (any_wanted looks || asked)
 
-  -- No tag is free, so there is no further look.
+  -- No tag is free, so there is no further look, and the queue is left as it stands.
   pub record EndsFull (looks : List (Look Ring T)) (at b : Place Ring T) (wanted : Bool) : Type 0 where
     pub full : free_tag at.tags ≡ None
     pub stands : b ≡ at
     pub wanted_is : wanted ≡ any_wanted looks
 
-  -- There were as many looks as there may be.
+  -- There were as many looks as there may be, and the queue was closed behind them.
   pub record EndsLimited (looks : List (Look Ring T)) (at b : Place Ring T) (wanted : Bool) : Type 0 where
     pub all : length looks ≡ limits.looks
-    pub stands : b ≡ at
-    pub wanted_is : wanted ≡ any_wanted looks
+    pub asked : Bool
+    pub closes : IsClosing queues (hosted_device device) races at.service b.service asked
+    pub tags : b.tags ≡ at.tags
+    pub wanted_is : wanted ≡ (any_wanted looks || asked)
 
-  abbrev pub EndsLooks : LookEnding → List (Look Ring T) → Place Ring T → Place Ring T → Bool → Type 0
-  EndsLooks (Served ending) looks at b wanted = EndsServed ending looks at b wanted
-  EndsLooks Full looks at b wanted = EndsFull looks at b wanted
-  EndsLooks Limited looks at b wanted = EndsLimited looks at b wanted
-  EndsLooks Idle looks at b wanted = ⊥
+  abbrev pub EndsLooks : Stage → LookEnding → List (Look Ring T) → Place Ring T → Place Ring T → Bool → Type 0
+  EndsLooks stage (Served ending) looks at b wanted = EndsServed stage ending looks at b wanted
+  EndsLooks stage Full looks at b wanted = EndsFull looks at b wanted
+  EndsLooks stage Limited looks at b wanted = EndsLimited looks at b wanted
+  EndsLooks stage Idle looks at b wanted = ⊥
 
-  -- the looks that a notification comes to
-  pub record ServesLooks (a b : Place Ring T) (ending : LookEnding) (wanted : Bool) : Type 0 where
+  -- the looks that a notification, or what the host says, comes to
+  pub record ServesLooks (stage : Stage) (a b : Place Ring T) (ending : LookEnding) (wanted : Bool) : Type 0 where
     pub looks : List (Look Ring T)
     pub few : length looks ≤ limits.looks
     pub at : Place Ring T
-    pub are : AreLooks a looks at
-    pub ends : EndsLooks ending looks at b wanted
+    pub are : AreLooks stage a looks at
+    pub ends : EndsLooks stage ending looks at b wanted
 
   -- the same, with something left of the budget
-  pub record HasLooked (a : Place Ring T) (new : Sightings) (after : Ring) (tags : List (Option (InFlight T)))
-      (ending : LookEnding) (wanted : Bool) : Type 0 where
+  pub record HasLooked (stage : Stage) (a : Place Ring T) (new : Sightings) (after : Ring)
+      (tags : List (Option (InFlight T))) (ending : LookEnding) (wanted : Bool) : Type 0 where
     pub left : Budget
-    pub serves : ServesLooks a (place_at new after left tags) ending wanted
+    pub serves : ServesLooks stage a (place_at new after left tags) ending wanted
 
   -- no look
   pub record StaysIdle (a b : Place Ring T) (ending : LookEnding) (wanted : Bool) : Type 0 where
@@ -129,18 +130,23 @@ module _ {Ring T : Type 0} (queues : RacingKind Ring) (entry_of : T → Entry) (
     pub unwanted : wanted ≡ false
 
   -- a queue on hold isn't looked at
-  abbrev pub LooksUnless : Bool → Place Ring T → Place Ring T → LookEnding → Bool → Type 0
-  LooksUnless true a b ending wanted = StaysIdle a b ending wanted
-  LooksUnless false a b ending wanted = ServesLooks a b ending wanted
+  abbrev pub LooksUnless : Bool → Stage → Place Ring T → Place Ring T → LookEnding → Bool → Type 0
+  LooksUnless true stage a b ending wanted = StaysIdle a b ending wanted
+  LooksUnless false stage a b ending wanted = ServesLooks stage a b ending wanted
 
--- The queue of a disk was notified.
-pub record ServesDisk {Ring T : Type 0} (queues : RacingKind Ring) (entry_of : T → Entry) (races : Bool)
-    (limits : LookLimits) (stable : Bool) (disk : RacingHostedDisk T) (old new : Sightings) (before after : Ring)
-    (disk' : RacingHostedDisk T) (ending : LookEnding) (wanted : Bool) : Type 0 where
+-- A disk looks at its queue, from this stage on.
+pub record LooksAtQueue {Ring T : Type 0} (queues : RacingKind Ring) (entry_of : T → Entry) (races : Bool)
+    (limits : LookLimits) (stable : Bool) (stage : Stage) (disk : RacingHostedDisk T) (old new : Sightings)
+    (before after : Ring) (disk' : RacingHostedDisk T) (ending : LookEnding) (wanted : Bool) : Type 0 where
   pub left : Budget
-  pub looks : LooksUnless queues entry_of disk.device races limits stable disk.on_hold
+  pub looks : LooksUnless queues entry_of disk.device races limits stable disk.on_hold stage
       (place_at old before limits.budget disk.tags) (place_at new after left disk'.tags) ending wanted
   pub is : disk' ≡ record disk { tags = disk'.tags }
+
+-- The queue of a disk was notified.
+abbrev pub ServesDisk : {Ring T : Type 0} → RacingKind Ring → (T → Entry) → Bool → LookLimits → Bool → RacingHostedDisk T
+    → Sightings → Sightings → Ring → Ring → RacingHostedDisk T → LookEnding → Bool → Type 0
+ServesDisk queues entry_of races limits stable = LooksAtQueue queues entry_of races limits stable First
 
 -- whether the queue is to be served once more
 abbrev pub progress_of : LookEnding → Progress

@@ -8,6 +8,7 @@ use Rattle.block_device.specs.declared.operation.HostEvent.{HostEvent}
 use Rattle.block_device.specs.declared.operation.HostEvent.TheVariants.{Complete, Drop, Hold, Release}
 use Rattle.block_device.specs.declared.operation.Verdict.{Verdict}
 use Rattle.block_device.specs.Hosting.{hosted_device}
+use Rattle.racing_service.specs.declared.stage.Stage.TheVariants.{First, Again}
 use Rattle.racing_service.specs.Queue.{RacingKind}
 use Rattle.racing_service.specs.Service.{IsClosing, standing_at}
 use Rattle.racing_disk.specs.Completing.{IsGivenBack}
@@ -46,14 +47,14 @@ module _ {Ring T : Type 0} (queues : RacingKind Ring) (entry_of : T → Entry) (
 
 module _ {Ring T : Type 0} (queues : RacingKind Ring) (entry_of : T → Entry) (device : BlockDevice) (races : Bool)
     (limits : LookLimits) (stable : Bool) where
-  -- and the queue was looked at again, unless it is on hold
+  -- and the queue was looked at behind those closing writes, unless it is on hold
   pub record Completes (tag : ℕ) (verdict : Verdict) (on_hold : Bool) (a b : Place Ring T) (ending : LookEnding)
       (wanted : Bool) : Type 0 where
     pub landed : Place Ring T
     pub before : Bool
     pub asked : Bool
     pub lands : Lands queues entry_of device races tag verdict a landed before
-    pub looks : LooksUnless queues entry_of device races limits stable on_hold landed b ending asked
+    pub looks : LooksUnless queues entry_of device races limits stable on_hold Again landed b ending asked
     pub wanted_is : wanted ≡ (before || asked)
 
   -- what becomes of the queue and of the tags, by what the host says
@@ -62,7 +63,7 @@ module _ {Ring T : Type 0} (queues : RacingKind Ring) (entry_of : T → Entry) (
   QueueTold Drop on_hold a b ending wanted =
       StaysIdle queues entry_of device races limits stable (record a { tags = freed a.tags }) b ending wanted
   QueueTold Hold on_hold a b ending wanted = StaysIdle queues entry_of device races limits stable a b ending wanted
-  QueueTold Release on_hold a b ending wanted = ServesLooks queues entry_of device races limits stable a b ending wanted
+  QueueTold Release on_hold a b ending wanted = ServesLooks queues entry_of device races limits stable First a b ending wanted
 
 -- The disk does what the host says.
 pub record DoesAsTold {Ring T : Type 0} (queues : RacingKind Ring) (entry_of : T → Entry) (races : Bool)

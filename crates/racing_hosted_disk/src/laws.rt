@@ -10,11 +10,13 @@ ghost use Rattle.shared_memory.specs.Sightings.{memory};
 ghost use Rattle.block_device.specs.declared.device.BlockDevice.{BlockDevice};
 ghost use Rattle.block_device.specs.declared.operation.HostEvent.{HostEvent};
 ghost use Rattle.block_device.specs.declared.operation.Verdict.{Verdict};
+ghost use Rattle.racing_service.specs.declared.stage.Stage.{Stage};
 ghost use Rattle.racing_service.specs.Flights.{Stays};
+ghost use Rattle.racing_service.specs.LeftAlone.{LeavesPacked, LeavesSplit};
 ghost use Rattle.racing_service.specs.Queue.{racing_packed, racing_split};
 ghost use Rattle.racing_service.specs.Service.{Standing};
 ghost use Rattle.racing_hosted_disk.specs.Disk.{HoldsFlights, RacingHostedDisk, fresh_disk};
-ghost use Rattle.racing_hosted_disk.specs.Laws.{IsToldOf, LandsAsOne, PackedToken, SplitToken, packed_entry, split_entry};
+ghost use Rattle.racing_hosted_disk.specs.Laws.{IsAskedAlone, IsToldOf, LandsAsOne, PackedToken, SplitToken, moment_asked, packed_entry, split_entry};
 ghost use Rattle.racing_hosted_disk.specs.Looking.{AsksIn, Place};
 ghost use Rattle.racing_hosted_disk.specs.Tags.{InFlight};
 ghost use Rattle.racing_hosted_disk.specs.Told.{Lands, told_unserved};
@@ -24,14 +26,34 @@ use racing_service::KeepsFlights;
 /// Of a guest that stands still the host is told what it is told of any other such guest: what block_device says of the chain
 /// on offer, in the memory as it stands there.
 pub fn a_guest_that_stands_still_is_told_of_as_it_is()
-    ensures split { (device : BlockDevice) (most : ℕ) (stable wanted : Bool) (here : InFlight SplitToken)
+    ensures split { (device : BlockDevice) (stage : Stage) (most : ℕ) (stable wanted : Bool) (here : InFlight SplitToken)
         (a b : Standing RingState (Unit {0}))
-        (asks : AsksIn racing_split split_entry device false most stable here a b wanted)
+        (asks : AsksIn racing_split split_entry device false stage most stable here a b wanted)
         → IsToldOf split_kind split_entry device stable (memory asks.finds.at.sightings) asks.finds.at.ring asks.buffers here }
-    ensures packed { (device : BlockDevice) (most : ℕ) (stable wanted : Bool) (here : InFlight PackedToken)
+    ensures packed { (device : BlockDevice) (stage : Stage) (most : ℕ) (stable wanted : Bool) (here : InFlight PackedToken)
         (a b : Standing RingState (Unit {0}))
-        (asks : AsksIn racing_packed packed_entry device false most stable here a b wanted)
+        (asks : AsksIn racing_packed packed_entry device false stage most stable here a b wanted)
         → IsToldOf packed_kind packed_entry device stable (memory asks.finds.at.sightings) asks.finds.at.ring asks.buffers here }
+{}
+
+/// Of a chain that its driver leaves alone while it is taken, the host is told what it is told of a guest that stands still: what
+/// block_device says of the chain on offer in one memory, which was seen once the chain was taken. Whatever else the guest writes
+/// meanwhile is of no account.
+pub fn a_chain_that_is_left_alone_is_told_of_as_it_is()
+    ensures split { (device : BlockDevice) (races : Bool) (stage : Stage) (most : ℕ) (stable wanted : Bool) (here : InFlight SplitToken)
+        (a b : Standing RingState (Unit {0}))
+        (asks : AsksIn racing_split split_entry device races stage most stable here a b wanted)
+        → IsAskedAlone racing_split split_entry device races stage most stable here a b wanted asks LeavesSplit
+        → IsToldOf split_kind split_entry device stable
+        (moment_asked racing_split split_entry device races stage most stable here a b wanted asks) asks.finds.at.ring asks.buffers
+        here }
+    ensures packed { (device : BlockDevice) (races : Bool) (stage : Stage) (most : ℕ) (stable wanted : Bool) (here : InFlight PackedToken)
+        (a b : Standing RingState (Unit {0}))
+        (asks : AsksIn racing_packed packed_entry device races stage most stable here a b wanted)
+        → IsAskedAlone racing_packed packed_entry device races stage most stable here a b wanted asks LeavesPacked
+        → IsToldOf packed_kind packed_entry device stable
+        (moment_asked racing_packed packed_entry device races stage most stable here a b wanted asks) asks.finds.at.ring
+        asks.buffers here }
 {}
 
 /// Over a memory that stands still a completion writes what block_device and its ring say: the status, the used entry, and the

@@ -16,7 +16,7 @@ mod view;
 
 pub use disk::RacingHostedDisk;
 pub use laws::{
-    a_guest_that_stands_still_is_given_back, a_guest_that_stands_still_is_told_of_as_it_is,
-    what_is_in_flight_outlasts,
+    a_chain_that_is_left_alone_is_told_of_as_it_is, a_guest_that_stands_still_is_given_back,
+    a_guest_that_stands_still_is_told_of_as_it_is, what_is_in_flight_outlasts,
 };
 pub use look::{LookEnding, LookLimits, Served};

@@ -1,16 +1,17 @@
-//! Looks at the queue, one after another, until one finds no request, no tag is free, or there were as many as there may be.
+//! Looks at the queue, one after another, until one finds no request, no tag is free, or there were as many as there may be. The
+//! queue stands open behind each that finds a request.
 
 ghost use Rattle.std.specs.Prelude.{◌≡◌};
 ghost use Rattle.guest_memory.specs.Memory.{SameRange};
 ghost use Rattle.shared_memory.specs.Sightings.{memory};
 ghost use Rattle.racing_hosted_disk.specs.Disk.{HoldsFlights};
-ghost use Rattle.racing_hosted_disk.specs.Looking.{HasLooked, ServesDisk, place_at, progress_of};
+ghost use Rattle.racing_hosted_disk.specs.Looking.{HasLooked, LooksAtQueue, ServesDisk, place_at, progress_of};
 
 use crate::disk::RacingHostedDisk;
 use crate::step::look_for;
 use chain::{Budget, Chain, Progress};
 use racing_ring::Room;
-use racing_service::{Ending, KeepsFlights, Limits};
+use racing_service::{Ending, KeepsFlights, Limits, Stage};
 use shared_memory::Shared;
 use std::alloc::Allocator;
 
@@ -30,7 +31,7 @@ pub struct LookLimits {
 pub enum LookEnding {
     /// A look found no request, and its service ended so.
     Served(Ending),
-    /// No tag is free. The queue is looked at once one is.
+    /// No tag is free. The queue is left as it stands, and looked at once one is: behind a completion.
     Full,
     /// There were as many looks as there may be. More may be on offer, of which the driver doesn't notify again: the caller
     /// serves the queue once more.
@@ -93,17 +94,15 @@ impl<T: Drop, A: Allocator> RacingHostedDisk<T, A> {
         // Nothing that the host is told lies outside the guest's memory or its disk.
         ensures held { HoldsFlights Q.entry_of Q.Fits Q.ahead_of (memory (M.sightings mem.new)) queue.new self.new }
     {
-        if self.on_hold {
-            return Served::IDLE;
-        }
-        self.look(mem, queue, limits, stable, chain, room)
+        self.serve_from(mem, queue, Stage::First, limits, stable, chain, room)
     }
 
-    // Looks at the queue.
-    pub(crate) fn look<Q: KeepsFlights<Token = T>, M: Shared>(
+    // Looks at the queue from this stage on, unless it is on hold.
+    pub(crate) fn serve_from<Q: KeepsFlights<Token = T>, M: Shared>(
         &mut self,
         mem: &mut M,
         queue: &mut Q,
+        stage: Stage,
         limits: LookLimits,
         stable: bool,
         chain: &mut Chain,
@@ -111,7 +110,34 @@ impl<T: Drop, A: Allocator> RacingHostedDisk<T, A> {
     ) -> Served
         requires lies { Q.LiesIn (memory (M.sightings mem.old)) queue.old }
         requires held { HoldsFlights Q.entry_of Q.Fits Q.ahead_of (memory (M.sightings mem.old)) queue.old self.old }
-        ensures looks { HasLooked Q.kind Q.entry_of self.old.device (M.races mem.old) limits stable
+        ensures serves { LooksAtQueue Q.kind Q.entry_of (M.races mem.old) limits stable stage self.old (M.sightings mem.old)
+            (M.sightings mem.new) queue.old queue.new self.new result.ending result.wanted }
+        ensures device { self.new.device ≡ self.old.device }
+        ensures range { SameRange (memory (M.sightings mem.old)) (memory (M.sightings mem.new)) }
+        ensures races { M.races mem.new ≡ M.races mem.old }
+        ensures lies { Q.LiesIn (memory (M.sightings mem.new)) queue.new }
+        ensures held { HoldsFlights Q.entry_of Q.Fits Q.ahead_of (memory (M.sightings mem.new)) queue.new self.new }
+    {
+        if self.on_hold {
+            return Served::IDLE;
+        }
+        self.look(mem, queue, stage, limits, stable, chain, room)
+    }
+
+    // Looks at the queue from this stage on.
+    pub(crate) fn look<Q: KeepsFlights<Token = T>, M: Shared>(
+        &mut self,
+        mem: &mut M,
+        queue: &mut Q,
+        stage: Stage,
+        limits: LookLimits,
+        stable: bool,
+        chain: &mut Chain,
+        room: &mut Room,
+    ) -> Served
+        requires lies { Q.LiesIn (memory (M.sightings mem.old)) queue.old }
+        requires held { HoldsFlights Q.entry_of Q.Fits Q.ahead_of (memory (M.sightings mem.old)) queue.old self.old }
+        ensures looks { HasLooked Q.kind Q.entry_of self.old.device (M.races mem.old) limits stable stage
             (place_at (M.sightings mem.old) queue.old limits.budget self.old.tags)
             (M.sightings mem.new) queue.new self.new.tags result.ending result.wanted }
         ensures rest { self.new ≡ record self.old { tags = self.new.tags } }
@@ -122,6 +148,7 @@ impl<T: Drop, A: Allocator> RacingHostedDisk<T, A> {
     {
         let mut left = limits.budget;
         let mut wanted = false;
+        let mut here = stage;
         for _ in 0..limits.looks {
             let Some(tag) = self.tags.lowest_free() else {
                 return Served {
@@ -134,7 +161,9 @@ impl<T: Drop, A: Allocator> RacingHostedDisk<T, A> {
                 rounds: limits.rounds,
             };
             let (disk, tags) = (&mut self.disk, &mut self.tags);
-            match look_for(disk, tags, tag, mem, queue, limits, stable, chain, room) {
+            match look_for(
+                disk, tags, tag, mem, queue, here, limits, stable, chain, room,
+            ) {
                 Ok(outcome) => {
                     return Served {
                         ending: LookEnding::Served(outcome.ending),
@@ -146,10 +175,12 @@ impl<T: Drop, A: Allocator> RacingHostedDisk<T, A> {
                     left = step.left;
                 }
             }
+            here = Stage::Next;
         }
+        let asked = queue.close(mem);
         Served {
             ending: LookEnding::Limited,
-            wanted,
+            wanted: wanted | asked,
         }
     }
 }

@@ -1,4 +1,4 @@
-//! One look at the queue: the tag that it is made for, and the closing behind a request.
+//! One look at the queue, and the tag that it is made for.
 
 ghost use Rattle.std.specs.Prelude.{◌≡◌, ◌*◌, ◌^◌, ◌<◌, All, IfErr, IfOk, None, OnOk, Option, Some, is_some};
 ghost use Rattle.guest_memory.specs.Memory.{SameRange};
@@ -14,11 +14,11 @@ use crate::tags::{Tag, Tags, with_tag};
 use chain::{Budget, Chain};
 use racing_disk::{Found, RacingDisk};
 use racing_ring::Room;
-use racing_service::{KeepsFlights, Limits, Outcome};
+use racing_service::{KeepsFlights, Limits, Outcome, Stage};
 use shared_memory::Shared;
 use std::alloc::Allocator;
 
-/// A look that found a request. The queue is closed behind it.
+/// A look that found a request. The queue stands open behind it.
 #[derive(Clone, Copy)]
 pub(crate) struct Step {
     // Whether the request asks for the disk, and is in flight.
@@ -34,6 +34,7 @@ pub(crate) fn look_for<Q: KeepsFlights, M: Shared, A: Allocator>(
     tag: usize,
     mem: &mut M,
     queue: &mut Q,
+    stage: Stage,
     limits: Limits,
     stable: bool,
     chain: &mut Chain,
@@ -44,12 +45,12 @@ pub(crate) fn look_for<Q: KeepsFlights, M: Shared, A: Allocator>(
     requires lowest { free_tag tags.old ≡ Some tag }
     requires each { All (TagIsHeld disk.old.device.extent.count (memory (M.sightings mem.old))) tags.old }
     requires ahead { AreAhead Q.entry_of Q.Fits Q.ahead_of queue.old (tokens_of tags.old) }
-    ensures ends { IfOk result (λ outcome. IsRacingService Q.kind (hosted_device disk.old.device) (M.races mem.old) limits.rounds
+    ensures ends { IfOk result (λ outcome. IsRacingService Q.kind (hosted_device disk.old.device) (M.races mem.old) stage limits.rounds
         (standing_at (M.sightings mem.old) queue.old tt limits.budget)
         (standing_at (M.sightings mem.new) queue.new tt outcome.left) outcome.ending outcome.wanted) }
     ensures idle { OnOk result (tags.new ≡ tags.old) }
     ensures finds { IfErr result (λ step. (asks : Option (InFlight Q.Token)) × LooksOn Q.kind Q.entry_of disk.old.device
-        (M.races mem.old) limits.rounds stable asks (place_at (M.sightings mem.old) queue.old limits.budget tags.old)
+        (M.races mem.old) stage limits.rounds stable asks (place_at (M.sightings mem.old) queue.old limits.budget tags.old)
         (place_at (M.sightings mem.new) queue.new step.left tags.new) step.wanted) }
     ensures device { disk.new.device ≡ disk.old.device }
     ensures each { All (TagIsHeld disk.old.device.extent.count (memory (M.sightings mem.new))) tags.new }
@@ -59,7 +60,9 @@ pub(crate) fn look_for<Q: KeepsFlights, M: Shared, A: Allocator>(
     ensures lies { Q.LiesIn (memory (M.sightings mem.new)) queue.new }
 {
     let room_of = &mut tags.items[tag];
-    match look_into(disk, room_of, mem, queue, limits, stable, chain, room) {
+    match look_into(
+        disk, room_of, mem, queue, stage, limits, stable, chain, room,
+    ) {
         Ok(outcome) => Ok(outcome),
         Err(step) => {
             if step.asks {
@@ -70,12 +73,13 @@ pub(crate) fn look_for<Q: KeepsFlights, M: Shared, A: Allocator>(
     }
 }
 
-// Looks for the next request. One that asks is put into this tag, which is free. The queue is closed behind it.
+// Looks for the next request. One that asks is put into this tag, which is free.
 fn look_into<Q: KeepsFlights, M: Shared, A: Allocator>(
     disk: &mut RacingDisk,
     tag: &mut Tag<Q::Token, A>,
     mem: &mut M,
     queue: &mut Q,
+    stage: Stage,
     limits: Limits,
     stable: bool,
     chain: &mut Chain,
@@ -84,11 +88,11 @@ fn look_into<Q: KeepsFlights, M: Shared, A: Allocator>(
     requires lies { Q.LiesIn (memory (M.sightings mem.old)) queue.old }
     requires disk { sector_len * disk.old.device.extent.count < 2 ^ 64 }
     requires free { tag.old ≡ None }
-    ensures ends { IfOk result (λ outcome. IsRacingService Q.kind (hosted_device disk.old.device) (M.races mem.old) limits.rounds
+    ensures ends { IfOk result (λ outcome. IsRacingService Q.kind (hosted_device disk.old.device) (M.races mem.old) stage limits.rounds
         (standing_at (M.sightings mem.old) queue.old tt limits.budget)
         (standing_at (M.sightings mem.new) queue.new tt outcome.left) outcome.ending outcome.wanted) }
     ensures idle { OnOk result (tag.new ≡ None) }
-    ensures finds { IfErr result (λ step. FindsIn Q.kind Q.entry_of disk.old.device (M.races mem.old) limits.rounds stable tag.new
+    ensures finds { IfErr result (λ step. FindsIn Q.kind Q.entry_of disk.old.device (M.races mem.old) stage limits.rounds stable tag.new
         (standing_at (M.sightings mem.old) queue.old tt limits.budget)
         (standing_at (M.sightings mem.new) queue.new tt step.left) step.wanted) }
     ensures asks { IfErr result (λ step. step.asks ≡ is_some tag.new) }
@@ -99,7 +103,16 @@ fn look_into<Q: KeepsFlights, M: Shared, A: Allocator>(
     ensures races { M.races mem.new ≡ M.races mem.old }
     ensures lies { Q.LiesIn (memory (M.sightings mem.new)) queue.new }
 {
-    match disk.look(mem, queue, limits, stable, chain, room, &mut tag.runs) {
+    match disk.look(
+        mem,
+        queue,
+        stage,
+        limits,
+        stable,
+        chain,
+        room,
+        &mut tag.runs,
+    ) {
         Ok(outcome) => Ok(outcome),
         Err(
             Found {
@@ -110,12 +123,7 @@ fn look_into<Q: KeepsFlights, M: Shared, A: Allocator>(
         ) => {
             let asks = flight.is_some();
             tag.flight = flight;
-            let asked = queue.close(mem);
-            Err(Step {
-                asks,
-                wanted: wanted | asked,
-                left,
-            })
+            Err(Step { asks, wanted, left })
         }
     }
 }

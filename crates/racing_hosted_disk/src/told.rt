@@ -16,7 +16,7 @@ use block_device::{HostEvent, Verdict};
 use chain::Chain;
 use racing_disk::complete;
 use racing_ring::Room;
-use racing_service::KeepsFlights;
+use racing_service::{KeepsFlights, Stage};
 use shared_memory::Shared;
 use std::alloc::Allocator;
 
@@ -59,7 +59,7 @@ impl<T: Drop, A: Allocator> RacingHostedDisk<T, A> {
         }
     }
 
-    // Completes the operation of this tag, and looks at the queue again. `None` where no operation has the tag.
+    // Completes the operation of this tag, and looks at the queue behind its closing. `None` where no operation has the tag.
     fn complete<Q: KeepsFlights<Token = T>, M: Shared>(
         &mut self,
         tag: u8,
@@ -87,7 +87,7 @@ impl<T: Drop, A: Allocator> RacingHostedDisk<T, A> {
         ensures held { HoldsFlights Q.entry_of Q.Fits Q.ahead_of (memory (M.sightings mem.new)) queue.new self.new }
     {
         let before = self.land(tag, verdict, mem, queue)?;
-        let served = self.serve(mem, queue, limits, stable, chain, room);
+        let served = self.serve_from(mem, queue, Stage::Again, limits, stable, chain, room);
         Some(Served {
             ending: served.ending,
             wanted: before | served.wanted,
@@ -179,6 +179,6 @@ impl<T: Drop, A: Allocator> RacingHostedDisk<T, A> {
             return None;
         }
         self.on_hold = false;
-        Some(self.look(mem, queue, limits, stable, chain, room))
+        Some(self.look(mem, queue, Stage::First, limits, stable, chain, room))
     }
 }

@@ -5,12 +5,12 @@ use Rattle.racing_disk.proofs.disk.RacingDisk.look.Goals as goal
 pub launch-flight-requires-clause-left : goal.launch-flight-requires-clause-left
 launch-flight-requires-clause-left g c =
     rw c.serve.ensures.setup
-    (was_left g.Q.RacingQueue.kind c.args.self.now.device _ _ _ _ _ _ c.serve.new.chain _ c.in-Err.refused.why
+    (was_left g.Q.RacingQueue.kind c.args.self.now.device _ _ _ _ _ _ _ c.serve.new.chain _ c.in-Err.refused.why
     c.serve.new.backend _ (record { service = c.in-Err.ensures.refuses }))
 
 pub returns-then-asks-clause-asks : goal.returns-then-asks-clause-asks
 returns-then-asks-clause-asks g c =
-    one_asks g.Q.RacingQueue.kind c.args.self.now.device _ _ _ (g.M.Shared.sightings c.serve.new.mem) c.serve.new.queue
+    one_asks g.Q.RacingQueue.kind c.args.self.now.device _ _ _ _ (g.M.Shared.sightings c.serve.new.mem) c.serve.new.queue
     c.in-Err.refused.left c.serve.new.chain (g.Q.RacingQueue.entry_of c.in-Err.refused.token) c.in-Err.refused.why
     c.serve.new.backend c.in-Err.refused.wanted (record { service = c.in-Err.ensures.refuses }) c.args.stable
     c.launch-flight.new.queue _ c.launch-flight.result.operation c.launch-flight.result.status
@@ -29,12 +29,12 @@ returns-then-asks-clause-place g c = c.launch-flight.ensures.room _ c.in-Err.ens
 pub answer-requires-clause-left : goal.answer-requires-clause-left
 answer-requires-clause-left g c =
     rw c.serve.ensures.setup
-    (was_left g.Q.RacingQueue.kind c.args.self.now.device _ _ _ _ _ _ c.serve.new.chain _ c.in-Err.refused.why
+    (was_left g.Q.RacingQueue.kind c.args.self.now.device _ _ _ _ _ _ _ c.serve.new.chain _ c.in-Err.refused.why
     c.serve.new.backend _ (record { service = c.in-Err.ensures.refuses }))
 
 pub returns-clause-answers : goal.returns-clause-answers
 returns-clause-answers g c =
-    one_answered g.Q.RacingQueue.kind c.args.self.now.device _ _ _ (g.M.Shared.sightings c.serve.new.mem) c.serve.new.queue
+    one_answered g.Q.RacingQueue.kind c.args.self.now.device _ _ _ _ (g.M.Shared.sightings c.serve.new.mem) c.serve.new.queue
     c.in-Err.refused.left c.serve.new.chain (g.Q.RacingQueue.entry_of c.in-Err.refused.token) c.in-Err.refused.why
     c.serve.new.backend c.in-Err.refused.wanted (record { service = c.in-Err.ensures.refuses })
     (g.M.Shared.sightings c.answer.new.mem) c.answer.new.queue c.answer.result (sym c.asks.ensures ∙ c.if-asks.false)

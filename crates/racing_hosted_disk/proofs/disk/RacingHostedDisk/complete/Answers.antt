@@ -6,4 +6,4 @@ returns-clause-does g c =
     completed g.Q.RacingQueue.kind g.Q.RacingQueue.entry_of _ c.args.limits c.args.stable c.args.tag c.args.verdict
     c.args.self.now c.land.new.self _ _ _ _ _ _ _ _ _ _ c.in_ok-before.ensures.rest
     (c.in_ok-before.ensures.lands c.args.limits.budget)
-    (rw c.in_ok-before.ensures.races at c.serve-served.ensures.serves)
+    (rw c.in_ok-before.ensures.races at c.serve_from-served.ensures.serves)

@@ -2,13 +2,15 @@ use Rattle.std.proofs.Common.{◌∙◌, refl, sym, arith}
 use Rattle.guest_memory.proofs.Ranges.{same_trans}
 use Rattle.std.specs.Prelude.{◌||◌}
 use Rattle.racing_hosted_disk.specs.Looking.{place_at}
+use Rattle.shared_memory.specs.Sightings.{memory}
+use Rattle.racing_hosted_disk.proofs.Landing.{outlasts}
 use Rattle.racing_hosted_disk.proofs.Looks.{looks_full, looks_limited, looks_on, looks_served}
 use Rattle.racing_hosted_disk.proofs.disk.RacingHostedDisk.look.Goals as goal
 
 pub returns-in_default-clause-looks : goal.returns-in_default-clause-looks
 returns-in_default-clause-looks g c =
     looks_full g.Q.RacingQueue.kind g.Q.RacingQueue.entry_of c.args.self.now.device (g.M.Shared.races c.args.mem.now)
-    c.args.limits c.args.stable
+    c.args.limits c.args.stable c.args.stage c.loop.here
     (place_at (g.M.Shared.sightings c.args.mem.now) c.args.queue.now c.args.limits.budget c.args.self.now.tags)
     (g.M.Shared.sightings c.loop.mem) c.loop.queue c.loop.left c.loop.self-inside.tags c.loop.counter c.loop.wanted
     c.loop.invariant.looking (omega (arith, c.loop-test.true)) (sym c.in_default.ensures)
@@ -17,7 +19,7 @@ pub returns-in-Ok-clause-looks : goal.returns-in-Ok-clause-looks
 returns-in-Ok-clause-looks g c =
     let v = c.loop.invariant in
     looks_served g.Q.RacingQueue.kind g.Q.RacingQueue.entry_of c.args.self.now.device (g.M.Shared.races c.args.mem.now)
-    c.args.limits c.args.stable
+    c.args.limits c.args.stable c.args.stage c.loop.here
     (place_at (g.M.Shared.sightings c.args.mem.now) c.args.queue.now c.args.limits.budget c.args.self.now.tags)
     (g.M.Shared.sightings c.loop.mem) c.loop.queue c.loop.left c.loop.self-inside.tags c.loop.counter c.loop.wanted v.looking
     c.in-Some.tag (g.M.Shared.sightings c.look_for.new.mem) c.look_for.new.queue c.in-Ok.outcome.left c.look_for.new.tags
@@ -29,7 +31,7 @@ pub loop-preserved : goal.loop-preserved
 loop-preserved g c =
     let v = c.loop.invariant in record {
       looking = looks_on g.Q.RacingQueue.kind g.Q.RacingQueue.entry_of c.args.self.now.device
-          (g.M.Shared.races c.args.mem.now) c.args.limits c.args.stable
+          (g.M.Shared.races c.args.mem.now) c.args.limits c.args.stable c.args.stage c.loop.here
           (place_at (g.M.Shared.sightings c.args.mem.now) c.args.queue.now c.args.limits.budget c.args.self.now.tags)
           (place_at (g.M.Shared.sightings c.loop.mem) c.loop.queue c.loop.left c.loop.self-inside.tags)
           (place_at (g.M.Shared.sightings c.look_for.new.mem) c.look_for.new.queue c.in-Err.step.left
@@ -47,8 +49,34 @@ loop-preserved g c =
 
 pub returns-clause-looks : goal.returns-clause-looks
 returns-clause-looks g c =
+    let v = c.loop.invariant in
     looks_limited g.Q.RacingQueue.kind g.Q.RacingQueue.entry_of c.args.self.now.device (g.M.Shared.races c.args.mem.now)
-    c.args.limits c.args.stable
+    c.args.limits c.args.stable c.args.stage c.loop.here
     (place_at (g.M.Shared.sightings c.args.mem.now) c.args.queue.now c.args.limits.budget c.args.self.now.tags)
     (g.M.Shared.sightings c.loop.mem) c.loop.queue c.loop.left c.loop.self-inside.tags c.loop.counter c.loop.wanted
-    c.loop.invariant.looking (omega (arith, c.loop-test.false, c.loop.auto.counter-end))
+    v.looking (g.M.Shared.sightings c.close-asked.new.mem) c.close-asked.new.self (c.loop.wanted || c.close-asked.result)
+    c.close-asked.result (omega (arith, c.loop-test.false, c.loop.auto.counter-end))
+    (record {
+      closed = rw v.races at c.close-asked.ensures.closed;
+      ring = c.close-asked.ensures.shut;
+      state = refl;
+      left = refl;
+    }) refl
+
+pub returns-clause-held : goal.returns-clause-held
+returns-clause-held g c =
+    let v = c.loop.invariant in
+    let inside = c.loop.self-inside in
+    let lasts = g.met.Q.KeepsFlights.lasts in
+    outlasts g.Q.RacingQueue.kind g.Q.RacingQueue.entry_of g.Q.RacingQueue.IsAhead g.Q.KeepsFlights.Fits
+    g.Q.KeepsFlights.ahead_of lasts (memory (g.M.Shared.sightings c.loop.mem))
+    (memory (g.M.Shared.sightings c.close-asked.new.mem)) c.loop.queue c.close-asked.new.self
+    (record { device = inside.disk.device; tags = inside.tags; on_hold = inside.on_hold })
+    (lasts.closed_range _ _ _ _ _ c.close-asked.ensures.closed)
+    (rw c.close-asked.ensures.shut (lasts.shut c.loop.queue))
+    (record { each = rw v.device v.each; ahead = v.ahead })
+
+pub returns-clause-range : goal.returns-clause-range
+returns-clause-range g c =
+    same_trans _ _ _ c.loop.invariant.range
+    (g.met.Q.KeepsFlights.lasts.closed_range _ _ _ _ _ c.close-asked.ensures.closed)
