@@ -7,7 +7,6 @@ use Rattle.chain.specs.declared.budget.Progress.{Progress}
 use Rattle.chain.specs.declared.budget.Progress.TheVariants.{Done}
 use Rattle.chain.specs.declared.segment.Buffer.{Buffer}
 use Rattle.chain.specs.Service.{Entry, Spent}
-use Rattle.negotiation.specs.Features.{console_emerg_write, console_size, device_features}
 use Rattle.mmio_window.specs.declared.action.Action.{Action}
 use Rattle.mmio_window.specs.declared.action.Action.TheVariants as action
 use Rattle.mmio_window.specs.declared.device_kind.DeviceKind.TheVariants.{Console}
@@ -20,10 +19,11 @@ use Rattle.mmio_window.specs.Window.{WindowState, fresh_window, queue_at, with_c
 use Rattle.mmio_window.specs.Writing.{written}
 use Rattle.shared_memory.specs.Sightings.{Sightings}
 use Rattle.console_device.specs.declared.no_memory.NoMemory.{NoMemory}
-use Rattle.console_device.specs.Config.{config_of}
+use Rattle.console_device.specs.Config.{config_of, console_features}
 use Rattle.console_device.specs.Console as console_device
 use Rattle.console_device.specs.Device.{Fits, MayRefuse, receive, transmit_within}
 use Rattle.console_device.specs.Input.{fitting}
+use Rattle.racing_service.specs.declared.stage.Stage.TheVariants.{First}
 use Rattle.racing_service.specs.declared.service.Limits.{Limits}
 use Rattle.racing_service.specs.Service.{IsRefusedService, standing_at}
 use Rattle.racing_console.specs.Output.{NoRoom}
@@ -37,10 +37,6 @@ use Rattle.racing_guest.specs.Reply.{AnswersBy, NothingHappens}
 pub record RacingConsole : Type 0 where
   pub window : WindowState
   pub device : console_device.Console
-
--- the features that a console offers (5.3.3): it tells its size, and takes emergency writes
-abbrev pub console_features : ℕ
-console_features = console_size + console_emerg_write + device_features
 
 -- one of this size, as after a reset, to which nothing was typed
 abbrev pub fresh_console : ℕ → ℕ → RacingConsole
@@ -94,7 +90,7 @@ pub record LacksRoom (races : Bool) (limits : Limits) (limit : Option ℕ) (queu
   pub entry : Entry
   pub why : NoMemory
   pub asked : Bool
-  pub service : IsRefusedService racing_queue (transmit_within limit) races (NoRoom limit) limits.rounds
+  pub service : IsRefusedService racing_queue (transmit_within limit) races (NoRoom limit) First limits.rounds
       (standing_at old queue out limits.budget) (standing_at stopped last out' left) buffers entry why asked
   pub closes : ClosesQueue races last asked stopped new (with_ring 1 before last) after
 

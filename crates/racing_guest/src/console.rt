@@ -16,7 +16,6 @@ use crate::reply::{GuestQueue, Reply};
 use chain::{Chain, Progress};
 use console_device::{ConsoleDevice, NoMemory, Outlet, RECEIVEQ, TRANSMITQ};
 use mmio_window::{Action, DeviceKind, Window};
-use negotiation::{Features, Flags};
 use racing_console::{RacingReceive, RacingTransmit};
 use racing_ring::Room;
 use racing_service::Limits;
@@ -51,11 +50,8 @@ impl<A: Allocator + Copy> RacingConsole<A> {
         ensures sound { IfOk result (λ console. (m : Memory) → IsSoundConsole m console) }
     {
         let device = ConsoleDevice::new(alloc, cols, rows)?;
-        let features = Features::of_every_device()
-            .union(Features::CONSOLE_SIZE)
-            .union(Features::CONSOLE_EMERG_WRITE);
         Ok(RacingConsole {
-            window: Window::new(DeviceKind::Console, features),
+            window: Window::new(DeviceKind::Console, device.features()),
             device,
             receive: RacingReceive::new(),
             transmit: RacingTransmit::new(),

@@ -29,8 +29,8 @@ pub struct RacingGuest<A: Allocator = Global> {
     block: RacingBlock<A>,
     console: RacingConsole<A>,
     // Where chains stand, one after another.
-    chain: Chain,
-    room: Room,
+    chain: Box<Chain, A>,
+    room: Box<Room, A>,
 }
 
 impl<A: Allocator> Model for RacingGuest<A> {
@@ -60,11 +60,15 @@ impl<A: Allocator + Copy> RacingGuest<A> {
             return Err(NoMemory);
         };
         let console = RacingConsole::new(alloc, spec.cols, spec.rows)?;
+        let (Ok(chain), Ok(room)) = (Box::new(alloc, Chain::new()), Box::new(alloc, Room::new()))
+        else {
+            return Err(NoMemory);
+        };
         Ok(RacingGuest {
             block,
             console,
-            chain: Chain::new(),
-            room: Room::new(),
+            chain,
+            room,
         })
     }
 }
@@ -90,8 +94,8 @@ impl<A: Allocator> RacingGuest<A> {
         ensures races { M.races mem.new ≡ M.races mem.old }
         ensures sound { IsSoundGuest (memory (M.sightings mem.new)) self.new }
     {
-        let chain = &mut self.chain;
-        let room = &mut self.room;
+        let chain = &mut *self.chain;
+        let room = &mut *self.room;
         match window {
             GuestWindow::Block => self
                 .block
@@ -120,8 +124,8 @@ impl<A: Allocator> RacingGuest<A> {
         ensures races { M.races mem.new ≡ M.races mem.old }
         ensures sound { IsSoundGuest (memory (M.sightings mem.new)) self.new }
     {
-        let chain = &mut self.chain;
-        let room = &mut self.room;
+        let chain = &mut *self.chain;
+        let room = &mut *self.room;
         let few = service_limits(limits);
         match queue {
             GuestQueue::Block => Reply::of(queue, self.block.serve(mem, limits, chain, room)),

@@ -12,6 +12,9 @@ mod spec;
 pub use block::RacingBlock;
 pub use console::RacingConsole;
 pub use guest::RacingGuest;
-pub use laws::{a_guest_is_sound_for_the_range, what_the_host_is_told_lies_inside};
+pub use laws::{
+    a_guest_is_sound_for_the_range, what_the_host_is_told_is_of_one_moment,
+    what_the_host_is_told_lies_inside,
+};
 pub use reply::{GuestQueue, GuestWindow, Reply};
 pub use spec::GuestSpec;

@@ -33,8 +33,8 @@ impl<A: Allocator> RacingGuest<A> {
         ensures sound { IsSoundGuest (memory (M.sightings mem.new)) self.new }
     {
         let taken = self.console.input(bytes);
-        let chain = &mut self.chain;
-        let room = &mut self.room;
+        let chain = &mut *self.chain;
+        let room = &mut *self.room;
         let limits = service_limits(limits);
         let progress = self.console.serve_receive(mem, limits, chain, room);
         (taken, progress)
@@ -65,8 +65,8 @@ impl<A: Allocator> RacingGuest<A> {
         ensures races { M.races mem.new ≡ M.races mem.old }
         ensures sound { IsSoundGuest (memory (M.sightings mem.new)) self.new }
     {
-        let chain = &mut self.chain;
-        let room = &mut self.room;
+        let chain = &mut *self.chain;
+        let room = &mut *self.room;
         self.block.tell(said, mem, limits, chain, room)
     }
 }
