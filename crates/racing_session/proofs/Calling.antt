@@ -1,0 +1,173 @@
+-- What a call of the guest is for the session that owns it.
+use Rattle.std.proofs.Common.{◌≡◌, ◌∙◌, ℕ, Bool, true, false, List, [], Option, Some, None, Result, refl, sym, ap, subst}
+use Rattle.std.specs.Prelude.{IfSome, get_or}
+use Rattle.guest_memory.specs.declared.spec.RegionSpec.{RegionSpec}
+use Rattle.guest_memory.specs.Faults.{zeroed_regions}
+use Rattle.guest_memory.specs.Memory.{Memory, SameRange}
+use Rattle.guest_memory.proofs.Ranges.{same_trans}
+use Rattle.chain.specs.declared.budget.Progress as chain
+use Rattle.chain.specs.declared.segment.Segment.{Segment}
+use Rattle.shared_memory.specs.Sightings.{memory}
+use Rattle.racing_memory.specs.Past.{Seen, sightings_of}
+use Rattle.block_device.specs.declared.operation.HostEvent.{HostEvent}
+use Rattle.block_device.specs.declared.operation.Operation.{Operation}
+use Rattle.block_device.specs.Operation.{LiesInside}
+use Rattle.racing_hosted_disk.specs.declared.look.LookLimits.{LookLimits}
+use Rattle.racing_hosted_disk.specs.Tags.{operation_in, runs_in}
+use Rattle.output_queue.specs.Waiting.{Waiting}
+use Rattle.racing_guest.specs.declared.reply.GuestQueue.TheVariants as queue
+use Rattle.racing_guest.specs.declared.reply.GuestWindow.{GuestWindow}
+use Rattle.racing_guest.specs.declared.reply.Reply.{Reply}
+use Rattle.racing_guest.specs.Guest.{IsSoundGuest, IsTold, RacingGuest, TakesInput, WritesGuest}
+use Rattle.racing_guest.proofs.Holding.{guest_still, told_inside}
+use Rattle.racing_session.specs.declared.due.Due.{Due}
+use Rattle.racing_session.specs.declared.progress.Progress.{Progress}
+use Rattle.racing_session.specs.declared.progress.Refusal.{Refusal}
+use Rattle.racing_session.specs.Answering.{answer_by, has_asked, has_asked_by, progress_by}
+use Rattle.racing_session.specs.Due.{due_after, due_by, is_any_due, none_due}
+use Rattle.racing_session.specs.Session.{Between, GoesOn, IsMemoryOf, IsSaid, IsSoundSession, IsTyped, IsWritten, RacingSession, ServesIf, came_to, in_flight}
+
+abbrev pub session_of : RacingGuest → List RegionSpec → Waiting → Due → LookLimits → RacingSession
+session_of guest regions output due limits = record {
+  guest = guest;
+  regions = regions;
+  output = output;
+  due = due;
+  limits = limits;
+}
+
+-- ---- what the host is told
+
+told_if : (m : Memory) (guest : RacingGuest) (tag : ℕ) (found : Option Operation) → IsSoundGuest m guest
+    → operation_in (get_or guest.block.disk.tags tag None) ≡ found
+    → IfSome found (λ operation. LiesInside guest.block.disk.device.extent.count m operation
+    (runs_in (get_or guest.block.disk.tags tag None)))
+told_if m guest tag None sound is = tt
+told_if m guest tag (Some operation) sound is = told_inside m guest.block tag operation sound.block is
+
+abbrev TellsInside : RacingSession → ℕ → List Segment → Type 0
+TellsInside session tag runs = (m : Memory) → IsMemoryOf session m
+    → IfSome (operation_in (get_or session.guest.block.disk.tags tag None))
+    (λ operation. LiesInside session.guest.block.disk.device.extent.count m operation runs)
+
+module _ (guest : RacingGuest) (regions : List RegionSpec) (output : Waiting) (due : Due) (limits : LookLimits)
+    (session : RacingSession) (is : session_of guest regions output due limits ≡ session)
+    (sound : IsSoundGuest (zeroed_regions regions) guest) where
+  pub sound_for_each : IsSoundSession session
+  sound_for_each =
+      subst (λ s. IsSoundSession s) is (λ m same. guest_still (zeroed_regions regions) m guest same sound)
+
+  pub tells_inside : (tag : ℕ) (runs : List Segment) → runs ≡ runs_in (get_or guest.block.disk.tags tag None)
+      → TellsInside session tag runs
+  tells_inside tag runs runs_are =
+      subst (λ s. TellsInside s tag runs) is (λ m same. rw runs_are (told_if m guest tag
+      (operation_in (get_or guest.block.disk.tags tag None)) (guest_still (zeroed_regions regions) m guest same sound) refl))
+
+-- ---- a session behind a call
+
+same_rest : (guest : RacingGuest) (regions : List RegionSpec) (output : Waiting) (limits : LookLimits) (bytes : List ℕ)
+    (limit : ℕ) (due due' : Due) (limited : limit ≡ output.limit) (is : due' ≡ due)
+    → session_of guest regions (record { bytes = bytes; limit = limit }) due' limits
+    ≡ session_of guest regions (record { bytes = bytes; limit = output.limit }) due limits
+same_rest guest regions output limits bytes limit due due' limited is =
+    ap (λ n. session_of guest regions (record { bytes = bytes; limit = n }) due' limits) limited
+    ∙ ap (λ d. session_of guest regions (record { bytes = bytes; limit = output.limit }) d limits) is
+
+module _ (guest : RacingGuest) (regions : List RegionSpec) (output : Waiting) (due : Due) (limits : LookLimits)
+    (old : RacingSession) (is : session_of guest regions output due limits ≡ old) (m n : Seen)
+    (fresh : m ≡ record { regions = regions; past = [] }) (guest' : RacingGuest) (due' : Due) where
+  pub written : (window : GuestWindow) (offset width value : ℕ) (output' : Waiting) (reply : Reply) (before : ℕ)
+      (answer : Result Progress Refusal)
+      → WritesGuest window offset width value true limits (Some output.limit) (sightings_of m) (sightings_of n) guest guest'
+      output.bytes output'.bytes reply
+      → output'.limit ≡ output.limit → due' ≡ due_after reply due → before ≡ in_flight guest
+      → answer ≡ answer_by reply (came_to (has_asked before (in_flight guest')) (session_of guest' regions output' due' limits))
+      → IsWritten window offset width value old (session_of guest' regions output' due' limits) answer
+  written window offset width value output' reply before answer writes limited due_is before_is answer_is =
+      subst (λ s. IsWritten window offset width value s (session_of guest' regions output' due' limits) answer) is (record {
+        reply = reply;
+        seen = sightings_of n;
+        writes = subst (λ seen. WritesGuest window offset width value true limits (Some output.limit) (sightings_of seen)
+            (sightings_of n) guest guest' output.bytes output'.bytes reply) fresh writes;
+        rest = same_rest guest' regions output limits output'.bytes output'.limit (due_after reply due) due' limited due_is;
+        answer_is = subst (λ k. answer ≡ answer_by reply (came_to (has_asked k (in_flight guest'))
+            (session_of guest' regions output' due' limits))) before_is answer_is;
+      })
+
+  pub typed : (bytes : List ℕ) (so_far : chain.Progress) (progress : Progress) (any : Bool)
+      → TakesInput bytes true limits (sightings_of m) (sightings_of n) guest guest' so_far
+      → due' ≡ due_by queue.Receive so_far due → any ≡ is_any_due due' → progress ≡ progress_by any false
+      → IsTyped bytes old (session_of guest' regions output due' limits) progress
+  typed bytes so_far progress any takes due_is any_is progress_is =
+      subst (λ s. IsTyped bytes s (session_of guest' regions output due' limits) progress) is (record {
+        so_far = so_far;
+        seen = sightings_of n;
+        takes = subst (λ seen. TakesInput bytes true limits (sightings_of seen) (sightings_of n) guest guest' so_far) fresh takes;
+        rest = ap (λ d. session_of guest' regions output d limits) due_is;
+        progress_is = progress_is ∙ ap (λ b. progress_by b false) any_is;
+      })
+
+  pub told : (said : HostEvent) (so_far : chain.Progress) (progress : Progress) (any asks : Bool) (before after : ℕ)
+      → IsTold said true limits (sightings_of m) (sightings_of n) guest guest' so_far
+      → due' ≡ due_by queue.Block so_far due → any ≡ is_any_due due' → before ≡ in_flight guest → after ≡ in_flight guest'
+      → asks ≡ has_asked_by said before after → progress ≡ progress_by any asks
+      → IsSaid said old (session_of guest' regions output due' limits) progress
+  told said so_far progress any asks before after tells due_is any_is before_is after_is asks_is progress_is =
+      subst (λ s. IsSaid said s (session_of guest' regions output due' limits) progress) is (record {
+        so_far = so_far;
+        seen = sightings_of n;
+        tells = subst (λ seen. IsTold said true limits (sightings_of seen) (sightings_of n) guest guest' so_far) fresh tells;
+        rest = ap (λ d. session_of guest' regions output d limits) due_is;
+        progress_is = progress_is ∙ ap (λ b. progress_by b asks) any_is
+            ∙ ap (λ b. progress_by (is_any_due due') b) (asks_is ∙ ap (λ k. has_asked_by said k after) before_is
+            ∙ ap (λ k. has_asked_by said (in_flight guest) k) after_is);
+      })
+
+-- ---- what is due is served
+
+abbrev pub between : RacingGuest → Waiting → Seen → Between
+between guest output m = record { guest = guest; output = output.bytes; seen = sightings_of m }
+
+module _ (guest : RacingGuest) (regions : List RegionSpec) (output : Waiting) (due : Due) (limits : LookLimits)
+    (old : RacingSession) (is : session_of guest regions output due limits ≡ old) (m m1 m2 m3 : Seen)
+    (fresh : m ≡ record { regions = regions; past = [] }) (g1 g2 g3 : RacingGuest) (o1 o2 o3 : Waiting)
+    (r1 r2 r3 : Reply) where
+  -- as far as the last service
+  pub sound_behind : SameRange (memory (sightings_of m)) (memory (sightings_of m1))
+      → SameRange (memory (sightings_of m1)) (memory (sightings_of m2))
+      → SameRange (memory (sightings_of m2)) (memory (sightings_of m3))
+      → IsSoundGuest (memory (sightings_of m3)) g3 → IsSoundGuest (zeroed_regions regions) g3
+  sound_behind first second third sound =
+      let a = memory (sightings_of m) in let d = memory (sightings_of m3) in
+      let all : SameRange a d = same_trans a _ d (same_trans a _ _ first second) third in
+      let back : SameRange d a = record { base = sym all.base; size = sym all.size; gaps = sym all.gaps } in
+      subst (λ seen. IsSoundGuest (memory (sightings_of seen)) g3) fresh (guest_still d a g3 back sound)
+
+  pub goes_on : (d1 d2 d3 none : Due) (before : ℕ) (answer : Result Progress Refusal)
+      → ServesIf due.block limits output.limit queue.Block (between guest output m) (between g1 o1 m1) r1
+      → ServesIf due.receive limits o1.limit queue.Receive (between g1 o1 m1) (between g2 o2 m2) r2
+      → ServesIf due.transmit limits o2.limit queue.Transmit (between g2 o2 m2) (between g3 o3 m3) r3
+      → o1.limit ≡ output.limit → o2.limit ≡ o1.limit → o3.limit ≡ o2.limit
+      → none ≡ none_due → d1 ≡ due_after r1 none → d2 ≡ due_after r2 d1 → d3 ≡ due_after r3 d2
+      → before ≡ in_flight guest
+      → answer ≡ answer_by r3 (came_to (has_asked before (in_flight g3)) (session_of g3 regions o3 d3 limits))
+      → GoesOn old (session_of g3 regions o3 d3 limits) answer
+  goes_on d1 d2 d3 none before answer block receive transmit l1 l2 l3 n e1 e2 e3 before_is answer_is =
+      subst (λ s. GoesOn s (session_of g3 regions o3 d3 limits) answer) is (record {
+        looked = between g1 o1 m1;
+        received = between g2 o2 m2;
+        transmitted = between g3 o3 m3;
+        reply_block = r1;
+        reply_receive = r2;
+        reply_transmit = r3;
+        block = subst (λ seen. ServesIf due.block limits output.limit queue.Block (between guest output seen)
+            (between g1 o1 m1) r1) fresh block;
+        receive = subst (λ n. ServesIf due.receive limits n queue.Receive (between g1 o1 m1) (between g2 o2 m2) r2) l1 receive;
+        transmit = subst (λ n. ServesIf due.transmit limits n queue.Transmit (between g2 o2 m2) (between g3 o3 m3) r3)
+            (l2 ∙ l1) transmit;
+        rest = same_rest g3 regions output limits o3.bytes o3.limit
+            (due_after r3 (due_after r2 (due_after r1 none_due))) d3 (l3 ∙ l2 ∙ l1)
+            (e3 ∙ ap (λ d. due_after r3 d) (e2 ∙ ap (λ d. due_after r2 d) (e1 ∙ ap (λ d. due_after r1 d) n)));
+        answer_is = subst (λ k. answer ≡ answer_by r3 (came_to (has_asked k (in_flight g3))
+            (session_of g3 regions o3 d3 limits))) before_is answer_is;
+      })

@@ -1,0 +1,3 @@
+pub mod Lending
+pub mod Calling
+pub mod Owing

@@ -1,0 +1,11 @@
+use Rattle.racing_session.proofs.Calling.{written}
+use Rattle.racing_session.proofs.session.RacingSession.write.Goals as goal
+
+pub returns-clause-writes : goal.returns-clause-writes
+returns-clause-writes g c =
+    let s = c.self.inside in
+    written s.guest s.memory s.output s.due s.limits c.args.self.now c.self.view_is c.over-mem.result c.write-reply.new.mem
+    c.over-mem.ensures c.write-reply.new.self c.after-self-inside.result c.args.window c.args.offset c.args.width
+    c.args.value c.write-reply.new.out c.write-reply.result c.taken-before.result c.told.result.answer
+    c.write-reply.ensures.writes (cc c.write-reply.ensures.limit) c.after-self-inside.ensures c.taken-before.ensures
+    c.told.ensures.answer

@@ -1,0 +1,4 @@
+pub mod Due
+pub mod Judging
+pub mod Answering
+pub mod Session
