@@ -1,0 +1,206 @@
+-- A call of the block device of a guest that stands still begins with one event of its slot.
+use Rattle.std.proofs.Common.{◌≡◌, ◌∙◌, ℕ, zero, suc, Bool, true, false, Option, Some, None, List, [], ◌∷◌, ◌++◌, refl, sym, ap, subst}
+use Rattle.std.specs.Prelude.{◌&&◌}
+use Rattle.guest_memory.specs.Memory.{Memory}
+use Rattle.chain.specs.declared.budget.Progress.TheVariants as progress
+use Rattle.mmio_window.specs.declared.action.Action.{Action}
+use Rattle.mmio_window.specs.declared.action.Action.TheVariants as action
+use Rattle.mmio_window.specs.declared.queue.Queue.{Queue}
+use Rattle.mmio_window.specs.declared.queue.Token.{Token}
+use Rattle.mmio_window.specs.Ready.{may_stop_queues}
+use Rattle.mmio_window.specs.Soundness.{IsSound}
+use Rattle.mmio_window.specs.Window.{WindowState, queue_at}
+use Rattle.mmio_window.specs.Writing.{action_of, written}
+use Rattle.shared_memory.specs.Sightings.{Sightings, memory}
+use Rattle.block_device.specs.declared.device.BlockDevice.{BlockDevice}
+use Rattle.block_device.specs.Flights as still
+use Rattle.block_device.specs.Flights.{HostedQueue}
+use Rattle.block_device.specs.Hosting.{wants_stable}
+use Rattle.hosted_disk.specs.Disk as hosted
+use Rattle.racing_service.specs.declared.stage.Stage.TheVariants.{First}
+use Rattle.racing_hosted_disk.specs.declared.look.LookLimits.{LookLimits}
+use Rattle.racing_hosted_disk.specs.Disk.{RacingHostedDisk}
+use Rattle.racing_hosted_disk.specs.Tags.{InFlight}
+use Rattle.racing_guest.specs.Block as racing
+use Rattle.racing_guest.specs.Block.{NotifiesBlock, NotifiesIf, RacingBlock, WritesBlock, is_notified}
+use Rattle.racing_guest.specs.Guest.{IsSoundGuest, RacingGuest}
+use Rattle.board.specs.declared.event.EventKind.TheVariants.{Write}
+use Rattle.board.specs.declared.event.SlotWindow.TheVariants as window
+use Rattle.board.specs.declared.reply.Reply.TheVariants.{Busy, Done}
+use Rattle.board.specs.Hosting.{LooksAtQueue, hosted_device, hosted_queue, is_block_task}
+use Rattle.board.specs.Machine.{at_rest}
+use Rattle.board.specs.Slot.{SlotState}
+use Rattle.board.specs.Task.{Finishes, task_of}
+use Rattle.standing_guest.specs.Event.{BeginsWith, BlockStands, IsEvent, NotifiedStands}
+use Rattle.standing_guest.specs.Requests.{NotifyFindsNone, WriteFindsNone}
+use Rattle.standing_guest.specs.Slot.{slot_of, tags_of}
+use Rattle.standing_guest.proofs.Looking.{looked, looks_unready}
+use Rattle.standing_guest.proofs.Tags.{as_still, same_any}
+use Rattle.standing_guest.proofs.Writing.{written_sound}
+
+no_more : (out : List ℕ) → out ≡ out ++ []
+no_more [] = refl
+no_more (x ∷ out) = ap (λ (xs : List ℕ). x ∷ xs) (no_more out)
+
+-- what a write leaves to be done
+block_task : (what : Action) → is_block_task (task_of window.Block what) ≡ is_notified what
+block_task (action.Notify zero) = refl
+block_task (action.Notify (suc q)) = refl
+block_task (action.ConfigWrite offset width value) = refl
+block_task _ = refl
+
+stands_by : (what : Action) (m : Memory) (behind : SlotState) → is_notified what ≡ true → NotifiedStands window.Block what m behind
+    → BlockStands m behind
+stands_by (action.Notify zero) m behind is stands = stands
+stands_by (action.Notify (suc q)) m behind is stands = let no : false ≡ true = is in cc
+stands_by (action.ConfigWrite offset width value) m behind is stands = let no : false ≡ true = is in cc
+stands_by _ m behind is stands = let no : false ≡ true = is in cc
+
+-- nothing, where it doesn't notify the device
+nothing_left : (A : Type 0) (what : Action) (state : SlotState) → is_notified what ≡ false
+    → Finishes {A = A} (task_of window.Block what) state at_rest at_rest (record { state = state; reply = Done; output = [] })
+nothing_left A (action.Notify zero) state is = let no : true ≡ false = is in cc
+nothing_left A (action.Notify (suc q)) state is = record { alike = refl; image = refl }
+nothing_left A (action.ConfigWrite offset width value) state is = record { alike = refl; image = refl }
+nothing_left A _ state is = record { alike = refl; image = refl }
+
+-- ---- the device
+
+-- it is the device of a slot, where its disk begins at its first sector
+pub own_device : (device : BlockDevice) → device.extent.start ≡ 0
+    → device ≡ record {
+      extent = record { start = 0; count = device.extent.count };
+      read_only = device.read_only;
+      identity = device.identity;
+    }
+own_device device own = ap (λ (start : ℕ). record {
+  extent = record { start = start; count = device.extent.count };
+  read_only = device.read_only;
+  identity = device.identity;
+}) own
+
+module _ (A : Type 0) where
+  -- ---- a write that waits
+
+  pub write_waits_too : (m : Memory) (guest : RacingGuest) (offset : ℕ) (waits : Bool)
+      → racing.must_wait offset guest.block ≡ waits
+      → (still.is_any (tags_of guest.block.disk) && may_stop_queues offset) ≡ waits
+  write_waits_too m guest offset waits is =
+      ap (λ (b : Bool). b && may_stop_queues offset) (same_any guest.block.disk.tags) ∙ is
+
+  pub block_busy : (m : Memory) (guest : RacingGuest) (offset width value : ℕ) → racing.must_wait offset guest.block ≡ true
+      → IsEvent {A = A} (slot_of m guest) (Write window.Block offset width value) (slot_of m guest) Busy []
+  block_busy m guest offset width value waits = record {
+    after = at_rest;
+    gives = record {
+      gives = rw (write_waits_too m guest offset true waits) refl;
+      image = refl;
+    };
+  }
+
+  -- ---- a slot's look
+
+  module _ (limits : LookLimits) (old new : Sightings) (guest after : RacingGuest) (block : RacingBlock)
+      (sound : IsSound (memory old) block.window) (own : block.disk.device.extent.start ≡ 0)
+      (console : after.console ≡ guest.console) where
+    -- the slot as its block device finds it
+    abbrev pub ready : SlotState
+    ready = slot_of (memory old) (record { block = block; console = guest.console })
+
+    device_is : block.disk.device ≡ hosted_device ready
+    device_is = own_device block.disk.device own
+
+    same : (m : Memory) (w : WindowState) → memory new ≡ m → after.block.window ≡ w → after.block.disk ≡ block.disk
+        → slot_of (memory new) after ≡ record ready { memory = m; block = w }
+    same m w memories windows disks = rw (memories, windows, disks, console) refl
+
+    pub record BeginsSlotLook : Type 0 where
+      pub first : SlotState
+      pub looks : LooksAtQueue ready first
+      pub whole : BlockStands (memory old) first → slot_of (memory new) after ≡ first
+
+    -- a disk that stays as it was, but for its tags
+    disk_stays : (disk disk' : RacingHostedDisk Token) → disk' ≡ record disk { tags = disk'.tags } → disk'.tags ≡ disk.tags
+        → disk' ≡ disk
+    disk_stays disk disk' is tags = is ∙ ap (λ (tags : List (Option (InFlight Token))). record disk { tags = tags }) tags
+
+    notified_at : (found : Option Queue) → queue_at 0 block.window ≡ found
+        → (n : NotifiesBlock false limits found old new block after.block progress.Done)
+        → NotifyFindsNone found limits old new block after.block progress.Done n → BeginsSlotLook
+    notified_at None at n none = record {
+      first = ready;
+      looks = record { looks = looks_unready (hosted_device ready) (hosted_queue ready) block.disk.on_hold at; rest = refl };
+      whole = λ stands. same (memory old) block.window (ap memory n.memory) (ap (λ (b : RacingBlock). b.window) n.device)
+          (ap (λ (b : RacingBlock). b.disk) n.device);
+    }
+    notified_at (Some queue) at n none =
+        let disk = block.disk in
+        let b = looked disk.device limits limits.budget (wants_stable block.window) First old new block.window after.block.window queue n.last
+        n.disk.left disk.tags after.block.disk.tags n.wanted sound at tt disk.on_hold n.ending (sym n.progress_is) n.window
+        n.disk.looks none in
+        record {
+          first = record ready { memory = b.memory; block = b.window };
+          looks = record {
+            looks = subst (λ (d : BlockDevice). hosted.LooksUnless disk.on_hold d (hosted_queue ready)
+                (record { memory = b.memory; window = b.window; tags = as_still disk.tags })) device_is b.looks;
+            rest = refl;
+          };
+          whole = λ stands.
+              let all = b.stands stands in
+              same b.memory b.window all.0 all.1 (disk_stays disk after.block.disk n.disk.is all.2);
+        }
+
+  -- ---- a write
+
+  pub block_written : (offset width value : ℕ) (limits : LookLimits) (old new : Sightings) (guest after : RacingGuest)
+      (out out' : List ℕ) → IsSoundGuest (memory old) guest → guest.block.disk.device.extent.start ≡ 0
+      → racing.must_wait offset guest.block ≡ false → after.console ≡ guest.console → out' ≡ out
+      → (w : WritesBlock offset width value false limits old new guest.block after.block progress.Done)
+      → WriteFindsNone (is_notified (action_of offset width value guest.block.window)) limits old new
+      (record guest.block { window = written offset width value (memory old) guest.block.window }) after.block progress.Done w
+      → BeginsWith {A = A} (slot_of (memory old) guest) (Write window.Block offset width value) Done
+      (slot_of (memory new) after) out out'
+  block_written offset width value limits old new guest after out out' sound own free console nothing w none =
+      by (is_notified (action_of offset width value guest.block.window)) refl w none
+    where
+      by : (rings : Bool) → is_notified (action_of offset width value guest.block.window) ≡ rings
+          → (n : NotifiesIf rings false limits old new
+          (record guest.block { window = written offset width value (memory old) guest.block.window }) after.block progress.Done)
+          → WriteFindsNone rings limits old new
+          (record guest.block { window = written offset width value (memory old) guest.block.window }) after.block progress.Done n
+          → BeginsWith {A = A} (slot_of (memory old) guest) (Write window.Block offset width value) Done
+          (slot_of (memory new) after) out out'
+      by true rings n none =
+          let block : RacingBlock = record guest.block { window = written offset width value (memory old) guest.block.window } in
+          let action = action_of offset width value guest.block.window in
+          let waits = write_waits_too (memory old) guest offset false free in
+          let b = notified_at limits old new guest after block
+          (written_sound offset width value (memory old) guest.block.window sound.block.window) own console
+          (queue_at 0 block.window) refl n none in
+          record {
+            first = b.first;
+            output = [];
+            event = record {
+              after = at_rest;
+              gives = record { gives = rw (waits, block_task action, rings) (b.looks, refl); image = refl };
+            };
+            whole = λ stands. (b.whole (stands_by action (memory old) b.first rings stands), nothing ∙ no_more out);
+          }
+      by false rings n none =
+          let block : RacingBlock = record guest.block { window = written offset width value (memory old) guest.block.window } in
+          let action = action_of offset width value guest.block.window in
+          let waits = write_waits_too (memory old) guest offset false free in
+          let first = slot_of (memory old) (record { block = block; console = guest.console }) in
+          let there = same limits old new guest after block
+          (written_sound offset width value (memory old) guest.block.window sound.block.window) own console (memory old)
+          block.window (ap memory n.memory) (ap (λ (b : RacingBlock). b.window) n.device)
+          (ap (λ (b : RacingBlock). b.disk) n.device) in
+          record {
+            first = first;
+            output = [];
+            event = record {
+              after = at_rest;
+              gives = record { gives = rw (waits, block_task action, rings) (nothing_left A action first rings); image = refl };
+            };
+            whole = λ stands. (there, nothing ∙ no_more out);
+          }

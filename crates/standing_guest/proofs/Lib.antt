@@ -1,0 +1,16 @@
+pub mod Simulating
+pub mod Closing
+pub mod Beginning
+pub mod Resting
+pub mod Notifying
+pub mod Writing
+pub mod Tags
+pub mod Looking
+pub mod Landing
+pub mod Console
+pub mod Block
+pub mod Telling
+pub mod Making
+pub mod Keeping
+pub mod Refusing
+pub mod NoRoom

@@ -1,0 +1,4 @@
+pub mod Rest
+pub mod Slot
+pub mod Requests
+pub mod Event

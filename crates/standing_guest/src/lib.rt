@@ -1,0 +1,10 @@
+//! A guest whose CPUs may run on, over a memory that stands still: each of its calls is one event of a slot of a board whose disk its
+//! host serves. Only laws stand here.
+#![tactic(auto)]
+
+mod laws;
+
+pub use laws::{
+    a_console_that_stands_still_is_a_slots, a_disk_stays_its_own,
+    a_disk_that_stands_still_is_a_slots, a_new_guest_is_a_new_slot,
+};
