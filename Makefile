@@ -153,7 +153,8 @@ linux-test: $(BUILT)
 linux-picture:
 	@examples/linux/picture
 
-# Calls the library from C ten million times at random, under a heap that refuses; also with hosted disks and from several threads.
+# Calls the library from C ten million times at random, under a heap that refuses; also with hosted disks, from several threads, and
+# for guests that run on.
 stress:
 	@examples/embed/stress-run
 

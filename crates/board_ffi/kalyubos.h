@@ -29,13 +29,15 @@
  *    of either. It is proved that such a call on a board, for no further device, changes no byte of guest memory, and
  *    that none decides what it does or tells, but for the numbers of kalyubos_counters. That it doesn't read one all the
  *    same, and that a call for a further device touches none, is tested (examples/embed/untouched.c).
+ *  - A guest that runs on (struct kalyubos_guest) is free of that: its CPUs, and whoever else has its memory, read and
+ *    write it at any moment. The host's own threads do so by atomic accesses.
  *  - Where the host serves a disk, it says of an operation that it is done only once it is, as kalyubos_operation has
- *    it. It ends each transfer before kalyubos_drop, and before kalyubos_destroy.
+ *    it. It ends each transfer before kalyubos_drop, and before kalyubos_destroy; the same of a guest that runs on.
  *
  * The library is built for x86-64-v2 (SSE4.2 and POPCNT) and Linux's calling convention.
  *
- * The library keeps no pointer of the caller but those of loans (kalyubos_create, kalyubos_keep_pages): a call copies
- * what it needs.
+ * The library keeps no pointer of the caller but those of loans (kalyubos_create, kalyubos_keep_pages,
+ * kalyubos_guest_create): a call copies what it needs.
  *
  * Each call answers a number. After any but KALYUBOS_DONE its out parameters are unchanged, with these exceptions. A
  * struct kalyubos_pending is told after every answer where the slot exists, and `took` after KALYUBOS_MORE too. The
@@ -46,18 +48,19 @@
  * version takes its own size alone, and answers KALYUBOS_BAD_SIZE for any other before it looks at another field. A
  * later version that this header fits (kalyubos_version) also takes this version's size, and then does what this
  * version does. It adds fields behind all others. The structs of an array lie `size` bytes apart, so all have one size.
- * The handle, struct kalyubos_region, struct kalyubos_device, struct kalyubos_loan, struct kalyubos_pending,
- * struct kalyubos_device_pending, struct kalyubos_counters, struct kalyubos_fault and struct kalyubos_block have no size
- * and never change: a later version tells more by further calls.
+ * The handles, struct kalyubos_region, struct kalyubos_device, struct kalyubos_loan, struct kalyubos_words,
+ * struct kalyubos_pending, struct kalyubos_device_pending, struct kalyubos_counters, struct kalyubos_fault and
+ * struct kalyubos_block have no size and never change: a later version tells more by further calls.
  *
  * Slot by slot a disk is of one of two kinds. It is an extent of an image in the library's memory, or the host serves
  * it. Then the board says what it wants of the disk, one to sixty-four operations at a time; the host does them as it
  * likes and says of each that it is done, in any order; meanwhile the guest runs on. A board may have disks of both. The
  * host serves each further disk of a slot too.
  *
- * kalyubos_create takes all memory that a board needs, and kalyubos_destroy gives it back. kalyubos_judge takes some,
- * and gives it back before it answers. No other call takes or gives any, so no guest can be refused memory for what
- * another did: what a guest sees is decided by its own slot's calls alone, those for its disk among them.
+ * kalyubos_create takes all memory that a board needs, and kalyubos_destroy gives it back; kalyubos_guest_create and
+ * kalyubos_guest_destroy do so for a guest that runs on. kalyubos_judge takes some, and gives it back before it answers.
+ * No other call takes or gives any, so no guest can be refused memory for what another did: what a guest sees is decided
+ * by its own slot's calls alone, those for its disk among them.
  */
 #ifndef KALYUBOS_H
 #define KALYUBOS_H
@@ -93,7 +96,7 @@ enum {
     KALYUBOS_HAS_BOARD = 2,         /* the handle holds a board already, and goes on holding it */
     KALYUBOS_BAD_SLOT = 3,          /* the board has no such slot; nothing changed */
     KALYUBOS_BAD_RANGE = 4,         /* no region, nor the image, holds all of the range; nothing changed */
-    KALYUBOS_NO_MEMORY = 5,         /* the heap refused; only kalyubos_create and kalyubos_judge answer this */
+    KALYUBOS_NO_MEMORY = 5,         /* the heap refused; only the calls that make or judge something answer this */
     KALYUBOS_BAD_WINDOW = 6,        /* the slot has no such window, or no device there takes this; nothing changed */
     KALYUBOS_BAD_IMAGE = 7,         /* the image isn't whole sectors of 512 bytes */
     KALYUBOS_NO_SLOTS = 8,          /* a board needs a slot */
@@ -106,7 +109,7 @@ enum {
     KALYUBOS_NO_ROOM = 15,          /* the console's next output doesn't fit behind what waits; see kalyubos_write */
     KALYUBOS_BAD_OUTLET = 16,       /* an outlet keeps 2^24 bytes at most */
     KALYUBOS_BAD_SIZE = 17,         /* a struct says another size than this version's */
-    KALYUBOS_MORE = 18,             /* the slot's service pauses; see kalyubos_go_on */
+    KALYUBOS_MORE = 18,             /* the slot's service pauses; see kalyubos_go_on, and kalyubos_guest_go_on */
     KALYUBOS_BUSY = 19,             /* the slot's service is paused, or one of its disks is at work; nothing changed */
     KALYUBOS_IO = 20,               /* done, and operations began; see kalyubos_in_flight */
     KALYUBOS_IDLE = 21,             /* there is nothing to complete, drop, hold or release; nothing changed */
@@ -120,8 +123,9 @@ enum {
     KALYUBOS_BAD_LOAN = 29,         /* the loans have another number or length than the regions */
     KALYUBOS_BAD_DEPTH = 30,        /* a disk that the host serves has a depth above 64 */
     KALYUBOS_OTHER_DEVICES = 31,    /* the snapshot has other further devices than the slot; nothing changed */
-    KALYUBOS_BAD_DEVICE = 32        /* a further device's kind isn't known, a network card's MTU is below 68, or a disk has
-                                       2^55 sectors or more or a depth above 64 */
+    KALYUBOS_BAD_DEVICE = 32,       /* a further device's kind isn't known, a network card's MTU is below 68, or a disk has
+                                       2^55 sectors or more or a depth above 64; or a guest that runs on has one */
+    KALYUBOS_NOT_HOSTED = 33        /* the host serves the disk of a guest that runs on, which is no extent of an image */
 };
 
 /* What an answer says, as a sentence for a person. It is never null: a number of a later version has a sentence too. */
@@ -655,9 +659,136 @@ uint32_t kalyubos_image_len(const struct kalyubos *board, size_t *len);
 uint32_t kalyubos_read_image(const struct kalyubos *board, size_t start, uint8_t *into, size_t into_len);
 
 /*
+ * A guest whose CPUs run on while it is served: a block device, whose disk the host serves, and a console, over memory
+ * that the host lends. It has a handle of its own, empty where it is zeroed, and shares nothing with a board or with another
+ * guest. So one call at a time for a handle, and calls for different handles at the same time.
+ *
+ * While a call runs, and between calls, the guest's CPUs, its transfers and the host's threads read and write its memory as
+ * they like. Whatever they write, the host is asked for nothing outside the guest's memory and its disk: what it is told
+ * was read from that memory once, was judged, and is never read again.
+ *
+ * The library reads and writes that memory by single atomic steps of 8 bytes, each of which keeps what others write beside
+ * it in a word. A used entry is written before the used idx, and that before the interrupt is told (2.7.8).
+ */
+struct kalyubos_guest {
+    void *guest;
+};
+
+/* `len` words of 8 bytes that the host lends, from `words` on, which is aligned to 8. It never changes. */
+struct kalyubos_words {
+    uint64_t *words;
+    size_t len;
+};
+
+/* A guest that runs on, as the host describes it: fill one in by kalyubos_guest_config. */
+struct kalyubos_guest_config {
+    size_t size;                      /* sizeof(struct kalyubos_guest_config) */
+    const struct kalyubos_slot *slot; /* the guest: `hosted` is true, and it has no further device */
+    struct kalyubos_words *words;     /* a run for each region of the slot, in their order, of its `len` / 8 words */
+    size_t words_len;
+    uint32_t chains;                  /* the budget of a service of one queue, in chains */
+    uint64_t bytes;                   /* and in bytes; 0 is no limit */
+};
+
+/* A config of this slot over these words, without a limit. */
+static inline struct kalyubos_guest_config kalyubos_guest_config(const struct kalyubos_slot *slot,
+                                                                 struct kalyubos_words *words, size_t words_len)
+{
+    struct kalyubos_guest_config config = { sizeof config, slot, words, words_len, 0, 0 };
+    return config;
+}
+
+/*
+ * Makes a guest and puts it into an empty handle. A refusal leaves the handle as it was and keeps no memory. The first of
+ * these that holds is answered: HAS_BOARD; BAD_SIZE; NOT_HOSTED; BAD_DEVICE; BAD_LOAN, where `words` isn't as the regions
+ * are; BAD_OUTLET; NO_REGIONS, then region by region BAD_MEMORY_SIZE, BAD_MEMORY_BASE and REGIONS_NOT_APART; BAD_DEPTH;
+ * EXTENT_OUTSIDE, where `count` is 2^55 or more. NO_MEMORY may come in the place of those from BAD_LOAN on.
+ *
+ * Each run of words is taken: null and 0 are left in its place. After HAS_BOARD, BAD_SIZE, NOT_HOSTED and BAD_DEVICE all are
+ * as they were. After another refusal the first of them are taken, which may be none or all, and the words are the host's
+ * again. No word is read or written by this call or by kalyubos_guest_destroy. Until kalyubos_guest_destroy they stay mapped
+ * where they are, and no two runs of any guests or boards share a word.
+ *
+ * A service serves no more than `chains` chains, and begins no further chain once those before it had `bytes` bytes. It
+ * also stops where its driver put chains on offer sixteen times while it was served. What is left then is due: MORE.
+ */
+KALYUBOS_LOOK_AT_IT
+uint32_t kalyubos_guest_create(struct kalyubos_guest *guest, struct kalyubos_guest_config *config);
+
+/* Ends the guest, frees its memory and leaves the handle empty. What was in flight is never completed. */
+uint32_t kalyubos_guest_destroy(struct kalyubos_guest *guest);
+
+/* A guest's read, as kalyubos_read. */
+uint32_t kalyubos_guest_read(const struct kalyubos_guest *guest, uint8_t window, uint16_t offset, uint8_t width,
+                             uint32_t *value);
+
+/*
+ * A guest's write. What it notifies is served before the call returns, as far as the budget goes, and the answer is one of
+ * these. `pending` is what then waits: set both lines by it, and take the output where there is some.
+ *  - DONE. IO: done, and operations of the disk began.
+ *  - MORE: done, and a queue is due, of which the driver may never notify again. Call kalyubos_guest_go_on, until it
+ *    answers something else; other calls may stand in between, and none is refused for it. Operations may have begun.
+ *    Until then a write, an input and what the host says of the disk are answered MORE where they would be DONE or IO.
+ *  - NO_ROOM: what the console puts out next doesn't fit behind what waits. Take the output and make the same write again,
+ *    as long as it is answered NO_ROOM and there was output to take.
+ *  - BUSY: the write, to Status (0x070) or QueueReady (0x044) of the block window, waits for all that is in flight of the
+ *    disk. Make it again once all is completed or dropped.
+ *  - BAD_WINDOW.
+ */
+KALYUBOS_LOOK_AT_IT
+uint32_t kalyubos_guest_write(struct kalyubos_guest *guest, uint8_t window, uint16_t offset, uint8_t width,
+                              uint32_t value, struct kalyubos_pending *pending);
+
+/*
+ * Serves each queue that is due, within the budget, and answers as kalyubos_guest_write does: MORE where one is due again.
+ * NO_ROOM: take the output and make this call again. Operations may have begun after IO, MORE and NO_ROOM.
+ */
+KALYUBOS_LOOK_AT_IT
+uint32_t kalyubos_guest_go_on(struct kalyubos_guest *guest, struct kalyubos_pending *pending);
+
+/* Types bytes to the console, as kalyubos_input: after DONE and MORE `took` were taken. */
+KALYUBOS_LOOK_AT_IT
+uint32_t kalyubos_guest_input(struct kalyubos_guest *guest, const uint8_t *bytes, size_t bytes_len, size_t *took,
+                              struct kalyubos_pending *pending);
+
+/* Gives the console another size, as kalyubos_resize. */
+uint32_t kalyubos_guest_resize(struct kalyubos_guest *guest, uint16_t cols, uint16_t rows,
+                               struct kalyubos_pending *pending);
+
+/* Moves out the first bytes of what the console put out, as kalyubos_take_output. */
+uint32_t kalyubos_guest_take_output(struct kalyubos_guest *guest, uint8_t *into, size_t into_len, size_t *taken);
+
+/*
+ * What the disk is asked for, and what the host did, as kalyubos_in_flight, kalyubos_operation, kalyubos_completed,
+ * kalyubos_drop, kalyubos_hold and kalyubos_release. After IO, and after MORE and NO_ROOM too, ask which tags are in flight
+ * that the host hasn't begun. A transfer may go on in place during each call.
+ */
+uint32_t kalyubos_guest_in_flight(const struct kalyubos_guest *guest, uint64_t *tags);
+uint32_t kalyubos_guest_operation(const struct kalyubos_guest *guest, uint8_t tag, struct kalyubos_operation *operation,
+                                  struct kalyubos_run *runs, size_t runs_len);
+KALYUBOS_LOOK_AT_IT
+uint32_t kalyubos_guest_completed(struct kalyubos_guest *guest, uint8_t tag, bool failed,
+                                  struct kalyubos_pending *pending);
+KALYUBOS_LOOK_AT_IT
+uint32_t kalyubos_guest_drop(struct kalyubos_guest *guest, struct kalyubos_pending *pending);
+KALYUBOS_LOOK_AT_IT
+uint32_t kalyubos_guest_hold(struct kalyubos_guest *guest, struct kalyubos_pending *pending);
+KALYUBOS_LOOK_AT_IT
+uint32_t kalyubos_guest_release(struct kalyubos_guest *guest, struct kalyubos_pending *pending);
+
+/* InterruptStatus of both windows, as kalyubos_interrupts. */
+uint32_t kalyubos_guest_interrupts(const struct kalyubos_guest *guest, uint8_t *block, uint8_t *console);
+
+/*
+ * The last fault of a window, as kalyubos_last_fault. Of a split queue `head` is KALYUBOS_NO_HEAD: it isn't read once more,
+ * since it may be another one by then.
+ */
+uint32_t kalyubos_guest_last_fault(const struct kalyubos_guest *guest, uint8_t window, struct kalyubos_fault *fault);
+
+/*
  * The heap. The installed library has it over malloc, as examples/embed/heap.c does; a host that defines one of these
- * defines all of them. They are of one heap, and are called within kalyubos_create, kalyubos_judge and kalyubos_destroy
- * alone. A block is aligned to `align`, a power of two up to 16. `found` is false where there is no
+ * defines all of them. They are of one heap, and are called within the calls that make, judge or destroy a board or a
+ * guest alone. A block is aligned to `align`, a power of two up to 16. `found` is false where there is no
  * memory, and `at` is then any address; a block that couldn't be resized stands as it was. Of a block that is resized
  * the first `kept` bytes stay. A block of size 0 is a block as any other.
  */

@@ -70,6 +70,8 @@ const char *kalyubos_answer(uint32_t number)
         return "the snapshot has other devices";
     case KALYUBOS_BAD_DEVICE:
         return "a further device is an entropy device, a card of an MTU of 68 or more, or a disk below 2^55 sectors and depth 65";
+    case KALYUBOS_NOT_HOSTED:
+        return "the host serves the disk of a guest that runs on: set the slot's `hosted`";
     default:
         return "a number that this version of kalyubos.h doesn't know";
     }

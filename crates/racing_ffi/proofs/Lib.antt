@@ -1,0 +1,5 @@
+pub mod AsBox
+pub mod HandleSteps
+pub mod InFlight
+pub mod OneByOne
+pub mod Runs

@@ -1,0 +1,8 @@
+pub mod Handle
+pub mod Lending
+pub mod Codes
+pub mod Disk
+pub mod Faults
+pub mod Calls
+pub mod Config
+pub mod Create

@@ -1,0 +1,107 @@
+//! What C holds: a pointer to a session, or null.
+//!
+//! A call borrows the session. The drop of a handle takes it out in parts, which can't be dropped or forgotten:
+//! `Parts::end` gives all their memory back.
+
+ghost use Rattle.std.specs.Prelude.{◌≡◌, Some, None, MatchOption};
+ghost use Rattle.std.specs.Borrow.{sem};
+ghost use Rattle.racing_ffi.specs.Handle.{Held, held, held_coded};
+
+pub(crate) mod parts;
+
+use parts::Parts;
+use racing_session::RacingSession;
+use std::alloc::Global;
+use std::marker::Model;
+
+/// The session of a handle. Where there is none, the call that asks for it answers NO_BOARD.
+macro_rules! session_of {
+    ($guest:ident) => {
+        match $guest.session() {
+            Some(session) => session,
+            None => return $crate::codes::NO_BOARD,
+        }
+    };
+}
+
+pub(crate) use session_of;
+
+/// A session, or none.
+#[repr(C)]
+pub struct GuestHandle {
+    at: *mut u8,
+    alloc: Global,
+    pub ghost session: { Held } by { held_coded },
+}
+
+impl Model for GuestHandle {
+    ghost also_owns = { λ h. held h.alloc h.at h.session };
+}
+
+impl GuestHandle {
+    ghost use Rattle.racing_ffi.specs.Lending.{LendsSession};
+
+    /// The session, if there is one.
+    #[inline]
+    pub(crate) fn session(&mut self) -> Option<&mut RacingSession>
+        ensures* lends { sem 𝓛 (LendsSession self.entry result) }
+        ensures there { MatchOption result (self.old.session ≡ None)
+            (λ lent. self.old.session ≡ Some lent.now) }
+    {
+        if std::ptr::eq(self.at, std::ptr::null_mut()) {
+            return None;
+        }
+        Some(unsafe { &mut *(self.at as *mut RacingSession) })
+    }
+
+    /// Holds this session from now on.
+    pub(crate) fn put(&mut self, session: Box<RacingSession>)
+        ensures { self.new.session ≡ Some session.value }
+    {
+        *self = GuestHandle::of_parts(Parts::of(session));
+    }
+
+    /// A handle of none.
+    pub(crate) fn empty(alloc: Global) -> GuestHandle
+        ensures { result.session ≡ None }
+    {
+        GuestHandle {
+            at: std::ptr::null_mut(),
+            alloc,
+        }
+    }
+
+    fn of_parts(parts: Parts<RacingSession, Global>) -> GuestHandle
+        ensures { result.session ≡ Some parts.value }
+    {
+        let Parts { ptr, alloc } = parts;
+        GuestHandle {
+            at: ptr as *mut u8,
+            alloc,
+        }
+    }
+
+    fn into_parts(self) -> Option<Parts<RacingSession, Global>>
+        ensures { MatchOption result (self.session ≡ None)
+            (λ parts. self.session ≡ Some parts.value) }
+    {
+        let GuestHandle { at, alloc } = self;
+        if std::ptr::eq(at, std::ptr::null_mut()) {
+            return None;
+        }
+        Some(Parts {
+            ptr: at as *mut RacingSession,
+            alloc,
+        })
+    }
+}
+
+impl Drop for GuestHandle {
+    fn drop(self) {
+        if let Some(parts) = self.into_parts() {
+            parts.end();
+        }
+    }
+}
+
+unsafe impl Send for GuestHandle {}
