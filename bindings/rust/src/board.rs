@@ -66,7 +66,8 @@ pub struct Pending {
     pub interrupts: Interrupts,
     /// How many bytes of the console's output wait to be taken.
     pub output: u64,
-    /// Whether the slot's service pauses: [`Board::go_on`] goes on with it.
+    /// Whether the slot's service pauses: [`Board::go_on`] goes on with it. Of a guest that runs on, whether a queue is due, which
+    /// [`RunningGuest::go_on`](crate::RunningGuest::go_on) serves.
     pub more: bool,
     /// Whether operations of the disk began that the call was for, which wait for the host: [`Board::in_flight`] says which.
     pub io: bool,

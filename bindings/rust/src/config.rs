@@ -104,10 +104,7 @@ impl<'a> Config<'a> {
         loans: &mut [ffi::Loan],
         call: impl FnOnce(&mut ffi::Config) -> T,
     ) -> Result<T, CreateError> {
-        let version = unsafe { ffi::kalyubos_version() };
-        if version / 100 != HEADER / 100 {
-            return Err(CreateError::WrongLibrary(version));
-        }
+        check_version()?;
         let slots = self.slots.iter().map(Slot::in_c);
         let slots = slots.collect::<Result<Vec<_>, _>>()?;
         Ok(call(&mut ffi::Config {
@@ -123,4 +120,13 @@ impl<'a> Config<'a> {
             bytes: self.budget.bytes.map_or(0, NonZeroU64::get),
         }))
     }
+}
+
+// Whether the library that is linked fits the header.
+pub(crate) fn check_version() -> Result<(), CreateError> {
+    let version = unsafe { ffi::kalyubos_version() };
+    if version / 100 != HEADER / 100 {
+        return Err(CreateError::WrongLibrary(version));
+    }
+    Ok(())
 }

@@ -4,13 +4,13 @@ use crate::board::Pending;
 use std::error;
 use std::fmt;
 
-/// Why a call on a board was refused. Where it says nothing else, nothing changed.
+/// Why a call on a board, or on a guest that runs on, was refused. Where it says nothing else, nothing changed.
 #[derive(Clone, Copy, Debug, PartialEq, Eq, Hash)]
 #[non_exhaustive]
 pub enum Error {
     /// The board has no such slot.
     BadSlot,
-    /// Not all of the range lies in one region of the slot's memory, or in the image.
+    /// Not all of the range lies in one region of the guest's memory, or in the image.
     BadRange,
     /// The slot has no such further device, or it takes no such thing.
     BadDevice,
@@ -54,7 +54,7 @@ pub enum RestoreError {
     Other(u32),
 }
 
-/// Why no board was made.
+/// Why no board, or no guest that runs on, was made.
 #[derive(Clone, Copy, Debug, PartialEq, Eq, Hash)]
 #[non_exhaustive]
 pub enum CreateError {
@@ -84,12 +84,17 @@ pub enum CreateError {
     BadOutlet,
     /// A disk that the host serves has a depth above 64.
     BadDepth,
-    /// A network card has an MTU below 68, or a disk 2^55 sectors or more or a depth above 64.
+    /// A network card has an MTU below 68, or a disk 2^55 sectors or more or a depth above 64. Or a
+    /// [guest that runs on](crate::RunningGuest) has a further device.
     BadDevice,
     /// A slot has more than six further devices.
     TooManyDevices,
-    /// The lent bytes have another number or length than the regions; see [`Board::over_lent`](crate::Board::over_lent).
+    /// The lent bytes have another number or length than the regions; see [`Board::over_lent`](crate::Board::over_lent). So
+    /// have the words of [`RunningGuest::over_lent`](crate::RunningGuest::over_lent).
     BadLoan,
+    /// The disk of a [guest that runs on](crate::RunningGuest) is to be of an image: its slot isn't
+    /// [`Slot::hosted`](crate::Slot::hosted).
+    NotHosted,
     /// The library that is linked has a config or a slot of another size than the crate.
     BadSize,
     /// The library that is linked is of another version, this one, than the crate.
@@ -175,6 +180,7 @@ impl CreateError {
             29 => BadLoan,
             30 => BadDepth,
             32 => BadDevice,
+            33 => NotHosted,
             number => Other(number),
         })
     }
@@ -239,10 +245,11 @@ impl fmt::Display for CreateError {
             BadOutlet => "an outlet keeps 2^24 bytes at most",
             BadDepth => "a disk that the host serves has 1 to 64 operations in flight",
             BadDevice => {
-                "a network card has an MTU of 68 or more, and a disk fewer than 2^55 sectors and a depth of 1 to 64"
+                "a network card has an MTU of 68 or more, and a disk fewer than 2^55 sectors and a depth of 1 to 64; a guest that runs on has none"
             }
             TooManyDevices => "a slot has six further devices at most",
             BadLoan => "each region of each slot needs lent bytes of its length",
+            NotHosted => "the host serves the disk of a guest that runs on",
             BadSize => "the library's config or slot has another size than the crate's",
             WrongLibrary(version) => {
                 return write!(

@@ -40,8 +40,8 @@ pub struct DriverFault {
     pub kind: FaultKind,
     /// The number of the queue, as a notification names it.
     pub queue: u32,
-    /// The index of the chain's first descriptor; none of a [`FaultKind::Jump`], where none was read. In a packed queue
-    /// it is the position where the list begins.
+    /// The index of the chain's first descriptor; none of a [`FaultKind::Jump`], where none was read, or of a split queue of a
+    /// [`RunningGuest`](crate::RunningGuest). In a packed queue it is the position where the list begins.
     pub head: Option<u32>,
     /// How far the device had come. In a split queue: the idx of that chain. In a packed one: the position, and the
     /// queue's size more where the wrap counter is 0.
@@ -64,12 +64,19 @@ impl Board {
         Error::check(unsafe {
             ffi::kalyubos_last_fault(self.handle(), slot, window.number(), &mut told)
         })?;
-        Ok(FaultKind::of(told.kind).map(|kind| DriverFault {
+        Ok(DriverFault::of(&told))
+    }
+}
+
+impl DriverFault {
+    // What C told, or none where it told that there is none.
+    pub(crate) fn of(told: &ffi::Fault) -> Option<DriverFault> {
+        FaultKind::of(told.kind).map(|kind| DriverFault {
             kind,
             queue: told.queue,
             head: (told.head != ffi::NO_HEAD).then_some(told.head),
             place: told.place,
-        }))
+        })
     }
 }
 

@@ -20,6 +20,21 @@ impl Handle {
     }
 }
 
+/// A guest that runs on, or none.
+#[derive(Debug)]
+#[repr(C)]
+pub struct GuestHandle {
+    guest: *mut c_void,
+}
+
+impl GuestHandle {
+    pub const fn empty() -> GuestHandle {
+        GuestHandle {
+            guest: std::ptr::null_mut(),
+        }
+    }
+}
+
 /// How many regions the memory of a guest has at most.
 pub const REGIONS: usize = 8;
 
@@ -121,6 +136,24 @@ pub struct Config {
     pub image: *const u8,
     pub image_len: usize,
     pub cache: u32,
+    pub chains: u32,
+    pub bytes: u64,
+}
+
+/// Words that the host lends.
+#[repr(C)]
+pub struct Words {
+    pub words: *mut u64,
+    pub len: usize,
+}
+
+/// A guest that runs on, as the host describes it.
+#[repr(C)]
+pub struct GuestConfig {
+    pub size: usize,
+    pub slot: *const Slot,
+    pub words: *mut Words,
+    pub words_len: usize,
     pub chains: u32,
     pub bytes: u64,
 }
@@ -281,5 +314,69 @@ unsafe extern "C" {
         start: usize,
         into: *mut u8,
         into_len: usize,
+    ) -> u32;
+    pub fn kalyubos_guest_create(guest: *mut GuestHandle, config: *mut GuestConfig) -> u32;
+    pub fn kalyubos_guest_destroy(guest: *mut GuestHandle) -> u32;
+    pub fn kalyubos_guest_read(
+        guest: *const GuestHandle,
+        window: u8,
+        offset: u16,
+        width: u8,
+        value: *mut u32,
+    ) -> u32;
+    pub fn kalyubos_guest_write(
+        guest: *mut GuestHandle,
+        window: u8,
+        offset: u16,
+        width: u8,
+        value: u32,
+        pending: *mut Pending,
+    ) -> u32;
+    pub fn kalyubos_guest_go_on(guest: *mut GuestHandle, pending: *mut Pending) -> u32;
+    pub fn kalyubos_guest_input(
+        guest: *mut GuestHandle,
+        bytes: *const u8,
+        bytes_len: usize,
+        took: *mut usize,
+        pending: *mut Pending,
+    ) -> u32;
+    pub fn kalyubos_guest_resize(
+        guest: *mut GuestHandle,
+        cols: u16,
+        rows: u16,
+        pending: *mut Pending,
+    ) -> u32;
+    pub fn kalyubos_guest_take_output(
+        guest: *mut GuestHandle,
+        into: *mut u8,
+        into_len: usize,
+        taken: *mut usize,
+    ) -> u32;
+    pub fn kalyubos_guest_in_flight(guest: *const GuestHandle, tags: *mut u64) -> u32;
+    pub fn kalyubos_guest_operation(
+        guest: *const GuestHandle,
+        tag: u8,
+        operation: *mut Operation,
+        runs: *mut Run,
+        runs_len: usize,
+    ) -> u32;
+    pub fn kalyubos_guest_completed(
+        guest: *mut GuestHandle,
+        tag: u8,
+        failed: bool,
+        pending: *mut Pending,
+    ) -> u32;
+    pub fn kalyubos_guest_drop(guest: *mut GuestHandle, pending: *mut Pending) -> u32;
+    pub fn kalyubos_guest_hold(guest: *mut GuestHandle, pending: *mut Pending) -> u32;
+    pub fn kalyubos_guest_release(guest: *mut GuestHandle, pending: *mut Pending) -> u32;
+    pub fn kalyubos_guest_interrupts(
+        guest: *const GuestHandle,
+        block: *mut u8,
+        console: *mut u8,
+    ) -> u32;
+    pub fn kalyubos_guest_last_fault(
+        guest: *const GuestHandle,
+        window: u8,
+        fault: *mut Fault,
     ) -> u32;
 }

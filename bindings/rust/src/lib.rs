@@ -12,7 +12,9 @@ mod ffi;
 mod identity;
 mod operation;
 mod pages;
+mod running;
 mod saved;
+mod shared;
 mod slot;
 mod tags;
 
@@ -24,5 +26,7 @@ pub use error::{CreateError, Error, Fault, RestoreError};
 pub use fault::{DriverFault, FaultKind};
 pub use identity::{Identity, IdentityTooLong};
 pub use operation::{Kind, Operation, Outcome, Run, Runs};
+pub use running::{GuestConfig, RunningGuest};
+pub use shared::SharedMemory;
 pub use slot::{Region, Slot};
 pub use tags::Tags;

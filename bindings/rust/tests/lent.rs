@@ -1,7 +1,8 @@
-//! Memory that the host lends: each guest has its own, region by region, and the host has all of it again.
+//! Memory that the host lends, as bytes or as words: each guest has its own, region by region, and the host has all of it again.
 
-use kalyubos::{Board, Config, CreateError, Slot};
+use kalyubos::{Board, Config, CreateError, GuestConfig, RunningGuest, Slot};
 use std::ptr::NonNull;
+use std::sync::atomic::{AtomicU64, Ordering};
 
 /// Where a guest's first region begins. Its second one is a page behind the end of the first.
 const FIRST: u64 = 0x8000_0000;
@@ -75,4 +76,59 @@ fn other_pages_are_refused_and_left() {
     let refused = unsafe { Board::over_lent(&config, &[]) };
     assert_eq!(refused.unwrap_err(), CreateError::BadLoan);
     assert!(pages == self::pages());
+}
+
+/// Words of a page each, of which each is its page's number, from 1 on.
+fn words() -> [Vec<AtomicU64>; 2] {
+    [1, 2].map(|number| (0..PAGE / 8).map(|_| AtomicU64::new(number)).collect())
+}
+
+fn values(words: &[Vec<AtomicU64>; 2]) -> [Vec<u64>; 2] {
+    [0, 1].map(|page| {
+        let loaded = words[page].iter().map(|word| word.load(Ordering::Acquire));
+        loaded.collect()
+    })
+}
+
+/// A guest that runs on has the words of its regions: neither its beginning nor its end changes one.
+#[test]
+fn a_guest_that_runs_on_has_its_words() {
+    let words = words();
+    let lent = [0, 1].map(|page| NonNull::from(&words[page][..]));
+    let [_, slot] = guests();
+    // SAFETY: the words stay until the guest is dropped, and are lent to no other.
+    let guest = unsafe { RunningGuest::over_lent(&GuestConfig::new(&slot), &lent) }.unwrap();
+    assert!(values(&words) == values(&self::words()));
+    guest.memory().write(FIRST + 0xffe, b"ab").unwrap();
+    guest.memory().write(SECOND, b"cd").unwrap();
+    words[1][1].store(7, Ordering::Release);
+    assert_eq!(
+        guest.memory().words(SECOND + 8).unwrap().as_ptr(),
+        &raw const words[1][1]
+    );
+    drop(guest);
+    let mut expected = values(&self::words());
+    expected[0][PAGE / 8 - 1] = u64::from_ne_bytes(*b"\x01\0\0\0\0\0ab");
+    expected[1][0] = u64::from_ne_bytes(*b"cd\0\0\0\0\0\0");
+    expected[1][1] = 7;
+    assert!(values(&words) == expected);
+}
+
+#[test]
+fn other_words_are_refused_and_left() {
+    let words = words();
+    let [first, second] = [0, 1].map(|page| NonNull::from(&words[page][..]));
+    let [of_an_image, slot] = guests();
+    let refused = |slot: &Slot, lent: &[_]| {
+        // SAFETY: the words stay until the guest is refused.
+        let refused = unsafe { RunningGuest::over_lent(&GuestConfig::new(slot), lent) };
+        refused.unwrap_err()
+    };
+    let short = NonNull::from(&words[1][1..]);
+    for lent in [&[first][..], &[first, short], &[first, second, short], &[]] {
+        assert_eq!(refused(&slot, lent), CreateError::BadLoan);
+    }
+    let lent = [first, second];
+    assert_eq!(refused(&of_an_image, &lent), CreateError::NotHosted);
+    assert!(values(&words) == values(&self::words()));
 }
