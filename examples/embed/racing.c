@@ -1,0 +1,399 @@
+/*
+ * A guest that runs on, by hand: over words in two regions its driver brings up a disk and a console, writes a sector, puts out a
+ * line, reads one that is typed, and offers a broken chain. The host does what the disk is asked for, and prints what each call
+ * answers and what then stands in the guest's memory. Both read and write that memory by atomic accesses, as the CPUs of such a guest
+ * and its host's threads do.
+ *
+ * Its heap is open for kalyubos_guest_create and kalyubos_guest_destroy alone, and refuses each block once.
+ */
+#include <inttypes.h>
+#include <limits.h>
+#include <stdio.h>
+#include <stdlib.h>
+#include <string.h>
+
+#include "kalyubos.h"
+
+enum { SECTOR = 512, SECTORS = 8, SIZE = 8, RAM_LEN = 0x10000, HIGH_LEN = 0x1000 };
+static const uint64_t RAM = 0x80000000, HIGH = 0x90000000;
+
+/* The queues' areas in RAM, 0x1000 apart from each other: a table, an available ring and a used ring (2.7). */
+enum { DISK_QUEUE = 0x1000, RECEIVE_QUEUE = 0x2000, TRANSMIT_QUEUE = 0x3000, AVAILABLE = 0x400, USED = 0x800 };
+/* A request's header, the line that is put out, and where typed bytes go. Its data are in the other region. */
+enum { HEADER = 0x4000, REQUEST_STATUS = 0x4010, LINE = 0x4100, TYPED = 0x4200, TYPED_LEN = 16 };
+enum { NEXT = 1, WRITE = 2, OUT = 1, UNTOLD = 0xff };
+/* Offsets of registers (4.2.2). */
+enum { MAGIC = 0x000, DEVICE_ID = 0x008, DRIVER_FEATURES = 0x020, DRIVER_FEATURES_SEL = 0x024, QUEUE_SEL = 0x030,
+       QUEUE_SIZE = 0x038, QUEUE_READY = 0x044, NOTIFY = 0x050, INTERRUPT_STATUS = 0x060, INTERRUPT_ACK = 0x064,
+       STATUS = 0x070, QUEUE_DESC = 0x080, QUEUE_DRIVER = 0x090, QUEUE_DEVICE = 0x0a0 };
+
+static uint64_t ram[RAM_LEN / 8], high[HIGH_LEN / 8];
+static uint8_t disk[SECTORS * SECTOR];
+static struct kalyubos_guest guest;
+static struct kalyubos_pending pending;
+
+static struct kalyubos_slot described(void)
+{
+    struct kalyubos_slot slot = {
+        .size = sizeof slot, .regions = { { RAM, RAM_LEN }, { HIGH, HIGH_LEN } }, .count = SECTORS, .cols = 80, .rows = 25,
+        .outlet = 64, .hosted = true, .identity = "racing", .depth = 4,
+    };
+    return slot;
+}
+
+/* ---- the heap */
+
+static bool is_open;
+static unsigned blocks_left = UINT_MAX, blocks;
+
+static void need_open(void)
+{
+    if (!is_open) {
+        puts("a call asks the heap for something");
+        exit(1);
+    }
+}
+
+struct kalyubos_block kalyubos_alloc(size_t size, size_t align)
+{
+    need_open();
+    void *at = blocks_left > 0 ? malloc(size != 0 ? size : align) : NULL;
+    blocks_left -= at != NULL;
+    blocks += at != NULL;
+    return (struct kalyubos_block){ at != NULL, at };
+}
+
+struct kalyubos_block kalyubos_realloc(void *at, size_t kept, size_t size, size_t align)
+{
+    need_open();
+    void *moved = blocks_left > 0 ? realloc(at, size != 0 ? size : align) : NULL;
+    (void)kept;
+    return (struct kalyubos_block){ moved != NULL, moved };
+}
+
+void kalyubos_dealloc(void *at)
+{
+    need_open();
+    blocks--;
+    free(at);
+}
+
+static uint32_t create(struct kalyubos_guest_config config)
+{
+    is_open = true;
+    uint32_t number = kalyubos_guest_create(&guest, &config);
+    is_open = false;
+    return number;
+}
+
+
+static const char *answer(uint32_t number)
+{
+    static char text[200];
+    snprintf(text, sizeof text, "%" PRIu32 ", %s", number, kalyubos_answer(number));
+    return text;
+}
+
+static void destroy(void)
+{
+    is_open = true;
+    uint32_t number = kalyubos_guest_destroy(&guest);
+    is_open = false;
+    printf("destroy: %s, %u blocks are left\n", answer(number), blocks);
+}
+
+/* ---- the guest's memory, byte by byte */
+
+static uint8_t *place(uint64_t addr)
+{
+    return addr >= HIGH ? (uint8_t *)high + (addr - HIGH) : (uint8_t *)ram + (addr - RAM);
+}
+
+static void put(uint64_t addr, uint64_t value, unsigned len)
+{
+    for (unsigned i = 0; i < len; i++)
+        __atomic_store_n(place(addr + i), (uint8_t)(value >> 8 * i), __ATOMIC_SEQ_CST);
+}
+
+static uint64_t get(uint64_t addr, unsigned len)
+{
+    uint64_t value = 0;
+    for (unsigned i = 0; i < len; i++)
+        value |= (uint64_t)__atomic_load_n(place(addr + i), __ATOMIC_SEQ_CST) << 8 * i;
+    return value;
+}
+
+static void put_text(uint64_t addr, const char *text)
+{
+    for (size_t i = 0; i < strlen(text); i++)
+        put(addr + i, (uint8_t)text[i], 1);
+}
+
+/* ---- the driver */
+
+static void set(uint8_t window, uint16_t offset, uint32_t value)
+{
+    uint32_t number = kalyubos_guest_write(&guest, window, offset, 4, value, &pending);
+    if (number != KALYUBOS_DONE) {
+        printf("a step of the driver at %#x: %s\n", offset, answer(number));
+        exit(1);
+    }
+}
+
+static uint32_t reg(uint8_t window, uint16_t offset)
+{
+    uint32_t value = 0;
+    uint32_t number = kalyubos_guest_read(&guest, window, offset, 4, &value);
+    if (number != KALYUBOS_DONE)
+        printf("a read at %#x: %s\n", offset, answer(number));
+    return value;
+}
+
+/* Brings a window up to FEATURES_OK, with VIRTIO_F_VERSION_1 (3.1.1). */
+static void begin(uint8_t window, const char *name)
+{
+    printf("%s: magic %#" PRIx32 ", device %" PRIu32 "\n", name, reg(window, MAGIC), reg(window, DEVICE_ID));
+    set(window, STATUS, 0);
+    set(window, STATUS, 3);
+    set(window, DRIVER_FEATURES_SEL, 1);
+    set(window, DRIVER_FEATURES, 1);
+    set(window, STATUS, 11);
+}
+
+static void queue(uint8_t window, uint32_t number, uint64_t at)
+{
+    set(window, QUEUE_SEL, number);
+    set(window, QUEUE_SIZE, SIZE);
+    set(window, QUEUE_DESC, (uint32_t)(RAM + at));
+    set(window, QUEUE_DRIVER, (uint32_t)(RAM + at + AVAILABLE));
+    set(window, QUEUE_DEVICE, (uint32_t)(RAM + at + USED));
+    set(window, QUEUE_READY, 1);
+}
+
+static void describe(uint64_t at, uint32_t index, uint64_t addr, uint32_t len, uint16_t flags)
+{
+    put(RAM + at + 16 * index, addr, 8);
+    put(RAM + at + 16 * index + 8, len, 4);
+    put(RAM + at + 16 * index + 12, flags, 2);
+    put(RAM + at + 16 * index + 14, index + 1, 2);
+}
+
+/* Offers the chain from descriptor 0 on, the first chain of its queue (2.7.13), and notifies. */
+static uint32_t offer(uint8_t window, uint32_t number, uint64_t at)
+{
+    put(RAM + at + AVAILABLE + 4, 0, 2);
+    put(RAM + at + AVAILABLE + 2, 1, 2);
+    return kalyubos_guest_write(&guest, window, NOTIFY, 4, number, &pending);
+}
+
+static void show_used(const char *name, uint64_t at)
+{
+    printf("%s: used idx %" PRIu64 ", entry of head %" PRIu64 " with %" PRIu64 " bytes\n", name, get(RAM + at + USED + 2, 2),
+           get(RAM + at + USED + 4, 4), get(RAM + at + USED + 8, 4));
+}
+
+static void show_pending(void)
+{
+    printf("  waits: block %" PRIu32 ", console %" PRIu32 ", %" PRIu64 " bytes of output\n", pending.block, pending.console,
+           pending.output);
+}
+
+static void acknowledge(uint8_t window, const char *name)
+{
+    set(window, INTERRUPT_ACK, reg(window, INTERRUPT_STATUS));
+    printf("%s: its interrupt is acknowledged\n", name);
+    show_pending();
+}
+
+/* ---- the host */
+
+/* Does what the disk is asked for with a tag, in place. */
+static void serve(uint8_t tag)
+{
+    static const char *const KINDS[] = { "IN", "OUT", "FLUSH", "ZEROES" };
+    struct kalyubos_operation it;
+    struct kalyubos_run runs[KALYUBOS_RUNS];
+    uint32_t number = kalyubos_guest_operation(&guest, tag, &it, runs, KALYUBOS_RUNS);
+    printf("tag %u: %s\n", tag, answer(number));
+    if (number != KALYUBOS_DONE)
+        return;
+    printf("  %s of %" PRIu64 " bytes from byte %" PRIu64 " on%s\n", KINDS[it.kind], it.len, it.start, it.stable ? ", stable" : "");
+    uint64_t at = it.start;
+    for (uint32_t i = 0; i < it.runs; i++) {
+        printf("  a run of %" PRIu64 " bytes at %#" PRIx64 "\n", runs[i].len, runs[i].at);
+        for (uint64_t j = 0; j < runs[i].len; j++, at++)
+            disk[at] = (uint8_t)get(runs[i].at + j, 1);
+    }
+}
+
+static void write_a_sector(void)
+{
+    uint64_t tags = 0;
+    begin(KALYUBOS_BLOCK, "disk");
+    queue(KALYUBOS_BLOCK, 0, DISK_QUEUE);
+    set(KALYUBOS_BLOCK, STATUS, 15);
+    put(RAM + HEADER, OUT, 8);
+    put(RAM + HEADER + 8, 3, 8);
+    put(RAM + REQUEST_STATUS, UNTOLD, 1);
+    put_text(HIGH, "a sector");
+    describe(DISK_QUEUE, 0, RAM + HEADER, 16, NEXT);
+    describe(DISK_QUEUE, 1, HIGH, SECTOR, NEXT);
+    describe(DISK_QUEUE, 2, RAM + REQUEST_STATUS, 1, WRITE);
+    printf("disk is notified: %s\n", answer(offer(KALYUBOS_BLOCK, 0, DISK_QUEUE)));
+    show_pending();
+    printf("a reset meanwhile: %s\n", answer(kalyubos_guest_write(&guest, KALYUBOS_BLOCK, STATUS, 4, 0, &pending)));
+    printf("in flight: %s", answer(kalyubos_guest_in_flight(&guest, &tags)));
+    printf(", tags %#" PRIx64 "\n", tags);
+    serve(0);
+    printf("completed: %s\n", answer(kalyubos_guest_completed(&guest, 0, false, &pending)));
+    show_pending();
+    show_used("disk", DISK_QUEUE);
+    printf("disk: status %" PRIu64 ", sector 3 begins with \"%.8s\"\n", get(RAM + REQUEST_STATUS, 1), (char *)disk + 3 * SECTOR);
+    acknowledge(KALYUBOS_BLOCK, "disk");
+    printf("completed again: %s\n", answer(kalyubos_guest_completed(&guest, 0, false, &pending)));
+    serve(0);
+}
+
+static void put_out_a_line(void)
+{
+    char text[64];
+    size_t count = 0;
+    begin(KALYUBOS_CONSOLE, "console");
+    queue(KALYUBOS_CONSOLE, 0, RECEIVE_QUEUE);
+    queue(KALYUBOS_CONSOLE, 1, TRANSMIT_QUEUE);
+    set(KALYUBOS_CONSOLE, STATUS, 15);
+    put_text(RAM + LINE, "what time is it?\n");
+    describe(TRANSMIT_QUEUE, 0, RAM + LINE, 17, 0);
+    printf("console is notified: %s\n", answer(offer(KALYUBOS_CONSOLE, 1, TRANSMIT_QUEUE)));
+    show_pending();
+    printf("output: %s", answer(kalyubos_guest_take_output(&guest, (uint8_t *)text, sizeof text, &count)));
+    printf(", %zu bytes: %.*s", count, (int)count, text);
+    show_used("console", TRANSMIT_QUEUE);
+    acknowledge(KALYUBOS_CONSOLE, "console");
+}
+
+static void read_a_line(void)
+{
+    size_t took = 0;
+    describe(RECEIVE_QUEUE, 0, RAM + TYPED, TYPED_LEN, WRITE);
+    printf("a buffer for input: %s\n", answer(offer(KALYUBOS_CONSOLE, 0, RECEIVE_QUEUE)));
+    show_pending();
+    printf("typed: %s", answer(kalyubos_guest_input(&guest, (const uint8_t *)"ten\n", 4, &took, &pending)));
+    printf(", %zu bytes taken\n", took);
+    show_pending();
+    show_used("console", RECEIVE_QUEUE);
+    printf("console: the buffer has \"");
+    for (unsigned i = 0; i < 3; i++)
+        putchar((int)get(RAM + TYPED + i, 1));
+    printf("\" and %" PRIu64 "\n", get(RAM + TYPED + 3, 1));
+    printf("another size: %s\n", answer(kalyubos_guest_resize(&guest, 100, 30, &pending)));
+    show_pending();
+}
+
+static void show_fault(void)
+{
+    struct kalyubos_fault fault = { 0 };
+    printf("disk's last fault: %s", answer(kalyubos_guest_last_fault(&guest, KALYUBOS_BLOCK, &fault)));
+    printf(", %s; queue %" PRIu32 ", head %#" PRIx32 ", place %" PRIu32 "\n", kalyubos_fault_text(fault.kind), fault.queue, fault.head,
+           fault.place);
+}
+
+/* Offers a chain whose head isn't in the table, behind the one that was served. */
+static void make_a_mistake(void)
+{
+    show_fault();
+    put(RAM + DISK_QUEUE + AVAILABLE + 6, SIZE, 2);
+    put(RAM + DISK_QUEUE + AVAILABLE + 2, 2, 2);
+    printf("a head outside the table: %s\n", answer(kalyubos_guest_write(&guest, KALYUBOS_BLOCK, NOTIFY, 4, 0, &pending)));
+    show_pending();
+    printf("disk: status %#" PRIx32 "\n", reg(KALYUBOS_BLOCK, STATUS));
+    show_fault();
+}
+
+/* ---- what is refused */
+
+static void try_config(const char *what, struct kalyubos_slot slot, size_t words_len)
+{
+    struct kalyubos_words words[] = { { ram, slot.regions[0].len / 8 }, { high, slot.regions[1].len / 8 } };
+    printf("%s: %s\n", what, answer(create(kalyubos_guest_config(&slot, words, words_len))));
+    printf("  %s\n", words[0].words == ram ? "the words are the host's" : "the words were taken");
+}
+
+static void refuse(void)
+{
+    struct kalyubos_slot slot = described();
+    uint8_t block = 0, console = 0;
+    printf("an empty handle: %s\n", answer(kalyubos_guest_interrupts(&guest, &block, &console)));
+    slot.hosted = false;
+    try_config("a disk of an image", slot, 2);
+    slot = described();
+    slot.devices[0].kind = KALYUBOS_ENTROPY;
+    try_config("a further device", slot, 2);
+    slot = described();
+    slot.size--;
+    try_config("another size", slot, 2);
+    try_config("words of one region", described(), 1);
+    slot = described();
+    slot.regions[1].base = RAM + RAM_LEN;
+    try_config("regions without a gap", slot, 2);
+    slot = described();
+    slot.regions[1].base += 8;
+    try_config("a base of no page", slot, 2);
+    slot = described();
+    slot.regions[1].len -= 8;
+    try_config("a region of no whole pages", slot, 2);
+    slot = described();
+    slot.regions[0].len = 0;
+    try_config("no region", slot, 0);
+    slot = described();
+    slot.depth = 65;
+    try_config("depth 65", slot, 2);
+    slot = described();
+    slot.count = (uint64_t)1 << 55;
+    try_config("2^55 sectors", slot, 2);
+    slot = described();
+    slot.outlet = (1 << 24) + 1;
+    try_config("an outlet of more than 2^24 bytes", slot, 2);
+}
+
+/* Each block that a guest is made of is refused once, and none is kept. */
+static void refuse_memory(void)
+{
+    struct kalyubos_slot slot = described();
+    uint32_t number = KALYUBOS_NO_MEMORY;
+    for (unsigned left = 0; number == KALYUBOS_NO_MEMORY; left++) {
+        struct kalyubos_words words[] = { { ram, RAM_LEN / 8 }, { high, HIGH_LEN / 8 } };
+        blocks_left = left;
+        number = create(kalyubos_guest_config(&slot, words, 2));
+        if (number == KALYUBOS_NO_MEMORY && (blocks > 0 || guest.guest != NULL))
+            puts("a refused guest is kept");
+    }
+    blocks_left = UINT_MAX;
+    printf("with all blocks: %s\n", answer(number));
+    destroy();
+}
+
+int main(void)
+{
+    struct kalyubos_words words[] = { { ram, RAM_LEN / 8 }, { high, HIGH_LEN / 8 } };
+    struct kalyubos_slot slot = described();
+    uint32_t value = 0;
+    refuse();
+    refuse_memory();
+    printf("create: %s\n", answer(create(kalyubos_guest_config(&slot, words, 2))));
+    printf("  the words are %s\n", words[0].words == NULL && words[1].len == 0 ? "taken" : "left");
+    printf("create again: %s\n", answer(create(kalyubos_guest_config(&slot, words, 2))));
+    printf("window 2: %s\n", answer(kalyubos_guest_read(&guest, KALYUBOS_DEVICE, MAGIC, 4, &value)));
+    write_a_sector();
+    put_out_a_line();
+    read_a_line();
+    make_a_mistake();
+    printf("nothing is due: %s\n", answer(kalyubos_guest_go_on(&guest, &pending)));
+    printf("hold: %s\n", answer(kalyubos_guest_hold(&guest, &pending)));
+    printf("hold again: %s\n", answer(kalyubos_guest_hold(&guest, &pending)));
+    printf("release: %s\n", answer(kalyubos_guest_release(&guest, &pending)));
+    printf("drop: %s\n", answer(kalyubos_guest_drop(&guest, &pending)));
+    destroy();
+    destroy();
+    return 0;
+}

@@ -1,0 +1,19 @@
+/*
+ * racing_accesses: by which instructions the library touches the memory of guests that run on. The library has that memory in a
+ * place where each access is forbidden, beside the one where CPUs and host have it. So each access comes to a signal's handler,
+ * which looks at the instruction, notes it, and has it made alone. An instruction that is neither a load nor a locked step of
+ * 8 bytes ends the process with a line, and so does an address that is no multiple of 8.
+ */
+#ifndef RACING_ACCESSES_H
+#define RACING_ACCESSES_H
+
+#include <stddef.h>
+#include <stdint.h>
+
+/* A second place for the first `len` bytes of a file of memory, for the library alone, which one thread at a time touches. */
+uint8_t *racing_accesses_watch(int file, size_t len);
+
+/* Writes where each instruction lies that touched such a place, and how often it did. Answers how many there are. */
+unsigned racing_accesses_write(const char *path);
+
+#endif
