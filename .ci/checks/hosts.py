@@ -201,6 +201,17 @@ def failing_disks():
     return ran.returncode == 0, (ran.stdout + ran.stderr).splitlines()
 
 
+def racing():
+    """The hosts of examples/embed for guests that run on, and the program of these over KVM: that they compile without a warning."""
+    if not shutil.which(COMPILER):
+        return True, [f"no {COMPILER} to compile them with"]
+    sources = [EMBED / name for name in ("racing.c", "racing_threads.c", "racing_host.c", "racing_accesses.c", "kvm-racing.c")]
+    with tempfile.TemporaryDirectory() as folder:
+        wrong = [line for source in sources for line in compiled(f"{folder}/{source.stem}.o", [source, "-c", "-pthread"])]
+        built, said = script(EMBED / "racing-build", f"{folder}/program")
+    return not wrong and built, wrong + said or [f"{len(sources)} hosts and a guest compile"]
+
+
 AGAINST, MODEL = "crates/conformance/against", "crates/conformance/mutants/model.py"
 
 
@@ -214,4 +225,5 @@ CHECKS = {
     "full outlet": full_outlet,
     "disks": disks,
     "failing disks": failing_disks,
+    "racing": racing,
 }

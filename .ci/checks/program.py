@@ -68,9 +68,11 @@ CHECKS = {
     "streams": lambda: last_line("tests/program/streams", PROGRAM),
     "in-process": in_one_process,
     "hosts in C": hosts,
+    "racing accesses": lambda: last_line("examples/embed/racing-accesses", "--library", LIBRARY),
 }
 AFTER = {"scenarios": ["program", "matrix"], "fuzz": ["program"], "broken": ["program"], "streams": ["program"],
-         "in-process": ["library", "matrix"], "hosts in C": ["library"]}
+         "in-process": ["library", "matrix"], "hosts in C": ["library"],
+         "racing accesses": ["library"]}
 
 
 def can_build():
