@@ -44,7 +44,8 @@ pub struct DriverFault {
     /// [`RunningGuest`](crate::RunningGuest). In a packed queue it is the position where the list begins.
     pub head: Option<u32>,
     /// How far the device had come. In a split queue: the idx of that chain. In a packed one: the position, and the
-    /// queue's size more where the wrap counter is 0.
+    /// queue's size more where the wrap counter is 0. With chains in flight it is the place of the next used entry, and that
+    /// chain stands further on.
     pub place: u32,
 }
 
