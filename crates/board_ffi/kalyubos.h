@@ -584,10 +584,9 @@ struct kalyubos_fault {
     uint32_t queue; /* the number of the queue, as a notification names it */
     uint32_t head;  /* The index of the chain's first descriptor. In a split queue: the head in the available ring. In a
                        packed one: the position where the list begins. KALYUBOS_NO_HEAD of a JUMP. */
-    uint32_t place; /* How far the device had come. In a split queue: the idx of that chain, from 0 to 65535; its entry
-                       is `place` modulo the queue's size. In a packed one: the position, and the queue's size more
-                       where the wrap counter is 0. With chains in flight it is the place of the next used entry, and that
-                       chain stands further on. */
+    uint32_t place; /* The place of that chain. In a split queue: its idx, from 0 to 65535; its entry is `place` modulo the
+                       queue's size. In a packed one: the position, and the queue's size more where the wrap counter
+                       is 0. */
 };
 
 /*

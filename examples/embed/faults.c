@@ -339,6 +339,31 @@ static void check_hosted(void)
     end(&board);
 }
 
+/* A bad chain behind a request in flight, in one service. */
+static void check_behind_flight(enum layout layout, struct kalyubos_fault told)
+{
+    static const uint8_t header[16];
+    static const uint16_t heads[] = { 0, QUEUE };
+    const uint16_t available = layout == PACKED ? IS_AVAILABLE : 0;
+    struct kalyubos_slot hosted = slots[0];
+    hosted.hosted = true;
+    hosted.depth = 2;
+    make(&board, kalyubos_config(&hosted, 1));
+    bring_up(0, KALYUBOS_BLOCK, 0, layout, false);
+    store(0, DATA, header, sizeof header);
+    put(layout, 0, TABLE, 0, (struct descriptor){ AT(DATA), 16, NEXT, 1 }, available);
+    put(layout, 0, TABLE, 1, (struct descriptor){ AT(DATA + 16), 513, WRITE, 0 }, available);
+    put(layout, 0, TABLE, 2, (struct descriptor){ OUTSIDE, 16, 0, 0 }, available);
+    if (layout == SPLIT) {
+        store(0, AVAILABLE + 4, heads, sizeof heads);
+        offer_split(0, 2);
+    }
+    need(set(0, KALYUBOS_BLOCK, NOTIFY, 0) == KALYUBOS_IO, "a read, and a bad chain", layout);
+    need(needs_reset(0, KALYUBOS_BLOCK), "a bad chain behind a read", layout);
+    tells(0, KALYUBOS_BLOCK, told, "behind a request in flight");
+    end(&board);
+}
+
 /* A service that pauses before its second chain, and whose third has a fault: told in each pause and behind it. */
 static void check_pause(void)
 {
@@ -365,6 +390,8 @@ int main(void)
     check_texts();
     check_image();
     check_hosted();
+    check_behind_flight(SPLIT, (struct kalyubos_fault){ KALYUBOS_FAULT_INDEX, 0, QUEUE, 1 });
+    check_behind_flight(PACKED, (struct kalyubos_fault){ KALYUBOS_FAULT_RANGE, 0, 2, 2 });
     check_pause();
     puts("faults: why a window asks for a reset, and where: in split and packed queues, in rings and inner tables");
     return 0;

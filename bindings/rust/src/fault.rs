@@ -43,9 +43,8 @@ pub struct DriverFault {
     /// The index of the chain's first descriptor; none of a [`FaultKind::Jump`], where none was read, or of a split queue of a
     /// [`RunningGuest`](crate::RunningGuest). In a packed queue it is the position where the list begins.
     pub head: Option<u32>,
-    /// How far the device had come. In a split queue: the idx of that chain. In a packed one: the position, and the
-    /// queue's size more where the wrap counter is 0. With chains in flight it is the place of the next used entry, and that
-    /// chain stands further on.
+    /// The place of that chain. In a split queue its idx, from 0 to 65535. In a packed one the position, and the
+    /// queue's size more where the wrap counter is 0.
     pub place: u32,
 }
 

@@ -381,6 +381,21 @@ fn a_fault_is_told_without_a_head() {
 }
 
 #[test]
+fn a_fault_behind_a_request_in_flight_is_told_at_its_place() {
+    let mut guest = guest_of(&slot());
+    let memory = guest.memory().clone();
+    bring_up(&mut guest);
+    request(&memory, 0, 1, WRITE);
+    memory.write(DISK + AVAILABLE + 4, &[0, 0, 4, 0]).unwrap(); // the second head lies outside the table
+    offer(&memory, DISK, 2);
+    assert!(guest.write(Window::Block, NOTIFY, 4, 0).unwrap().io);
+    assert_eq!(guest.in_flight().unwrap().len(), 1);
+    let fault = guest.last_fault(Window::Block).unwrap().expect("a fault");
+    let told = (fault.kind, fault.queue, fault.head, fault.place);
+    assert_eq!(told, (FaultKind::Index, 0, None, 1));
+}
+
+#[test]
 fn there_is_no_further_device() {
     let mut guest = guest_of(&slot());
     for window in [Window::Device(0), Window::Device(255)] {

@@ -13,27 +13,31 @@ use Rattle.mmio_window.specs.declared.queue.Queue.TheVariants.{Split, Packed}
 use Rattle.mmio_window.specs.declared.stage.Stage.{Stage}
 use Rattle.mmio_window.specs.Pieces.{fault_at, opened_at}
 use Rattle.mmio_window.specs.Queue.{queue_kind}
-use Rattle.mmio_window.specs.Saved.{reached_of}
 
 -- the fault itself
 abbrev pub fault_in : Option QueueFault → Option Fault
 fault_in met = option_map (λ known. known.fault) met
 
--- the index of the first descriptor of the chain at the queue's place
+-- the index of the first descriptor of the chain on offer
 abbrev pub head_at : Memory → Queue → ℕ
 head_at m (Split ring) = split_ring.head_of m ring
 head_at m (Packed ring) = packed_ring.head_of ring
+
+-- the place of the chain on offer, behind those in flight
+abbrev pub place_met : Queue → ℕ
+place_met (Split ring) = split_ring.next_taken ring
+place_met (Packed ring) = packed_ring.next_taken ring
 
 -- a Jump is met before a head is read
 abbrev pub head_met : Memory → Queue → Fault → Option ℕ
 head_met m queue Jump = None
 head_met m queue fault = Some (head_at m queue)
 
--- a fault of the chain at the queue's place, or of the offer of one there
+-- a fault of the chain on offer, or of the offer itself
 abbrev pub met_at : Memory → Queue → Fault → QueueFault
 met_at m queue fault = record {
   fault = fault;
-  place = (reached_of queue).place;
+  place = place_met queue;
   head = head_met m queue fault;
 }
 

@@ -1,7 +1,7 @@
 //! What is noted of a fault: why a window asks for a reset, and where in its queue the fault was met.
 
 ghost use Rattle.std.specs.Prelude.{◌≡◌};
-ghost use Rattle.mmio_window.specs.FaultNote.{head_at, met_at};
+ghost use Rattle.mmio_window.specs.FaultNote.{head_at, met_at, place_met};
 ghost use Rattle.mmio_window.specs.Queue.{LiesIn};
 
 use crate::queue::Queue;
@@ -13,9 +13,9 @@ use std::alloc::Allocator;
 #[derive(Clone, Copy, Debug, PartialEq, Eq)]
 pub struct QueueFault {
     pub fault: Fault,
-    /// The place of that chain: how far the device has come in the queue. A split ring's counts on from 0 to 65535, as its
-    /// available idx does, and the chain's entry is `place` modulo the queue's size. A packed ring's goes from 0 to twice the
-    /// queue's size: in its second half the wrap counter is 0, and the position is the size less.
+    /// The place of that chain, behind those in flight. A split ring's counts on from 0 to 65535, as its available idx
+    /// does, and the chain's entry is `place` modulo the queue's size. A packed ring's goes from 0 to twice the queue's size:
+    /// in its second half the wrap counter is 0, and the position is the size less.
     pub place: u16,
     /// The index of the chain's first descriptor in the descriptor area: in a split ring the head, as the available ring
     /// names it, which may lie outside the table; in a packed ring the position at which its list begins. None of a
@@ -58,11 +58,21 @@ impl Queue {
     {
         QueueFault {
             fault,
-            place: self.reached().place,
+            place: self.next_taken(),
             head: match fault {
                 Fault::Jump => None,
                 _ => Some(self.head(mem)),
             },
+        }
+    }
+
+    /// The place of the chain on offer, behind those in flight.
+    pub fn next_taken(&self) -> u16
+        ensures { result ≡ place_met self.now }
+    {
+        match self {
+            Queue::Split(ring) => ring.next_taken(),
+            Queue::Packed(ring) => ring.next_taken(),
         }
     }
 

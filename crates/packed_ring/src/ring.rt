@@ -121,9 +121,9 @@ impl PackedRing {
         self.state.setup.size as u16
     }
 
-    /// The place of the next list.
+    /// The place of the next list, behind those in flight.
     #[inline(always)]
-    fn next_taken(&self) -> u16
+    pub fn next_taken(&self) -> u16
         ensures value { result ≡ next_taken self.now }
         ensures below { result < 2 * self.now.setup.size }
     {

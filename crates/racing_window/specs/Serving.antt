@@ -13,6 +13,7 @@ use Rattle.mmio_window.specs.declared.fault_note.QueueFault.{QueueFault}
 use Rattle.mmio_window.specs.declared.queue.Queue.{Queue}
 use Rattle.mmio_window.specs.declared.queue.Queue.TheVariants.{Split, Packed}
 use Rattle.mmio_window.specs.declared.queue.Token.{Token}
+use Rattle.mmio_window.specs.FaultNote.{place_met}
 use Rattle.mmio_window.specs.Queue.{entry_of}
 use Rattle.mmio_window.specs.Serving.{after_service, ending_of}
 use Rattle.mmio_window.specs.Window.{WindowState, with_ring}
@@ -30,11 +31,15 @@ fault_of Settled = None
 fault_of (Faulted fault) = Some fault
 fault_of More = None
 
--- A fault of the chain at the queue's place, and where that is. The head of a split ring's chain isn't told, since it would be
--- read once more, and may be another one by then.
+-- the head of the chain on offer, where it can be told without a further read
+abbrev pub head_kept : Queue → Option ℕ
+head_kept (Split ring) = None
+head_kept (Packed ring) = Some (head_of ring)
+
+-- A fault of the chain on offer, and where that is. The head of a split ring's chain isn't told, since it would be read once
+-- more, and may be another one by then.
 abbrev pub met_at : Queue → Fault → QueueFault
-met_at (Split ring) fault = record { fault = fault; place = ring.place; head = None }
-met_at (Packed ring) fault = record { fault = fault; place = ring.place; head = Some (head_of ring) }
+met_at queue fault = record { fault = fault; place = place_met queue; head = head_kept queue }
 
 abbrev pub met_with : Queue → Ending → Option QueueFault
 met_with queue ending = option_map (met_at queue) (fault_of ending)

@@ -125,16 +125,12 @@ pub fn met_with(queue: &Queue, ending: Ending) -> Option<QueueFault>
 fn met(queue: &Queue, fault: Fault) -> QueueFault
     ensures { result ≡ met_at queue.now fault }
 {
-    match queue {
-        Queue::Split(ring) => QueueFault {
-            fault,
-            place: ring.state().place,
-            head: None,
-        },
-        Queue::Packed(ring) => QueueFault {
-            fault,
-            place: ring.state().place,
-            head: Some(ring.position()),
+    QueueFault {
+        fault,
+        place: queue.next_taken(),
+        head: match queue {
+            Queue::Split(_) => None,
+            Queue::Packed(ring) => Some(ring.position()),
         },
     }
 }

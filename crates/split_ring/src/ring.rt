@@ -104,9 +104,9 @@ impl SplitRing {
         self.state.setup.size as u16
     }
 
-    // The place of the next chain.
+    /// The place of the next chain, behind those in flight.
     #[inline(always)]
-    fn next_taken(&self) -> u16
+    pub fn next_taken(&self) -> u16
         ensures { result ≡ next_taken self.now }
     {
         self.state.place.wrapping_add(self.state.ahead)
